@@ -3,18 +3,18 @@ use Rattle.std.proofs.Common.{◌≡◌, ℕ, zero, suc, ℤ, pos, negsuc, ◌+�
 use Rattle.std.specs.Prelude.{⊤}
 use Rattle.std.proofs.lemmas.Bool.{eqb-true, ltb-false}
 use Rattle.std.proofs.lemmas.Bool.Decides.{nat_tests}
-use Rattle.bay_ber.specs.Options.{◌>>=◌}
-use Rattle.bay_ber.proofs.ReadLemmas.{IsBytes}
+use Rattle.bay_base.specs.Options.{◌>>=◌}
+use Rattle.bay_ber.proofs.ReadLemmas.{IsBytes, bind_ok}
 use Rattle.bay_ber.proofs.ContentLemmas.{both}
-use Rattle.bay_ber.proofs.BackLemmas.{bind_some, bytes_behind, bytes_before, guard_false}
+use Rattle.bay_ber.proofs.BackLemmas.{bind_some, some_is, bytes_behind, bytes_before, guard_false}
 use Rattle.bay_mms.specs.declared.response.Agreed.{Agreed}
 use Rattle.bay_mms.specs.Grammar.{initiate_in}
 use Rattle.bay_mms.proofs.InitiateLemmas.{initiate_back}
-use Rattle.bay_mms.specs.Spelled.{◌>>◌}
+use Rattle.bay_base.specs.Results.{◌>>=◌ as ◌>>◌}
 use Rattle.bay_assoc.specs.declared.fault.AssocFault.{AssocFault}
 use Rattle.bay_assoc.specs.declared.fault.AssocFault.TheVariants as fault
 use Rattle.bay_assoc.specs.declared.hearing.Accepted.{Accepted}
-use Rattle.bay_assoc.specs.declared.hearing.Link.{Link}
+use Rattle.bay_assoc.specs.declared.hearing.AssociationTerms.{AssociationTerms}
 use Rattle.bay_assoc.specs.declared.hearing.Phase.{Phase}
 use Rattle.bay_assoc.specs.declared.hearing.Phase.TheVariants.{Idle, Open, Over, Failed}
 use Rattle.bay_assoc.specs.Results.{wanted}
@@ -28,9 +28,6 @@ use Rattle.bay_assoc.specs.SpelledValues.{IsUser, IsAssociate}
 use Rattle.bay_assoc.specs.SpelledHearing.{IsHeard}
 use Rattle.bay_assoc.proofs.ValueBackLemmas.{user_back, request_back, associate_back, release_back}
 
-some_is : {A : Type 0} (x y : A) → Some x ≡ Some y → x ≡ y
-some_is x y e = cc
-
 -- ---- units
 
 record Sized (octets rest : List ℕ) (n : ℕ) : Type 0 where
@@ -38,26 +35,34 @@ record Sized (octets rest : List ℕ) (n : ℕ) : Type 0 where
   is : octets ≡ size ++ rest
   sized : IsSize size n
 
-long_back : (octets : List ℕ) (x : ℕ × List ℕ) → long_size octets ≡ Some x → Sized (255 ∷ octets) x.1 x.0
+long_back : (octets : List ℕ) (x : ℕ × List ℕ) → long_size octets ≡ Some x
+    → Sized (255 ∷ octets) x.1 x.0
 long_back [] x e = absurd cc
 long_back (high ∷ []) x e = absurd cc
 long_back (high ∷ low ∷ octets) x e =
     let made : ℕ × List ℕ = (high * 256 + low, octets) in
     let same : made ≡ x = some_is made x e in
-    subst (λ (y : ℕ × List ℕ). Sized (255 ∷ high ∷ low ∷ octets) y.1 y.0) same (record { size = 255 ∷ high ∷ low ∷ []; is = refl; sized = (refl, refl) })
+    subst (λ (y : ℕ × List ℕ). Sized (255 ∷ high ∷ low ∷ octets) y.1 y.0) same
+    (record { size = 255 ∷ high ∷ low ∷ []; is = refl; sized = (refl, refl) })
 
 below : (n : ℕ) → n < 256 → eqb n 255 ≡ false → n < 255
 below n low other = grind (arith, nat_tests)
 
-size_case : (first : ℕ) (octets : List ℕ) (x : ℕ × List ℕ) (b : Bool) → first < 256 → eqb first 255 ≡ b → cond b (long_size octets) (Some (first, octets)) ≡ Some x → Sized (first ∷ octets) x.1 x.0
-size_case first octets x true low is e = subst (λ (n : ℕ). Sized (n ∷ octets) x.1 x.0) (sym (eqb-true first 255 is)) (long_back octets x e)
+size_case : (first : ℕ) (octets : List ℕ) (x : ℕ × List ℕ) (b : Bool) → first < 256
+    → eqb first 255 ≡ b → cond b (long_size octets) (Some (first, octets)) ≡ Some x
+    → Sized (first ∷ octets) x.1 x.0
+size_case first octets x true low is e =
+    subst (λ (n : ℕ). Sized (n ∷ octets) x.1 x.0) (sym (eqb-true first 255 is))
+    (long_back octets x e)
 size_case first octets x false low is e =
     let made : ℕ × List ℕ = (first, octets) in
     let same : made ≡ x = some_is made x e in
     let less : first < 255 = below first low is in
-    subst (λ (y : ℕ × List ℕ). Sized (first ∷ octets) y.1 y.0) same (record { size = first ∷ []; is = refl; sized = (less, refl) })
+    subst (λ (y : ℕ × List ℕ). Sized (first ∷ octets) y.1 y.0) same
+    (record { size = first ∷ []; is = refl; sized = (less, refl) })
 
-size_back : (octets : List ℕ) (x : ℕ × List ℕ) → IsBytes octets → size_at octets ≡ Some x → Sized octets x.1 x.0
+size_back : (octets : List ℕ) (x : ℕ × List ℕ) → IsBytes octets → size_at octets ≡ Some x
+    → Sized octets x.1 x.0
 unfolding size_at
 size_back [] x b e = absurd cc
 size_back (first ∷ octets) x b e = size_case first octets x (eqb first 255) (b 0) refl e
@@ -68,7 +73,8 @@ record Counted (octets content rest : List ℕ) : Type 0 where
   is : octets ≡ size ++ (content ++ rest)
   sized : IsSize size (length content)
 
-counted_back : (octets : List ℕ) (x : List ℕ × List ℕ) → IsBytes octets → counted_at octets ≡ Some x → Counted octets x.0 x.1
+counted_back : (octets : List ℕ) (x : List ℕ × List ℕ) → IsBytes octets → counted_at octets ≡ Some x
+    → Counted octets x.0 x.1
 unfolding counted_at
 counted_back octets x b e =
     let s = bind_some (size_at octets) _ x e in
@@ -92,7 +98,8 @@ record Read (octets : List ℕ) (u : Unit) (rest : List ℕ) : Type 0 where
   content : IsBytes u.content
   behind : IsBytes rest
 
-unit_back : (octets : List ℕ) (x : Unit × List ℕ) → IsBytes octets → unit_at octets ≡ Some x → Read octets x.0 x.1
+unit_back : (octets : List ℕ) (x : Unit × List ℕ) → IsBytes octets → unit_at octets ≡ Some x
+    → Read octets x.0 x.1
 unfolding unit_at
 unit_back [] x b e = absurd cc
 unit_back (identifier ∷ octets) x b e =
@@ -101,7 +108,8 @@ unit_back (identifier ∷ octets) x b e =
     let same : made ≡ x = some_is made x c.2 in
     let later : IsBytes octets = λ i. b (suc i) in
     let k = counted_back octets c.0 later c.1 in
-    let both_bytes : IsBytes (c.0.0 ++ c.0.1) = bytes_behind k.size (c.0.0 ++ c.0.1) (subst IsBytes k.is later) in
+    let both_bytes : IsBytes (c.0.0 ++ c.0.1) =
+    bytes_behind k.size (c.0.0 ++ c.0.1) (subst IsBytes k.is later) in
     subst (λ (y : Unit × List ℕ). Read (identifier ∷ octets) y.0 y.1) same (record {
       size = k.size;
       is = ap (λ (l : List ℕ). identifier ∷ l) k.is;
@@ -114,27 +122,37 @@ abbrev UnitBytes : List Unit → Type 0
 UnitBytes [] = ⊤
 UnitBytes (u ∷ us) = IsBytes u.content × UnitBytes us
 
-onto_back : (front : List Unit) (o : Option (List Unit)) (units : List Unit) → onto front o ≡ Some units → (later : List Unit) × (o ≡ Some later) × (units ≡ front ++ later)
+onto_back : (front : List Unit) (o : Option (List Unit)) (units : List Unit)
+    → onto front o ≡ Some units → (later : List Unit) × (o ≡ Some later) × (units ≡ front ++ later)
 onto_back front None units e = absurd cc
 onto_back front (Some later) units e = (later, refl, sym (some_is (front ++ later) units e))
 
-units_within_back : (most : ℕ) (octets : List ℕ) (units : List Unit) → IsBytes octets → units_within most octets ≡ Some units → SpellUnits octets units × UnitBytes units
+units_within_back : (most : ℕ) (octets : List ℕ) (units : List Unit) → IsBytes octets
+    → units_within most octets ≡ Some units → SpellUnits octets units × UnitBytes units
 unfolding units_within
-units_within_back zero [] units b e = subst (λ (us : List Unit). SpellUnits [] us × UnitBytes us) (some_is [] units e) (refl, tt)
-units_within_back (suc most) [] units b e = subst (λ (us : List Unit). SpellUnits [] us × UnitBytes us) (some_is [] units e) (refl, tt)
+units_within_back zero [] units b e =
+    subst (λ (us : List Unit). SpellUnits [] us × UnitBytes us) (some_is [] units e) (refl, tt)
+units_within_back (suc most) [] units b e =
+    subst (λ (us : List Unit). SpellUnits [] us × UnitBytes us) (some_is [] units e) (refl, tt)
 units_within_back zero (octet ∷ octets) units b e = absurd cc
-units_within_back (suc most) (octet ∷ octets) units b e = front_back (octet ∷ octets) units (unit_at (octet ∷ octets)) refl b e (λ rest later c f. units_within_back most rest later c f)
+units_within_back (suc most) (octet ∷ octets) units b e =
+    front_back (octet ∷ octets) units (unit_at (octet ∷ octets)) refl b e
+    (λ rest later c f. units_within_back most rest later c f)
   where
-    front_back : (whole : List ℕ) (units : List Unit) (o : Option (Unit × List ℕ)) → unit_at whole ≡ o → IsBytes whole → with_front o (units_within most) ≡ Some units
-        → ((rest : List ℕ) (later : List Unit) → IsBytes rest → units_within most rest ≡ Some later → SpellUnits rest later × UnitBytes later) → SpellUnits whole units × UnitBytes units
+    front_back : (whole : List ℕ) (units : List Unit) (o : Option (Unit × List ℕ))
+        → unit_at whole ≡ o → IsBytes whole → with_front o (units_within most) ≡ Some units
+        → ((rest : List ℕ) (later : List Unit) → IsBytes rest → units_within most rest ≡ Some later
+        → SpellUnits rest later × UnitBytes later) → SpellUnits whole units × UnitBytes units
     front_back whole units None is b e more = absurd cc
     front_back whole units (Some x) is b e more =
         let o = onto_back (x.0 ∷ []) (units_within most x.1) units e in
         let r = unit_back whole x b is in
         let m = more x.1 o.0 r.behind o.1 in
-        subst (λ (us : List Unit). SpellUnits whole us × UnitBytes us) (sym o.2) ((r.size, x.1, r.is, r.sized, m.0), (r.content, m.1))
+        subst (λ (us : List Unit). SpellUnits whole us × UnitBytes us) (sym o.2)
+        ((r.size, x.1, r.is, r.sized, m.0), (r.content, m.1))
 
-units_back : (octets : List ℕ) (units : List Unit) → IsBytes octets → units_in octets ≡ Some units → SpellUnits octets units × UnitBytes units
+units_back : (octets : List ℕ) (units : List Unit) → IsBytes octets → units_in octets ≡ Some units
+    → SpellUnits octets units × UnitBytes units
 unfolding units_in
 units_back octets units b e = units_within_back (length octets) octets units b e
 
@@ -143,28 +161,33 @@ only_is [] u e = absurd cc
 only_is (v ∷ []) u e = ap (λ (x : Unit). x ∷ []) (some_is v u e)
 only_is (v ∷ w ∷ units) u e = absurd cc
 
-one_unit : (octets : List ℕ) (u : Unit) → IsBytes octets → unit_in octets ≡ Some u → SpellUnits octets (u ∷ []) × IsBytes u.content
+one_unit : (octets : List ℕ) (u : Unit) → IsBytes octets → unit_in octets ≡ Some u
+    → SpellUnits octets (u ∷ []) × IsBytes u.content
 one_unit octets u b e =
     let x = bind_some (units_in octets) only_one u e in
-    let all = units_back octets (u ∷ []) b (x.1 ∙ ap (λ (us : List Unit). Some us) (only_is x.0 u x.2)) in
+    let all =
+    units_back octets (u ∷ []) b (x.1 ∙ ap (λ (us : List Unit). Some us) (only_is x.0 u x.2)) in
     (all.0, all.1.0)
 
 -- ---- SPDUs
 
-chosen_units : (b : Bool) (u : Unit) (more : List Unit) → IsBytes u.content → UnitBytes more → UnitBytes (cond b (u ∷ more) more)
+chosen_units : (b : Bool) (u : Unit) (more : List Unit) → IsBytes u.content → UnitBytes more
+    → UnitBytes (cond b (u ∷ more) more)
 chosen_units true u more c m = (c, m)
 chosen_units false u more c m = m
 
 filter_units : (units : List Unit) → UnitBytes units → UnitBytes (filter is_user units)
 filter_units [] b = tt
-filter_units (u ∷ units) b = chosen_units (is_user u) u (filter is_user units) b.0 (filter_units units b.1)
+filter_units (u ∷ units) b =
+    chosen_units (is_user u) u (filter is_user units) b.0 (filter_units units b.1)
 
 -- what is kept by a filter passes its test
 abbrev AreUsers : List Unit → Type 0
 AreUsers [] = ⊤
 AreUsers (u ∷ us) = (is_user u ≡ true) × AreUsers us
 
-kept : (b : Bool) (u : Unit) (more : List Unit) → is_user u ≡ b → AreUsers more → AreUsers (cond b (u ∷ more) more)
+kept : (b : Bool) (u : Unit) (more : List Unit) → is_user u ≡ b → AreUsers more
+    → AreUsers (cond b (u ∷ more) more)
 kept true u more e m = (e, m)
 kept false u more e m = m
 
@@ -180,7 +203,9 @@ record Parameters (identifier : ℕ) (octets : List ℕ) (users : Users) : Type 
   bytes : UnitBytes kept_users
   tests : AreUsers kept_users
 
-parameters_back : (identifier : ℕ) (octets : List ℕ) (u : Unit) (users : Users) → eqb u.identifier identifier ≡ true → SpellUnits octets (u ∷ []) → IsBytes u.content → users_in u.content ≡ Some users → Parameters identifier octets users
+parameters_back : (identifier : ℕ) (octets : List ℕ) (u : Unit) (users : Users)
+    → eqb u.identifier identifier ≡ true → SpellUnits octets (u ∷ []) → IsBytes u.content
+    → users_in u.content ≡ Some users → Parameters identifier octets users
 unfolding users_in
 parameters_back identifier octets u users is whole b e =
     let x = bind_some (units_in u.content) _ users e in
@@ -190,7 +215,9 @@ parameters_back identifier octets u users is whole b e =
       framed = record {
         content = u.content;
         parameters = x.0;
-        whole = subst (λ (n : ℕ). SpellUnits octets (record { identifier = n; content = u.content } ∷ [])) (eqb-true u.identifier identifier is) whole;
+        whole = subst (λ (n : ℕ). SpellUnits octets
+            (record { identifier = n; content = u.content } ∷ []))
+            (eqb-true u.identifier identifier is) whole;
         inner = all.0;
         is = refl;
       };
@@ -215,25 +242,38 @@ user_unit u e = ap (λ (n : ℕ). unit_with n u.content) (eqb-true u.identifier 
     unit_with : ℕ → List ℕ → Unit
     unit_with n content = record { identifier = n; content = content }
 
-connect_back : (octets : List ℕ) (users : List Unit) (s : Spdu) → Framed 0x0D octets users → UnitBytes users → AreUsers users → connect_of (users_of users) ≡ Some s → IsSpdu octets s × UserBytes s
+connect_back : (octets : List ℕ) (users : List Unit) (s : Spdu) → Framed 0x0D octets users
+    → UnitBytes users → AreUsers users → connect_of (users_of users) ≡ Some s
+    → IsSpdu octets s × UserBytes s
 connect_back octets [] s f b t e = absurd cc
 connect_back octets (u ∷ []) s f b t e =
-    subst (λ (x : Spdu). IsSpdu octets x × UserBytes x) (some_is (connect u.content) s e) (subst (λ (v : Unit). Framed 0x0D octets (v ∷ [])) (user_unit u t.0) f, b.0)
+    subst (λ (x : Spdu). IsSpdu octets x × UserBytes x) (some_is (connect u.content) s e)
+    (subst (λ (v : Unit). Framed 0x0D octets (v ∷ [])) (user_unit u t.0) f, b.0)
 connect_back octets (u ∷ v ∷ users) s f b t e = absurd cc
 
-finish_back : (octets : List ℕ) (users : List Unit) (s : Spdu) → Framed 0x09 octets users → UnitBytes users → AreUsers users → finish_of (users_of users) ≡ Some s → IsSpdu octets s × UserBytes s
-finish_back octets [] s f b t e = subst (λ (x : Spdu). IsSpdu octets x × UserBytes x) (some_is (finish None) s e) (f, tt)
+finish_back : (octets : List ℕ) (users : List Unit) (s : Spdu) → Framed 0x09 octets users
+    → UnitBytes users → AreUsers users → finish_of (users_of users) ≡ Some s
+    → IsSpdu octets s × UserBytes s
+finish_back octets [] s f b t e =
+    subst (λ (x : Spdu). IsSpdu octets x × UserBytes x) (some_is (finish None) s e) (f, tt)
 finish_back octets (u ∷ []) s f b t e =
-    subst (λ (x : Spdu). IsSpdu octets x × UserBytes x) (some_is (finish (Some u.content)) s e) (subst (λ (v : Unit). Framed 0x09 octets (v ∷ [])) (user_unit u t.0) f, b.0)
+    subst (λ (x : Spdu). IsSpdu octets x × UserBytes x) (some_is (finish (Some u.content)) s e)
+    (subst (λ (v : Unit). Framed 0x09 octets (v ∷ [])) (user_unit u t.0) f, b.0)
 finish_back octets (u ∷ v ∷ users) s f b t e = absurd cc
 
 abbrev by_identifier : Bool → Bool → Bool → Bool → Bool → Unit → Option Spdu
 by_identifier c f a d x u =
-    cond c (users_in u.content >>= connect_of) (cond f (users_in u.content >>= finish_of) (cond a (users_in u.content >>= (λ users. Some accept))
-    (cond d (users_in u.content >>= (λ users. Some disconnect)) (cond x (users_in u.content >>= (λ users. Some abort)) None))))
+    cond c (users_in u.content >>= connect_of)
+    (cond f (users_in u.content >>= finish_of)
+    (cond a (users_in u.content >>= (λ users. Some accept))
+    (cond d (users_in u.content >>= (λ users. Some disconnect))
+    (cond x (users_in u.content >>= (λ users. Some abort)) None))))
 
-kind_back : (octets : List ℕ) (u : Unit) (s : Spdu) (c f a d x : Bool) → eqb u.identifier 0x0D ≡ c → eqb u.identifier 0x09 ≡ f → eqb u.identifier 0x0E ≡ a → eqb u.identifier 0x0A ≡ d → eqb u.identifier 0x19 ≡ x
-    → SpellUnits octets (u ∷ []) → IsBytes u.content → by_identifier c f a d x u ≡ Some s → IsSpdu octets s × UserBytes s
+kind_back : (octets : List ℕ) (u : Unit) (s : Spdu) (c f a d x : Bool) → eqb u.identifier 0x0D ≡ c
+    → eqb u.identifier 0x09 ≡ f → eqb u.identifier 0x0E ≡ a → eqb u.identifier 0x0A ≡ d
+    → eqb u.identifier 0x19 ≡ x
+    → SpellUnits octets (u ∷ []) → IsBytes u.content → by_identifier c f a d x u ≡ Some s
+    → IsSpdu octets s × UserBytes s
 kind_back octets u s true f a d x ec ef ea ed ex whole b e =
     let y = bind_some (users_in u.content) connect_of s e in
     let p = parameters_back 0x0D octets u y.0 ec whole b y.1 in
@@ -245,20 +285,26 @@ kind_back octets u s false true a d x ec ef ea ed ex whole b e =
 kind_back octets u s false false true d x ec ef ea ed ex whole b e =
     let y = bind_some (users_in u.content) _ s e in
     let p = parameters_back 0x0E octets u y.0 ea whole b y.1 in
-    subst (λ (k : Spdu). IsSpdu octets k × UserBytes k) (some_is accept s y.2) ((p.kept_users, p.framed), tt)
+    subst (λ (k : Spdu). IsSpdu octets k × UserBytes k) (some_is accept s y.2)
+    ((p.kept_users, p.framed), tt)
 kind_back octets u s false false false true x ec ef ea ed ex whole b e =
     let y = bind_some (users_in u.content) _ s e in
     let p = parameters_back 0x0A octets u y.0 ed whole b y.1 in
-    subst (λ (k : Spdu). IsSpdu octets k × UserBytes k) (some_is disconnect s y.2) ((p.kept_users, p.framed), tt)
+    subst (λ (k : Spdu). IsSpdu octets k × UserBytes k) (some_is disconnect s y.2)
+    ((p.kept_users, p.framed), tt)
 kind_back octets u s false false false false true ec ef ea ed ex whole b e =
     let y = bind_some (users_in u.content) _ s e in
     let p = parameters_back 0x19 octets u y.0 ex whole b y.1 in
-    subst (λ (k : Spdu). IsSpdu octets k × UserBytes k) (some_is abort s y.2) ((p.kept_users, p.framed), tt)
+    subst (λ (k : Spdu). IsSpdu octets k × UserBytes k) (some_is abort s y.2)
+    ((p.kept_users, p.framed), tt)
 kind_back octets u s false false false false false ec ef ea ed ex whole b e = absurd cc
 
-spdu_of_back : (octets : List ℕ) (u : Unit) (s : Spdu) → SpellUnits octets (u ∷ []) → IsBytes u.content → spdu_of u ≡ Some s → IsSpdu octets s × UserBytes s
+spdu_of_back : (octets : List ℕ) (u : Unit) (s : Spdu) → SpellUnits octets (u ∷ [])
+    → IsBytes u.content → spdu_of u ≡ Some s → IsSpdu octets s × UserBytes s
 unfolding spdu_of
-spdu_of_back octets u s whole b e = kind_back octets u s (eqb u.identifier 0x0D) (eqb u.identifier 0x09) (eqb u.identifier 0x0E) (eqb u.identifier 0x0A) (eqb u.identifier 0x19) refl refl refl refl refl whole b e
+spdu_of_back octets u s whole b e =
+    kind_back octets u s (eqb u.identifier 0x0D) (eqb u.identifier 0x09) (eqb u.identifier 0x0E)
+    (eqb u.identifier 0x0A) (eqb u.identifier 0x19) refl refl refl refl refl whole b e
 
 transfer_is : (octets : List ℕ) → is_transfer octets ≡ true → octets ≡ 1 ∷ 0 ∷ 1 ∷ 0 ∷ drop 4 octets
 transfer_is [] e = absurd cc
@@ -275,7 +321,9 @@ transfer_is (a ∷ b ∷ c ∷ d ∷ user) e =
     let ed = eqb-true d 0 z.1 in
     cc
 
-spdu_case : (octets : List ℕ) (s : Spdu) (t : Bool) → IsBytes octets → is_transfer octets ≡ t → cond t (Some (transfer (drop 4 octets))) (unit_in octets >>= spdu_of) ≡ Some s → IsSpdu octets s × UserBytes s
+spdu_case : (octets : List ℕ) (s : Spdu) (t : Bool) → IsBytes octets → is_transfer octets ≡ t
+    → cond t (Some (transfer (drop 4 octets))) (unit_in octets >>= spdu_of) ≡ Some s
+    → IsSpdu octets s × UserBytes s
 spdu_case octets s true b is e =
     let shape = transfer_is octets is in
     subst (λ (k : Spdu). IsSpdu octets k × UserBytes k) (some_is (transfer (drop 4 octets)) s e)
@@ -285,25 +333,24 @@ spdu_case octets s false b is e =
     let one = one_unit octets x.0 b x.1 in
     spdu_of_back octets x.0 s one.0 one.1 x.2
 
-pub spdu_back : (octets : List ℕ) (s : Spdu) → IsBytes octets → spdu_in octets ≡ Some s → IsSpdu octets s × UserBytes s
+pub spdu_back : (octets : List ℕ) (s : Spdu) → IsBytes octets → spdu_in octets ≡ Some s
+    → IsSpdu octets s × UserBytes s
 unfolding spdu_in
 spdu_back octets s b e = spdu_case octets s (is_transfer octets) b refl e
 
-pub spdu_spelled : (octets : List ℕ) (s : Spdu) → IsBytes octets → spdu_in octets ≡ Some s → IsSpdu octets s
+pub spdu_spelled : (octets : List ℕ) (s : Spdu) → IsBytes octets → spdu_in octets ≡ Some s
+    → IsSpdu octets s
 spdu_spelled octets s b e = (spdu_back octets s b e).0
 
 -- ---- what is heard
-
-bind_ok : {A B : Type 0} (r : Result A AssocFault) (f : A → Result B AssocFault) (y : B) → (r >> f) ≡ Ok y → (x : A) × (r ≡ Ok x) × (f x ≡ Ok y)
-bind_ok (Ok x) f y e = (x, refl, e)
-bind_ok (Err g) f y e = absurd cc
 
 wanted_is : {A : Type 0} (f : AssocFault) (o : Option A) (x : A) → wanted f o ≡ Ok x → o ≡ Some x
 wanted_is f (Some y) x e = cc
 wanted_is f None x e = absurd cc
 
 -- what is wanted and then goes on
-then_is : {A B : Type 0} (f : AssocFault) (o : Option A) (g : A → Result B AssocFault) (y : B) → (wanted f o >> g) ≡ Ok y → (x : A) × (o ≡ Some x) × (g x ≡ Ok y)
+then_is : {A B : Type 0} (f : AssocFault) (o : Option A) (g : A → Result B AssocFault) (y : B)
+    → (wanted f o >> g) ≡ Ok y → (x : A) × (o ≡ Some x) × (g x ≡ Ok y)
 then_is f o g y e =
     let b = bind_ok (wanted f o) g y e in
     (b.0, wanted_is f o b.0 b.1, b.2)
@@ -315,7 +362,9 @@ id_is (negsuc m) n e = absurd cc
 abbrev carried_with : ℤ → List ℕ → Carried
 carried_with id octets = record { id = id; value = octets }
 
-in_case : (c : Carried) (n : ℕ) (other v : List ℕ) (b : Bool) (r : Result (List ℕ) AssocFault) → is_id c.id n ≡ b → ((x : List ℕ) → r ≡ Ok x → ⊥) → cond b (Ok c.value) r ≡ Ok v → c ≡ carried_with (pos n) v
+in_case : (c : Carried) (n : ℕ) (other v : List ℕ) (b : Bool) (r : Result (List ℕ) AssocFault)
+    → is_id c.id n ≡ b → ((x : List ℕ) → r ≡ Ok x → ⊥) → cond b (Ok c.value) r ≡ Ok v
+    → c ≡ carried_with (pos n) v
 in_case c n other v true r is bad e =
     let same : c.value ≡ v = ok_is c.value v e in
     ap (λ (z : ℤ). carried_with z c.value) (id_is c.id n is) ∙ ap (carried_with (pos n)) same
@@ -328,26 +377,38 @@ no_value : (b : Bool) (f g : AssocFault) (x : List ℕ) → cond b (Err f) (Err 
 no_value true f g x e = absurd cc
 no_value false f g x e = absurd cc
 
-acse_is : (a : Accepted) (c : Carried) (v : List ℕ) → acse_value a c ≡ Ok v → c ≡ carried_with (pos a.acse) v
-acse_is a c v e = in_case c a.acse [] v (is_id c.id a.acse) _ refl (no_value (is_id c.id a.mms) fault.BadAcse fault.NoContext) e
+acse_is : (a : Accepted) (c : Carried) (v : List ℕ) → acse_value a c ≡ Ok v
+    → c ≡ carried_with (pos a.acse) v
+acse_is a c v e =
+    in_case c a.acse [] v (is_id c.id a.acse) _ refl
+    (no_value (is_id c.id a.mms) fault.BadAcse fault.NoContext) e
 
-mms_is : (a : Accepted) (c : Carried) (v : List ℕ) → mms_value a c ≡ Ok v → c ≡ carried_with (pos a.mms) v
-mms_is a c v e = in_case c a.mms [] v (is_id c.id a.mms) _ refl (no_value (is_id c.id a.acse) fault.BadAcse fault.NoContext) e
+mms_is : (a : Accepted) (c : Carried) (v : List ℕ) → mms_value a c ≡ Ok v
+    → c ≡ carried_with (pos a.mms) v
+mms_is a c v e =
+    in_case c a.mms [] v (is_id c.id a.mms) _ refl
+    (no_value (is_id c.id a.acse) fault.BadAcse fault.NoContext) e
 
-pair_is : (h k : Hearing) (p q : Phase) → (let r : Result (Hearing × Phase) AssocFault = Ok (h, p) in r) ≡ Ok (k, q) → (h ≡ k) × (p ≡ q)
+pair_is : (h k : Hearing) (p q : Phase)
+    → (let r : Result (Hearing × Phase) AssocFault = Ok (h, p) in r) ≡ Ok (k, q) → (h ≡ k) × (p ≡ q)
 pair_is h k p q e =
     let x : Hearing × Phase = (h, p) in
     let y : Hearing × Phase = (k, q) in
     let same : x ≡ y = cc in
     (ap (λ (z : Hearing × Phase). z.0) same, ap (λ (z : Hearing × Phase). z.1) same)
 
-heard_as : (old : Phase) (octets : List ℕ) (h k : Hearing) (p q : Phase) → (h ≡ k) × (p ≡ q) → IsHeard old octets h p → IsHeard old octets k q
-heard_as old octets h k p q same is = subst (λ (z : Phase). IsHeard old octets k z) same.1 (subst (λ (z : Hearing). IsHeard old octets z p) same.0 is)
+heard_as : (old : Phase) (octets : List ℕ) (h k : Hearing) (p q : Phase) → (h ≡ k) × (p ≡ q)
+    → IsHeard old octets h p → IsHeard old octets k q
+heard_as old octets h k p q same is =
+    subst (λ (z : Phase). IsHeard old octets k z) same.1
+    (subst (λ (z : Hearing). IsHeard old octets z p) same.0 is)
 
-same_pair : (x y : Accepted × Agreed) → (let r : Result (Accepted × Agreed) AssocFault = Ok x in r) ≡ Ok y → x ≡ y
+same_pair : (x y : Accepted × Agreed)
+    → (let r : Result (Accepted × Agreed) AssocFault = Ok x in r) ≡ Ok y → x ≡ y
 same_pair x y e = cc
 
-connected_back : (octets user : List ℕ) (h : Hearing) (new : Phase) → IsSpdu octets (connect user) → IsBytes user → connected user ≡ Ok (h, new) → IsHeard Idle octets h new
+connected_back : (octets user : List ℕ) (h : Hearing) (new : Phase) → IsSpdu octets (connect user)
+    → IsBytes user → connected user ≡ Ok (h, new) → IsHeard Idle octets h new
 unfolding connected agreement
 connected_back octets user h new spdu b e =
     let request = then_is fault.BadPresentation (request_in user) _ (h, new) e in
@@ -360,7 +421,12 @@ connected_back octets user h new spdu b e =
     let agreed = then_is fault.PduSizeTooSmall (agreed_of proposal.0) _ both.0 proposal.2 in
     let met : Accepted × Agreed = (a.0, agreed.0) in
     let same : met ≡ both.0 = same_pair met both.0 agreed.2 in
-    let told : Accepted × Agreed → Result (Hearing × Phase) AssocFault = λ x. Ok (answer (answer_text request.0 x.0 x.1), Open (record { contexts = x.0; size = x.1.size })) in
+    let told : Accepted × Agreed
+    → Result (Hearing × Phase) AssocFault =
+    λ x. Ok (
+      answer (answer_text request.0 x.0 x.1),
+      Open (record { contexts = x.0; size = x.1.size }),
+    ) in
     let last : told met ≡ Ok (h, new) = ap told same ∙ both.2 in
     let r = request_back user request.0 b request.1 in
     let in_acse = acse_is a.0 request.0.user value.0 value.1 in
@@ -368,10 +434,11 @@ connected_back octets user h new spdu b e =
     let i = associate_back value.0 information.0 bytes information.1 in
     let in_mms = mms_is a.0 information.0 pdu.0 pdu.1 in
     let inner = subst IsBytes (ap (λ (c : Carried). c.value) in_mms) i.1 in
-    let link : Link = record { contexts = a.0; size = agreed.0.size } in
+    let terms : AssociationTerms = record { contexts = a.0; size = agreed.0.size } in
     let text = answer_text request.0 a.0 agreed.0 in
-    heard_as Idle octets (answer text) h (Open link) new (pair_is (answer text) h (Open link) new last) (
-      link,
+    heard_as Idle octets (answer text) h (Open terms) new
+    (pair_is (answer text) h (Open terms) new last) (
+      terms,
       record {
         user = user;
         request = request.0;
@@ -392,56 +459,72 @@ connected_back octets user h new spdu b e =
       refl,
     )
 
-idle_back : (octets : List ℕ) (s : Spdu) (h : Hearing) (new : Phase) → IsSpdu octets s → UserBytes s → heard_idle s ≡ Ok (h, new) → IsHeard Idle octets h new
+idle_back : (octets : List ℕ) (s : Spdu) (h : Hearing) (new : Phase) → IsSpdu octets s → UserBytes s
+    → heard_idle s ≡ Ok (h, new) → IsHeard Idle octets h new
 idle_back octets (connect user) h new is b e = connected_back octets user h new is b e
 idle_back octets accept h new is b e = absurd cc
 idle_back octets (finish user) h new is b e = absurd cc
 idle_back octets disconnect h new is b e = absurd cc
-idle_back octets abort h new is b e = heard_as Idle octets aborted h Over new (pair_is aborted h Over new e) (is, refl)
+idle_back octets abort h new is b e =
+    heard_as Idle octets aborted h Over new (pair_is aborted h Over new e) (is, refl)
 idle_back octets (transfer user) h new is b e = absurd cc
 
-finished_back : (octets : List ℕ) (link : Link) (user : Option (List ℕ)) (h : Hearing) (new : Phase) → IsSpdu octets (finish user) → UserBytes (finish user) → finished link user ≡ Ok (h, new) → IsHeard (Open link) octets h new
+finished_back : (octets : List ℕ) (terms : AssociationTerms) (user : Option (List ℕ)) (h : Hearing)
+    (new : Phase) → IsSpdu octets (finish user) → UserBytes (finish user)
+    → finished terms user ≡ Ok (h, new) → IsHeard (Open terms) octets h new
 unfolding finished
-finished_back octets link None h new is b e =
+finished_back octets terms None h new is b e =
     let text = 0x0A ∷ 0 ∷ [] in
-    heard_as (Open link) octets (released text) h Over new (pair_is (released text) h Over new e) (None, (is, refl), refl)
-finished_back octets link (Some user) h new is b e =
+    heard_as (Open terms) octets (released text) h Over new (pair_is (released text) h Over new e)
+    (None, (is, refl), refl)
+finished_back octets terms (Some user) h new is b e =
     let c = then_is fault.BadPresentation (user_in user) _ (h, new) e in
-    let value = bind_ok (acse_value link.contexts c.0) _ (h, new) c.2 in
+    let value = bind_ok (acse_value terms.contexts c.0) _ (h, new) c.2 in
     let content = then_is fault.BadAcse (release_in value.0) _ (h, new) value.2 in
     let u = user_back user c.0 b c.1 in
-    let same = acse_is link.contexts c.0 value.0 value.1 in
-    let text = disconnect_text (user_text link.contexts.acse release_text) in
-    let release = release_back value.0 content.0 (subst IsBytes (ap (λ (x : Carried). x.value) same) u.1) content.1 in
-    heard_as (Open link) octets (released text) h Over new (pair_is (released text) h Over new content.2)
+    let same = acse_is terms.contexts c.0 value.0 value.1 in
+    let text = disconnect_text (user_text terms.contexts.acse release_text) in
+    let release =
+    release_back value.0 content.0 (subst IsBytes (ap (λ (x : Carried). x.value) same) u.1)
+    content.1 in
+    heard_as (Open terms) octets (released text) h Over new
+    (pair_is (released text) h Over new content.2)
     (Some user, (value.0, is, subst (IsUser user) same u.0, release, refl), refl)
 
-transferred_back : (octets user : List ℕ) (link : Link) (h : Hearing) (new : Phase) → IsSpdu octets (transfer user) → IsBytes user → transferred link user ≡ Ok (h, new) → IsHeard (Open link) octets h new
+transferred_back : (octets user : List ℕ) (terms : AssociationTerms) (h : Hearing) (new : Phase)
+    → IsSpdu octets (transfer user) → IsBytes user → transferred terms user ≡ Ok (h, new)
+    → IsHeard (Open terms) octets h new
 unfolding transferred
-transferred_back octets user link h new is b e =
+transferred_back octets user terms h new is b e =
     let c = then_is fault.BadPresentation (user_in user) _ (h, new) e in
-    let pdu = bind_ok (mms_value link.contexts c.0) _ (h, new) c.2 in
+    let pdu = bind_ok (mms_value terms.contexts c.0) _ (h, new) c.2 in
     let u = user_back user c.0 b c.1 in
-    heard_as (Open link) octets (mms pdu.0) h (Open link) new (pair_is (mms pdu.0) h (Open link) new pdu.2)
-    (user, is, subst (IsUser user) (mms_is link.contexts c.0 pdu.0 pdu.1) u.0, refl)
+    heard_as (Open terms) octets (mms pdu.0) h (Open terms) new
+    (pair_is (mms pdu.0) h (Open terms) new pdu.2)
+    (user, is, subst (IsUser user) (mms_is terms.contexts c.0 pdu.0 pdu.1) u.0, refl)
 
-open_back : (octets : List ℕ) (link : Link) (s : Spdu) (h : Hearing) (new : Phase) → IsSpdu octets s → UserBytes s → heard_open link s ≡ Ok (h, new) → IsHeard (Open link) octets h new
-open_back octets link (connect user) h new is b e = absurd cc
-open_back octets link accept h new is b e = absurd cc
-open_back octets link (finish user) h new is b e = finished_back octets link user h new is b e
-open_back octets link disconnect h new is b e = absurd cc
-open_back octets link abort h new is b e = heard_as (Open link) octets aborted h Over new (pair_is aborted h Over new e) (is, refl)
-open_back octets link (transfer user) h new is b e = transferred_back octets user link h new is b e
+open_back : (octets : List ℕ) (terms : AssociationTerms) (s : Spdu) (h : Hearing) (new : Phase)
+    → IsSpdu octets s → UserBytes s → heard_open terms s ≡ Ok (h, new)
+    → IsHeard (Open terms) octets h new
+open_back octets terms (connect user) h new is b e = absurd cc
+open_back octets terms accept h new is b e = absurd cc
+open_back octets terms (finish user) h new is b e = finished_back octets terms user h new is b e
+open_back octets terms disconnect h new is b e = absurd cc
+open_back octets terms abort h new is b e =
+    heard_as (Open terms) octets aborted h Over new (pair_is aborted h Over new e) (is, refl)
+open_back octets terms (transfer user) h new is b e =
+    transferred_back octets user terms h new is b e
 
-pub heard_is_spelled : (old new : Phase) (octets : List ℕ) (h : Hearing) → IsBytes octets → hearing old octets ≡ Ok (h, new) → IsHeard old octets h new
+pub heard_is_spelled : (old new : Phase) (octets : List ℕ) (h : Hearing) → IsBytes octets
+    → hearing old octets ≡ Ok (h, new) → IsHeard old octets h new
 unfolding hearing
 heard_is_spelled Idle new octets h b e =
     let s = then_is fault.BadSession (spdu_in octets) heard_idle (h, new) e in
     let k = spdu_back octets s.0 b s.1 in
     idle_back octets s.0 h new k.0 k.1 s.2
-heard_is_spelled (Open link) new octets h b e =
-    let s = then_is fault.BadSession (spdu_in octets) (heard_open link) (h, new) e in
+heard_is_spelled (Open terms) new octets h b e =
+    let s = then_is fault.BadSession (spdu_in octets) (heard_open terms) (h, new) e in
     let k = spdu_back octets s.0 b s.1 in
-    open_back octets link s.0 h new k.0 k.1 s.2
+    open_back octets terms s.0 h new k.0 k.1 s.2
 heard_is_spelled Over new octets h b e = absurd cc
 heard_is_spelled Failed new octets h b e = absurd cc

@@ -2,7 +2,7 @@
 use Rattle.std.proofs.Common.{◌≡◌, ℕ, pos, List, Option, Some, None, Result, Ok, refl, sym, ap, ◌∙◌}
 use Rattle.std.proofs.lemmas.Bool.{eq-eqb}
 use Rattle.bay_assoc.specs.declared.fault.AssocFault.{AssocFault}
-use Rattle.bay_assoc.specs.declared.hearing.Link.{Link}
+use Rattle.bay_assoc.specs.declared.hearing.AssociationTerms.{AssociationTerms}
 use Rattle.bay_assoc.specs.declared.hearing.Phase.{Phase}
 use Rattle.bay_assoc.specs.declared.hearing.Phase.TheVariants.{Idle, Open, Over, Failed}
 use Rattle.bay_assoc.specs.Session.{connect, finish, abort, transfer}
@@ -14,68 +14,98 @@ use Rattle.bay_mms.proofs.InitiateLemmas.{initiate_read}
 use Rattle.bay_assoc.proofs.SpduLemmas.{spdu_again}
 use Rattle.bay_assoc.proofs.ValueLemmas.{user_read, request_read, associate_read, release_read}
 
-answered : (octets text : List ℕ) (link : Link) → IsAnswered octets text link → hearing Idle octets ≡ Ok (answer text, Open link)
+answered : (octets text : List ℕ) (terms : AssociationTerms) → IsAnswered octets text terms
+    → hearing Idle octets ≡ Ok (answer text, Open terms)
 unfolding hearing connected agreement
-answered octets text link a =
+answered octets text terms a =
     rw (
       spdu_again octets (connect a.user) a.spdu,
       request_read a.user a.request a.is_request,
       a.contexts,
       a.in_acse,
-      eq-eqb link.contexts.acse link.contexts.acse refl,
-      associate_read a.value (record { id = pos link.contexts.mms; value = a.pdu }) a.associate,
-      eq-eqb link.contexts.mms link.contexts.mms refl,
+      eq-eqb terms.contexts.acse terms.contexts.acse refl,
+      associate_read a.value (record { id = pos terms.contexts.mms; value = a.pdu }) a.associate,
+      eq-eqb terms.contexts.mms terms.contexts.mms refl,
       initiate_read a.pdu a.proposal a.initiate,
       a.is_agreed,
     )
     (ap with_size a.size ∙ ap with_text (sym a.is))
   where
     with_size : ℕ → Result (Hearing × Phase) AssocFault
-    with_size n = Ok (answer (answer_text a.request link.contexts a.agreed), Open (record { contexts = link.contexts; size = n }))
+    with_size n =
+        Ok (
+          answer (answer_text a.request terms.contexts a.agreed),
+          Open (record { contexts = terms.contexts; size = n }),
+        )
 
     with_text : List ℕ → Result (Hearing × Phase) AssocFault
-    with_text t = Ok (answer t, Open link)
+    with_text t = Ok (answer t, Open terms)
 
-released_so : (octets text : List ℕ) (link : Link) (user : Option (List ℕ)) → IsReleased octets text link user → hearing (Open link) octets ≡ Ok (released text, Over)
+released_so : (octets text : List ℕ) (terms : AssociationTerms) (user : Option (List ℕ))
+    → IsReleased octets text terms user → hearing (Open terms) octets ≡ Ok (released text, Over)
 unfolding hearing finished
-released_so octets text link None is = rw (spdu_again octets (finish None) is.0, is.1) refl
-released_so octets text link (Some user) is =
-    rw (spdu_again octets (finish (Some user)) is.1, user_read user (record { id = pos link.contexts.acse; value = is.0 }) is.2, eq-eqb link.contexts.acse link.contexts.acse refl, release_read is.0 is.3, is.4) refl
+released_so octets text terms None is = rw (spdu_again octets (finish None) is.0, is.1) refl
+released_so octets text terms (Some user) is =
+    rw (
+      spdu_again octets (finish (Some user)) is.1,
+      user_read user (record { id = pos terms.contexts.acse; value = is.0 }) is.2,
+      eq-eqb terms.contexts.acse terms.contexts.acse refl,
+      release_read is.0 is.3,
+      is.4,
+    ) refl
 
-data_so : (octets user pdu : List ℕ) (link : Link) → IsSpdu octets (transfer user) → IsUser user (record { id = pos link.contexts.mms; value = pdu }) → hearing (Open link) octets ≡ Ok (mms pdu, Open link)
+data_so : (octets user pdu : List ℕ) (terms : AssociationTerms) → IsSpdu octets (transfer user)
+    → IsUser user (record { id = pos terms.contexts.mms; value = pdu })
+    → hearing (Open terms) octets ≡ Ok (mms pdu, Open terms)
 unfolding hearing transferred
-data_so octets user pdu link spdu is =
-    rw (spdu_again octets (transfer user) spdu, user_read user (record { id = pos link.contexts.mms; value = pdu }) is, eq-eqb link.contexts.mms link.contexts.mms refl) refl
+data_so octets user pdu terms spdu is =
+    rw (
+      spdu_again octets (transfer user) spdu,
+      user_read user (record { id = pos terms.contexts.mms; value = pdu }) is,
+      eq-eqb terms.contexts.mms terms.contexts.mms refl,
+    ) refl
 
 abort_idle : (octets : List ℕ) → IsSpdu octets abort → hearing Idle octets ≡ Ok (aborted, Over)
 unfolding hearing
 abort_idle octets is = rw (spdu_again octets abort is) refl
 
-abort_open : (octets : List ℕ) (link : Link) → IsSpdu octets abort → hearing (Open link) octets ≡ Ok (aborted, Over)
+abort_open : (octets : List ℕ) (terms : AssociationTerms) → IsSpdu octets abort
+    → hearing (Open terms) octets ≡ Ok (aborted, Over)
 unfolding hearing
-abort_open octets link is = rw (spdu_again octets abort is) refl
+abort_open octets terms is = rw (spdu_again octets abort is) refl
 
-pub heard_so : (old new : Phase) (octets : List ℕ) (h : Hearing) → IsHeard old octets h new → hearing old octets ≡ Ok (h, new)
-heard_so Idle new octets (answer text) is = answered octets text is.0 is.1 ∙ ap (λ (p : Phase). Ok (answer text, p)) (sym is.2)
+pub heard_so : (old new : Phase) (octets : List ℕ) (h : Hearing) → IsHeard old octets h new
+    → hearing old octets ≡ Ok (h, new)
+heard_so Idle new octets (answer text) is =
+    answered octets text is.0 is.1 ∙ ap (λ (p : Phase). Ok (answer text, p)) (sym is.2)
 heard_so Idle new octets (mms pdu) is = absurd is
 heard_so Idle new octets (released text) is = absurd is
-heard_so Idle new octets aborted is = abort_idle octets is.0 ∙ ap (λ (p : Phase). Ok (aborted, p)) (sym is.1)
-heard_so (Open link) new octets (answer text) is = absurd is
-heard_so (Open link) new octets (mms pdu) is = data_so octets is.0 pdu link is.1 is.2 ∙ ap (λ (p : Phase). Ok (mms pdu, p)) (sym is.3)
-heard_so (Open link) new octets (released text) is = released_so octets text link is.0 is.1 ∙ ap (λ (p : Phase). Ok (released text, p)) (sym is.2)
-heard_so (Open link) new octets aborted is = abort_open octets link is.0 ∙ ap (λ (p : Phase). Ok (aborted, p)) (sym is.1)
+heard_so Idle new octets aborted is =
+    abort_idle octets is.0 ∙ ap (λ (p : Phase). Ok (aborted, p)) (sym is.1)
+heard_so (Open terms) new octets (answer text) is = absurd is
+heard_so (Open terms) new octets (mms pdu) is =
+    data_so octets is.0 pdu terms is.1 is.2 ∙ ap (λ (p : Phase). Ok (mms pdu, p)) (sym is.3)
+heard_so (Open terms) new octets (released text) is =
+    released_so octets text terms is.0 is.1 ∙ ap (λ (p : Phase). Ok (released text, p)) (sym is.2)
+heard_so (Open terms) new octets aborted is =
+    abort_open octets terms is.0 ∙ ap (λ (p : Phase). Ok (aborted, p)) (sym is.1)
 heard_so Over new octets h is = absurd is
 heard_so Failed new octets h is = absurd is
 
-same_ok : (x y : Hearing × Phase) → (let r : Result (Hearing × Phase) AssocFault = Ok x in r) ≡ Ok y → x ≡ y
+same_ok : (x y : Hearing × Phase) → (let r : Result (Hearing × Phase) AssocFault = Ok x in r) ≡ Ok y
+    → x ≡ y
 same_ok x y e = cc
 
-one_answer : (r : Result (Hearing × Phase) AssocFault) (h k : Hearing) (new next : Phase) → r ≡ Ok (h, new) → r ≡ Ok (k, next) → (h ≡ k) × (new ≡ next)
+one_answer : (r : Result (Hearing × Phase) AssocFault) (h k : Hearing) (new next : Phase)
+    → r ≡ Ok (h, new) → r ≡ Ok (k, next) → (h ≡ k) × (new ≡ next)
 one_answer r h k new next a b =
     let x : Hearing × Phase = (h, new) in
     let y : Hearing × Phase = (k, next) in
     let pair : x ≡ y = same_ok x y (sym a ∙ b) in
     (ap (λ (p : Hearing × Phase). p.0) pair, ap (λ (p : Hearing × Phase). p.1) pair)
 
-pub one_way : (old new next : Phase) (octets : List ℕ) (h k : Hearing) → IsHeard old octets h new → IsHeard old octets k next → (h ≡ k) × (new ≡ next)
-one_way old new next octets h k a b = one_answer (hearing old octets) h k new next (heard_so old new octets h a) (heard_so old next octets k b)
+pub one_way : (old new next : Phase) (octets : List ℕ) (h k : Hearing) → IsHeard old octets h new
+    → IsHeard old octets k next → (h ≡ k) × (new ≡ next)
+one_way old new next octets h k a b =
+    one_answer (hearing old octets) h k new next (heard_so old new octets h a)
+    (heard_so old next octets k b)

@@ -1,16 +1,16 @@
 -- What an association hears of a TSDU, and in which phase it is then.
 use Rattle.std.specs.Prelude.{ℕ, ℤ, pos, negsuc, ◌==◌, Bool, false, min, List, [], ◌∷◌, find, Option, Some, None, option_map, Result, Ok, Err, nat_lt, if◌then◌else◌}
-use Rattle.bay_ber.specs.Options.{◌>>=◌}
+use Rattle.bay_base.specs.Options.{◌>>=◌}
 use Rattle.bay_mms.specs.declared.request.Proposal.{Proposal}
 use Rattle.bay_mms.specs.declared.response.Agreed.{Agreed}
 use Rattle.bay_mms.specs.Grammar.{initiate_in}
 use Rattle.bay_mms.specs.Responses.{agreed_text}
-use Rattle.bay_mms.specs.Spelled.{◌>>◌}
+use Rattle.bay_base.specs.Results.{◌>>=◌ as ◌>>◌}
 use Rattle.bay_assoc.specs.declared.fault.AssocFault.{AssocFault}
 use Rattle.bay_assoc.specs.declared.fault.AssocFault.TheVariants as fault
 use Rattle.bay_assoc.specs.declared.presentation.Context.{Context}
 use Rattle.bay_assoc.specs.declared.hearing.Accepted.{Accepted}
-use Rattle.bay_assoc.specs.declared.hearing.Link.{Link}
+use Rattle.bay_assoc.specs.declared.hearing.AssociationTerms.{AssociationTerms}
 use Rattle.bay_assoc.specs.declared.hearing.Phase.{Phase}
 use Rattle.bay_assoc.specs.declared.hearing.Phase.TheVariants.{Idle, Open, Over, Failed}
 use Rattle.bay_assoc.specs.Results.{wanted}
@@ -29,6 +29,7 @@ pub data Hearing : Type 0 where
 
 -- ---- contexts
 
+-- whether a number that was read is this identifier
 abbrev pub is_id : ℤ → ℕ → Bool
 is_id (pos n) id = n == id
 is_id (negsuc n) id = false
@@ -37,9 +38,11 @@ is_id (negsuc n) id = false
 abbrev pub acse_of : List Context → Option ℕ
 acse_of contexts = option_map (λ c. c.id) (find (λ c. c.is_acse) contexts)
 
+-- the first context of MMS
 abbrev pub mms_of : List Context → Option ℕ
 mms_of contexts = option_map (λ c. c.id) (find (λ c. c.is_mms) contexts)
 
+-- the two, where both are offered
 unfoldable pub accepted_of : List Context → Option Accepted
 accepted_of contexts = do
   first ← acse_of contexts
@@ -49,11 +52,15 @@ accepted_of contexts = do
 -- the value in the context of ACSE; one in that of MMS is spelled as none of ACSE's, and another
 -- context was not accepted
 abbrev pub acse_value : Accepted → Carried → Result (List ℕ) AssocFault
-acse_value a c = if is_id c.id a.acse then Ok c.value else (if is_id c.id a.mms then Err fault.BadAcse else Err fault.NoContext)
+acse_value a c =
+    if is_id c.id a.acse then Ok c.value
+    else (if is_id c.id a.mms then Err fault.BadAcse else Err fault.NoContext)
 
 -- the value in the context of MMS
 abbrev pub mms_value : Accepted → Carried → Result (List ℕ) AssocFault
-mms_value a c = if is_id c.id a.mms then Ok c.value else (if is_id c.id a.acse then Err fault.BadAcse else Err fault.NoContext)
+mms_value a c =
+    if is_id c.id a.mms then Ok c.value
+    else (if is_id c.id a.acse then Err fault.BadAcse else Err fault.NoContext)
 
 -- ---- what is agreed
 
@@ -74,6 +81,7 @@ abbrev pub nesting_of : ℤ → ℤ
 nesting_of (pos n) = pos (min n 10)
 nesting_of (negsuc n) = negsuc n
 
+-- what is agreed on a proposal, where its size is large enough
 abbrev pub agreed_of : Proposal → Option Agreed
 agreed_of p = size_of p.size >>= λ size. Some (record {
   size = size;
@@ -87,7 +95,8 @@ agreed_of p = size_of p.size >>= λ size. Some (record {
 
 -- the TSDU that answers a request
 abbrev pub answer_text : Connect → Accepted → Agreed → List ℕ
-answer_text c a agreed = accept_text (connected_text c.called c.contexts a (associated_text a.mms (agreed_text agreed)))
+answer_text c a agreed =
+    accept_text (connected_text c.called c.contexts a (associated_text a.mms (agreed_text agreed)))
 
 -- What is agreed on with the contexts and the user data of a request, layer by layer: ACSE, MMS.
 unfoldable pub agreement : List Context → Carried → Result (Accepted × Agreed) AssocFault
@@ -108,21 +117,22 @@ connected user =
     Ok (answer (answer_text request x.0 x.1), Open (record { contexts = x.0; size = x.1.size }))
 
 -- a release, with a request of ACSE's or without user data
-unfoldable pub finished : Link → Option (List ℕ) → Result (Hearing × Phase) AssocFault
-finished link None = Ok (released (0x0A ∷ 0 ∷ []), Over)
-finished link (Some user) =
+unfoldable pub finished : AssociationTerms → Option (List ℕ) → Result (Hearing × Phase) AssocFault
+finished terms None = Ok (released (0x0A ∷ 0 ∷ []), Over)
+finished terms (Some user) =
     wanted fault.BadPresentation (user_in user) >> λ c.
-    acse_value link.contexts c >> λ value.
+    acse_value terms.contexts c >> λ value.
     wanted fault.BadAcse (release_in value) >> λ ignored.
-    Ok (released (disconnect_text (user_text link.contexts.acse release_text)), Over)
+    Ok (released (disconnect_text (user_text terms.contexts.acse release_text)), Over)
 
 -- data
-unfoldable pub transferred : Link → List ℕ → Result (Hearing × Phase) AssocFault
-transferred link user =
+unfoldable pub transferred : AssociationTerms → List ℕ → Result (Hearing × Phase) AssocFault
+transferred terms user =
     wanted fault.BadPresentation (user_in user) >> λ c.
-    mms_value link.contexts c >> λ pdu.
-    Ok (mms pdu, Open link)
+    mms_value terms.contexts c >> λ pdu.
+    Ok (mms pdu, Open terms)
 
+-- before the association: a request for one, or an abort
 abbrev pub heard_idle : Spdu → Result (Hearing × Phase) AssocFault
 heard_idle (connect user) = connected user
 heard_idle accept = Err fault.OutOfPhase
@@ -131,17 +141,18 @@ heard_idle disconnect = Err fault.OutOfPhase
 heard_idle abort = Ok (aborted, Over)
 heard_idle (transfer user) = Err fault.OutOfPhase
 
-abbrev pub heard_open : Link → Spdu → Result (Hearing × Phase) AssocFault
-heard_open link (connect user) = Err fault.OutOfPhase
-heard_open link accept = Err fault.OutOfPhase
-heard_open link (finish user) = finished link user
-heard_open link disconnect = Err fault.OutOfPhase
-heard_open link abort = Ok (aborted, Over)
-heard_open link (transfer user) = transferred link user
+-- in an open association: data, a request for a release, or an abort
+abbrev pub heard_open : AssociationTerms → Spdu → Result (Hearing × Phase) AssocFault
+heard_open terms (connect user) = Err fault.OutOfPhase
+heard_open terms accept = Err fault.OutOfPhase
+heard_open terms (finish user) = finished terms user
+heard_open terms disconnect = Err fault.OutOfPhase
+heard_open terms abort = Ok (aborted, Over)
+heard_open terms (transfer user) = transferred terms user
 
 -- what is heard of a TSDU in a phase, and the phase after it
 unfoldable pub hearing : Phase → List ℕ → Result (Hearing × Phase) AssocFault
 hearing Idle octets = wanted fault.BadSession (spdu_in octets) >> heard_idle
-hearing (Open link) octets = wanted fault.BadSession (spdu_in octets) >> heard_open link
+hearing (Open terms) octets = wanted fault.BadSession (spdu_in octets) >> heard_open terms
 hearing Over octets = Err fault.OutOfPhase
 hearing Failed octets = Err fault.Failed

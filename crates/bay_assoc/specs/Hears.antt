@@ -2,7 +2,7 @@
 use Rattle.std.specs.Prelude.{ℕ, ◌≡◌, ◌⊎◌, ◌++◌, List, Option, Some, None, IsSome, Result, Ok, Err}
 use Rattle.bay_assoc.specs.declared.fault.AssocFault.{AssocFault}
 use Rattle.bay_assoc.specs.declared.fault.AssocFault.TheVariants.{OutOfMemory}
-use Rattle.bay_assoc.specs.declared.hearing.Link.{Link}
+use Rattle.bay_assoc.specs.declared.hearing.AssociationTerms.{AssociationTerms}
 use Rattle.bay_assoc.specs.declared.hearing.Heard.{Heard}
 use Rattle.bay_assoc.specs.declared.hearing.Heard.TheVariants as heard
 use Rattle.bay_assoc.specs.declared.hearing.Phase.{Phase}
@@ -11,17 +11,18 @@ use Rattle.bay_assoc.specs.Hearing.{hearing}
 use Rattle.bay_assoc.specs.Views.{hearing_of}
 
 -- what an open association has agreed on
-abbrev pub link_of : Phase → Option Link
-link_of Idle = None
-link_of (Open link) = Some link
-link_of Over = None
-link_of Failed = None
+abbrev pub association_terms : Phase → Option AssociationTerms
+association_terms Idle = None
+association_terms (Open terms) = Some terms
+association_terms Over = None
+association_terms Failed = None
 
 -- What is heard is answered, and its phase follows; its fault, or want of memory, leaves an
 -- association that has failed.
 abbrev pub Hears : Phase → List ℕ → Result Heard AssocFault → Phase → Type 0
 Hears old octets (Ok h) new = hearing old octets ≡ Ok (hearing_of h, new)
-Hears old octets (Err fault) new = (new ≡ Failed) × ((fault ≡ OutOfMemory) ⊎ (hearing old octets ≡ Err fault))
+Hears old octets (Err fault) new =
+    (new ≡ Failed) × ((fault ≡ OutOfMemory) ⊎ (hearing old octets ≡ Err fault))
 
 -- A PDU of MMS stands last in its TSDU,
 abbrev pub StandsLast : List ℕ → Heard → Type 0
@@ -33,6 +34,6 @@ StandsLast octets heard.Aborted = Unit {0}
 -- and is heard where the association is open.
 abbrev pub IsOpenFor : Heard → Phase → Type 0
 IsOpenFor (heard.Answer answer) phase = Unit {0}
-IsOpenFor (heard.Mms pdu) phase = IsSome (link_of phase)
+IsOpenFor (heard.Mms pdu) phase = IsSome (association_terms phase)
 IsOpenFor (heard.Released answer) phase = Unit {0}
 IsOpenFor heard.Aborted phase = Unit {0}

@@ -1,7 +1,7 @@
 -- Session protocol data units (X.225 8): an identifier, a length, and parameters, which are spelled
 -- likewise.
 use Rattle.std.specs.Prelude.{ℕ, zero, suc, ◌+◌, ◌*◌, ◌==◌, ◌&&◌, Bool, false, List, [], ◌∷◌, ◌++◌, length, take, drop, filter, Option, Some, None, option_map, nat_lt, if◌then◌else◌}
-use Rattle.bay_ber.specs.Options.{◌>>=◌}
+use Rattle.bay_base.specs.Options.{◌>>=◌}
 
 -- an identifier and the octets that the length behind it counts: an SPDU, a parameter or a group of
 -- parameters
@@ -23,17 +23,22 @@ size_at (first ∷ octets) = if first == 255 then long_size octets else Some (fi
 
 -- the octets that a length counts, and those behind them
 unfoldable pub counted_at : List ℕ → Option (List ℕ × List ℕ)
-counted_at octets = size_at octets >>= λ size. if nat_lt (length size.1) size.0 then None else Some (take size.0 size.1, drop size.0 size.1)
+counted_at octets =
+    size_at octets >>= λ size. if nat_lt (length size.1) size.0 then None
+    else Some (take size.0 size.1, drop size.0 size.1)
 
 -- a unit, and the octets behind it
 unfoldable pub unit_at : List ℕ → Option (Unit × List ℕ)
 unit_at [] = None
-unit_at (identifier ∷ octets) = counted_at octets >>= λ counted. Some (record { identifier = identifier; content = counted.0 }, counted.1)
+unit_at (identifier ∷ octets) =
+    counted_at octets >>= λ counted. Some
+    (record { identifier = identifier; content = counted.0 }, counted.1)
 
 -- units in front of others, where there are others
 abbrev pub onto : List Unit → Option (List Unit) → Option (List Unit)
 onto front = option_map (λ units. front ++ units)
 
+-- a unit in front of those behind it, where they are units
 abbrev pub with_front : Option (Unit × List ℕ) → (List ℕ → Option (List Unit)) → Option (List Unit)
 with_front (Some first) rest = onto (first.0 ∷ []) (rest first.1)
 with_front None rest = None
@@ -70,6 +75,7 @@ pub data Users : Type 0 where
   once : List ℕ → Users
   several : Users
 
+-- how often they stand there, of units that are user data
 abbrev pub users_of : List Unit → Users
 users_of [] = missing
 users_of (u ∷ []) = once u.content
@@ -121,4 +127,5 @@ is_transfer octets = false
 
 -- the SPDU that a TSDU is; all behind the front of a DATA TRANSFER is user data
 unfoldable pub spdu_in : List ℕ → Option Spdu
-spdu_in octets = if is_transfer octets then Some (transfer (drop 4 octets)) else unit_in octets >>= spdu_of
+spdu_in octets =
+    if is_transfer octets then Some (transfer (drop 4 octets)) else unit_in octets >>= spdu_of

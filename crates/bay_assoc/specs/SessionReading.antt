@@ -8,7 +8,8 @@ use Rattle.bay_assoc.specs.SessionViews.{unit_of}
 -- what was read next of the units in octets, and which octets are left
 abbrev pub NextUnit : List ℕ → Next → List ℕ → Type 0
 NextUnit old next.End new = units_in old ≡ Some []
-NextUnit old (next.Unit u) new = (units_in old ≡ onto (unit_of u ∷ []) (units_in new)) × (length new < length old)
+NextUnit old (next.Unit u) new =
+    (units_in old ≡ onto (unit_of u ∷ []) (units_in new)) × (length new < length old)
 NextUnit old next.Bad new = units_in old ≡ None
 
 -- the user data once a unit has been read
@@ -17,5 +18,6 @@ then_user missing octets = once octets
 then_user (once first) octets = several
 then_user several octets = several
 
+-- the same, if the unit is user data
 abbrev pub with_user : Users → Unit → Users
 with_user users u = if is_user u then then_user users u.content else users

@@ -10,9 +10,10 @@ pub record IsPduSize (size : ℕ) : Type 0 where
   pub least : 256 ≤ size
   pub most : size ≤ 65000
 
+-- An open association has agreed on such a size.
 abbrev pub IsSized : Phase → Type 0
 IsSized Idle = Unit {0}
-IsSized (Open link) = IsPduSize link.size
+IsSized (Open terms) = IsPduSize terms.size
 IsSized Over = Unit {0}
 IsSized Failed = Unit {0}
 

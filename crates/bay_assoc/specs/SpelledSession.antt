@@ -14,7 +14,9 @@ IsSize (first ∷ high ∷ low ∷ next ∷ octets) n = ⊥
 -- and so many octets.
 abbrev pub SpellUnits : List ℕ → List Unit → Type 0
 SpellUnits octets [] = octets ≡ []
-SpellUnits octets (u ∷ units) = (size : List ℕ) × (rest : List ℕ) × (octets ≡ u.identifier ∷ (size ++ (u.content ++ rest))) × IsSize size (length u.content) × SpellUnits rest units
+SpellUnits octets (u ∷ units) =
+    (size : List ℕ) × (rest : List ℕ) × (octets ≡ u.identifier ∷ (size ++ (u.content ++ rest)))
+    × IsSize size (length u.content) × SpellUnits rest units
 
 -- The octets are one unit under an identifier, and its content is parameters, of which these are
 -- user data.

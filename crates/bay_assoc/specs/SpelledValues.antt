@@ -5,6 +5,7 @@ use Rattle.std.specs.List.{list_any}
 use Rattle.std.specs.Str.{bytes_eq}
 use Rattle.bay_ber.specs.Content.{IsInteger}
 use Rattle.bay_ber.specs.Values.{Part, value, SpellAll, is_known}
+use Rattle.bay_mms.specs.Spelled.{AreEach}
 use Rattle.bay_mms.specs.Tags.{context, constructed, sequence, int_tag}
 use Rattle.bay_assoc.specs.Tags.{oid_tag, set_tag, external_tag, application, acse_syntax, mms_syntax, ber_syntax, mms_application}
 use Rattle.bay_assoc.specs.declared.presentation.Context.{Context}
@@ -51,21 +52,16 @@ pub record IsContext (octets : List ℕ) (c : Context) : Type 0 where
   pub some : 0 < c.id
   pub low : c.id < 32768
   pub listed : SpellAll list (map (value oid_tag) transfers)
-  pub is_acse : c.is_acse ≡ (list_any (λ t. bytes_eq t ber_syntax) transfers && bytes_eq name acse_syntax)
-  pub is_mms : c.is_mms ≡ (list_any (λ t. bytes_eq t ber_syntax) transfers && bytes_eq name mms_syntax)
-
--- Each of the octets offers a context.
-abbrev pub AreContexts : List (List ℕ) → List Context → Type 0
-AreContexts [] [] = Unit {0}
-AreContexts [] (c ∷ contexts) = ⊥
-AreContexts (octets ∷ lists) [] = ⊥
-AreContexts (octets ∷ lists) (c ∷ contexts) = IsContext octets c × AreContexts lists contexts
+  pub is_acse : c.is_acse ≡
+      (list_any (λ t. bytes_eq t ber_syntax) transfers && bytes_eq name acse_syntax)
+  pub is_mms : c.is_mms ≡ (list_any (λ t. bytes_eq t ber_syntax) transfers
+      && bytes_eq name mms_syntax)
 
 -- The octets offer at most 16 contexts, no two of one identifier.
 pub record IsOffer (octets : List ℕ) (contexts : List Context) : Type 0 where
   pub lists : List (List ℕ)
   pub parts : SpellAll octets (map (value sequence) lists)
-  pub each : AreContexts lists contexts
+  pub each : AreEach IsContext lists contexts
   pub few : length contexts ≤ 16
   pub distinct : are_distinct contexts ≡ true
 
@@ -78,7 +74,8 @@ IsSelectors [] (Some called) = ⊥
 IsSelectors (calling ∷ []) None = calling.tag ≡ context 1
 IsSelectors (first ∷ []) (Some called) = (first ≡ value (context 2) called) × (length called ≤ 16)
 IsSelectors (calling ∷ second ∷ []) None = ⊥
-IsSelectors (calling ∷ second ∷ []) (Some called) = (calling.tag ≡ context 1) × (second ≡ value (context 2) called) × (length called ≤ 16)
+IsSelectors (calling ∷ second ∷ []) (Some called) =
+    (calling.tag ≡ context 1) × (second ≡ value (context 2) called) × (length called ≤ 16)
 IsSelectors (calling ∷ second ∷ next ∷ parts) called = ⊥
 
 -- The octets are parameters of the normal mode, of which these are known, in this order: the
@@ -89,7 +86,8 @@ pub record IsNormal (octets : List ℕ) (c : Connect) : Type 0 where
   pub list : List ℕ
   pub user : List ℕ
   pub spelled : SpellAll octets fields
-  pub known : filter (is_known (context 1 ∷ context 2 ∷ constructed 4 ∷ application 1 ∷ [])) fields ≡ selectors ++ (value (constructed 4) list ∷ value (application 1) user ∷ [])
+  pub known : filter (is_known (context 1 ∷ context 2 ∷ constructed 4 ∷ application 1 ∷ [])) fields
+      ≡ selectors ++ (value (constructed 4) list ∷ value (application 1) user ∷ [])
   pub are_selectors : IsSelectors selectors c.called
   pub offer : IsOffer list c.contexts
   pub carried : IsListed user c.user
@@ -109,8 +107,10 @@ pub record IsRequest (octets : List ℕ) (c : Connect) : Type 0 where
   pub normal : List ℕ
   pub whole : SpellAll octets (value set_tag content ∷ [])
   pub spelled : SpellAll content fields
-  pub known : (filter (is_known (constructed 0 ∷ constructed 2 ∷ [])) fields ≡ value (constructed 0) mode ∷ value (constructed 2) normal ∷ [])
-      ⊎ (filter (is_known (constructed 0 ∷ constructed 2 ∷ [])) fields ≡ value (constructed 2) normal ∷ value (constructed 0) mode ∷ [])
+  pub known : (filter (is_known (constructed 0 ∷ constructed 2 ∷ [])) fields
+      ≡ value (constructed 0) mode ∷ value (constructed 2) normal ∷ [])
+      ⊎ (filter (is_known (constructed 0 ∷ constructed 2 ∷ [])) fields
+      ≡ value (constructed 2) normal ∷ value (constructed 0) mode ∷ [])
   pub is_mode : IsMode mode
   pub is_normal : IsNormal normal c
 
@@ -126,7 +126,8 @@ pub record IsAssociate (octets : List ℕ) (c : Carried) : Type 0 where
   pub inner : List ℕ
   pub whole : SpellAll octets (value (application 0) content ∷ [])
   pub spelled : SpellAll content fields
-  pub known : filter (is_known (constructed 1 ∷ constructed 30 ∷ [])) fields ≡ value (constructed 1) name ∷ value (constructed 30) information ∷ []
+  pub known : filter (is_known (constructed 1 ∷ constructed 30 ∷ [])) fields
+      ≡ value (constructed 1) name ∷ value (constructed 30) information ∷ []
   pub is_name : SpellAll name (value oid_tag mms_application ∷ [])
   pub is_external : SpellAll information (value external_tag inner ∷ [])
   pub carried : IsCarried inner c

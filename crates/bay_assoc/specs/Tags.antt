@@ -4,13 +4,15 @@ use Rattle.std.specs.Prelude.{ℕ, true, false, List, [], ◌∷◌}
 use Rattle.bay_ber.specs.declared.tag.Tag.{Tag}
 use Rattle.bay_ber.specs.declared.tag.Class.TheVariants.{Universal, Application}
 
--- an object identifier, a set and an external
+-- an object identifier
 abbrev pub oid_tag : Tag
 oid_tag = record { class = Universal; constructed = false; number = 6 }
 
+-- a set
 abbrev pub set_tag : Tag
 set_tag = record { class = Universal; constructed = true; number = 17 }
 
+-- an external
 abbrev pub external_tag : Tag
 external_tag = record { class = Universal; constructed = true; number = 8 }
 

@@ -4,6 +4,7 @@ use Rattle.bay_assoc.specs.declared.hearing.Phase.{Phase}
 use Rattle.bay_assoc.specs.declared.hearing.Phase.TheVariants.{Idle, Open, Over, Failed}
 use Rattle.bay_assoc.specs.Session.{Spdu, connect, accept, finish, disconnect, abort, transfer}
 
+-- A request for a connection, which is answered.
 abbrev pub IsConnect : Spdu → Type 0
 IsConnect (connect user) = Unit {0}
 IsConnect accept = ⊥
@@ -12,6 +13,7 @@ IsConnect disconnect = ⊥
 IsConnect abort = ⊥
 IsConnect (transfer user) = ⊥
 
+-- A request for a release, which is answered.
 abbrev pub IsFinish : Spdu → Type 0
 IsFinish (connect user) = ⊥
 IsFinish accept = ⊥
@@ -24,7 +26,7 @@ IsFinish (transfer user) = ⊥
 abbrev pub TakesMemory : Phase → Option Spdu → Type 0
 TakesMemory Idle (Some s) = IsConnect s
 TakesMemory Idle None = ⊥
-TakesMemory (Open link) (Some s) = IsFinish s
-TakesMemory (Open link) None = ⊥
+TakesMemory (Open terms) (Some s) = IsFinish s
+TakesMemory (Open terms) None = ⊥
 TakesMemory Over s = ⊥
 TakesMemory Failed s = ⊥

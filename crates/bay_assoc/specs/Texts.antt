@@ -22,7 +22,9 @@ unit_text identifier content = identifier ∷ (size_text (length content) ++ con
 -- functional unit; then user data
 abbrev pub accept_text : List ℕ → List ℕ
 accept_text user =
-    unit_text 0x0E ((0x05 ∷ 0x06 ∷ 0x13 ∷ 0x01 ∷ 0x00 ∷ 0x16 ∷ 0x01 ∷ 0x02 ∷ 0x14 ∷ 0x02 ∷ 0x00 ∷ 0x02 ∷ []) ++ unit_text 0xC1 user)
+    unit_text 0x0E
+    ((0x05 ∷ 0x06 ∷ 0x13 ∷ 0x01 ∷ 0x00 ∷ 0x16 ∷ 0x01 ∷ 0x02 ∷ 0x14 ∷ 0x02 ∷ 0x00 ∷ 0x02 ∷ [])
+    ++ unit_text 0xC1 user)
 
 -- a DISCONNECT with user data
 abbrev pub disconnect_text : List ℕ → List ℕ
@@ -36,7 +38,8 @@ transfer_text user = 1 ∷ 0 ∷ 1 ∷ 0 ∷ user
 
 -- a value in a context
 abbrev pub carried_text : Tag → ℕ → List ℕ → List ℕ
-carried_text tag id value = element tag (element int_tag (integer_octets (pos id)) ++ element (constructed 0) value)
+carried_text tag id value =
+    element tag (element int_tag (integer_octets (pos id)) ++ element (constructed 0) value)
 
 -- fully encoded user data
 abbrev pub user_text : ℕ → List ℕ → List ℕ
@@ -46,8 +49,10 @@ user_text id value = element (application 1) (carried_text sequence id value)
 -- (2).
 abbrev pub result_text : Accepted → Context → List ℕ
 result_text a c =
-    element sequence (if (c.id == a.acse) || (c.id == a.mms) then 0x80 ∷ 0x01 ∷ 0x00 ∷ 0x81 ∷ 0x02 ∷ 0x51 ∷ 0x01 ∷ [] else 0x80 ∷ 0x01 ∷ 0x02 ∷ [])
+    element sequence (if (c.id == a.acse) || (c.id == a.mms)
+    then 0x80 ∷ 0x01 ∷ 0x00 ∷ 0x81 ∷ 0x02 ∷ 0x51 ∷ 0x01 ∷ [] else 0x80 ∷ 0x01 ∷ 0x02 ∷ [])
 
+-- what comes of each of them, one behind another
 abbrev pub results_text : Accepted → List Context → List ℕ
 results_text a [] = []
 results_text a (c ∷ contexts) = result_text a c ++ results_text a contexts
@@ -62,7 +67,9 @@ selector_text (Some octets) = element (context 3) octets
 abbrev pub connected_text : Option (List ℕ) → List Context → Accepted → List ℕ → List ℕ
 connected_text called contexts a value =
     element set_tag (element (constructed 0) (0x80 ∷ 0x01 ∷ 0x01 ∷ [])
-    ++ element (constructed 2) (selector_text called ++ (element (constructed 5) (results_text a contexts) ++ user_text a.acse value)))
+    ++ element (constructed 2)
+    (selector_text called ++
+    (element (constructed 5) (results_text a contexts) ++ user_text a.acse value)))
 
 -- ---- ACSE
 

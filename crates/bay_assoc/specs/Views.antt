@@ -12,11 +12,13 @@ use Rattle.bay_assoc.specs.Session.{Users, missing, once, several, Spdu, connect
 use Rattle.bay_assoc.specs.Presentation.{Carried, Connect}
 use Rattle.bay_assoc.specs.Hearing.{Hearing, answer, mms, released, aborted}
 
+-- how often user data stand among parameters
 abbrev pub users_of : UserData → Users
 users_of user.Missing = missing
 users_of (user.Once octets) = once octets.now
 users_of user.Several = several
 
+-- an SPDU
 abbrev pub spdu_view : code.Spdu → Spdu
 spdu_view (spdu.Connect octets) = connect octets.now
 spdu_view spdu.Accept = accept
@@ -25,12 +27,20 @@ spdu_view spdu.Disconnect = disconnect
 spdu_view spdu.Abort = abort
 spdu_view (spdu.Transfer octets) = transfer octets.now
 
+-- a value in a context
 abbrev pub carried_view : carried.Carried → Carried
 carried_view c = record { id = c.id; value = c.value.now }
 
+-- a request for a connection
 abbrev pub connect_view : request.Connect → Connect
-connect_view c = record { called = option_map (λ o. o.now) c.called; contexts = c.contexts.items; user = carried_view c.user }
+connect_view c =
+    record {
+      called = option_map (λ o. o.now) c.called;
+      contexts = c.contexts.items;
+      user = carried_view c.user;
+    }
 
+-- what is heard of a TSDU
 abbrev pub hearing_of : Heard → Hearing
 hearing_of (heard.Answer octets) = answer octets.items
 hearing_of (heard.Mms octets) = mms octets.now

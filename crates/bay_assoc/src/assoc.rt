@@ -1,7 +1,7 @@
 // An association as its user sees it.
 ghost use Rattle.std.specs.Prelude.{◌≡◌, ◌≤◌, ◌++◌, ◌↔◌, ℕ, List, Ok, length, IfOk, IfSome, IsErrOf, IsSome, IsTrue};
 ghost use Rattle.bay_assoc.specs.Hearing.{mms, hearing};
-ghost use Rattle.bay_assoc.specs.Hears.{link_of, Hears, StandsLast, IsOpenFor};
+ghost use Rattle.bay_assoc.specs.Hears.{association_terms, Hears, StandsLast, IsOpenFor};
 ghost use Rattle.bay_assoc.specs.Session.{spdu_in};
 ghost use Rattle.bay_assoc.specs.Sized.{IsShort};
 ghost use Rattle.bay_assoc.specs.TakesMemory.{TakesMemory};
@@ -52,7 +52,8 @@ impl Assoc {
     pub fn on_tsdu<'a>(&mut self, tsdu: &'a [u8]) -> Result<Heard<'a>, AssocFault>
         ensures heard { Hears self.old tsdu.now result self.new }
         // Memory is wanting only where an answer is due.
-        ensures memory { IsErrOf result AssocFault.OutOfMemory → TakesMemory self.old (spdu_in tsdu.now) }
+        ensures memory { IsErrOf result AssocFault.OutOfMemory
+            → TakesMemory self.old (spdu_in tsdu.now) }
         // An answer has at most 1,000 octets. A PDU of MMS stands last in the TSDU, and is heard
         // where it can be answered.
         ensures short { IfOk result IsShort }
@@ -68,7 +69,7 @@ impl Assoc {
 
     /// Whether the association is open.
     pub fn is_open(&self) -> bool
-        ensures { IsTrue result ↔ IsSome (link_of self.now) }
+        ensures { IsTrue result ↔ IsSome (association_terms self.now) }
     {
         matches!(self.phase, Phase::Open(_))
     }
@@ -82,13 +83,13 @@ impl Assoc {
 
     /// The octets of the largest PDU of MMS, as agreed: 256 to 65,000. The association is open.
     pub fn pdu_size(&self) -> u32
-        requires { IsSome (link_of self.now) }
-        ensures size { IfSome (link_of self.now) (λ link. result ≡ link.size) }
+        requires { IsSome (association_terms self.now) }
+        ensures size { IfSome (association_terms self.now) (λ terms. result ≡ terms.size) }
         ensures least { 256 ≤ result }
         ensures most { result ≤ 65_000 }
     {
         match self.phase {
-            Phase::Open(link) => link.size,
+            Phase::Open(terms) => terms.size,
             Phase::Idle | Phase::Over | Phase::Failed => unreachable!(),
         }
     }
@@ -97,14 +98,17 @@ impl Assoc {
     /// of the TSDU are these, at most 21, and then the PDU. So a PDU within the size agreed makes a
     /// TSDU of at most 65,021 octets. The association is open.
     pub fn front(&self, count: u32) -> ArrayVec<u8, 21>
-        requires open { IsSome (link_of self.now) }
+        requires open { IsSome (association_terms self.now) }
         requires short { count ≤ 65_000 }
-        ensures exact { (pdu : List ℕ) → length pdu ≡ count → IfSome (link_of self.now) (λ link. result.items ++ pdu ≡ transfer_text (user_text link.contexts.mms pdu)) }
+        ensures exact { (pdu : List ℕ) → length pdu ≡ count
+            → IfSome (association_terms self.now)
+            (λ terms. result.items ++ pdu ≡ transfer_text (user_text terms.contexts.mms pdu)) }
         // The TSDU is heard as this PDU.
-        ensures heard { (pdu : List ℕ) → length pdu ≡ count → hearing self.now (result.items ++ pdu) ≡ Ok (mms pdu, self.now) }
+        ensures heard { (pdu : List ℕ) → length pdu ≡ count
+            → hearing self.now (result.items ++ pdu) ≡ Ok (mms pdu, self.now) }
     {
         match self.phase {
-            Phase::Open(link) => front(link.contexts.mms, count),
+            Phase::Open(terms) => front(terms.contexts.mms, count),
             Phase::Idle | Phase::Over | Phase::Failed => unreachable!(),
         }
     }

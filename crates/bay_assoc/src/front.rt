@@ -72,7 +72,8 @@ fn id_length(id: u16) -> u32
 /// The octets of a DATA TRANSFER before the value of so many octets that it carries in a context.
 pub(crate) fn front(id: u16, count: u32) -> ArrayVec<u8, 21>
     requires { count ≤ 65_000 }
-    ensures text { (value : List ℕ) → length value ≡ count → result.items ++ value ≡ transfer_text (user_text id value) }
+    ensures text { (value : List ℕ) → length value ≡ count
+        → result.items ++ value ≡ transfer_text (user_text id value) }
     ensures low { id < 65_536 }
 {
     let carried = id_length(id) + element_length(count) as u32;

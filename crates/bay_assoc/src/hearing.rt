@@ -1,9 +1,9 @@
 // The phases of an association, and what is heard of a TSDU in each.
 ghost use Rattle.std.specs.Prelude.{◌≡◌, ◌≤◌, ◌∷◌, [], Some, length, option_map, IfOk, IfSome, IsErrOf};
 ghost use Rattle.bay_base.specs.Exact.{Gives};
+ghost use Rattle.bay_base.specs.Results.{IsRead};
 ghost use Rattle.bay_assoc.specs.Hearing.{answer_text, hearing};
 ghost use Rattle.bay_assoc.specs.Hearing as spec;
-ghost use Rattle.bay_assoc.specs.Results.{Holds};
 ghost use Rattle.bay_assoc.specs.Session.{spdu_in};
 ghost use Rattle.bay_assoc.specs.Sized.{IsPduSize, IsSized, IsShort};
 ghost use Rattle.bay_assoc.specs.TakesMemory.{TakesMemory};
@@ -30,7 +30,7 @@ pub struct Accepted {
 
 /// What an open association has agreed on.
 #[derive(Clone, Copy)]
-pub struct Link {
+pub struct AssociationTerms {
     /// The contexts that values come in.
     pub contexts: Accepted,
     /// The octets of the largest PDU of MMS.
@@ -43,7 +43,7 @@ pub enum Phase {
     /// Nothing was heard.
     Idle,
     /// The association was requested and answered.
-    Open(Link),
+    Open(AssociationTerms),
     /// The association was released or aborted.
     Over,
     /// A TSDU was refused.
@@ -102,7 +102,8 @@ fn accepted_of(contexts: &[Context]) -> Option<Accepted>
 
 // The value in the context of ACSE.
 fn acse_value<'a>(contexts: Accepted, carried: Carried<'a>) -> Result<&'a [u8], AssocFault>
-    ensures { Holds (λ octets. octets.now) result (spec.acse_value contexts (carried_view carried.entry)) }
+    ensures { IsRead (λ octets. octets.now) result
+        (spec.acse_value contexts (carried_view carried.entry)) }
 {
     if is_id(carried.id, contexts.acse) {
         Ok(carried.value)
@@ -115,7 +116,8 @@ fn acse_value<'a>(contexts: Accepted, carried: Carried<'a>) -> Result<&'a [u8], 
 
 // The value in the context of MMS.
 fn mms_value<'a>(contexts: Accepted, carried: Carried<'a>) -> Result<&'a [u8], AssocFault>
-    ensures value { Holds (λ octets. octets.now) result (spec.mms_value contexts (carried_view carried.entry)) }
+    ensures value { IsRead (λ octets. octets.now) result
+        (spec.mms_value contexts (carried_view carried.entry)) }
     ensures memory { IsErrOf result AssocFault.OutOfMemory → ⊥ }
 {
     if is_id(carried.id, contexts.mms) {
@@ -184,7 +186,8 @@ fn answer(
     contexts: Accepted,
     agreed: Agreed,
 ) -> Result<Vec<u8>, AllocError>
-    ensures text { IfOk result (λ octets. octets.items ≡ answer_text (connect_view request.now) contexts agreed) }
+    ensures text { IfOk result
+        (λ octets. octets.items ≡ answer_text (connect_view request.now) contexts agreed) }
     ensures few { IfOk result (λ octets. length octets.items ≤ 1_000) }
 {
     let pdu = write_agreed(alloc, agreed)?;
@@ -197,7 +200,8 @@ fn answer(
 // What is agreed on with the contexts and the user data of a request: ACSE, and MMS within it.
 #[tactic(auto, unfolding(crate::specs::Hearing::agreement))]
 fn agreement(contexts: &[Context], user: Carried<'_>) -> Result<(Accepted, Agreed), AssocFault>
-    ensures agreement { Holds (λ x. (x.0, x.1)) result (spec.agreement contexts.now (carried_view user.entry)) }
+    ensures agreement { IsRead (λ x. (x.0, x.1)) result
+        (spec.agreement contexts.now (carried_view user.entry)) }
     ensures sized { IfOk result (λ x. IsPduSize x.1.size) }
 {
     let contexts = accepted_of(contexts).ok_or(AssocFault::NoContext)?;
@@ -212,18 +216,19 @@ fn agreement(contexts: &[Context], user: Carried<'_>) -> Result<(Accepted, Agree
 // A request for a connection.
 #[tactic(auto, unfolding(crate::specs::Hearing::connected))]
 fn connected<'a>(alloc: Global, user: &'a [u8]) -> Result<(Heard<'a>, Phase), AssocFault>
-    ensures heard { Gives AssocFault.OutOfMemory (λ x. (hearing_of x.0, x.1)) result (spec.connected user.now) }
+    ensures heard { Gives AssocFault.OutOfMemory (λ x. (hearing_of x.0, x.1)) result
+        (spec.connected user.now) }
     ensures short { IfOk result (λ x. IsShort x.0) }
     ensures sized { IfOk result (λ x. IsSized x.1) }
 {
     let request = request_in(alloc, user)?;
     let (contexts, agreed) = agreement(request.contexts.as_slice(), request.user)?;
     let octets = answer(alloc, &request, contexts, agreed)?;
-    let link = Link {
+    let terms = AssociationTerms {
         contexts,
         size: agreed.size,
     };
-    Ok((Heard::Answer(octets), Phase::Open(link)))
+    Ok((Heard::Answer(octets), Phase::Open(terms)))
 }
 
 // The answer to a FINISH without user data.
@@ -240,10 +245,11 @@ fn disconnect_alone(alloc: Global) -> Result<Vec<u8>, AllocError>
 #[tactic(auto, unfolding(crate::specs::Hearing::finished))]
 fn finished<'a>(
     alloc: Global,
-    link: Link,
+    terms: AssociationTerms,
     user: Option<&'a [u8]>,
 ) -> Result<(Heard<'a>, Phase), AssocFault>
-    ensures heard { Gives AssocFault.OutOfMemory (λ x. (hearing_of x.0, x.1)) result (spec.finished link (option_map (λ octets. octets.now) user.entry)) }
+    ensures heard { Gives AssocFault.OutOfMemory (λ x. (hearing_of x.0, x.1)) result
+        (spec.finished terms (option_map (λ octets. octets.now) user.entry)) }
     ensures short { IfOk result (λ x. IsShort x.0) }
     ensures sized { IfOk result (λ x. IsSized x.1) }
 {
@@ -251,32 +257,37 @@ fn finished<'a>(
         None => disconnect_alone(alloc)?,
         Some(user) => {
             let carried = user_in(user).ok_or(AssocFault::BadPresentation)?;
-            let value = acse_value(link.contexts, carried)?;
+            let value = acse_value(terms.contexts, carried)?;
             release_in(value).ok_or(AssocFault::BadAcse)?;
-            text::released(alloc, link.contexts.acse)?
+            text::released(alloc, terms.contexts.acse)?
         }
     };
     Ok((Heard::Released(octets), Phase::Over))
 }
 
-// Data.
+// What is heard of data: the PDU of MMS that they carry in its context.
 #[tactic(auto, unfolding(crate::specs::Hearing::transferred))]
-fn transferred<'a>(link: Link, user: &'a [u8]) -> Result<(Heard<'a>, Phase), AssocFault>
-    requires { IsPduSize link.size }
-    ensures heard { Holds (λ x. (hearing_of x.0, x.1)) result (spec.transferred link user.now) }
+fn transferred<'a>(
+    terms: AssociationTerms,
+    user: &'a [u8],
+) -> Result<(Heard<'a>, Phase), AssocFault>
+    requires { IsPduSize terms.size }
+    ensures heard { IsRead (λ x. (hearing_of x.0, x.1)) result (spec.transferred terms user.now) }
     ensures memory { IsErrOf result AssocFault.OutOfMemory → ⊥ }
     ensures short { IfOk result (λ x. IsShort x.0) }
     ensures sized { IfOk result (λ x. IsSized x.1) }
 {
     let carried = user_in(user).ok_or(AssocFault::BadPresentation)?;
-    let pdu = mms_value(link.contexts, carried)?;
-    Ok((Heard::Mms(pdu), Phase::Open(link)))
+    let pdu = mms_value(terms.contexts, carried)?;
+    Ok((Heard::Mms(pdu), Phase::Open(terms)))
 }
 
 // What is heard of an SPDU before the association.
 fn heard_idle<'a>(alloc: Global, spdu: Spdu<'a>) -> Result<(Heard<'a>, Phase), AssocFault>
-    ensures heard { Gives AssocFault.OutOfMemory (λ x. (hearing_of x.0, x.1)) result (spec.heard_idle (spdu_view spdu.entry)) }
-    ensures memory { IsErrOf result AssocFault.OutOfMemory → TakesMemory Phase.Idle (Some (spdu_view spdu.entry)) }
+    ensures heard { Gives AssocFault.OutOfMemory (λ x. (hearing_of x.0, x.1)) result
+        (spec.heard_idle (spdu_view spdu.entry)) }
+    ensures memory { IsErrOf result AssocFault.OutOfMemory
+        → TakesMemory Phase.Idle (Some (spdu_view spdu.entry)) }
     ensures short { IfOk result (λ x. IsShort x.0) }
     ensures sized { IfOk result (λ x. IsSized x.1) }
 {
@@ -292,18 +303,20 @@ fn heard_idle<'a>(alloc: Global, spdu: Spdu<'a>) -> Result<(Heard<'a>, Phase), A
 // What is heard of an SPDU in an open association.
 fn heard_open<'a>(
     alloc: Global,
-    link: Link,
+    terms: AssociationTerms,
     spdu: Spdu<'a>,
 ) -> Result<(Heard<'a>, Phase), AssocFault>
-    requires { IsPduSize link.size }
-    ensures heard { Gives AssocFault.OutOfMemory (λ x. (hearing_of x.0, x.1)) result (spec.heard_open link (spdu_view spdu.entry)) }
-    ensures memory { IsErrOf result AssocFault.OutOfMemory → TakesMemory (Phase.Open link) (Some (spdu_view spdu.entry)) }
+    requires { IsPduSize terms.size }
+    ensures heard { Gives AssocFault.OutOfMemory (λ x. (hearing_of x.0, x.1)) result
+        (spec.heard_open terms (spdu_view spdu.entry)) }
+    ensures memory { IsErrOf result AssocFault.OutOfMemory
+        → TakesMemory (Phase.Open terms) (Some (spdu_view spdu.entry)) }
     ensures short { IfOk result (λ x. IsShort x.0) }
     ensures sized { IfOk result (λ x. IsSized x.1) }
 {
     match spdu {
-        Spdu::Finish(user) => finished(alloc, link, user),
-        Spdu::Transfer(user) => transferred(link, user),
+        Spdu::Finish(user) => finished(alloc, terms, user),
+        Spdu::Transfer(user) => transferred(terms, user),
         Spdu::Abort => Ok((Heard::Aborted, Phase::Over)),
         Spdu::Connect(_) | Spdu::Accept | Spdu::Disconnect => Err(AssocFault::OutOfPhase),
     }
@@ -317,15 +330,16 @@ pub(crate) fn hear<'a>(
     tsdu: &'a [u8],
 ) -> Result<(Heard<'a>, Phase), AssocFault>
     requires { IsSized phase }
-    ensures heard { Gives AssocFault.OutOfMemory (λ x. (hearing_of x.0, x.1)) result (hearing phase tsdu.now) }
+    ensures heard { Gives AssocFault.OutOfMemory (λ x. (hearing_of x.0, x.1)) result
+        (hearing phase tsdu.now) }
     ensures memory { IsErrOf result AssocFault.OutOfMemory → TakesMemory phase (spdu_in tsdu.now) }
     ensures short { IfOk result (λ x. IsShort x.0) }
     ensures sized { IfOk result (λ x. IsSized x.1) }
 {
     match phase {
         Phase::Idle => heard_idle(alloc, spdu_in(tsdu).ok_or(AssocFault::BadSession)?),
-        Phase::Open(link) => {
-            heard_open(alloc, link, spdu_in(tsdu).ok_or(AssocFault::BadSession)?)
+        Phase::Open(terms) => {
+            heard_open(alloc, terms, spdu_in(tsdu).ok_or(AssocFault::BadSession)?)
         }
         Phase::Over => Err(AssocFault::OutOfPhase),
         Phase::Failed => Err(AssocFault::Failed),

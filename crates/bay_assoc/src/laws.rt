@@ -13,9 +13,12 @@ ghost use Rattle.bay_assoc.specs.SpelledValues.{IsUser, IsRequest, IsAssociate};
 /// A TSDU is heard in one way: what is spelled by the layers' relations is heard as that and
 /// nothing else, in the phase that follows; and what is heard is spelled so.
 pub fn one_hearing()
-    ensures heard { (old new : Phase) (octets : List ℕ) (h : Hearing) → IsHeard old octets h new → hearing old octets ≡ Ok (h, new) }
-    ensures spelled { (old new : Phase) (octets : List ℕ) (h : Hearing) → AreOctets octets → hearing old octets ≡ Ok (h, new) → IsHeard old octets h new }
-    ensures one { (old new next : Phase) (octets : List ℕ) (h k : Hearing) → IsHeard old octets h new → IsHeard old octets k next → (h ≡ k) × (new ≡ next) }
+    ensures heard { (old new : Phase) (octets : List ℕ) (h : Hearing) → IsHeard old octets h new
+        → hearing old octets ≡ Ok (h, new) }
+    ensures spelled { (old new : Phase) (octets : List ℕ) (h : Hearing) → AreOctets octets
+        → hearing old octets ≡ Ok (h, new) → IsHeard old octets h new }
+    ensures one { (old new next : Phase) (octets : List ℕ) (h k : Hearing)
+        → IsHeard old octets h new → IsHeard old octets k next → (h ≡ k) × (new ≡ next) }
 {}
 
 /// Octets that are spelled as an SPDU, as user data, as a request for a connection or as one for an
@@ -23,15 +26,21 @@ pub fn one_hearing()
 pub fn one_spelling()
     ensures spdu { (octets : List ℕ) (s : Spdu) → IsSpdu octets s → spdu_in octets ≡ Some s }
     ensures user { (octets : List ℕ) (c : Carried) → IsUser octets c → user_in octets ≡ Some c }
-    ensures request { (octets : List ℕ) (c : Connect) → IsRequest octets c → request_in octets ≡ Some c }
-    ensures associate { (octets : List ℕ) (c : Carried) → IsAssociate octets c → associate_in octets ≡ Some c }
+    ensures request { (octets : List ℕ) (c : Connect) → IsRequest octets c
+        → request_in octets ≡ Some c }
+    ensures associate { (octets : List ℕ) (c : Carried) → IsAssociate octets c
+        → associate_in octets ≡ Some c }
 {}
 
 /// Octets that are read as an SPDU, as user data, as a request for a connection or as one for an
 /// association spell it.
 pub fn read_is_spelled()
-    ensures spdu { (octets : List ℕ) (s : Spdu) → AreOctets octets → spdu_in octets ≡ Some s → IsSpdu octets s }
-    ensures user { (octets : List ℕ) (c : Carried) → AreOctets octets → user_in octets ≡ Some c → IsUser octets c }
-    ensures request { (octets : List ℕ) (c : Connect) → AreOctets octets → request_in octets ≡ Some c → IsRequest octets c }
-    ensures associate { (octets : List ℕ) (c : Carried) → AreOctets octets → associate_in octets ≡ Some c → IsAssociate octets c }
+    ensures spdu { (octets : List ℕ) (s : Spdu) → AreOctets octets → spdu_in octets ≡ Some s
+        → IsSpdu octets s }
+    ensures user { (octets : List ℕ) (c : Carried) → AreOctets octets → user_in octets ≡ Some c
+        → IsUser octets c }
+    ensures request { (octets : List ℕ) (c : Connect) → AreOctets octets
+        → request_in octets ≡ Some c → IsRequest octets c }
+    ensures associate { (octets : List ℕ) (c : Carried) → AreOctets octets
+        → associate_in octets ≡ Some c → IsAssociate octets c }
 {}

@@ -119,7 +119,8 @@ fn context_id(number: i64) -> Option<u16>
 // The context of an identifier, an abstract syntax and a list of transfer syntaxes.
 #[tactic(auto, unfolding(crate::specs::Presentation::context_with))]
 fn context_with(id: &Value<'_>, syntax: &Value<'_>, transfers: &Value<'_>) -> Option<Context>
-    ensures { result ≡ spec.context_with (part_of id.now) (part_of syntax.now) (part_of transfers.now) }
+    ensures { result ≡ spec.context_with (part_of id.now) (part_of syntax.now)
+        (part_of transfers.now) }
 {
     let id = context_id(integer_under(id)?)?;
     let name = syntax.under(Tag::universal(6))?;
@@ -153,7 +154,8 @@ fn context_as(value: &Value<'_>) -> Option<Context>
 
 // The contexts that octets offer, one after another.
 fn read_contexts(alloc: Global, octets: &[u8]) -> Result<Vec<Context>, AssocFault>
-    ensures { Gives AssocFault.OutOfMemory (λ v. v.items) result (wanted BadPresentation (each_in spec.context_as octets.now)) }
+    ensures { Gives AssocFault.OutOfMemory (λ v. v.items) result
+        (wanted BadPresentation (each_in spec.context_as octets.now)) }
 {
     let mut contexts = Vec::new(alloc);
     let mut values = Values::new(octets);
@@ -202,7 +204,8 @@ fn are_distinct(contexts: &[Context]) -> bool
 // The contexts that octets offer, if they are few and distinct.
 #[tactic(auto, unfolding(crate::specs::Presentation::contexts_in))]
 fn contexts_in(alloc: Global, octets: &[u8]) -> Result<Vec<Context>, AssocFault>
-    ensures exact { Gives AssocFault.OutOfMemory (λ v. v.items) result (wanted BadPresentation (spec.contexts_in octets.now)) }
+    ensures exact { Gives AssocFault.OutOfMemory (λ v. v.items) result
+        (wanted BadPresentation (spec.contexts_in octets.now)) }
     ensures few { IfOk result (λ v. length v.items ≤ 16) }
 {
     let contexts = read_contexts(alloc, octets)?;
@@ -215,7 +218,8 @@ fn contexts_in(alloc: Global, octets: &[u8]) -> Result<Vec<Context>, AssocFault>
 // The identifier of a context, and the value that is carried in it as a single ASN.1 type.
 #[tactic(auto, unfolding(crate::specs::Presentation::carried_as))]
 fn carried_as<'a>(id: &Value<'_>, value: &Value<'a>) -> Option<Carried<'a>>
-    ensures { option_map carried_view result ≡ spec.carried_as (part_of id.now) (part_of value.now) }
+    ensures { option_map carried_view result
+        ≡ spec.carried_as (part_of id.now) (part_of value.now) }
 {
     let id = integer_under(id)?;
     let value = value.under(Tag::context_constructed(0))?;
@@ -273,7 +277,8 @@ fn selector_of(octets: &[u8]) -> Option<&[u8]>
 
 // The selector of the one called, where it came.
 fn selector_as<'a>(value: Option<&Value<'a>>) -> Option<Option<&'a [u8]>>
-    ensures exact { option_map (option_map (λ o. o.now)) result ≡ spec.selector_as (option_map part_of (option_copied value.entry)) }
+    ensures exact { option_map (option_map (λ o. o.now)) result
+        ≡ spec.selector_as (option_map part_of (option_copied value.entry)) }
     ensures short { IfSome result (λ o. ForSome o (λ octets. length octets.now ≤ 16)) }
 {
     match value {
@@ -290,7 +295,10 @@ fn connect_with<'a>(
     list: &Value<'a>,
     user: &Value<'a>,
 ) -> Result<Connect<'a>, AssocFault>
-    ensures { Gives AssocFault.OutOfMemory connect_view result (wanted BadPresentation (spec.connect_with (option_map part_of (option_copied selector.entry)) (part_of list.now) (part_of user.now))) }
+    ensures { Gives AssocFault.OutOfMemory connect_view result
+        (wanted BadPresentation
+        (spec.connect_with (option_map part_of (option_copied selector.entry)) (part_of list.now)
+        (part_of user.now))) }
 {
     let called = selector_as(selector).ok_or(AssocFault::BadPresentation)?;
     let octets = list
@@ -307,7 +315,8 @@ fn connect_with<'a>(
 
 // The same by its parts; the selectors of the one who calls and of the one called may be missing.
 fn connect_of<'a>(alloc: Global, parts: &[Value<'a>]) -> Result<Connect<'a>, AssocFault>
-    ensures { Gives AssocFault.OutOfMemory connect_view result (wanted BadPresentation (spec.connect_of (map part_of parts.now))) }
+    ensures { Gives AssocFault.OutOfMemory connect_view result
+        (wanted BadPresentation (spec.connect_of (map part_of parts.now))) }
 {
     let (called, list, user) = match parts {
         [list, user] => (None, list, user),
@@ -324,7 +333,8 @@ fn connect_of<'a>(alloc: Global, parts: &[Value<'a>]) -> Result<Connect<'a>, Ass
 // The parameters of the normal mode, among other fields.
 #[tactic(auto, unfolding(crate::specs::Presentation::normal_in))]
 fn normal_in(alloc: Global, octets: &[u8]) -> Result<Connect<'_>, AssocFault>
-    ensures { Gives AssocFault.OutOfMemory connect_view result (wanted BadPresentation (spec.normal_in octets.now)) }
+    ensures { Gives AssocFault.OutOfMemory connect_view result
+        (wanted BadPresentation (spec.normal_in octets.now)) }
 {
     let tags = [
         Tag::context(1),
@@ -339,7 +349,8 @@ fn normal_in(alloc: Global, octets: &[u8]) -> Result<Connect<'_>, AssocFault>
 // The parameters of the normal mode under their tag.
 #[tactic(auto, unfolding(crate::specs::Presentation::normal_as))]
 fn normal_as<'a>(alloc: Global, value: &Value<'a>) -> Result<Connect<'a>, AssocFault>
-    ensures { Gives AssocFault.OutOfMemory connect_view result (wanted BadPresentation (spec.normal_as (part_of value.now))) }
+    ensures { Gives AssocFault.OutOfMemory connect_view result
+        (wanted BadPresentation (spec.normal_as (part_of value.now))) }
 {
     let octets = value
         .under(Tag::context_constructed(2))
@@ -366,7 +377,8 @@ fn mode_as(value: &Value<'_>) -> Option<i64>
 
 // The mode and the parameters, in either order.
 fn request_of<'a>(alloc: Global, parts: &[Value<'a>]) -> Result<Connect<'a>, AssocFault>
-    ensures { Gives AssocFault.OutOfMemory connect_view result (wanted BadPresentation (spec.request_of (map part_of parts.now))) }
+    ensures { Gives AssocFault.OutOfMemory connect_view result
+        (wanted BadPresentation (spec.request_of (map part_of parts.now))) }
 {
     let (mode, parameters) = match parts {
         [first, second] if first.tag.is(Tag::context_constructed(0)) => (first, second),
@@ -380,7 +392,8 @@ fn request_of<'a>(alloc: Global, parts: &[Value<'a>]) -> Result<Connect<'a>, Ass
 /// The request for a connection (CP) that octets are, among other fields.
 #[tactic(auto, unfolding(crate::specs::Presentation::request_in))]
 pub(crate) fn request_in(alloc: Global, octets: &[u8]) -> Result<Connect<'_>, AssocFault>
-    ensures { Gives AssocFault.OutOfMemory connect_view result (wanted BadPresentation (spec.request_in octets.now)) }
+    ensures { Gives AssocFault.OutOfMemory connect_view result
+        (wanted BadPresentation (spec.request_in octets.now)) }
 {
     let content = content_under(octets, Tag::universal_constructed(17)).ok_or(
         AssocFault::BadPresentation,

@@ -165,7 +165,8 @@ fn is_user(unit: &Unit<'_>) -> bool
 
 // The user data behind those found, where a unit is one.
 fn with_user<'a>(found: UserData<'a>, unit: Unit<'a>) -> UserData<'a>
-    ensures { users_of result ≡ spec_session_reading.with_user (users_of found.entry) (unit_of unit.entry) }
+    ensures { users_of result
+        ≡ spec_session_reading.with_user (users_of found.entry) (unit_of unit.entry) }
 {
     if !is_user(&unit) {
         return found;

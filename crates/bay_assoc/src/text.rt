@@ -37,7 +37,8 @@ fn append_size(out: &mut Vec<u8>, size: usize) -> Result<(), AllocError>
 fn append_unit(out: &mut Vec<u8>, identifier: u8, content: &[u8]) -> Result<(), AllocError>
     requires { length content.now < 65_536 }
     ensures text { OnOk result (out.new.items ≡ out.old.items ++ unit_text identifier content.now) }
-    ensures few { OnOk result (length out.new.items ≤ length out.old.items + length content.now + 4) }
+    ensures few { OnOk result
+        (length out.new.items ≤ length out.old.items + length content.now + 4) }
 {
     out.push(identifier)?;
     append_size(out, content.len())?;
@@ -128,7 +129,8 @@ fn put_results(
     contexts: &[Context],
 ) -> Result<(), AllocError>
     requires { length contexts.now ≤ 16 }
-    ensures text { OnOk result (writer.new ≡ writer.old ++ element (constructed 5) (results_text accepted contexts.now)) }
+    ensures text { OnOk result
+        (writer.new ≡ writer.old ++ element (constructed 5) (results_text accepted contexts.now)) }
     ensures few { OnOk result (length writer.new ≤ length writer.old + 214) }
 {
     let start = writer.len();
@@ -140,7 +142,9 @@ fn put_results(
 // Writes the selector of the one called, where it came.
 fn put_selector(writer: &mut Writer, called: Option<&[u8]>) -> Result<(), AllocError>
     requires { ForSome called (λ octets. length octets.now ≤ 16) }
-    ensures text { OnOk result (writer.new ≡ writer.old ++ selector_text (option_map (λ octets. octets.now) called.entry)) }
+    ensures text { OnOk result
+        (writer.new
+        ≡ writer.old ++ selector_text (option_map (λ octets. octets.now) called.entry)) }
     ensures few { OnOk result (length writer.new ≤ length writer.old + 22) }
 {
     if let Some(octets) = called {
@@ -160,8 +164,11 @@ fn put_normal(
     requires selector { ForSome called (λ octets. length octets.now ≤ 16) }
     requires contexts { length contexts.now ≤ 16 }
     requires short { length value.now < 10_000 }
-    ensures text { OnOk result (writer.new ≡ writer.old ++ element (constructed 2) (selector_text (option_map (λ octets. octets.now) called.entry)
-        ++ (element (constructed 5) (results_text accepted contexts.now) ++ user_text accepted.acse value.now))) }
+    ensures text { OnOk result
+        (writer.new ≡ writer.old
+        ++ element (constructed 2) (selector_text (option_map (λ octets. octets.now) called.entry)
+        ++ (element (constructed 5) (results_text accepted contexts.now)
+        ++ user_text accepted.acse value.now))) }
     ensures few { OnOk result (length writer.new ≤ length writer.old + length value.now + 274) }
 {
     let start = writer.len();
@@ -183,7 +190,10 @@ pub(crate) fn connected(
     requires selector { ForSome called (λ octets. length octets.now ≤ 16) }
     requires contexts { length contexts.now ≤ 16 }
     requires short { length value.now < 10_000 }
-    ensures text { IfOk result (λ octets. octets.items ≡ connected_text (option_map (λ octets. octets.now) called.entry) contexts.now accepted value.now) }
+    ensures text { IfOk result
+        (λ octets. octets.items
+        ≡ connected_text (option_map (λ octets. octets.now) called.entry) contexts.now accepted
+        value.now) }
     ensures few { IfOk result (λ octets. length octets.items ≤ length value.now + 289) }
 {
     let mut writer = Writer::new(alloc);
@@ -196,7 +206,9 @@ pub(crate) fn connected(
 // Writes the user information, which is one external.
 fn put_information(writer: &mut Writer, mms: u16, pdu: &[u8]) -> Result<(), AllocError>
     requires { length pdu.now < 10_000 }
-    ensures text { OnOk result (writer.new ≡ writer.old ++ element (constructed 30) (carried_text external_tag mms pdu.now)) }
+    ensures text { OnOk result
+        (writer.new ≡ writer.old
+        ++ element (constructed 30) (carried_text external_tag mms pdu.now)) }
     ensures few { OnOk result (length writer.new ≤ length writer.old + length pdu.now + 32) }
 {
     let start = writer.len();
@@ -227,7 +239,8 @@ pub(crate) fn associated(alloc: Global, mms: u16, pdu: &[u8]) -> Result<Vec<u8>,
 /// The DISCONNECT that answers a request for a release, with its RLRE.
 #[tactic(auto, unfolding(bay_ber::specs::Writing::element, bay_ber::specs::Writing::length_octets))]
 pub(crate) fn released(alloc: Global, acse: u16) -> Result<Vec<u8>, AllocError>
-    ensures text { IfOk result (λ octets. octets.items ≡ disconnect_text (user_text acse release_text)) }
+    ensures text { IfOk result
+        (λ octets. octets.items ≡ disconnect_text (user_text acse release_text)) }
     ensures few { IfOk result (λ octets. length octets.items ≤ 100) }
 {
     let mut writer = Writer::new(alloc);

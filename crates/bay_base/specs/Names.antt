@@ -7,5 +7,6 @@ use Rattle.std.specs.Str.{bytes_eq}
 abbrev pub upper : List ℕ → List ℕ
 upper = map to_ascii_uppercase
 
+-- two names are one to Instruction List, whose letters have no case
 unfoldable pub same_name : List ℕ → List ℕ → Bool
 same_name a b = bytes_eq (upper a) (upper b)

@@ -3,6 +3,7 @@ use Rattle.std.proofs.Common.{◌≡◌, ℕ, ◌+◌, ◌-◌, ◌<◌, ◌≤�
 use Rattle.std.specs.Prelude.{IfOk, IsOkAnd}
 use Rattle.std.proofs.lemmas.Bool.{ltb-true, ltb-false, lt-ltb, le-ltb, eqb-true, eqb-false, eq-eqb, ne_eqb}
 use Rattle.std.proofs.lemmas.List.{take_at, drop_at, take-append-drop, length-append, length-take, append_cancel_right}
+use Rattle.bay_base.specs.Results.{◌>>=◌, IsRead}
 use Rattle.bay_ber.specs.declared.fault.BerFault.{BerFault}
 use Rattle.bay_ber.specs.declared.fault.BerFault.TheVariants.{Truncated, Indefinite, LengthTooLong, TagTooLarge, BadContent}
 use Rattle.bay_ber.specs.declared.tag.Class.{Class}
@@ -10,24 +11,27 @@ use Rattle.bay_ber.specs.declared.tag.Tag.{Tag}
 use Rattle.bay_ber.specs.declared.tlv.Tlv.{Tlv}
 use Rattle.bay_ber.specs.Octets.{number_of}
 use Rattle.bay_ber.specs.Spelling.{identifier, IsTag, IsLength, Spells}
-use Rattle.bay_ber.specs.Reading.{◌>>=◌, IsRead, Reading, reading_of, Begins, HasLargeTag, HasLengthOctet, IsIndefinite, HasLongLength, IsTruncated, class_of, is_constructed, low_bits, second_at, tag_at, length_at, tlv_at}
+use Rattle.bay_ber.specs.Reading.{Reading, reading_of, Begins, HasLargeTag, HasLengthOctet, IsIndefinite, HasLongLength, IsTruncated, class_of, is_constructed, low_bits, second_at, tag_at, length_at, tlv_at}
 use Rattle.bay_ber.proofs.TagLemmas.{class_of-identifier, is_constructed-identifier, low_bits-identifier, identifier_of}
 
 abbrev pub IsBytes : List ℕ → Type 0
 IsBytes octets = (i : ℕ) → get_or octets i 0 < 256
 
 -- the value of a step that did not fail
-pub bind_ok : {A B : Type 0} (r : Result A BerFault) (f : A → Result B BerFault) (y : B) → (r >>= f) ≡ Ok y → (x : A) × (r ≡ Ok x) × (f x ≡ Ok y)
+pub bind_ok : {A B E : Type 0} (r : Result A E) (f : A → Result B E) (y : B) → (r >>= f) ≡ Ok y
+    → (x : A) × (r ≡ Ok x) × (f x ≡ Ok y)
 bind_ok (Ok x) f y e = (x, refl, e)
 bind_ok (Err d) f y e = absurd cc
 
 -- where a chain of steps failed
-pub bind_err : {A B : Type 0} (r : Result A BerFault) (f : A → Result B BerFault) (d : BerFault) → (r >>= f) ≡ Err d → (r ≡ Err d) ⊎ ((x : A) × (r ≡ Ok x) × (f x ≡ Err d))
+pub bind_err : {A B E : Type 0} (r : Result A E) (f : A → Result B E) (d : E) → (r >>= f) ≡ Err d
+    → (r ≡ Err d) ⊎ ((x : A) × (r ≡ Ok x) × (f x ≡ Err d))
 bind_err (Ok x) f d e = inr (x, refl, e)
 bind_err (Err c) f d e = inl (let same : c ≡ d = cc in ap Err same)
 
 -- which side of a test was taken
-pub chosen : {A : Type 0} (b : Bool) (x y z : A) → cond b x y ≡ z → ((b ≡ true) × (x ≡ z)) ⊎ ((b ≡ false) × (y ≡ z))
+pub chosen : {A : Type 0} (b : Bool) (x y z : A) → cond b x y ≡ z
+    → ((b ≡ true) × (x ≡ z)) ⊎ ((b ≡ false) × (y ≡ z))
 chosen true x y z e = inl (refl, e)
 chosen false x y z e = inr (refl, e)
 
@@ -49,7 +53,8 @@ not_err x d e = cc
 -- ---- the tag
 
 abbrev tag_of : Class → Bool → ℕ → Tag
-tag_of class constructed number = record { class = class; constructed = constructed; number = number }
+tag_of class constructed number =
+    record { class = class; constructed = constructed; number = number }
 
 -- a tag at the front of octets
 pub record TagBegins (octets : List ℕ) (t : Tag) (rest : List ℕ) : Type 0 where
@@ -57,44 +62,84 @@ pub record TagBegins (octets : List ℕ) (t : Tag) (rest : List ℕ) : Type 0 wh
   pub is_tag : IsTag tag t
   pub parts : octets ≡ tag ++ rest
 
-second_takes : (first : ℕ) (octets : List ℕ) (x : Tag × List ℕ) → first < 256 → low_bits first ≡ 31 → second_at first octets ≡ Ok x → TagBegins (first ∷ octets) x.0 x.1
+second_takes : (first : ℕ) (octets : List ℕ) (x : Tag × List ℕ) → first < 256 → low_bits first ≡ 31
+    → second_at first octets ≡ Ok x → TagBegins (first ∷ octets) x.0 x.1
 second_takes first [] x below low e = absurd cc
 second_takes first (second ∷ octets) x below low e =
-    elim (chosen (ltb second 128) (Ok (tag_of (class_of first) (is_constructed first) second, octets)) (Err TagTooLarge) (Ok x) e) [
+    elim (chosen (ltb second 128)
+    (Ok (tag_of (class_of first) (is_constructed first) second, octets)) (Err TagTooLarge)
+    (Ok x) e) [
       | inl here ↦
-          let made : Tag × List ℕ = (tag_of (class_of first) (is_constructed first) second, octets) in
-          let whole : first ≡ identifier (class_of first) (is_constructed first) 31 = identifier_of first below ∙ ap (identifier (class_of first) (is_constructed first)) low in
-          subst (λ (y : Tag × List ℕ). TagBegins (first ∷ second ∷ octets) y.0 y.1) (ok_is made x here.1) (record { tag = first ∷ second ∷ []; is_tag = (whole, ltb-true _ _ here.0, refl); parts = refl })
+          let made : Tag × List ℕ =
+          (tag_of (class_of first) (is_constructed first) second, octets) in
+          let whole : first ≡ identifier (class_of first) (is_constructed first) 31 =
+          identifier_of first below
+          ∙ ap (identifier (class_of first) (is_constructed first)) low in
+          subst (λ (y : Tag × List ℕ). TagBegins (first ∷ second ∷ octets) y.0 y.1)
+          (ok_is made x here.1)
+          (record {
+            tag = first ∷ second ∷ [];
+            is_tag = (whole, ltb-true _ _ here.0, refl);
+            parts = refl;
+          })
       | inr here ↦ absurd (let e : Err TagTooLarge ≡ Ok x = here.1 in cc)
     ]
 
-pub tag_takes : (octets : List ℕ) (x : Tag × List ℕ) → IsBytes octets → tag_at octets ≡ Ok x → TagBegins octets x.0 x.1
+pub tag_takes : (octets : List ℕ) (x : Tag × List ℕ) → IsBytes octets → tag_at octets ≡ Ok x
+    → TagBegins octets x.0 x.1
 unfolding tag_at
 tag_takes [] x fits e = absurd cc
 tag_takes (first ∷ octets) x fits e =
-    elim (chosen (eqb (low_bits first) 31) (second_at first octets) (Ok (tag_of (class_of first) (is_constructed first) (low_bits first), octets)) (Ok x) e) [
+    elim (chosen (eqb (low_bits first) 31) (second_at first octets)
+    (Ok (tag_of (class_of first) (is_constructed first) (low_bits first), octets)) (Ok x) e) [
       | inl here ↦ second_takes first octets x (fits 0) (eqb-true _ _ here.0) here.1
       | inr here ↦
-          let made : Tag × List ℕ = (tag_of (class_of first) (is_constructed first) (low_bits first), octets) in
+          let made : Tag × List ℕ =
+          (tag_of (class_of first) (is_constructed first) (low_bits first), octets) in
           let other : (low_bits first ≡ 31) → ⊥ = eqb-false _ _ here.0 in
           let low : low_bits first < 31 = omega arith in
-          subst (λ (y : Tag × List ℕ). TagBegins (first ∷ octets) y.0 y.1) (ok_is made x here.1) (record { tag = first ∷ []; is_tag = (low, identifier_of first (fits 0)); parts = refl })
+          subst (λ (y : Tag × List ℕ). TagBegins (first ∷ octets) y.0 y.1) (ok_is made x here.1)
+          (record {
+            tag = first ∷ [];
+            is_tag = (low, identifier_of first (fits 0));
+            parts = refl;
+          })
     ]
 
-tag_same : (first : ℕ) (class : Class) (constructed : Bool) (low number : ℕ) → low < 32 → first ≡ identifier class constructed low → tag_of (class_of first) (is_constructed first) number ≡ tag_of class constructed number
-tag_same first class constructed low number below is = rw (is, class_of-identifier class constructed low below, is_constructed-identifier class constructed low below) refl
+tag_same : (first : ℕ) (class : Class) (constructed : Bool) (low number : ℕ) → low < 32
+    → first ≡ identifier class constructed low
+    → tag_of (class_of first) (is_constructed first) number ≡ tag_of class constructed number
+tag_same first class constructed low number below is =
+    rw (
+      is,
+      class_of-identifier class constructed low below,
+      is_constructed-identifier class constructed low below,
+    ) refl
 
-pub tag_again : (tag : List ℕ) (t : Tag) (rest : List ℕ) → IsTag tag t → tag_at (tag ++ rest) ≡ Ok (t, rest)
+pub tag_again : (tag : List ℕ) (t : Tag) (rest : List ℕ) → IsTag tag t
+    → tag_at (tag ++ rest) ≡ Ok (t, rest)
 unfolding tag_at
 tag_again [] t rest is = absurd is
 tag_again (first ∷ []) t rest is =
-    let low : low_bits first ≡ t.number = rw is.1 (low_bits-identifier t.class t.constructed t.number (omega (arith, is.0))) in
+    let low : low_bits first ≡ t.number =
+    rw is.1 (low_bits-identifier t.class t.constructed t.number (omega (arith, is.0))) in
     let test : eqb (low_bits first) 31 ≡ false = ne_eqb _ _ (λ e. omega (arith, is.0, low, e)) in
-    rw (test, low, tag_same first t.class t.constructed t.number t.number (omega (arith, is.0)) is.1) refl
+    rw (
+      test,
+      low,
+      tag_same first t.class t.constructed t.number t.number (omega (arith, is.0))
+          is.1,
+    ) refl
 tag_again (first ∷ second ∷ []) t rest is =
-    let low : low_bits first ≡ 31 = rw is.0 (low_bits-identifier t.class t.constructed 31 (omega arith)) in
+    let low : low_bits first ≡ 31 =
+    rw is.0 (low_bits-identifier t.class t.constructed 31 (omega arith)) in
     let test : eqb (low_bits first) 31 ≡ true = eq-eqb _ _ low in
-    rw (test, lt-ltb second 128 is.1, is.2, tag_same first t.class t.constructed 31 second (omega arith) is.0) refl
+    rw (
+      test,
+      lt-ltb second 128 is.1,
+      is.2,
+      tag_same first t.class t.constructed 31 second (omega arith) is.0,
+    ) refl
 tag_again (first ∷ second ∷ third ∷ octets) t rest is = absurd is
 
 -- ---- the length
@@ -105,38 +150,57 @@ pub record LengthBegins (octets : List ℕ) (n : ℕ) (rest : List ℕ) : Type 0
   pub parts : octets ≡ len ++ rest
 
 -- a length of several octets, behind its first
-pub many_takes : (first : ℕ) (front rest : List ℕ) → length front + 128 ≡ first → 0 < length front → length front ≤ 4 → LengthBegins (first ∷ (front ++ rest)) (number_of front) rest
+pub many_takes : (first : ℕ) (front rest : List ℕ) → length front + 128 ≡ first → 0 < length front
+    → length front ≤ 4 → LengthBegins (first ∷ (front ++ rest)) (number_of front) rest
 many_takes first [] rest is some few = absurd (omega arith)
-many_takes first (second ∷ octets) rest is some few = record { len = first ∷ second ∷ octets; is_length = (omega arith, few, refl); parts = refl }
+many_takes first (second ∷ octets) rest is some few =
+    record { len = first ∷ second ∷ octets; is_length = (omega arith, few, refl); parts = refl }
 
-pub length_takes : (octets : List ℕ) (x : ℕ × List ℕ) → length_at octets ≡ Ok x → LengthBegins octets x.0 x.1
+pub length_takes : (octets : List ℕ) (x : ℕ × List ℕ) → length_at octets ≡ Ok x
+    → LengthBegins octets x.0 x.1
 unfolding length_at
 length_takes [] x e = absurd cc
 length_takes (first ∷ octets) x e =
     let k = first - 128 in
-    let long : Result (ℕ × List ℕ) BerFault = cond (ltb (length octets) k) (Err Truncated) (Ok (number_of (take k octets), drop k octets)) in
-    elim (chosen (ltb first 128) (Ok (first, octets)) (cond (eqb first 128) (Err Indefinite) (cond (ltb 132 first) (Err LengthTooLong) long)) (Ok x) e) [
-      | inl a ↦ subst (λ (y : ℕ × List ℕ). LengthBegins (first ∷ octets) y.0 y.1) (ok_is (first, octets) x a.1) (record { len = first ∷ []; is_length = (ltb-true _ _ a.0, refl); parts = refl })
-      | inr a ↦ elim (chosen (eqb first 128) (Err Indefinite) (cond (ltb 132 first) (Err LengthTooLong) long) (Ok x) a.1) [
-        | inl b ↦ absurd (let e : Err Indefinite ≡ Ok x = b.1 in cc)
-        | inr b ↦ elim (chosen (ltb 132 first) (Err LengthTooLong) long (Ok x) b.1) [
-          | inl d ↦ absurd (let e : Err LengthTooLong ≡ Ok x = d.1 in cc)
-          | inr d ↦ elim (chosen (ltb (length octets) k) (Err Truncated) (Ok (number_of (take k octets), drop k octets)) (Ok x) d.1) [
-            | inl f ↦ absurd (let e : Err Truncated ≡ Ok x = f.1 in cc)
-            | inr f ↦
-                let not_first : (first ≡ 128) → ⊥ = eqb-false _ _ b.0 in
-                let above : 128 ≤ first = ltb-false _ _ a.0 in
-                let few : first ≤ 132 = ltb-false _ _ d.0 in
-                let room : k ≤ length octets = ltb-false _ _ f.0 in
-                let size : length (take k octets) ≡ k = omega (arith, length-take k octets) in
-                let found = many_takes first (take k octets) (drop k octets) (omega arith) (omega arith) (omega arith) in
-                subst (λ (y : ℕ × List ℕ). LengthBegins (first ∷ octets) y.0 y.1) (ok_is (number_of (take k octets), drop k octets) x f.1) (subst (λ (ys : List ℕ). LengthBegins (first ∷ ys) (number_of (take k octets)) (drop k octets)) (take-append-drop k octets) found)
+    let long : Result (ℕ × List ℕ) BerFault =
+    cond (ltb (length octets) k) (Err Truncated) (Ok (number_of (take k octets), drop k octets))
+    in
+    elim (chosen (ltb first 128) (Ok (first, octets))
+    (cond (eqb first 128) (Err Indefinite) (cond (ltb 132 first) (Err LengthTooLong) long))
+    (Ok x) e) [
+      | inl a ↦ subst (λ (y : ℕ × List ℕ). LengthBegins (first ∷ octets) y.0 y.1)
+          (ok_is (first, octets) x a.1)
+          (record { len = first ∷ []; is_length = (ltb-true _ _ a.0, refl); parts = refl })
+      | inr a ↦ elim (chosen (eqb first 128) (Err Indefinite)
+          (cond (ltb 132 first) (Err LengthTooLong) long) (Ok x) a.1) [
+            | inl b ↦ absurd (let e : Err Indefinite ≡ Ok x = b.1 in cc)
+            | inr b ↦ elim (chosen (ltb 132 first) (Err LengthTooLong) long (Ok x) b.1) [
+              | inl d ↦ absurd (let e : Err LengthTooLong ≡ Ok x = d.1 in cc)
+              | inr d ↦ elim (chosen (ltb (length octets) k) (Err Truncated)
+                  (Ok (number_of (take k octets), drop k octets)) (Ok x) d.1) [
+                    | inl f ↦ absurd (let e : Err Truncated ≡ Ok x = f.1 in cc)
+                    | inr f ↦
+                        let not_first : (first ≡ 128) → ⊥ = eqb-false _ _ b.0 in
+                        let above : 128 ≤ first = ltb-false _ _ a.0 in
+                        let few : first ≤ 132 = ltb-false _ _ d.0 in
+                        let room : k ≤ length octets = ltb-false _ _ f.0 in
+                        let size : length (take k octets) ≡ k =
+                        omega (arith, length-take k octets) in
+                        let found =
+                        many_takes first (take k octets) (drop k octets) (omega arith) (omega arith)
+                        (omega arith) in
+                        subst (λ (y : ℕ × List ℕ). LengthBegins (first ∷ octets) y.0 y.1)
+                        (ok_is (number_of (take k octets), drop k octets) x f.1)
+                        (subst (λ (ys : List ℕ). LengthBegins (first ∷ ys)
+                        (number_of (take k octets))
+                        (drop k octets)) (take-append-drop k octets) found)
+                  ]
+            ]
           ]
-        ]
-      ]
     ]
 
-pub length_again : (len : List ℕ) (n : ℕ) (rest : List ℕ) → IsLength len n → length_at (len ++ rest) ≡ Ok (n, rest)
+pub length_again : (len : List ℕ) (n : ℕ) (rest : List ℕ) → IsLength len n
+    → length_at (len ++ rest) ≡ Ok (n, rest)
 unfolding length_at
 length_again [] n rest is = absurd is
 length_again (first ∷ []) n rest is = rw (lt-ltb first 128 is.0, is.1) refl
@@ -144,21 +208,34 @@ length_again (first ∷ second ∷ octets) n rest is =
     let front : List ℕ = second ∷ octets in
     let k : first - 128 ≡ length front = omega (arith, is.0) in
     let size : length (front ++ rest) ≡ length front + length rest = length-append front rest in
-    rw (le-ltb first 128 (omega (arith, is.0)), ne_eqb first 128 (λ e. omega (arith, is.0, e)), le-ltb 132 first (omega (arith, is.0, is.1)), k, le-ltb (length (front ++ rest)) (length front) (omega arith), take_at front rest (length front) refl, drop_at front rest (length front) refl, is.2) refl
+    rw (
+      le-ltb first 128 (omega (arith, is.0)),
+      ne_eqb first 128 (λ e. omega (arith, is.0, e)),
+      le-ltb 132 first (omega (arith, is.0, is.1)),
+      k,
+      le-ltb (length (front ++ rest)) (length front) (omega arith),
+      take_at front rest (length front) refl,
+      drop_at front rest (length front) refl,
+      is.2,
+    ) refl
 
 -- ---- the value
 
 abbrev pub with_length : Tag → ℕ × List ℕ → Result Reading BerFault
-with_length tag n = cond (ltb (length n.1) n.0) (Err Truncated) (Ok (record { tag = tag; content = take n.0 n.1; rest = drop n.0 n.1 }))
+with_length tag n =
+    cond (ltb (length n.1) n.0) (Err Truncated)
+    (Ok (record { tag = tag; content = take n.0 n.1; rest = drop n.0 n.1 }))
 
 abbrev pub with_tag : Tag × List ℕ → Result Reading BerFault
 with_tag tag = length_at tag.1 >>= with_length tag.0
 
 -- the parts of octets, taken off one after another
-regroup : (octets tag behind len after content rest : List ℕ) → octets ≡ tag ++ behind → behind ≡ len ++ after → after ≡ content ++ rest → octets ≡ (tag ++ (len ++ content)) ++ rest
+regroup : (octets tag behind len after content rest : List ℕ) → octets ≡ tag ++ behind
+    → behind ≡ len ++ after → after ≡ content ++ rest → octets ≡ (tag ++ (len ++ content)) ++ rest
 regroup octets tag behind len after content rest p q r = rw (p, q, r) (simp append_assoc)
 
-pub tlv_takes : (octets : List ℕ) (r : Reading) → IsBytes octets → tlv_at octets ≡ Ok r → Begins octets r
+pub tlv_takes : (octets : List ℕ) (r : Reading) → IsBytes octets → tlv_at octets ≡ Ok r
+    → Begins octets r
 unfolding tlv_at
 tlv_takes octets r fits e =
     let a = bind_ok (tag_at octets) with_tag r e in
@@ -175,19 +252,38 @@ tlv_takes octets r fits e =
           let room : n ≤ length behind = ltb-false _ _ here.0 in
           let size : length (take n behind) ≡ n = omega (arith, length-take n behind) in
           let front : List ℕ = tag.tag ++ (len.len ++ take n behind) in
-          let spelled : Spells front t (take n behind) = record { front = tag.tag; len = len.len; is_tag = tag.is_tag; is_length = subst (λ (k : ℕ). IsLength len.len k) (sym size) len.is_length; parts = refl } in
+          let spelled : Spells front t (take n behind) =
+          record {
+            front = tag.tag;
+            len = len.len;
+            is_tag = tag.is_tag;
+            is_length = subst (λ (k : ℕ). IsLength len.len k) (sym size) len.is_length;
+            parts = refl;
+          } in
           let cut : take n behind ++ drop n behind ≡ behind = take-append-drop n behind in
-          let parts : octets ≡ front ++ drop n behind = regroup octets tag.tag a.0.1 len.len behind (take n behind) (drop n behind) tag.parts len.parts (sym cut) in
-          subst (Begins octets) (ok_is made r here.1) (record { front = front; spelled = spelled; parts = parts })
+          let parts : octets ≡ front ++ drop n behind =
+          regroup octets tag.tag a.0.1 len.len behind (take n behind) (drop n behind) tag.parts
+          len.parts (sym cut) in
+          subst (Begins octets) (ok_is made r here.1)
+          (record { front = front; spelled = spelled; parts = parts })
     ]
 
 pub tlv_again : (octets : List ℕ) (r : Reading) → Begins octets r → tlv_at octets ≡ Ok r
 unfolding tlv_at
 tlv_again octets r begins =
     let s = begins.spelled in
-    let parts : octets ≡ s.front ++ (s.len ++ (r.content ++ r.rest)) = begins.parts ∙ ap (λ (xs : List ℕ). xs ++ r.rest) s.parts ∙ simp append_assoc in
-    let room : ltb (length (r.content ++ r.rest)) (length r.content) ≡ false = le-ltb _ _ (omega (arith, length-append r.content r.rest)) in
-    rw (parts, tag_again s.front r.tag (s.len ++ (r.content ++ r.rest)) s.is_tag, length_again s.len (length r.content) (r.content ++ r.rest) s.is_length, room, take_at r.content r.rest (length r.content) refl, drop_at r.content r.rest (length r.content) refl) refl
+    let parts : octets ≡ s.front ++ (s.len ++ (r.content ++ r.rest)) =
+    begins.parts ∙ ap (λ (xs : List ℕ). xs ++ r.rest) s.parts ∙ simp append_assoc in
+    let room : ltb (length (r.content ++ r.rest)) (length r.content) ≡ false =
+    le-ltb _ _ (omega (arith, length-append r.content r.rest)) in
+    rw (
+      parts,
+      tag_again s.front r.tag (s.len ++ (r.content ++ r.rest)) s.is_tag,
+      length_again s.len (length r.content) (r.content ++ r.rest) s.is_length,
+      room,
+      take_at r.content r.rest (length r.content) refl,
+      drop_at r.content r.rest (length r.content) refl,
+    ) refl
 
 -- ---- the faults
 
@@ -199,62 +295,101 @@ FaultHolds LengthTooLong octets = HasLongLength octets
 FaultHolds TagTooLarge octets = HasLargeTag octets
 FaultHolds BadContent octets = ⊥
 
-second_fault : (first : ℕ) (octets : List ℕ) (d : BerFault) → low_bits first ≡ 31 → second_at first octets ≡ Err d → FaultHolds d (first ∷ octets)
-second_fault first [] d low e = subst (λ (x : BerFault). FaultHolds x (first ∷ [])) (let same : Truncated ≡ d = cc in same) tt
+second_fault : (first : ℕ) (octets : List ℕ) (d : BerFault) → low_bits first ≡ 31
+    → second_at first octets ≡ Err d → FaultHolds d (first ∷ octets)
+second_fault first [] d low e =
+    subst (λ (x : BerFault). FaultHolds x (first ∷ [])) (let same : Truncated ≡ d = cc in same) tt
 second_fault first (second ∷ octets) d low e =
-    elim (chosen (ltb second 128) (Ok (tag_of (class_of first) (is_constructed first) second, octets)) (Err TagTooLarge) (Err d) e) [
-      | inl here ↦ absurd (let e : Ok (tag_of (class_of first) (is_constructed first) second, octets) ≡ Err d = here.1 in cc)
-      | inr here ↦ subst (λ (x : BerFault). FaultHolds x (first ∷ second ∷ octets)) (err_is _ _ here.1) (low, ltb-false _ _ here.0)
+    elim (chosen (ltb second 128)
+    (Ok (tag_of (class_of first) (is_constructed first) second, octets)) (Err TagTooLarge)
+    (Err d) e) [
+      | inl here ↦ absurd (let e
+          : Ok (tag_of (class_of first) (is_constructed first) second, octets) ≡ Err d = here.1 in
+          cc)
+      | inr here ↦ subst (λ (x : BerFault). FaultHolds x (first ∷ second ∷ octets))
+          (err_is _ _ here.1) (low, ltb-false _ _ here.0)
     ]
 
 tag_fault : (octets : List ℕ) (d : BerFault) → tag_at octets ≡ Err d → FaultHolds d octets
 unfolding tag_at
-tag_fault [] d e = subst (λ (x : BerFault). FaultHolds x []) (let same : Truncated ≡ d = cc in same) tt
+tag_fault [] d e =
+    subst (λ (x : BerFault). FaultHolds x []) (let same : Truncated ≡ d = cc in same) tt
 tag_fault (first ∷ octets) d e =
-    elim (chosen (eqb (low_bits first) 31) (second_at first octets) (Ok (tag_of (class_of first) (is_constructed first) (low_bits first), octets)) (Err d) e) [
+    elim (chosen (eqb (low_bits first) 31) (second_at first octets)
+    (Ok (tag_of (class_of first) (is_constructed first) (low_bits first), octets)) (Err d) e) [
       | inl here ↦ second_fault first octets d (eqb-true _ _ here.0) here.1
-      | inr here ↦ absurd (let e : Ok (tag_of (class_of first) (is_constructed first) (low_bits first), octets) ≡ Err d = here.1 in cc)
+      | inr here ↦ absurd (let e
+          : Ok (tag_of (class_of first) (is_constructed first) (low_bits first), octets) ≡ Err d =
+          here.1 in cc)
     ]
 
 -- what holds where a length is not read
 abbrev LengthFault : BerFault → List ℕ → Type 0
 LengthFault Truncated octets = Unit {0}
 LengthFault Indefinite octets = (rest : List ℕ) × (octets ≡ 128 ∷ rest)
-LengthFault LengthTooLong octets = (first : ℕ) × (132 < first) × ((rest : List ℕ) × (octets ≡ first ∷ rest))
+LengthFault LengthTooLong octets =
+    (first : ℕ) × (132 < first) × ((rest : List ℕ) × (octets ≡ first ∷ rest))
 LengthFault TagTooLarge octets = ⊥
 LengthFault BadContent octets = ⊥
 
 length_fault : (octets : List ℕ) (d : BerFault) → length_at octets ≡ Err d → LengthFault d octets
 unfolding length_at
-length_fault [] d e = subst (λ (x : BerFault). LengthFault x []) (let same : Truncated ≡ d = cc in same) tt
+length_fault [] d e =
+    subst (λ (x : BerFault). LengthFault x []) (let same : Truncated ≡ d = cc in same) tt
 length_fault (first ∷ octets) d e =
     let k = first - 128 in
-    let long : Result (ℕ × List ℕ) BerFault = cond (ltb (length octets) k) (Err Truncated) (Ok (number_of (take k octets), drop k octets)) in
-    elim (chosen (ltb first 128) (Ok (first, octets)) (cond (eqb first 128) (Err Indefinite) (cond (ltb 132 first) (Err LengthTooLong) long)) (Err d) e) [
+    let long : Result (ℕ × List ℕ) BerFault =
+    cond (ltb (length octets) k) (Err Truncated) (Ok (number_of (take k octets), drop k octets))
+    in
+    elim (chosen (ltb first 128) (Ok (first, octets))
+    (cond (eqb first 128) (Err Indefinite) (cond (ltb 132 first) (Err LengthTooLong) long))
+    (Err d) e) [
       | inl a ↦ absurd (not_err (first, octets) d a.1)
-      | inr a ↦ elim (chosen (eqb first 128) (Err Indefinite) (cond (ltb 132 first) (Err LengthTooLong) long) (Err d) a.1) [
-        | inl b ↦ subst (λ (x : BerFault). LengthFault x (first ∷ octets)) (err_is _ _ b.1) (octets, ap (λ (f : ℕ). f ∷ octets) (eqb-true _ _ b.0))
-        | inr b ↦ elim (chosen (ltb 132 first) (Err LengthTooLong) long (Err d) b.1) [
-          | inl g ↦ subst (λ (x : BerFault). LengthFault x (first ∷ octets)) (err_is _ _ g.1) (first, ltb-true _ _ g.0, (octets, refl))
-          | inr g ↦ elim (chosen (ltb (length octets) k) (Err Truncated) (Ok (number_of (take k octets), drop k octets)) (Err d) g.1) [
-            | inl h ↦ subst (λ (x : BerFault). LengthFault x (first ∷ octets)) (err_is _ _ h.1) tt
-            | inr h ↦ absurd (not_err (number_of (take k octets), drop k octets) d h.1)
+      | inr a ↦ elim (chosen (eqb first 128) (Err Indefinite)
+          (cond (ltb 132 first) (Err LengthTooLong) long) (Err d) a.1) [
+            | inl b ↦ subst (λ (x : BerFault). LengthFault x (first ∷ octets)) (err_is _ _ b.1)
+                (octets, ap (λ (f : ℕ). f ∷ octets) (eqb-true _ _ b.0))
+            | inr b ↦ elim (chosen (ltb 132 first) (Err LengthTooLong) long (Err d) b.1) [
+              | inl g ↦ subst (λ (x : BerFault). LengthFault x (first ∷ octets)) (err_is _ _ g.1)
+                  (first, ltb-true _ _ g.0, (octets, refl))
+              | inr g ↦ elim (chosen (ltb (length octets) k) (Err Truncated)
+                  (Ok (number_of (take k octets), drop k octets)) (Err d) g.1) [
+                    | inl h ↦ subst (λ (x : BerFault). LengthFault x (first ∷ octets))
+                        (err_is _ _ h.1) tt
+                    | inr h ↦ absurd (not_err (number_of (take k octets), drop k octets) d h.1)
+                  ]
+            ]
           ]
-        ]
-      ]
     ]
 
 -- a length's fault behind a tag
-behind_tag : (octets rest : List ℕ) (t : Tag) (d : BerFault) → TagBegins octets t rest → LengthFault d rest → FaultHolds d octets
+behind_tag : (octets rest : List ℕ) (t : Tag) (d : BerFault) → TagBegins octets t rest
+    → LengthFault d rest → FaultHolds d octets
 behind_tag octets rest t Truncated tag f = tt
 behind_tag octets rest t Indefinite tag f =
-    record { tag = t; front = tag.tag; rest = f.0; is_tag = tag.is_tag; parts = tag.parts ∙ ap (λ (xs : List ℕ). tag.tag ++ xs) f.1 }
-behind_tag octets rest t LengthTooLong tag f =
-    (f.0, f.1, record { tag = t; front = tag.tag; rest = f.2.0; is_tag = tag.is_tag; parts = tag.parts ∙ ap (λ (xs : List ℕ). tag.tag ++ xs) f.2.1 })
+    record {
+      tag = t;
+      front = tag.tag;
+      rest = f.0;
+      is_tag = tag.is_tag;
+      parts = tag.parts ∙ ap (λ (xs : List ℕ). tag.tag ++ xs) f.1;
+    }
+behind_tag octets rest t LengthTooLong tag f = (
+  f.0,
+  f.1,
+  record {
+    tag = t;
+    front = tag.tag;
+    rest = f.2.0;
+    is_tag = tag.is_tag;
+    parts = tag.parts ∙ ap (λ (xs : List ℕ). tag.tag ++ xs) f.2.1;
+  },
+)
 behind_tag octets rest t TagTooLarge tag f = absurd f
 behind_tag octets rest t BadContent tag f = absurd f
 
-pub tlv_fault : (octets : List ℕ) (d : BerFault) → IsBytes octets → tlv_at octets ≡ Err d → FaultHolds d octets
+pub tlv_fault : (octets : List ℕ) (d : BerFault) → IsBytes octets → tlv_at octets ≡ Err d
+    → FaultHolds d octets
 unfolding tlv_at
 tlv_fault octets d fits e =
     elim (bind_err (tag_at octets) with_tag d e) [
@@ -267,9 +402,11 @@ tlv_fault octets d fits e =
                 let n = b.0.0 in
                 let behind = b.0.1 in
                 let t = a.0.0 in
-                let made : Reading = record { tag = t; content = take n behind; rest = drop n behind } in
+                let made : Reading =
+                record { tag = t; content = take n behind; rest = drop n behind } in
                 elim (chosen (ltb (length behind) n) (Err Truncated) (Ok made) (Err d) b.2) [
-                  | inl short ↦ subst (λ (x : BerFault). FaultHolds x octets) (err_is _ _ short.1) tt
+                  | inl short ↦ subst (λ (x : BerFault). FaultHolds x octets) (err_is _ _ short.1)
+                      tt
                   | inr here ↦ absurd (not_err made d here.1)
                 ]
           ]
@@ -281,13 +418,18 @@ large_tag_again [] h = absurd h
 large_tag_again (first ∷ []) h = absurd h
 large_tag_again (first ∷ second ∷ octets) h = rw (eq-eqb _ _ h.0, le-ltb second 128 h.1) refl
 
-length_octet_again : (octets : List ℕ) (octet : ℕ) (d : BerFault) → HasLengthOctet octets octet → ((rest : List ℕ) → length_at (octet ∷ rest) ≡ Err d) → tlv_at octets ≡ Err d
+length_octet_again : (octets : List ℕ) (octet : ℕ) (d : BerFault) → HasLengthOctet octets octet
+    → ((rest : List ℕ) → length_at (octet ∷ rest) ≡ Err d) → tlv_at octets ≡ Err d
 unfolding tlv_at
-length_octet_again octets octet d h refused = rw (h.parts, tag_again h.front h.tag (octet ∷ h.rest) h.is_tag, refused h.rest) refl
+length_octet_again octets octet d h refused =
+    rw (h.parts, tag_again h.front h.tag (octet ∷ h.rest) h.is_tag, refused h.rest) refl
 
-long_refused : (octet : ℕ) (rest : List ℕ) → 132 < octet → length_at (octet ∷ rest) ≡ Err LengthTooLong
+long_refused : (octet : ℕ) (rest : List ℕ) → 132 < octet
+    → length_at (octet ∷ rest) ≡ Err LengthTooLong
 unfolding length_at
-long_refused octet rest above = rw (le-ltb octet 128 (omega arith), ne_eqb octet 128 (λ e. omega arith), lt-ltb 132 octet above) refl
+long_refused octet rest above =
+    rw (le-ltb octet 128 (omega arith), ne_eqb octet 128 (λ e. omega arith), lt-ltb 132 octet above)
+    refl
 
 indefinite_refused : (rest : List ℕ) → length_at (128 ∷ rest) ≡ Err Indefinite
 unfolding length_at
@@ -297,7 +439,8 @@ pub indefinite_again : (octets : List ℕ) → IsIndefinite octets → tlv_at oc
 indefinite_again octets h = length_octet_again octets 128 Indefinite h indefinite_refused
 
 pub long_length_again : (octets : List ℕ) → HasLongLength octets → tlv_at octets ≡ Err LengthTooLong
-long_length_again octets h = length_octet_again octets h.0 LengthTooLong h.2 (λ rest. long_refused h.0 rest h.1)
+long_length_again octets h =
+    length_octet_again octets h.0 LengthTooLong h.2 (λ rest. long_refused h.0 rest h.1)
 
 -- no two answers
 two_faults : (c d : BerFault) (x : Result Reading BerFault) → x ≡ Err c → x ≡ Err d → c ≡ d
@@ -305,38 +448,56 @@ two_faults c d x e f = err_is c d (sym e ∙ f)
 
 pub truncated_holds : (octets : List ℕ) → tlv_at octets ≡ Err Truncated → IsTruncated octets
 truncated_holds octets e = record {
-  no_large_tag = λ h. absurd (let same : Truncated ≡ TagTooLarge = two_faults _ _ _ e (large_tag_again octets h) in cc);
-  not_indefinite = λ h. absurd (let same : Truncated ≡ Indefinite = two_faults _ _ _ e (indefinite_again octets h) in cc);
-  no_long_length = λ h. absurd (let same : Truncated ≡ LengthTooLong = two_faults _ _ _ e (long_length_again octets h) in cc);
+  no_large_tag =
+      λ h. absurd (let same : Truncated ≡ TagTooLarge =
+      two_faults _ _ _ e (large_tag_again octets h) in cc);
+  not_indefinite =
+      λ h. absurd (let same : Truncated ≡ Indefinite =
+      two_faults _ _ _ e (indefinite_again octets h) in cc);
+  no_long_length =
+      λ h. absurd (let same : Truncated ≡ LengthTooLong =
+      two_faults _ _ _ e (long_length_again octets h) in cc);
   not_spelled = λ h. not_err h.0 Truncated (sym (tlv_again octets h.0 h.1) ∙ e);
 }
 
-truncated_answer : (octets : List ℕ) (x : Result Reading BerFault) → IsBytes octets → IsTruncated octets → tlv_at octets ≡ x → x ≡ Err Truncated
+truncated_answer : (octets : List ℕ) (x : Result Reading BerFault) → IsBytes octets
+    → IsTruncated octets → tlv_at octets ≡ x → x ≡ Err Truncated
 truncated_answer octets (Ok r) fits h e = absurd (h.not_spelled (r, tlv_takes octets r fits e))
 truncated_answer octets (Err Truncated) fits h e = refl
-truncated_answer octets (Err Indefinite) fits h e = absurd (h.not_indefinite (tlv_fault octets Indefinite fits e))
-truncated_answer octets (Err LengthTooLong) fits h e = absurd (h.no_long_length (tlv_fault octets LengthTooLong fits e))
-truncated_answer octets (Err TagTooLarge) fits h e = absurd (h.no_large_tag (tlv_fault octets TagTooLarge fits e))
+truncated_answer octets (Err Indefinite) fits h e =
+    absurd (h.not_indefinite (tlv_fault octets Indefinite fits e))
+truncated_answer octets (Err LengthTooLong) fits h e =
+    absurd (h.no_long_length (tlv_fault octets LengthTooLong fits e))
+truncated_answer octets (Err TagTooLarge) fits h e =
+    absurd (h.no_large_tag (tlv_fault octets TagTooLarge fits e))
 truncated_answer octets (Err BadContent) fits h e = absurd (tlv_fault octets BadContent fits e)
 
-pub truncated_again : (octets : List ℕ) → IsBytes octets → IsTruncated octets → tlv_at octets ≡ Err Truncated
+pub truncated_again : (octets : List ℕ) → IsBytes octets → IsTruncated octets
+    → tlv_at octets ≡ Err Truncated
 truncated_again octets fits h = truncated_answer octets (tlv_at octets) fits h refl
 
 -- ---- what a function answers that reads so
 
-pub is_ok : (octets : List ℕ) (result : Result Tlv BerFault) → IsBytes octets → IsRead reading_of result (tlv_at octets) → IfOk result (λ tlv. Begins octets (reading_of tlv))
+pub is_ok : (octets : List ℕ) (result : Result Tlv BerFault) → IsBytes octets
+    → IsRead reading_of result (tlv_at octets) → IfOk result (λ tlv. Begins octets (reading_of tlv))
 is_ok octets (Ok tlv) fits given = tlv_takes octets (reading_of tlv) fits given
 is_ok octets (Err d) fits given = tt
 
-pub is_only : (octets : List ℕ) (result : Result Tlv BerFault) (r : Reading) → IsRead reading_of result (tlv_at octets) → Begins octets r → IsOkAnd result (λ tlv. reading_of tlv ≡ r)
-is_only octets (Ok tlv) r given begins = ok_is (reading_of tlv) r (sym given ∙ tlv_again octets r begins)
-is_only octets (Err d) r given begins = absurd (not_err r d (sym (tlv_again octets r begins) ∙ given))
+pub is_only : (octets : List ℕ) (result : Result Tlv BerFault) (r : Reading)
+    → IsRead reading_of result (tlv_at octets) → Begins octets r
+    → IsOkAnd result (λ tlv. reading_of tlv ≡ r)
+is_only octets (Ok tlv) r given begins =
+    ok_is (reading_of tlv) r (sym given ∙ tlv_again octets r begins)
+is_only octets (Err d) r given begins =
+    absurd (not_err r d (sym (tlv_again octets r begins) ∙ given))
 
-pub is_err : (octets : List ℕ) (result : Result Tlv BerFault) (d : BerFault) → IsRead reading_of result (tlv_at octets) → result ≡ Err d → tlv_at octets ≡ Err d
+pub is_err : (octets : List ℕ) (result : Result Tlv BerFault) (d : BerFault)
+    → IsRead reading_of result (tlv_at octets) → result ≡ Err d → tlv_at octets ≡ Err d
 is_err octets (Ok tlv) d given e = absurd (not_err tlv d e)
 is_err octets (Err c) d given e = given ∙ ap Err (err_is c d e)
 
-pub err_is_answer : (octets : List ℕ) (result : Result Tlv BerFault) (d : BerFault) → IsRead reading_of result (tlv_at octets) → tlv_at octets ≡ Err d → result ≡ Err d
+pub err_is_answer : (octets : List ℕ) (result : Result Tlv BerFault) (d : BerFault)
+    → IsRead reading_of result (tlv_at octets) → tlv_at octets ≡ Err d → result ≡ Err d
 err_is_answer octets (Ok tlv) d given e = absurd (not_err (reading_of tlv) d (sym given ∙ e))
 err_is_answer octets (Err c) d given e = ap Err (err_is c d (sym given ∙ e))
 
@@ -346,10 +507,12 @@ err_is_answer octets (Err c) d given e = ap Err (err_is c d (sym given ∙ e))
 pub one_reading : (octets : List ℕ) (r s : Reading) → Begins octets r → Begins octets s → r ≡ s
 one_reading octets r s a b = ok_is r s (sym (tlv_again octets r a) ∙ tlv_again octets s b)
 
-pub one_front : (octets : List ℕ) (r s : Reading) (a : Begins octets r) (b : Begins octets s) → a.front ≡ b.front
+pub one_front : (octets : List ℕ) (r s : Reading) (a : Begins octets r) (b : Begins octets s)
+    → a.front ≡ b.front
 one_front octets r s a b =
     let same : r.rest ≡ s.rest = ap (λ (x : Reading). x.rest) (one_reading octets r s a b) in
-    append_cancel_right a.front b.front s.rest (ap (λ (xs : List ℕ). a.front ++ xs) (sym same) ∙ sym a.parts ∙ b.parts)
+    append_cancel_right a.front b.front s.rest
+    (ap (λ (xs : List ℕ). a.front ++ xs) (sym same) ∙ sym a.parts ∙ b.parts)
 
 pub tag_some : (tag : List ℕ) (t : Tag) → IsTag tag t → 0 < length tag
 tag_some [] t is = absurd is
@@ -360,12 +523,17 @@ len_some [] n is = absurd is
 len_some (first ∷ octets) n is = omega arith
 
 -- a tag and a length take two octets at least
-begins_shorter : (octets : List ℕ) (r : Reading) → Begins octets r → length r.content + length r.rest + 2 ≤ length octets
+begins_shorter : (octets : List ℕ) (r : Reading) → Begins octets r
+    → length r.content + length r.rest + 2 ≤ length octets
 begins_shorter octets r begins =
     let s = begins.spelled in
-    let whole : length octets ≡ length s.front + (length s.len + length r.content) + length r.rest = rw (begins.parts, s.parts) (simp length-append) in
+    let whole : length octets ≡ length s.front + (length s.len + length r.content) + length r.rest =
+    rw (begins.parts, s.parts) (simp length-append) in
     omega (arith, tag_some s.front r.tag s.is_tag, len_some s.len (length r.content) s.is_length)
 
-pub is_shorter : (octets : List ℕ) (result : Result Tlv BerFault) → IsBytes octets → IsRead reading_of result (tlv_at octets) → IfOk result (λ tlv. length tlv.content.now + length tlv.rest.now + 2 ≤ length octets)
-is_shorter octets (Ok tlv) fits given = begins_shorter octets (reading_of tlv) (tlv_takes octets (reading_of tlv) fits given)
+pub is_shorter : (octets : List ℕ) (result : Result Tlv BerFault) → IsBytes octets
+    → IsRead reading_of result (tlv_at octets)
+    → IfOk result (λ tlv. length tlv.content.now + length tlv.rest.now + 2 ≤ length octets)
+is_shorter octets (Ok tlv) fits given =
+    begins_shorter octets (reading_of tlv) (tlv_takes octets (reading_of tlv) fits given)
 is_shorter octets (Err d) fits given = tt

@@ -14,42 +14,81 @@ few_needed n =
       | inl a ↦ omega (arith, octets_needed-1 n a)
       | inr a ↦ elim (cases_lt n 65536) [
         | inl b ↦ omega (arith, octets_needed-2 n a b)
-        | inr b ↦ elim (cases_lt n 16777216) [ inl d ↦ omega (arith, octets_needed-3 n b d) | inr d ↦ omega (arith, octets_needed-4 n d) ]
+        | inr b ↦ elim (cases_lt n 16777216) [
+          | inl d ↦ omega (arith, octets_needed-3 n b d)
+          | inr d ↦ omega (arith, octets_needed-4 n d)
+        ]
       ]
     ]
 
 length-length_octets : (n : ℕ) → length (length_octets n) ≤ 5
-length-length_octets n = elim (cases_lt n 128) [ inl small ↦ omega (arith, length-short n small) | inr ge ↦ omega (arith, length-long n ge, few_needed n) ]
+length-length_octets n =
+    elim (cases_lt n 128) [
+      | inl small ↦ omega (arith, length-short n small)
+      | inr ge ↦ omega (arith, length-long n ge, few_needed n)
+    ]
 
 -- an identifier, at most five octets of length, and the content
-pub length-element : (tag : Tag) (content : List ℕ) → length (element tag content) ≤ length content + 6
+pub length-element : (tag : Tag) (content : List ℕ)
+    → length (element tag content) ≤ length content + 6
 unfolding element
-length-element tag content = omega (arith, length-append (length_octets (length content)) content, length-length_octets (length content))
+length-element tag content =
+    omega (
+      arith,
+      length-append (length_octets (length content)) content,
+      length-length_octets (length content),
+    )
 
 -- a length has at most five octets
-pub length_few : (count : ℕ) (old new : List ℕ) → new ≡ old ++ length_octets count → length new ≤ length old + 5
-length_few count old new is = rw is (omega (arith, length-append old (length_octets count), length-length_octets count))
+pub length_few : (count : ℕ) (old new : List ℕ) → new ≡ old ++ length_octets count
+    → length new ≤ length old + 5
+length_few count old new is =
+    rw is (omega (arith, length-append old (length_octets count), length-length_octets count))
 
 -- how much longer octets are behind which a value was written
-pub grows : (tag : Tag) (old new first middle last : List ℕ) → new ≡ old ++ element tag (first ++ middle ++ last) → length new ≤ length old + (length first + length middle + length last) + 6
+pub grows : (tag : Tag) (old new first middle last : List ℕ)
+    → new ≡ old ++ element tag (first ++ middle ++ last)
+    → length new ≤ length old + (length first + length middle + length last) + 6
 grows tag old new first middle last is =
     let content = first ++ middle ++ last in
-    rw is (omega (arith, length-append old (element tag content), length-element tag content, length-append (first ++ middle) last, length-append first middle))
+    rw is (omega (
+      arith,
+      length-append old (element tag content),
+      length-element tag content,
+      length-append (first ++ middle) last,
+      length-append first middle,
+    ))
 
-pub grows_by : (tag : Tag) (old new content : List ℕ) → new ≡ old ++ element tag content → length new ≤ length old + length content + 6
-grows_by tag old new content is = rw is (omega (arith, length-append old (element tag content), length-element tag content))
+pub grows_by : (tag : Tag) (old new content : List ℕ) → new ≡ old ++ element tag content
+    → length new ≤ length old + length content + 6
+grows_by tag old new content is =
+    rw is (omega (arith, length-append old (element tag content), length-element tag content))
 
-pub length-element-is : (tag : Tag) (content : List ℕ) → length (element tag content) ≡ element_length (length content)
+pub length-element-is : (tag : Tag) (content : List ℕ)
+    → length (element tag content) ≡ element_length (length content)
 unfolding element
 length-element-is tag content =
     elim (cases_lt (length content) 128) [
-      | inl small ↦ rw (lt-ltb (length content) 128 small) (omega (arith, length-append (length_octets (length content)) content, length-short (length content) small))
-      | inr ge ↦ rw (le-ltb (length content) 128 ge) (omega (arith, length-append (length_octets (length content)) content, length-long (length content) ge))
+      | inl small ↦ rw (lt-ltb (length content) 128 small)
+          (omega (
+            arith,
+            length-append (length_octets (length content)) content,
+            length-short (length content) small,
+          ))
+      | inr ge ↦ rw (le-ltb (length content) 128 ge)
+          (omega (
+            arith,
+            length-append (length_octets (length content)) content,
+            length-long (length content) ge,
+          ))
     ]
 
 pub length-integer_octets : (value : ℤ) → length (integer_octets value) ≤ 8
-length-integer_octets value = let size = length-without_needless (to_be_bytes w64 (cast_unsigned w64 value)) (omega arith) in size.1
+length-integer_octets value = let size =
+    length-without_needless (to_be_bytes w64 (cast_unsigned w64 value)) (omega arith) in size.1
 
 -- no octet without a bit
-pub length-bit_octets : (octets : List ℕ) (count : ℕ) → count ≤ 8 * length octets → count < 2 ^ 35 → 8 * length (bit_octets octets count) < count + 8
-length-bit_octets octets count enough short = let is = bit_string_is octets count enough short in omega (arith, is.1.filled, is.1.few)
+pub length-bit_octets : (octets : List ℕ) (count : ℕ) → count ≤ 8 * length octets → count < 2 ^ 35
+    → 8 * length (bit_octets octets count) < count + 8
+length-bit_octets octets count enough short = let is =
+    bit_string_is octets count enough short in omega (arith, is.1.filled, is.1.few)

@@ -14,22 +14,34 @@ class_of-application : (first : ℕ) → 64 ≤ first → first < 128 → class_
 class_of-application first from below = rw (le-ltb first 64 from, lt-ltb first 128 below) refl
 
 class_of-context : (first : ℕ) → 128 ≤ first → first < 192 → class_of first ≡ ContextSpecific
-class_of-context first from below = rw (le-ltb first 64 (omega arith), le-ltb first 128 from, lt-ltb first 192 below) refl
+class_of-context first from below =
+    rw (le-ltb first 64 (omega arith), le-ltb first 128 from, lt-ltb first 192 below) refl
 
 class_of-private : (first : ℕ) → 192 ≤ first → class_of first ≡ Private
-class_of-private first from = rw (le-ltb first 64 (omega arith), le-ltb first 128 (omega arith), le-ltb first 192 from) refl
+class_of-private first from =
+    rw (le-ltb first 64 (omega arith), le-ltb first 128 (omega arith), le-ltb first 192 from) refl
 
-pub class_of-identifier : (class : Class) (constructed : Bool) (low : ℕ) → low < 32 → class_of (identifier class constructed low) ≡ class
-class_of-identifier Universal true low below = class_of-universal (identifier Universal true low) (omega arith)
-class_of-identifier Universal false low below = class_of-universal (identifier Universal false low) (omega arith)
-class_of-identifier Application true low below = class_of-application (identifier Application true low) (omega arith) (omega arith)
-class_of-identifier Application false low below = class_of-application (identifier Application false low) (omega arith) (omega arith)
-class_of-identifier ContextSpecific true low below = class_of-context (identifier ContextSpecific true low) (omega arith) (omega arith)
-class_of-identifier ContextSpecific false low below = class_of-context (identifier ContextSpecific false low) (omega arith) (omega arith)
-class_of-identifier Private true low below = class_of-private (identifier Private true low) (omega arith)
-class_of-identifier Private false low below = class_of-private (identifier Private false low) (omega arith)
+pub class_of-identifier : (class : Class) (constructed : Bool) (low : ℕ) → low < 32
+    → class_of (identifier class constructed low) ≡ class
+class_of-identifier Universal true low below =
+    class_of-universal (identifier Universal true low) (omega arith)
+class_of-identifier Universal false low below =
+    class_of-universal (identifier Universal false low) (omega arith)
+class_of-identifier Application true low below =
+    class_of-application (identifier Application true low) (omega arith) (omega arith)
+class_of-identifier Application false low below =
+    class_of-application (identifier Application false low) (omega arith) (omega arith)
+class_of-identifier ContextSpecific true low below =
+    class_of-context (identifier ContextSpecific true low) (omega arith) (omega arith)
+class_of-identifier ContextSpecific false low below =
+    class_of-context (identifier ContextSpecific false low) (omega arith) (omega arith)
+class_of-identifier Private true low below =
+    class_of-private (identifier Private true low) (omega arith)
+class_of-identifier Private false low below =
+    class_of-private (identifier Private false low) (omega arith)
 
-pub is_constructed-identifier : (class : Class) (constructed : Bool) (low : ℕ) → low < 32 → is_constructed (identifier class constructed low) ≡ constructed
+pub is_constructed-identifier : (class : Class) (constructed : Bool) (low : ℕ) → low < 32
+    → is_constructed (identifier class constructed low) ≡ constructed
 is_constructed-identifier Universal true low below = grind (arith, nat_tests)
 is_constructed-identifier Universal false low below = grind (arith, nat_tests)
 is_constructed-identifier Application true low below = grind (arith, nat_tests)
@@ -39,7 +51,8 @@ is_constructed-identifier ContextSpecific false low below = grind (arith, nat_te
 is_constructed-identifier Private true low below = grind (arith, nat_tests)
 is_constructed-identifier Private false low below = grind (arith, nat_tests)
 
-pub low_bits-identifier : (class : Class) (constructed : Bool) (low : ℕ) → low < 32 → low_bits (identifier class constructed low) ≡ low
+pub low_bits-identifier : (class : Class) (constructed : Bool) (low : ℕ) → low < 32
+    → low_bits (identifier class constructed low) ≡ low
 low_bits-identifier Universal true low below = omega arith
 low_bits-identifier Universal false low below = omega arith
 low_bits-identifier Application true low below = omega arith
@@ -53,21 +66,27 @@ low_bits-identifier Private false low below = omega arith
 form_weight : (bit : ℕ) → bit < 2 → cond (eqb bit 1) 32 0 ≡ bit * 32
 form_weight bit below = grind (arith, nat_tests)
 
-by_class : (first bits : ℕ) → first < 256 → bits ≡ class_bits (class_of first) → (bits * 64 ≤ first) × (first < bits * 64 + 64)
+by_class : (first bits : ℕ) → first < 256 → bits ≡ class_bits (class_of first)
+    → (bits * 64 ≤ first) × (first < bits * 64 + 64)
 by_class first bits below is =
     elim (cases_lt first 64) [
-      | inl lt ↦ let b : bits ≡ 0 = is ∙ ap class_bits (class_of-universal first lt) in (omega arith, omega arith)
+      | inl lt ↦ let b : bits ≡ 0 =
+          is ∙ ap class_bits (class_of-universal first lt) in (omega arith, omega arith)
       | inr ge ↦ elim (cases_lt first 128) [
-        | inl lt ↦ let b : bits ≡ 1 = is ∙ ap class_bits (class_of-application first ge lt) in (omega arith, omega arith)
+        | inl lt ↦ let b : bits ≡ 1 =
+            is ∙ ap class_bits (class_of-application first ge lt) in (omega arith, omega arith)
         | inr ge ↦ elim (cases_lt first 192) [
-          | inl lt ↦ let b : bits ≡ 2 = is ∙ ap class_bits (class_of-context first ge lt) in (omega arith, omega arith)
-          | inr ge ↦ let b : bits ≡ 3 = is ∙ ap class_bits (class_of-private first ge) in (omega arith, omega arith)
+          | inl lt ↦ let b : bits ≡ 2 =
+              is ∙ ap class_bits (class_of-context first ge lt) in (omega arith, omega arith)
+          | inr ge ↦ let b : bits ≡ 3 =
+              is ∙ ap class_bits (class_of-private first ge) in (omega arith, omega arith)
         ]
       ]
     ]
 
 -- an octet is made of these three parts
-pub identifier_of : (first : ℕ) → first < 256 → first ≡ identifier (class_of first) (is_constructed first) (low_bits first)
+pub identifier_of : (first : ℕ) → first < 256
+    → first ≡ identifier (class_of first) (is_constructed first) (low_bits first)
 identifier_of first below =
     let range = by_class first (class_bits (class_of first)) below refl in
     let form = form_weight ((first / 32) % 2) (omega arith) in

@@ -24,16 +24,20 @@ pub octets_needed-2 : (n : ℕ) → 256 ≤ n → n < 65536 → octets_needed n 
 octets_needed-2 n ge lt = rw (le-ltb n 256 ge, lt-ltb n 65536 lt) refl
 
 pub octets_needed-3 : (n : ℕ) → 65536 ≤ n → n < 16777216 → octets_needed n ≡ 3
-octets_needed-3 n ge lt = rw (le-ltb n 256 (omega arith), le-ltb n 65536 ge, lt-ltb n 16777216 lt) refl
+octets_needed-3 n ge lt =
+    rw (le-ltb n 256 (omega arith), le-ltb n 65536 ge, lt-ltb n 16777216 lt) refl
 
 pub octets_needed-4 : (n : ℕ) → 16777216 ≤ n → octets_needed n ≡ 4
-octets_needed-4 n ge = rw (le-ltb n 256 (omega arith), le-ltb n 65536 (omega arith), le-ltb n 16777216 ge) refl
+octets_needed-4 n ge =
+    rw (le-ltb n 256 (omega arith), le-ltb n 65536 (omega arith), le-ltb n 16777216 ge) refl
 
-pub long_is : (n k : ℕ) → octets_needed n ≡ k → 128 ≤ n → length_octets n ≡ (128 + k) ∷ bytes_high_first k n
+pub long_is : (n k : ℕ) → octets_needed n ≡ k → 128 ≤ n
+    → length_octets n ≡ (128 + k) ∷ bytes_high_first k n
 unfolding length_octets
 long_is n k needed ge = rw (le-ltb n 128 ge, needed) refl
 
-is_long : (n k : ℕ) → octets_needed n ≡ k → 128 ≤ n → IsLength ((128 + k) ∷ bytes_high_first k n) n → IsLength (length_octets n) n
+is_long : (n k : ℕ) → octets_needed n ≡ k → 128 ≤ n → IsLength ((128 + k) ∷ bytes_high_first k n) n
+    → IsLength (length_octets n) n
 is_long n k needed ge is = rw (long_is n k needed ge) is
 
 pub length_is : (n : ℕ) → n < 2 ^ 32 → IsLength (length_octets n) n
@@ -55,7 +59,8 @@ length_is n lt =
 
 -- ---- values
 
-pub element_spells : (tag : Tag) (content : List ℕ) → tag.number < 31 → length content < 2 ^ 32 → Spells (element tag content) tag content
+pub element_spells : (tag : Tag) (content : List ℕ) → tag.number < 31 → length content < 2 ^ 32
+    → Spells (element tag content) tag content
 unfolding element
 element_spells tag content low short = record {
   front = octet_of tag ∷ [];
@@ -65,7 +70,8 @@ element_spells tag content low short = record {
   parts = refl;
 }
 
-pub element_begins : (tag : Tag) (content rest : List ℕ) → tag.number < 31 → length content < 2 ^ 32 → Begins (element tag content ++ rest) (record { tag = tag; content = content; rest = rest })
+pub element_begins : (tag : Tag) (content rest : List ℕ) → tag.number < 31 → length content < 2 ^ 32
+    → Begins (element tag content ++ rest) (record { tag = tag; content = content; rest = rest })
 element_begins tag content rest low short = record {
   front = element tag content;
   spelled = element_spells tag content low short;
@@ -87,58 +93,83 @@ carried : (h x p n : ℕ) → (h * 256 + x) * p + n ≡ h * (p * 256) + ((0 * 25
 carried h x p n = grind arith
 
 -- octets behind a number
-number_from : (h : ℕ) (octets : List ℕ) → fold step h octets ≡ h * 256 ^ length octets + number_of octets
+number_from : (h : ℕ) (octets : List ℕ)
+    → fold step h octets ≡ h * 256 ^ length octets + number_of octets
 number_from h [] = omega arith
 number_from h (x ∷ octets) =
     let a = number_from (h * 256 + x) octets in
     let b = number_from (0 * 256 + x) octets in
-    a ∙ carried h x (256 ^ length octets) (number_of octets) ∙ rw (← pow-suc 256 (length octets), ← b) refl
+    a ∙ carried h x (256 ^ length octets) (number_of octets)
+    ∙ rw (← pow-suc 256 (length octets), ← b) refl
 
-pub number_of-cons : (x : ℕ) (octets : List ℕ) → number_of (x ∷ octets) ≡ x * 256 ^ length octets + number_of octets
-number_of-cons x octets = number_from (0 * 256 + x) octets ∙ rw (let e : 0 * 256 + x ≡ x = omega arith in e) refl
+pub number_of-cons : (x : ℕ) (octets : List ℕ)
+    → number_of (x ∷ octets) ≡ x * 256 ^ length octets + number_of octets
+number_of-cons x octets =
+    number_from (0 * 256 + x) octets ∙ rw (let e : 0 * 256 + x ≡ x = omega arith in e) refl
 
 pub number_of-below : (octets : List ℕ) → IsBytes octets → number_of octets < 256 ^ length octets
 number_of-below [] fits = omega arith
 number_of-below (x ∷ octets) fits =
     let rest = number_of-below octets (λ i. fits (suc i)) in
-    rw (number_of-cons x octets, pow-suc 256 (length octets)) (mul-add-lt x (256 ^ length octets) (number_of octets) 256 (fits 0) rest)
+    rw (number_of-cons x octets, pow-suc 256 (length octets))
+    (mul-add-lt x (256 ^ length octets) (number_of octets) 256 (fits 0) rest)
 
 -- a needless octet changes nothing
-needless_same : (first second : ℕ) (octets : List ℕ) → is_needless first second ≡ true → signed_of (first ∷ second ∷ octets) ≡ signed_of (second ∷ octets)
+needless_same : (first second : ℕ) (octets : List ℕ) → is_needless first second ≡ true
+    → signed_of (first ∷ second ∷ octets) ≡ signed_of (second ∷ octets)
 needless_same first second octets needless =
     let p = 256 ^ length (second ∷ octets) in
     let n = number_of (second ∷ octets) in
     elim (chosen (ltb second 128) (eqb first 0) (eqb first 255) true needless) [
       | inl low ↦
           let zero : first ≡ 0 = eqb-true first 0 low.1 in
-          let whole : number_of (first ∷ second ∷ octets) ≡ n = number_of-cons first (second ∷ octets) ∙ rw zero (omega arith) in
-          signed_of-low (first ∷ second ∷ octets) (omega arith) (omega arith) ∙ ap pos whole ∙ sym (signed_of-low (second ∷ octets) (omega arith) (ltb-true _ _ low.0))
+          let whole : number_of (first ∷ second ∷ octets) ≡ n =
+          number_of-cons first (second ∷ octets) ∙ rw zero (omega arith) in
+          signed_of-low (first ∷ second ∷ octets) (omega arith) (omega arith) ∙ ap pos whole
+          ∙ sym (signed_of-low (second ∷ octets) (omega arith) (ltb-true _ _ low.0))
       | inr high ↦
           let ones : first ≡ 255 = eqb-true first 255 high.1 in
-          let whole : number_of (first ∷ second ∷ octets) ≡ 255 * p + n = number_of-cons first (second ∷ octets) ∙ rw ones refl in
-          let size : 256 ^ length (first ∷ second ∷ octets) ≡ p * 256 = pow-suc 256 (length (second ∷ octets)) in
-          signed_of-high (first ∷ second ∷ octets) (omega arith) (omega arith) ∙ rw (whole, size) (omega (arith, ints)) ∙ sym (signed_of-high (second ∷ octets) (omega arith) (ltb-false _ _ high.0))
+          let whole : number_of (first ∷ second ∷ octets) ≡ 255 * p + n =
+          number_of-cons first (second ∷ octets) ∙ rw ones refl in
+          let size : 256 ^ length (first ∷ second ∷ octets) ≡ p * 256 =
+          pow-suc 256 (length (second ∷ octets)) in
+          signed_of-high (first ∷ second ∷ octets) (omega arith) (omega arith)
+          ∙ rw (whole, size) (omega (arith, ints))
+          ∙ sym (signed_of-high (second ∷ octets) (omega arith) (ltb-false _ _ high.0))
     ]
 
-needless_either : (b : Bool) (first second : ℕ) (octets tight : List ℕ) → is_needless first second ≡ b → signed_of tight ≡ signed_of (second ∷ octets) → signed_of (cond b tight (first ∷ second ∷ octets)) ≡ signed_of (first ∷ second ∷ octets)
-needless_either true first second octets tight is same = same ∙ sym (needless_same first second octets is)
+needless_either : (b : Bool) (first second : ℕ) (octets tight : List ℕ)
+    → is_needless first second ≡ b → signed_of tight ≡ signed_of (second ∷ octets)
+    → signed_of (cond b tight (first ∷ second ∷ octets)) ≡ signed_of (first ∷ second ∷ octets)
+needless_either true first second octets tight is same =
+    same ∙ sym (needless_same first second octets is)
 needless_either false first second octets tight is same = refl
 
 without_needless-same : (octets : List ℕ) → signed_of (without_needless octets) ≡ signed_of octets
 without_needless-same [] = refl
 without_needless-same (first ∷ []) = refl
-without_needless-same (first ∷ second ∷ octets) = needless_either (is_needless first second) first second octets (without_needless (second ∷ octets)) refl (without_needless-same (second ∷ octets))
+without_needless-same (first ∷ second ∷ octets) =
+    needless_either (is_needless first second) first second octets
+    (without_needless (second ∷ octets)) refl (without_needless-same (second ∷ octets))
 
-length_either : (b : Bool) (first second : ℕ) (octets tight : List ℕ) → (0 < length tight) × (length tight ≤ length (second ∷ octets)) → (0 < length (cond b tight (first ∷ second ∷ octets))) × (length (cond b tight (first ∷ second ∷ octets)) ≤ length (first ∷ second ∷ octets))
+length_either : (b : Bool) (first second : ℕ) (octets tight : List ℕ)
+    → (0 < length tight) × (length tight ≤ length (second ∷ octets))
+    → (0 < length (cond b tight (first ∷ second ∷ octets)))
+    × (length (cond b tight (first ∷ second ∷ octets)) ≤ length (first ∷ second ∷ octets))
 length_either true first second octets tight h = (h.0, omega (arith, h.1))
 length_either false first second octets tight h = (omega arith, omega arith)
 
-pub length-without_needless : (octets : List ℕ) → 0 < length octets → (0 < length (without_needless octets)) × (length (without_needless octets) ≤ length octets)
+pub length-without_needless : (octets : List ℕ) → 0 < length octets
+    → (0 < length (without_needless octets)) × (length (without_needless octets) ≤ length octets)
 length-without_needless [] some = absurd (omega arith)
 length-without_needless (first ∷ []) some = (omega arith, omega arith)
-length-without_needless (first ∷ second ∷ octets) some = length_either (is_needless first second) first second octets (without_needless (second ∷ octets)) (length-without_needless (second ∷ octets) (omega arith))
+length-without_needless (first ∷ second ∷ octets) some =
+    length_either (is_needless first second) first second octets
+    (without_needless (second ∷ octets)) (length-without_needless (second ∷ octets) (omega arith))
 
-eight : (a b c d e f g h : ℕ) → number_of (a ∷ b ∷ c ∷ d ∷ e ∷ f ∷ g ∷ h ∷ []) ≡ from_be_bytes w64 (a ∷ b ∷ c ∷ d ∷ e ∷ f ∷ g ∷ h ∷ [])
+eight : (a b c d e f g h : ℕ)
+    → number_of (a ∷ b ∷ c ∷ d ∷ e ∷ f ∷ g ∷ h ∷ [])
+    ≡ from_be_bytes w64 (a ∷ b ∷ c ∷ d ∷ e ∷ f ∷ g ∷ h ∷ [])
 eight a b c d e f g h = omega arith
 
 number_of-bytes : (n : ℕ) → n < 2 ^ 64 → number_of (to_be_bytes w64 n) ≡ n
@@ -147,14 +178,18 @@ number_of-bytes n lt = eight _ _ _ _ _ _ _ _ ∙ from_be_bytes-to_be_bytes_8 n l
 below_zero : (m n p : ℕ) → m + suc n ≡ p → pos m -ℤ pos p ≡ negsuc n
 below_zero m n p is = omega (arith, ints)
 
-signed_of-bytes : (value : ℤ) → FitsSigned w64 value → signed_of (to_be_bytes w64 (cast_unsigned w64 value)) ≡ value
+signed_of-bytes : (value : ℤ) → FitsSigned w64 value
+    → signed_of (to_be_bytes w64 (cast_unsigned w64 value)) ≡ value
 signed_of-bytes (pos n) fits =
     let small : n < 2 ^ 63 = fits.sfits in
-    signed_of-low (to_be_bytes w64 n) (omega arith) (omega arith) ∙ ap pos (number_of-bytes n (omega arith))
+    signed_of-low (to_be_bytes w64 n) (omega arith) (omega arith)
+    ∙ ap pos (number_of-bytes n (omega arith))
 signed_of-bytes (negsuc n) fits =
     let small : n < 2 ^ 63 = fits.sfits in
     let m = 2 ^ 64 - suc n in
-    signed_of-high (to_be_bytes w64 m) (omega arith) (omega arith) ∙ below_zero (number_of (to_be_bytes w64 m)) n (2 ^ 64) (rw (number_of-bytes m (omega arith)) (omega arith))
+    signed_of-high (to_be_bytes w64 m) (omega arith) (omega arith)
+    ∙ below_zero (number_of (to_be_bytes w64 m)) n (2 ^ 64)
+    (rw (number_of-bytes m (omega arith)) (omega arith))
 
 pub integer_is : (value : ℤ) → FitsSigned w64 value → IsInteger (integer_octets value) value
 integer_is value fits =
@@ -169,7 +204,11 @@ integer_is value fits =
 
 -- ---- bit strings
 
-held : (octets : List ℕ) (count whole left : ℕ) → whole ≡ count / 8 → left ≡ count % 8 → count ≤ 8 * length octets → count < 2 ^ 35 → (b : Bool) → eqb left 0 ≡ b → HasBits (cond b 0 (8 - left)) (cond b (take whole octets) (take whole octets ++ cleared (8 - left) (get_or octets whole 0) ∷ [])) count
+held : (octets : List ℕ) (count whole left : ℕ) → whole ≡ count / 8 → left ≡ count % 8
+    → count ≤ 8 * length octets → count < 2 ^ 35 → (b : Bool) → eqb left 0 ≡ b
+    → HasBits (cond b 0 (8 - left))
+    (cond b (take whole octets)
+    (take whole octets ++ cleared (8 - left) (get_or octets whole 0) ∷ [])) count
 held octets count whole left w l enough short true is =
     let none : left ≡ 0 = eqb-true left 0 is in
     let size : length (take whole octets) ≡ whole = length-take-le whole octets (omega arith) in
@@ -177,26 +216,42 @@ held octets count whole left w l enough short true is =
 held octets count whole left w l enough short false is =
     let other : (left ≡ 0) → ⊥ = eqb-false left 0 is in
     let size : length (take whole octets) ≡ whole = length-take-le whole octets (omega arith) in
-    let all : length (take whole octets ++ cleared (8 - left) (get_or octets whole 0) ∷ []) ≡ length (take whole octets) + 1 = length-append (take whole octets) (cleared (8 - left) (get_or octets whole 0) ∷ []) in
+    let all : length (take whole octets ++ cleared (8 - left) (get_or octets whole 0) ∷ [])
+    ≡ length (take whole octets) + 1 =
+    length-append (take whole octets) (cleared (8 - left) (get_or octets whole 0) ∷ []) in
     record { few = omega arith; filled = omega arith; within = omega arith }
 
-pub bit_string_is : (octets : List ℕ) (count : ℕ) → count ≤ 8 * length octets → count < 2 ^ 35 → IsBits (bit_string_octets octets count) (bit_octets octets count) count
-bit_string_is octets count enough short = (refl, held octets count (count / 8) (count % 8) refl refl enough short (eqb (count % 8) 0) refl)
+pub bit_string_is : (octets : List ℕ) (count : ℕ) → count ≤ 8 * length octets → count < 2 ^ 35
+    → IsBits (bit_string_octets octets count) (bit_octets octets count) count
+bit_string_is octets count enough short = (
+  refl,
+  held octets count (count / 8) (count % 8) refl refl enough short (eqb (count % 8) 0)
+      refl,
+)
 
 -- ---- nesting in place
 
 -- a header behind the octets, moved in front of the last of them
-pub nested_in_place : (tag : Tag) (count start written : ℕ) (old middle new : List ℕ) → start ≤ length old → written ≡ length old → count ≡ written - start → middle ≡ old ++ header tag count
-    → new ≡ take start middle ++ (drop written middle ++ take (written - start) (drop start middle)) → new ≡ take start old ++ element tag (drop start old)
+pub nested_in_place : (tag : Tag) (count start written : ℕ) (old middle new : List ℕ)
+    → start ≤ length old → written ≡ length old → count ≡ written - start
+    → middle ≡ old ++ header tag count
+    → new ≡ take start middle ++ (drop written middle ++ take (written - start) (drop start middle))
+    → new ≡ take start old ++ element tag (drop start old)
 unfolding header element
 nested_in_place tag count start written old middle new within size counted added moved =
     let n : length (drop start old) ≡ count = length-drop start old ∙ omega arith in
-    let front : take start (old ++ header tag count) ≡ take start old = take-append-le start old (header tag count) within in
-    let behind : drop written (old ++ header tag count) ≡ header tag count = drop_at old (header tag count) written (sym size) in
-    let last : take (written - start) (drop start (old ++ header tag count)) ≡ drop start old = ap (λ (ys : List ℕ). take (written - start) ys) (drop-append-le start old (header tag count) within) ∙ take_at (drop start old) (header tag count) (written - start) (omega arith) in
+    let front : take start (old ++ header tag count) ≡ take start old =
+    take-append-le start old (header tag count) within in
+    let behind : drop written (old ++ header tag count) ≡ header tag count =
+    drop_at old (header tag count) written (sym size) in
+    let last : take (written - start) (drop start (old ++ header tag count)) ≡ drop start old =
+    ap (λ (ys : List ℕ). take (written - start) ys)
+    (drop-append-le start old (header tag count) within)
+    ∙ take_at (drop start old) (header tag count) (written - start) (omega arith) in
     moved ∙ rw (added, front, behind, last, n) refl
 
 -- a value is a head and the content behind it
-pub element-header : (tag : Tag) (content : List ℕ) → element tag content ≡ header tag (length content) ++ content
+pub element-header : (tag : Tag) (content : List ℕ)
+    → element tag content ≡ header tag (length content) ++ content
 unfolding header element
 element-header tag content = refl

@@ -8,7 +8,9 @@ use Rattle.bay_ber.specs.Octets.{number_of}
 abbrev pub signed_of : List ℕ → ℤ
 signed_of [] = pos 0
 signed_of (first ∷ octets) =
-    if nat_lt first 128 then pos (number_of (first ∷ octets)) else pos (number_of (first ∷ octets)) -ℤ pos (256 ^ length (first ∷ octets))
+    if nat_lt first 128
+    then pos (number_of (first ∷ octets))
+    else pos (number_of (first ∷ octets)) -ℤ pos (256 ^ length (first ∷ octets))
 
 -- The content is an integer of 1 to 9 octets, within 64 bits (X.690 8.3).
 pub record IsInteger (content : List ℕ) (value : ℤ) : Type 0 where
@@ -40,6 +42,7 @@ pub record BitString : Type 0 where
   pub octets : List ℕ
   pub count : ℕ
 
+-- a bit string as it was read
 abbrev pub bits_of : Bits → BitString
 bits_of b = record { octets = b.octets.now; count = b.count }
 
@@ -52,19 +55,27 @@ is_long (negsuc n) = nat_lt n 9223372036854775808
 
 -- whether the content has 1 to 9 octets and its number is within 64 bits
 unfoldable pub is_integer : List ℕ → Bool
-is_integer content = nat_lt 0 (length content) && (nat_lt (length content) 10 && is_long (signed_of content))
+is_integer content =
+    nat_lt 0 (length content) && (nat_lt (length content) 10 && is_long (signed_of content))
 
+-- the number of an integer's content
 abbrev pub integer_in : List ℕ → Option ℤ
 integer_in content = if is_integer content then Some (signed_of content) else None
 
 -- whether so many unused bits may stand behind octets
 unfoldable pub are_unused : ℕ → List ℕ → Bool
-are_unused unused octets = nat_lt unused 8 && (nat_lt unused (8 * length octets + 1) && nat_lt (length octets) 2305843009213693952)
+are_unused unused octets =
+    nat_lt unused 8 && (nat_lt unused (8 * length octets + 1)
+    && nat_lt (length octets) 2305843009213693952)
 
+-- the bits of a bit string's content
 abbrev pub bits_in : List ℕ → Option BitString
 bits_in [] = None
-bits_in (unused ∷ octets) = if are_unused unused octets then Some (record { octets = octets; count = 8 * length octets - unused }) else None
+bits_in (unused ∷ octets) =
+    if are_unused unused octets
+    then Some (record { octets = octets; count = 8 * length octets - unused }) else None
 
+-- the truth value of a content
 abbrev pub truth_in : List ℕ → Option Bool
 truth_in (octet ∷ []) = Some (nat_lt 0 octet)
 truth_in content = None

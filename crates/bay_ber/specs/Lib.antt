@@ -2,7 +2,6 @@ pub mod Code
 pub mod Content
 pub mod Growth
 pub mod Octets
-pub mod Options
 pub mod Reading
 pub mod Spelling
 pub mod Tags

@@ -1,5 +1,6 @@
 -- What stands at the front of a list of octets.
 use Rattle.std.specs.Prelude.{ℕ, ◌≡◌, ◌-◌, ◌/◌, ◌%◌, ◌<◌, ◌≤◌, ◌==◌, Bool, List, [], ◌∷◌, ◌++◌, length, take, drop, Result, Ok, Err, nat_lt, if◌then◌else◌}
+use Rattle.bay_base.specs.Results.{◌>>=◌}
 use Rattle.bay_ber.specs.declared.fault.BerFault.{BerFault}
 use Rattle.bay_ber.specs.declared.fault.BerFault.TheVariants.{Truncated, Indefinite, LengthTooLong, TagTooLarge}
 use Rattle.bay_ber.specs.declared.tag.Class.{Class}
@@ -15,6 +16,7 @@ pub record Reading : Type 0 where
   pub content : List ℕ
   pub rest : List ℕ
 
+-- what was read, as slices of the input
 abbrev pub reading_of : Tlv → Reading
 reading_of t = record { tag = t.tag; content = t.content.now; rest = t.rest.now }
 
@@ -58,34 +60,44 @@ pub record IsTruncated (octets : List ℕ) : Type 0 where
 
 -- ---- reading from the left, which the laws tie to the relations above
 
-infixl 10 ◌>>=◌
-abbrev pub ◌>>=◌ : {A B : Type 0} → Result A BerFault → (A → Result B BerFault) → Result B BerFault
-(Ok x) >>= f = f x
-(Err e) >>= f = Err e
-
--- What a function answered, seen by view, is what reading gives.
-abbrev pub IsRead : {X Y : Type 0} → (X → Y) → Result X BerFault → Result Y BerFault → Type 0
-IsRead view (Ok x) read = read ≡ Ok (view x)
-IsRead view (Err e) read = read ≡ Err e
-
+-- the class, in bits 8 and 7 of the first tag octet (X.690 8.1.2.2)
 abbrev pub class_of : ℕ → Class
-class_of first = if nat_lt first 64 then Universal else (if nat_lt first 128 then Application else (if nat_lt first 192 then ContextSpecific else Private))
+class_of first =
+    if nat_lt first 64 then Universal
+    else (if nat_lt first 128 then Application
+    else (if nat_lt first 192 then ContextSpecific else Private))
 
+-- whether the content is made of values, in bit 6 (X.690 8.1.2.5)
 abbrev pub is_constructed : ℕ → Bool
 is_constructed first = (first / 32) % 2 == 1
 
+-- the low five bits: the number, or 31 where it stands behind
 abbrev pub low_bits : ℕ → ℕ
 low_bits first = first % 32
 
 -- a tag of two octets, behind its first
 abbrev pub second_at : ℕ → List ℕ → Result (Tag × List ℕ) BerFault
 second_at first [] = Err Truncated
-second_at first (second ∷ octets) = if nat_lt second 128 then Ok (record { class = class_of first; constructed = is_constructed first; number = second }, octets) else Err TagTooLarge
+second_at first (second ∷ octets) =
+    if nat_lt second 128 then Ok
+    (record { class = class_of first; constructed = is_constructed first; number = second }, octets)
+    else Err TagTooLarge
 
+-- the tag at the front, and the octets behind it
 unfoldable pub tag_at : List ℕ → Result (Tag × List ℕ) BerFault
 tag_at [] = Err Truncated
-tag_at (first ∷ octets) = if low_bits first == 31 then second_at first octets else Ok (record { class = class_of first; constructed = is_constructed first; number = low_bits first }, octets)
+tag_at (first ∷ octets) =
+    if low_bits first == 31 then second_at first octets
+    else Ok (
+      record {
+        class = class_of first;
+        constructed = is_constructed first;
+        number = low_bits first;
+      },
+      octets,
+    )
 
+-- the length at the front, and the octets behind it
 unfoldable pub length_at : List ℕ → Result (ℕ × List ℕ) BerFault
 length_at [] = Err Truncated
 length_at (first ∷ octets) =
@@ -95,8 +107,10 @@ length_at (first ∷ octets) =
     else (if nat_lt (length octets) (first - 128) then Err Truncated
     else Ok (number_of (take (first - 128) octets), drop (first - 128) octets))))
 
+-- the value at the front, and the octets behind it
 unfoldable pub tlv_at : List ℕ → Result Reading BerFault
 tlv_at octets = do
   tag ← tag_at octets
   n ← length_at tag.1
-  if nat_lt (length n.1) n.0 then Err Truncated else Ok (record { tag = tag.0; content = take n.0 n.1; rest = drop n.0 n.1 })
+  if nat_lt (length n.1) n.0 then Err Truncated
+      else Ok (record { tag = tag.0; content = take n.0 n.1; rest = drop n.0 n.1 })

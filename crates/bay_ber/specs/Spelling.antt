@@ -24,8 +24,10 @@ octet_of tag = identifier tag.class tag.constructed tag.number
 -- there and one octet below 128 that gives it (X.690 8.1.2).
 abbrev pub IsTag : List ℕ → Tag → Type 0
 IsTag [] tag = ⊥
-IsTag (first ∷ []) tag = (tag.number < 31) × (first ≡ identifier tag.class tag.constructed tag.number)
-IsTag (first ∷ second ∷ []) tag = (first ≡ identifier tag.class tag.constructed 31) × (second < 128) × (tag.number ≡ second)
+IsTag (first ∷ []) tag =
+    (tag.number < 31) × (first ≡ identifier tag.class tag.constructed tag.number)
+IsTag (first ∷ second ∷ []) tag =
+    (first ≡ identifier tag.class tag.constructed 31) × (second < 128) × (tag.number ≡ second)
 IsTag (first ∷ second ∷ third ∷ octets) tag = ⊥
 
 -- A length is one octet below 128, or 0x80 + n and n octets, the highest first, for n from 1 to 4
@@ -33,7 +35,9 @@ IsTag (first ∷ second ∷ third ∷ octets) tag = ⊥
 abbrev pub IsLength : List ℕ → ℕ → Type 0
 IsLength [] n = ⊥
 IsLength (first ∷ []) n = (first < 128) × (n ≡ first)
-IsLength (first ∷ second ∷ octets) n = (first ≡ 128 + length (second ∷ octets)) × (length (second ∷ octets) ≤ 4) × (n ≡ number_of (second ∷ octets))
+IsLength (first ∷ second ∷ octets) n =
+    (first ≡ 128 + length (second ∷ octets)) × (length (second ∷ octets) ≤ 4)
+    × (n ≡ number_of (second ∷ octets))
 
 -- The octets are a tag, a length and the content.
 pub record Spells (octets : List ℕ) (tag : Tag) (content : List ℕ) : Type 0 where

@@ -7,7 +7,7 @@ use Rattle.bay_ber.specs.declared.values.Value.{Value}
 use Rattle.bay_ber.specs.Spelling.{Spells}
 use Rattle.bay_ber.specs.Reading.{Reading, Begins, IsSpelled, tlv_at}
 use Rattle.bay_ber.specs.Tags.{same_tag}
-use Rattle.bay_ber.specs.Options.{◌>>=◌}
+use Rattle.bay_base.specs.Options.{◌>>=◌}
 
 -- a tag and a content, without where they lie in memory
 pub record Part : Type 0 where
@@ -18,23 +18,28 @@ pub record Part : Type 0 where
 abbrev pub value : Tag → List ℕ → Part
 value tag content = record { tag = tag; content = content }
 
+-- a value that was read
 abbrev pub part_of : Value → Part
 part_of v = record { tag = v.tag; content = v.content.now }
 
 -- The octets are these values and nothing else, one after another.
 abbrev pub SpellAll : List ℕ → List Part → Type 0
 SpellAll octets [] = octets ≡ []
-SpellAll octets (part ∷ parts) = (front : List ℕ) × (rest : List ℕ) × (octets ≡ front ++ rest) × Spells front part.tag part.content × SpellAll rest parts
+SpellAll octets (part ∷ parts) =
+    (front : List ℕ) × (rest : List ℕ) × (octets ≡ front ++ rest)
+    × Spells front part.tag part.content × SpellAll rest parts
 
 -- What is answered of the values in octets, and what is left of them: none where no octet is left,
 -- else the first and the octets behind it, or a fault where no value stands first.
 abbrev pub Next : List ℕ → Result (Option Value) BerFault → List ℕ → Type 0
 Next old (Ok None) new = (old ≡ []) × (new ≡ [])
-Next old (Ok (Some value)) new = Begins old (record { tag = value.tag; content = value.content.now; rest = new })
+Next old (Ok (Some value)) new =
+    Begins old (record { tag = value.tag; content = value.content.now; rest = new })
 Next old (Err fault) new = (new ≡ old) × (old ≡ [] → ⊥) × (IsSpelled old → ⊥)
 
 -- ---- the values that octets are, which the laws tie to the relation above
 
+-- the value at the front, without the octets behind it
 abbrev pub part_in : Reading → Part
 part_in r = record { tag = r.tag; content = r.content }
 
@@ -42,6 +47,7 @@ part_in r = record { tag = r.tag; content = r.content }
 abbrev pub onto : List Part → Option (List Part) → Option (List Part)
 onto front = option_map (λ parts. front ++ parts)
 
+-- a value that was read, in front of those behind it, where they are values
 abbrev pub with_front : Result Reading BerFault → (List ℕ → Option (List Part)) → Option (List Part)
 with_front (Ok r) rest = onto (part_in r ∷ []) (rest r.rest)
 with_front (Err fault) rest = None
@@ -50,7 +56,8 @@ with_front (Err fault) rest = None
 unfoldable pub values_within : ℕ → List ℕ → Option (List Part)
 values_within most [] = Some []
 values_within zero (octet ∷ octets) = None
-values_within (suc most) (octet ∷ octets) = with_front (tlv_at (octet ∷ octets)) (values_within most)
+values_within (suc most) (octet ∷ octets) =
+    with_front (tlv_at (octet ∷ octets)) (values_within most)
 
 -- the values that the octets are, one after another; a value has at least two octets, so there are
 -- fewer than octets

@@ -7,11 +7,14 @@ use Rattle.std.specs.Int.{w64, bytes_high_first, to_be_bytes, cast_unsigned}
 
 -- how many octets a length needs behind the first
 abbrev pub octets_needed : ℕ → ℕ
-octets_needed n = if nat_lt n 0x100 then 1 else (if nat_lt n 0x1_0000 then 2 else (if nat_lt n 0x100_0000 then 3 else 4))
+octets_needed n =
+    if nat_lt n 0x100 then 1
+    else (if nat_lt n 0x1_0000 then 2 else (if nat_lt n 0x100_0000 then 3 else 4))
 
 -- the shortest length
 unfoldable pub length_octets : ℕ → List ℕ
-length_octets n = if nat_lt n 128 then n ∷ [] else (128 + octets_needed n) ∷ bytes_high_first (octets_needed n) n
+length_octets n =
+    if nat_lt n 128 then n ∷ [] else (128 + octets_needed n) ∷ bytes_high_first (octets_needed n) n
 
 -- a tag of one octet and the shortest length of a content of so many octets
 unfoldable pub header : Tag → ℕ → List ℕ
@@ -39,7 +42,8 @@ is_needless first second = if nat_lt second 128 then first == 0 else first == 25
 abbrev pub without_needless : List ℕ → List ℕ
 without_needless [] = []
 without_needless (first ∷ []) = first ∷ []
-without_needless (first ∷ second ∷ octets) = if is_needless first second then without_needless (second ∷ octets) else first ∷ second ∷ octets
+without_needless (first ∷ second ∷ octets) =
+    if is_needless first second then without_needless (second ∷ octets) else first ∷ second ∷ octets
 
 -- an integer of 64 bits in two's complement, without needless octets
 abbrev pub integer_octets : ℤ → List ℕ
@@ -52,7 +56,10 @@ cleared unused octet = octet / 2 ^ unused * 2 ^ unused
 -- the octets of the first bits, with 0 in the unused bits of the last
 abbrev pub bit_octets : List ℕ → ℕ → List ℕ
 bit_octets octets count =
-    if count % 8 == 0 then take (count / 8) octets else take (count / 8) octets ++ cleared (8 - count % 8) (slice_index octets (count / 8)) ∷ []
+    if count % 8 == 0
+    then take (count / 8) octets
+    else take (count / 8) octets
+    ++ cleared (8 - count % 8) (slice_index octets (count / 8)) ∷ []
 
 -- how many bits of the last octet are unused
 abbrev pub unused_bits : ℕ → ℕ

@@ -44,7 +44,8 @@ fn signed_of(octets: &[u8]) -> i128
 fn integer_of(content: &[u8]) -> Result<i64, BerFault>
     ensures ok { IfOk result (λ value. IsInteger content.now value) }
     ensures only { (value : ℤ) → IsInteger content.now value → result ≡ Ok value }
-    ensures err { IfErr result (λ fault. (fault ≡ BerFault.BadContent) × ((value : ℤ) → IsInteger content.now value → ⊥)) }
+    ensures err { IfErr result
+        (λ fault. (fault ≡ BerFault.BadContent) × ((value : ℤ) → IsInteger content.now value → ⊥)) }
 {
     if content.is_empty() || content.len() > 9 {
         return Err(BerFault::BadContent);
@@ -58,7 +59,8 @@ fn integer_of(content: &[u8]) -> Result<i64, BerFault>
 pub fn int_of(content: &[u8]) -> Result<i64, BerFault>
     ensures ok { IfOk result (λ value. IsInteger content.now value) }
     ensures only { (value : ℤ) → IsInteger content.now value → result ≡ Ok value }
-    ensures err { IfErr result (λ fault. (fault ≡ BerFault.BadContent) × ((value : ℤ) → IsInteger content.now value → ⊥)) }
+    ensures err { IfErr result
+        (λ fault. (fault ≡ BerFault.BadContent) × ((value : ℤ) → IsInteger content.now value → ⊥)) }
     ensures exact { result_ok result ≡ integer_in content.now }
 {
     integer_of(content)
@@ -66,8 +68,11 @@ pub fn int_of(content: &[u8]) -> Result<i64, BerFault>
 
 // The bits of these octets, without the unused ones.
 fn bits_behind(unused: u8, octets: &[u8]) -> Result<Bits<'_>, BerFault>
-    ensures ok { IfOk result (λ bits. (bits.octets.now ≡ octets.now) × HasBits unused octets.now bits.count) }
-    ensures err { IfErr result (λ fault. (fault ≡ BerFault.BadContent) × ((count : ℕ) → HasBits unused octets.now count → ⊥)) }
+    ensures ok { IfOk result
+        (λ bits. (bits.octets.now ≡ octets.now) × HasBits unused octets.now bits.count) }
+    ensures err { IfErr result
+        (λ fault. (fault ≡ BerFault.BadContent)
+        × ((count : ℕ) → HasBits unused octets.now count → ⊥)) }
 {
     if unused > 7 || octets.len() >= 1 << 61 {
         return Err(BerFault::BadContent);
@@ -83,8 +88,11 @@ fn bits_behind(unused: u8, octets: &[u8]) -> Result<Bits<'_>, BerFault>
 /// more than 7 unused bits, unused bits and no octet behind, or 2^61 octets or more.
 pub fn bits_of(content: &[u8]) -> Result<Bits<'_>, BerFault>
     ensures ok { IfOk result (λ bits. IsBits content.now bits.octets.now bits.count) }
-    ensures only { (b : BitString) → IsBits content.now b.octets b.count → IsOkAnd result (λ bits. spec.bits_of bits ≡ b) }
-    ensures err { IfErr result (λ fault. (fault ≡ BerFault.BadContent) × ((octets : List ℕ) (count : ℕ) → IsBits content.now octets count → ⊥)) }
+    ensures only { (b : BitString) → IsBits content.now b.octets b.count
+        → IsOkAnd result (λ bits. spec.bits_of bits ≡ b) }
+    ensures err { IfErr result
+        (λ fault. (fault ≡ BerFault.BadContent)
+        × ((octets : List ℕ) (count : ℕ) → IsBits content.now octets count → ⊥)) }
     ensures exact { option_map spec.bits_of (result_ok result) ≡ bits_in content.now }
 {
     match content {
@@ -98,7 +106,9 @@ pub fn bits_of(content: &[u8]) -> Result<Bits<'_>, BerFault>
 pub fn bool_of(content: &[u8]) -> Result<bool, BerFault>
     ensures ok { IfOk result (λ value. IsTruth content.now value) }
     ensures only { (value : Bool) → IsTruth content.now value → result ≡ Ok value }
-    ensures err { IfErr result (λ fault. (fault ≡ BerFault.BadContent) × ((value : Bool) → IsTruth content.now value → ⊥)) }
+    ensures err { IfErr result
+        (λ fault. (fault ≡ BerFault.BadContent)
+        × ((value : Bool) → IsTruth content.now value → ⊥)) }
     ensures exact { result_ok result ≡ truth_in content.now }
 {
     match content {

@@ -16,8 +16,11 @@ fn is_known(value: &Value<'_>, tags: &[Tag]) -> bool
 // Puts a value behind those that are known, if it has one of these tags; None where they are five.
 fn add_known<'a>(known: &mut Few<'a>, value: Value<'a>, tags: &[Tag]) -> Option<()>
     requires { length known.old ≤ 5 }
-    ensures some { OnSome result ((known.new ≡ with_known tags.now known.old (part_of value.entry)) × (length known.new ≤ 5)) }
-    ensures none { IfNone result ((spec.is_known tags.now (part_of value.entry) ≡ true) × (5 ≤ length known.old)) }
+    ensures some { OnSome result
+        ((known.new ≡ with_known tags.now known.old (part_of value.entry))
+        × (length known.new ≤ 5)) }
+    ensures none { IfNone result
+        ((spec.is_known tags.now (part_of value.entry) ≡ true) × (5 ≤ length known.old)) }
 {
     if is_known(&value, tags) {
         known.push(value)?;

@@ -11,41 +11,52 @@ ghost use Rattle.bay_ber.specs.declared.tag.Tag.{Tag};
 
 /// At most one prefix of an input is spelled, in one way.
 pub fn one_spelling()
-    ensures reading { (octets : List ℕ) (r s : Reading) → Begins octets r → Begins octets s → r ≡ s }
-    ensures prefix { (octets : List ℕ) (r s : Reading) (a : Begins octets r) (b : Begins octets s) → a.front ≡ b.front }
+    ensures reading { (octets : List ℕ) (r s : Reading) → Begins octets r → Begins octets s
+        → r ≡ s }
+    ensures prefix { (octets : List ℕ) (r s : Reading) (a : Begins octets r) (b : Begins octets s)
+        → a.front ≡ b.front }
 {}
 
 /// Octets are one value in one way, and a list of values in one way.
 pub fn one_list()
-    ensures value { (octets : List ℕ) (p q : Part) → Spells octets p.tag p.content → Spells octets q.tag q.content → p ≡ q }
-    ensures list { (octets : List ℕ) (ps qs : List Part) → SpellAll octets ps → SpellAll octets qs → ps ≡ qs }
+    ensures value { (octets : List ℕ) (p q : Part) → Spells octets p.tag p.content
+        → Spells octets q.tag q.content → p ≡ q }
+    ensures list { (octets : List ℕ) (ps qs : List Part) → SpellAll octets ps → SpellAll octets qs
+        → ps ≡ qs }
 {}
 
 /// The values that octets are, as a function, are those that the octets spell and nothing else.
 pub fn values_are_spelled()
-    ensures { (octets : List ℕ) (parts : List Part) → AreOctets octets → (values_in octets ≡ Some parts) ↔ SpellAll octets parts }
+    ensures { (octets : List ℕ) (parts : List Part) → AreOctets octets
+        → (values_in octets ≡ Some parts) ↔ SpellAll octets parts }
 {}
 
 /// What is written is read back, whatever follows it: each octet is the identifier of a class, a
 /// form and a number, and the value under it is read as such, and each content as the value that
 /// was written.
 pub fn written_is_read()
-    ensures octet { (octet : ℕ) → octet < 256 → octet ≡ identifier (class_of octet) (is_constructed octet) (low_bits octet) }
+    ensures octet { (octet : ℕ) → octet < 256
+        → octet ≡ identifier (class_of octet) (is_constructed octet) (low_bits octet) }
     ensures value { (tag : Tag) (content rest : List ℕ) → tag.number < 31 → length content < 2 ^ 32
-        → Begins (element tag content ++ rest) (record { tag = tag; content = content; rest = rest }) }
+        → Begins (element tag content ++ rest)
+        (record { tag = tag; content = content; rest = rest }) }
     ensures integer { (value : ℤ) → FitsSigned w64 value → IsInteger (integer_octets value) value }
-    ensures bits { (octets : List ℕ) (count : ℕ) → count ≤ 8 * length octets → count < 2 ^ 35 → IsBits (bit_string_octets octets count) (bit_octets octets count) count }
+    ensures bits { (octets : List ℕ) (count : ℕ) → count ≤ 8 * length octets → count < 2 ^ 35
+        → IsBits (bit_string_octets octets count) (bit_octets octets count) count }
     ensures truth { (value : Bool) → IsTruth (truth_octets value) value }
 {}
 
 /// How long what is written is.
 pub fn written_is_as_long()
-    ensures { (tag : Tag) (content : List ℕ) → length (element tag content) ≡ element_length (length content) }
+    ensures { (tag : Tag) (content : List ℕ)
+        → length (element tag content) ≡ element_length (length content) }
 {}
 
 /// What is written is the shortest spelling: no octets that spell the same value, and no content of
 /// the same integer, are fewer.
 pub fn written_is_shortest()
-    ensures value { (octets content : List ℕ) (tag : Tag) → AreOctets octets → Spells octets tag content → length (element tag content) ≤ length octets }
-    ensures integer { (content : List ℕ) (value : ℤ) → AreOctets content → IsInteger content value → length (integer_octets value) ≤ length content }
+    ensures value { (octets content : List ℕ) (tag : Tag) → AreOctets octets
+        → Spells octets tag content → length (element tag content) ≤ length octets }
+    ensures integer { (content : List ℕ) (value : ℤ) → AreOctets content → IsInteger content value
+        → length (integer_octets value) ≤ length content }
 {}

@@ -27,7 +27,11 @@ pub struct Tag {
 impl Tag {
     /// A universal tag on a simple value.
     pub const fn universal(number: u8) -> Tag
-        ensures { result ≡ record { class = Class.Universal; constructed = false; number = number } }
+        ensures { result ≡ record {
+          class = Class.Universal;
+          constructed = false;
+          number = number;
+        } }
     {
         Tag {
             class: Class::Universal,
@@ -49,7 +53,11 @@ impl Tag {
 
     /// An application tag on a value that is made of values.
     pub const fn application_constructed(number: u8) -> Tag
-        ensures { result ≡ record { class = Class.Application; constructed = true; number = number } }
+        ensures { result ≡ record {
+          class = Class.Application;
+          constructed = true;
+          number = number;
+        } }
     {
         Tag {
             class: Class::Application,
@@ -71,7 +79,8 @@ impl Tag {
 
     /// A context-specific tag on a simple value.
     pub const fn context(number: u8) -> Tag
-        ensures { result ≡ record { class = Class.ContextSpecific; constructed = false; number = number } }
+        ensures { result ≡ record
+            { class = Class.ContextSpecific; constructed = false; number = number } }
     {
         Tag {
             class: Class::ContextSpecific,
@@ -82,7 +91,8 @@ impl Tag {
 
     /// A context-specific tag on a value that is made of values.
     pub const fn context_constructed(number: u8) -> Tag
-        ensures { result ≡ record { class = Class.ContextSpecific; constructed = true; number = number } }
+        ensures { result ≡ record
+            { class = Class.ContextSpecific; constructed = true; number = number } }
     {
         Tag {
             class: Class::ContextSpecific,

@@ -1,7 +1,8 @@
 // One tag, length and content at the front of a list of octets.
 ghost use Rattle.std.specs.Prelude.{◌≡◌, ◌+◌, ◌*◌, ◌^◌, ◌<◌, ◌≤◌, ◌==◌, ◌↔◌, Ok, Err, length, IfOk, IsOkAnd};
 ghost use Rattle.bay_ber.specs.Octets as spec_octets;
-ghost use Rattle.bay_ber.specs.Reading.{IsRead, Reading, Begins, HasLargeTag, IsIndefinite, HasLongLength, IsTruncated, reading_of};
+ghost use Rattle.bay_base.specs.Results.{IsRead};
+ghost use Rattle.bay_ber.specs.Reading.{Reading, Begins, HasLargeTag, IsIndefinite, HasLongLength, IsTruncated, reading_of};
 ghost use Rattle.bay_ber.specs.Reading as spec;
 
 use crate::fault::BerFault;
@@ -141,8 +142,10 @@ fn tlv_at(octets: &[u8]) -> Result<Tlv<'_>, BerFault>
 pub fn read_tlv(octets: &[u8]) -> Result<Tlv<'_>, BerFault>
     // What is read is spelled so at the front of the octets, and what is spelled so is read.
     ensures ok { IfOk result (λ tlv. Begins octets.now (reading_of tlv)) }
-    ensures only { (r : Reading) → Begins octets.now r → IsOkAnd result (λ tlv. reading_of tlv ≡ r) }
-    ensures shorter { IfOk result (λ tlv. length tlv.content.now + length tlv.rest.now + 2 ≤ length octets.now) }
+    ensures only { (r : Reading) → Begins octets.now r
+        → IsOkAnd result (λ tlv. reading_of tlv ≡ r) }
+    ensures shorter { IfOk result
+        (λ tlv. length tlv.content.now + length tlv.rest.now + 2 ≤ length octets.now) }
     // Each fault, exactly where it stands.
     ensures large_tag { (result ≡ Err BerFault.TagTooLarge) ↔ HasLargeTag octets.now }
     ensures indefinite { (result ≡ Err BerFault.Indefinite) ↔ IsIndefinite octets.now }

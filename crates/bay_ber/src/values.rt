@@ -35,7 +35,8 @@ impl<'a> Value<'a> {
 /// The value that the octets are (X.690 8.1); None where they are none, or octets follow it.
 pub fn whole_value(octets: &[u8]) -> Option<Value<'_>>
     ensures some { IfSome result (λ value. Spells octets.now value.tag value.content.now) }
-    ensures only { (tag : Tag) (content : List ℕ) → Spells octets.now tag content → IsSomeAnd result (λ value. part_of value ≡ record { tag = tag; content = content }) }
+    ensures only { (tag : Tag) (content : List ℕ) → Spells octets.now tag content
+        → IsSomeAnd result (λ value. part_of value ≡ record { tag = tag; content = content }) }
     ensures exact { option_map part_of result ≡ value_in octets.now }
 {
     match read_tlv(octets) {
@@ -81,7 +82,9 @@ impl<'a> Values<'a> {
     pub fn next_value(&mut self) -> Result<Option<Value<'a>>, BerFault>
         ensures next { Next self.old result self.new }
         ensures exact { NextIn self.old result self.new }
-        ensures shorter { IfOk result (λ next. IfSome next (λ value. length value.content.now + length self.new + 2 ≤ length self.old)) }
+        ensures shorter { IfOk result
+            (λ next. IfSome next (λ value. length value.content.now + length self.new + 2
+            ≤ length self.old)) }
     {
         if self.rest.is_empty() {
             return Ok(None);
@@ -130,7 +133,8 @@ impl<'a> Few<'a> {
 
     /// Puts a value behind the others; None where they are five.
     pub fn push(&mut self, value: Value<'a>) -> Option<()>
-        ensures some { OnSome result ((self.new ≡ self.old ++ part_of value.entry ∷ []) × (length self.old + 1 ≤ 5)) }
+        ensures some { OnSome result
+            ((self.new ≡ self.old ++ part_of value.entry ∷ []) × (length self.old + 1 ≤ 5)) }
         ensures none { IfNone result (5 ≤ length self.old) }
     {
         if self.count == 5 {

@@ -58,7 +58,9 @@ fn move_forward(octets: &mut Vec<u8>, start: usize, middle: usize)
     requires start { start ≤ middle }
     requires middle { middle ≤ length octets.old.items }
     requires few { length octets.old.items ≤ middle + 6 }
-    ensures { octets.new.items ≡ take start octets.old.items ++ (drop middle octets.old.items ++ take (middle - start) (drop start octets.old.items)) }
+    ensures { octets.new.items
+        ≡ take start octets.old.items
+        ++ (drop middle octets.old.items ++ take (middle - start) (drop start octets.old.items)) }
 {
     let count = octets.len() - middle;
     let mut moved = [0; 6];
@@ -96,7 +98,8 @@ fn append(
 ) -> Result<(), AllocError>
     requires low { tag.number < 31 }
     requires short { length first.now + length middle.now + length last.now < 2 ^ 32 }
-    ensures ok { OnOk result (out.new.items ≡ out.old.items ++ spec.element tag (first.now ++ middle.now ++ last.now)) }
+    ensures ok { OnOk result
+        (out.new.items ≡ out.old.items ++ spec.element tag (first.now ++ middle.now ++ last.now)) }
     ensures err { OnErr result (Extends out.old.items out.new.items) }
 {
     out.reserve(6 + first.len() + middle.len() + last.len())?;
@@ -203,7 +206,9 @@ impl Writer {
         requires tag { tag.number < 31 }
         requires held { bits.count ≤ 8 * length bits.octets.now }
         requires short { bits.count + 16 ≤ 2 ^ 35 }
-        ensures ok { OnOk result (self.new ≡ self.old ++ spec.element tag (bit_string_octets bits.entry.octets.now bits.entry.count)) }
+        ensures ok { OnOk result
+            (self.new ≡ self.old ++ spec.element tag
+            (bit_string_octets bits.entry.octets.now bits.entry.count)) }
         ensures err { OnErr result (self.new ≡ self.old) }
     {
         let (whole, left) = (bits.count / 8, bits.count % 8);
@@ -281,7 +286,8 @@ impl Writer {
         requires tag { tag.number < 31 }
         requires start { start ≤ length self.old }
         requires short { length self.old < start + 2 ^ 32 }
-        ensures ok { OnOk result (self.new ≡ take start self.old ++ spec.element tag (drop start self.old)) }
+        ensures ok { OnOk result
+            (self.new ≡ take start self.old ++ spec.element tag (drop start self.old)) }
         ensures few { OnOk result (length self.new ≤ length self.old + 6) }
         ensures err { OnErr result (self.new ≡ self.old) }
     {
@@ -341,8 +347,11 @@ impl Writer {
     ) -> Result<(), AllocError>
         requires low { tag.number < 31 }
         requires short { length first.now + length middle.now + length last.now < 2 ^ 32 }
-        ensures ok { OnOk result (self.new ≡ self.old ++ spec.element tag (first.now ++ middle.now ++ last.now)) }
-        ensures few { OnOk result (length self.new ≤ length self.old + (length first.now + length middle.now + length last.now) + 6) }
+        ensures ok { OnOk result
+            (self.new ≡ self.old ++ spec.element tag (first.now ++ middle.now ++ last.now)) }
+        ensures few { OnOk result
+            (length self.new ≤ length self.old
+            + (length first.now + length middle.now + length last.now) + 6) }
         ensures err { OnErr result (self.new ≡ self.old) }
     {
         let written = self.octets.len();

@@ -15,7 +15,13 @@ use Rattle.bay_config.specs.Section.{section_refusal}
 use Rattle.bay_config.proofs.KeyLemmas.{then, judged-step}
 
 abbrev pub sections_in : Members → Sections
-sections_in f = record { nameplate = nameplate_in (bay_table f); switches = switches_in f; inputs = names_in f Input; meters = names_in f Meter }
+sections_in f =
+    record {
+      nameplate = nameplate_in (bay_table f);
+      switches = switches_in f;
+      inputs = names_in f Input;
+      meters = names_in f Meter;
+    }
 
 abbrev pub section_checks : Members → List (Option BayFault)
 section_checks f = unknown_refusal (map (λ s. s.name) sections) f ∷ map (section_refusal f) sections
@@ -28,28 +34,43 @@ by_section f =
     (λ nameplate. then (judged (section_refusal f switch_section) (switches_in f))
     (λ switches. then (judged (section_refusal f (name_section Input)) (names_in f Input))
     (λ inputs. then (judged (section_refusal f (name_section Meter)) (names_in f Meter))
-    (λ meters. Ok (record { nameplate = nameplate; switches = switches; inputs = inputs; meters = meters }))))))
+    (λ meters. Ok
+    (record {
+      nameplate = nameplate;
+      switches = switches;
+      inputs = inputs;
+      meters = meters;
+    }))))))
 
-pub sections_by_section : (f : Members) → judged (first_of (section_checks f)) (sections_in f) ≡ by_section f
+pub sections_by_section : (f : Members)
+    → judged (first_of (section_checks f)) (sections_in f) ≡ by_section f
 sections_by_section f =
     let bay = section_refusal f bay_section in
     let switches = section_refusal f switch_section in
     let inputs = section_refusal f (name_section Input) in
     let meters = section_refusal f (name_section Meter) in
-    judged-step (unknown_refusal (map (λ s. s.name) sections) f) (bay ∷ switches ∷ inputs ∷ meters ∷ []) (tt {0}) (sections_in f) _
-    (judged-step bay (switches ∷ inputs ∷ meters ∷ []) (nameplate_in (bay_table f)) (sections_in f) _
+    judged-step (unknown_refusal (map (λ s. s.name) sections) f)
+    (bay ∷ switches ∷ inputs ∷ meters ∷ []) (tt {0}) (sections_in f) _
+    (judged-step bay (switches ∷ inputs ∷ meters ∷ []) (nameplate_in (bay_table f)) (sections_in f)
+    _
     (judged-step switches (inputs ∷ meters ∷ []) (switches_in f) (sections_in f) _
     (judged-step inputs (meters ∷ []) (names_in f Input) (sections_in f) _
     (judged-step meters [] (names_in f Meter) (sections_in f) _ refl))))
 
 -- the last check, behind the others
-judged-last_of : {S R : Type 0} (checks : List (Option BayFault)) (last : Option BayFault) (x : S) (v : R) (g : S → Result R BayFault) → judged (first_of (last ∷ [])) v ≡ g x → judged (first_of (checks ++ last ∷ [])) v ≡ then (judged (first_of checks) x) g
+judged-last_of : {S R : Type 0} (checks : List (Option BayFault)) (last : Option BayFault) (x : S)
+    (v : R) (g : S → Result R BayFault) → judged (first_of (last ∷ [])) v ≡ g x
+    → judged (first_of (checks ++ last ∷ [])) v ≡ then (judged (first_of checks) x) g
 judged-last_of [] last x v g e = e
 judged-last_of (None ∷ checks) last x v g e = judged-last_of checks last x v g e
 judged-last_of (Some fault ∷ checks) last x v g e = refl
 
 abbrev pub lists_in : Sections → Lists
-lists_in s = record { points = points_of_all s.switches s.inputs s.meters; rows = rows_of_all s.nameplate s.switches s.meters }
+lists_in s =
+    record {
+      points = points_of_all s.switches s.inputs s.meters;
+      rows = rows_of_all s.nameplate s.switches s.meters;
+    }
 
 -- the bay: the sections, and then the lists
 abbrev pub bay_by_parts : Members → Result Bay BayFault

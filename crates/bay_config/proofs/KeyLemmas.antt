@@ -15,27 +15,38 @@ use Rattle.bay_config.specs.declared.fault.BayFault.TheVariants.{OutOfMemory}
 use Rattle.bay_base.specs.Exact.{judged}
 use Rattle.bay_config.specs.Key.{first_of, is_among, has_unknown, named}
 
-pub among-map : (known : List (Bor (List ℕ))) (k : List ℕ) → list_any (λ o. bytes_eq k o.now) known ≡ is_among (map (λ o. o.now) known) k
+pub among-map : (known : List (Bor (List ℕ))) (k : List ℕ)
+    → list_any (λ o. bytes_eq k o.now) known ≡ is_among (map (λ o. o.now) known) k
 among-map [] k = refl
 among-map (o ∷ os) k = ap (λ b. bytes_eq k o.now || b) (among-map os k)
 
-pub unknown-map : (known : List (Bor (List ℕ))) (es : List Entry) → list_any (λ k. not (list_any (λ o. bytes_eq (string_bytes k) o.now) known)) (keys_of es) ≡ has_unknown (map (λ o. o.now) known) (members_view es)
+pub unknown-map : (known : List (Bor (List ℕ))) (es : List Entry)
+    → list_any (λ k. not (list_any (λ o. bytes_eq (string_bytes k) o.now) known)) (keys_of es)
+    ≡ has_unknown (map (λ o. o.now) known) (members_view es)
 unknown-map known [] = refl
 unknown-map known (e ∷ es) =
-    ap (λ b. not b || list_any (λ k. not (list_any (λ o. bytes_eq (string_bytes k) o.now) known)) (keys_of es)) (among-map known (string_bytes e.0))
-    ∙ ap (λ b. not (is_among (map (λ o. o.now) known) (string_bytes e.0)) || b) (unknown-map known es)
+    ap (λ b. not b || list_any (λ k. not (list_any (λ o. bytes_eq (string_bytes k) o.now) known))
+    (keys_of es)) (among-map known (string_bytes e.0))
+    ∙ ap (λ b. not (is_among (map (λ o. o.now) known) (string_bytes e.0)) || b)
+    (unknown-map known es)
 
 -- a word is among those of a list exactly where the list gives it a value
-pub among_named : {T : Type 0} (es : List (List ℕ × T)) (s : List ℕ) → is_among (map (λ e. e.0) es) s ≡ is_some (named es s)
+pub among_named : {T : Type 0} (es : List (List ℕ × T)) (s : List ℕ)
+    → is_among (map (λ e. e.0) es) s ≡ is_some (named es s)
 among_named [] s = refl
-among_named (e ∷ es) s = elim (bytes_eq s e.0) as (λ b. (b || is_among (map (λ x. x.0) es) s) ≡ is_some (cond b (Some e.1) (named es s))) [ true ↦ refl | false ↦ among_named es s ]
+among_named (e ∷ es) s =
+    elim (bytes_eq s e.0) as
+    (λ b. (b || is_among (map (λ x. x.0) es) s) ≡ is_some (cond b (Some e.1) (named es s)))
+    [ true ↦ refl | false ↦ among_named es s ]
 
 -- what a refusal or a value says of the check
-pub judged-Err : {S : Type 0} (check : Option BayFault) (x : S) (e : BayFault) → Err e ≡ judged check x → check ≡ Some e
+pub judged-Err : {S : Type 0} (check : Option BayFault) (x : S) (e : BayFault)
+    → Err e ≡ judged check x → check ≡ Some e
 judged-Err None x e h = cc
 judged-Err (Some f) x e h = cc
 
-pub judged-Ok : {S : Type 0} (check : Option BayFault) (x y : S) → Ok y ≡ judged check x → (check ≡ None) × (y ≡ x)
+pub judged-Ok : {S : Type 0} (check : Option BayFault) (x y : S) → Ok y ≡ judged check x
+    → (check ≡ None) × (y ≡ x)
 judged-Ok None x y h = (refl, cc)
 judged-Ok (Some f) x y h = cc
 
@@ -45,17 +56,21 @@ then (Ok x) f = f x
 then (Err e) f = Err e
 
 -- what a step is refused for, or what it lacked, is what the whole is refused for
-pub then-refused : {S R : Type 0} (r : Result S BayFault) (e : BayFault) (g : S → Result R BayFault) → ((e ≡ OutOfMemory) ⊎ (r ≡ Err e)) → (e ≡ OutOfMemory) ⊎ (then r g ≡ Err e)
+pub then-refused : {S R : Type 0} (r : Result S BayFault) (e : BayFault) (g : S → Result R BayFault)
+    → ((e ≡ OutOfMemory) ⊎ (r ≡ Err e)) → (e ≡ OutOfMemory) ⊎ (then r g ≡ Err e)
 then-refused r e g (inl m) = inl m
 then-refused r e g (inr h) = inr (ap (λ x. then x g) h)
 
 -- the first check, and then what the rest gives
-pub judged-step : {S R : Type 0} (check : Option BayFault) (rest : List (Option BayFault)) (x : S) (v : R) (g : S → Result R BayFault) → judged (first_of rest) v ≡ g x → judged (first_of (check ∷ rest)) v ≡ then (judged check x) g
+pub judged-step : {S R : Type 0} (check : Option BayFault) (rest : List (Option BayFault)) (x : S)
+    (v : R) (g : S → Result R BayFault) → judged (first_of rest) v ≡ g x
+    → judged (first_of (check ∷ rest)) v ≡ then (judged check x) g
 judged-step None rest x v g e = e
 judged-step (Some fault) rest x v g e = refl
 
 -- the last checks, and then what their value gives
-pub judged-last : {S R : Type 0} (check : Option BayFault) (x : S) (v : R) (g : S → Result R BayFault) → Ok v ≡ g x → judged check v ≡ then (judged check x) g
+pub judged-last : {S R : Type 0} (check : Option BayFault) (x : S) (v : R)
+    (g : S → Result R BayFault) → Ok v ≡ g x → judged check v ≡ then (judged check x) g
 judged-last None x v g e = e
 judged-last (Some fault) x v g e = refl
 
@@ -63,7 +78,9 @@ pub or-false_parts : (a b : Bool) → (a || b) ≡ false → (a ≡ false) × (b
 or-false_parts true b h = cc
 or-false_parts false b h = (refl, h)
 
-absent-at : (known : List (List ℕ)) (name key : List ℕ) (d : Data) (below : Option Data) → is_among known name ≡ false → not (is_among known key) ≡ false → below ≡ None → (o : Ordering) → slice_cmp nat_cmp name key ≡ o → match_ordering o below (Some d) below ≡ None
+absent-at : (known : List (List ℕ)) (name key : List ℕ) (d : Data) (below : Option Data)
+    → is_among known name ≡ false → not (is_among known key) ≡ false → below ≡ None → (o : Ordering)
+    → slice_cmp nat_cmp name key ≡ o → match_ordering o below (Some d) below ≡ None
 absent-at known name key d below out here none Less e = none
 absent-at known name key d below out here none Greater e = none
 absent-at known name key d below out here none Equal e =
@@ -73,8 +90,10 @@ absent-at known name key d below out here none Equal e =
     cc
 
 -- a key that is not known is not there, where no key is unknown
-pub unknown-absent : (known : List (List ℕ)) (name : List ℕ) (ms : Members) → is_among known name ≡ false → has_unknown known ms ≡ false → get_member name ms ≡ None
+pub unknown-absent : (known : List (List ℕ)) (name : List ℕ) (ms : Members)
+    → is_among known name ≡ false → has_unknown known ms ≡ false → get_member name ms ≡ None
 unknown-absent known name no_members out none = refl
 unknown-absent known name (member key d rest) out none =
     let parts = or-false_parts (not (is_among known key)) (has_unknown known rest) none in
-    absent-at known name key d (get_member name rest) out parts.0 (unknown-absent known name rest out parts.1) (slice_cmp nat_cmp name key) refl
+    absent-at known name key d (get_member name rest) out parts.0
+    (unknown-absent known name rest out parts.1) (slice_cmp nat_cmp name key) refl

@@ -28,11 +28,15 @@ abbrev names_of : List Point → List (List ℕ)
 names_of points = map (λ p. p.name) points
 
 -- names without a twin differ
-other-names : (s : List ℕ) (ns : List (List ℕ)) → is_among ns s ≡ false → AllByRecursion (λ m. s ≢ m) ns
+other-names : (s : List ℕ) (ns : List (List ℕ)) → is_among ns s ≡ false
+    → AllByRecursion (λ m. s ≢ m) ns
 other-names s [] h = tt
 other-names s (n ∷ ns) h =
-    let parts = or-false_parts (bytes_eq s n) (is_among ns s) h in
-    (λ same. let equal : bytes_eq s n ≡ true = (bytes_eq-Decides s n).1 same in cc, other-names s ns parts.1)
+    let parts = or-false_parts (bytes_eq s n) (is_among ns s) h in (
+      λ same. let equal : bytes_eq s n ≡ true = (bytes_eq-Decides s n).1 same in
+          cc,
+      other-names s ns parts.1,
+    )
 
 AllDiffer-from_twin : (ns : List (List ℕ)) → has_twin ns ≡ false → AllDiffer ns
 AllDiffer-from_twin [] h = tt
@@ -40,39 +44,50 @@ AllDiffer-from_twin (n ∷ ns) h =
     let parts = or-false_parts (is_among ns n) (has_twin ns) h in
     (other-names n ns parts.0, AllDiffer-from_twin ns parts.1)
 
-each-other : (n : List ℕ) (ps : List Point) → AllByRecursion (λ m. n ≢ m) (names_of ps) → AllByRecursion (λ p. n ≢ p.name) ps
+each-other : (n : List ℕ) (ps : List Point) → AllByRecursion (λ m. n ≢ m) (names_of ps)
+    → AllByRecursion (λ p. n ≢ p.name) ps
 each-other n [] h = tt
 each-other n (p ∷ ps) h = (h.0, each-other n ps h.1)
 
-one-other : (n : List ℕ) (ps : List Point) (p : Point) → AllByRecursion (λ m. n ≢ m) (names_of ps) → Contains ps p → n ≢ p.name
-one-other n ps p h at = All-contains (λ (q : Point). n ≢ q.name) ps p (All-from_recursion (λ (q : Point). n ≢ q.name) ps (each-other n ps h)) at
+one-other : (n : List ℕ) (ps : List Point) (p : Point) → AllByRecursion (λ m. n ≢ m) (names_of ps)
+    → Contains ps p → n ≢ p.name
+one-other n ps p h at =
+    All-contains (λ (q : Point). n ≢ q.name) ps p
+    (All-from_recursion (λ (q : Point). n ≢ q.name) ps (each-other n ps h)) at
 
-pairs-differ : (ps : List Point) → AllDiffer (names_of ps) → (i j : ℕ) (d : Point) → i < j → j < length ps → (get_or ps i d).name ≢ (get_or ps j d).name
+pairs-differ : (ps : List Point) → AllDiffer (names_of ps) → (i j : ℕ) (d : Point) → i < j
+    → j < length ps → (get_or ps i d).name ≢ (get_or ps j d).name
 pairs-differ [] h i j d lt within = absurd (omega arith)
 pairs-differ (p ∷ ps) h i zero d lt within = absurd (omega arith)
-pairs-differ (p ∷ ps) h zero (suc j) d lt within = one-other p.name ps (get_or ps j d) h.0 (Contains-get_or ps j d (omega arith))
-pairs-differ (p ∷ ps) h (suc i) (suc j) d lt within = pairs-differ ps h.1 i j d (omega arith) (omega arith)
+pairs-differ (p ∷ ps) h zero (suc j) d lt within =
+    one-other p.name ps (get_or ps j d) h.0 (Contains-get_or ps j d (omega arith))
+pairs-differ (p ∷ ps) h (suc i) (suc j) d lt within =
+    pairs-differ ps h.1 i j d (omega arith) (omega arith)
 
 -- what holds of each point of the front and of the back
-each-append : (P : Point → Type 0) (xs ys : List Point) → AllByRecursion P xs → AllByRecursion P ys → AllByRecursion P (xs ++ ys)
+each-append : (P : Point → Type 0) (xs ys : List Point) → AllByRecursion P xs → AllByRecursion P ys
+    → AllByRecursion P (xs ++ ys)
 each-append P [] ys front back = back
 each-append P (x ∷ xs) ys front back = (front.0, each-append P xs ys front.1 back)
 
 -- where a list goes on with an item from a place on, the item stands there, and behind it the rest
-first-of-rest : {T : Type 0} (all : List T) (k : ℕ) (s : T) (ss : List T) → drop k all ≡ s ∷ ss → slice_get all k ≡ Some s
+first-of-rest : {T : Type 0} (all : List T) (k : ℕ) (s : T) (ss : List T) → drop k all ≡ s ∷ ss
+    → slice_get all k ≡ Some s
 first-of-rest [] zero s ss rest = cc
 first-of-rest [] (suc k) s ss rest = cc
 first-of-rest (t ∷ all) zero s ss rest = cc
 first-of-rest (t ∷ all) (suc k) s ss rest = first-of-rest all k s ss rest
 
-rest-of-rest : {T : Type 0} (all : List T) (k : ℕ) (s : T) (ss : List T) → drop k all ≡ s ∷ ss → drop (k + 1) all ≡ ss
+rest-of-rest : {T : Type 0} (all : List T) (k : ℕ) (s : T) (ss : List T) → drop k all ≡ s ∷ ss
+    → drop (k + 1) all ≡ ss
 rest-of-rest [] zero s ss rest = cc
 rest-of-rest [] (suc k) s ss rest = cc
 rest-of-rest (t ∷ all) zero s ss rest = cc
 rest-of-rest (t ∷ all) (suc k) s ss rest = rw (suc-add k 1) (rest-of-rest all k s ss rest)
 
 -- the points of a switch belong to it
-own-points : (all : List Switch) (is ms : List (List ℕ)) (k : ℕ) (s : Switch) → slice_get all k ≡ Some s → AllByRecursion (IsOwned all is ms) (points_of k s)
+own-points : (all : List Switch) (is ms : List (List ℕ)) (k : ℕ) (s : Switch)
+    → slice_get all k ≡ Some s → AllByRecursion (IsOwned all is ms) (points_of k s)
 own-points all is ms k s here = (
   record { switch = s; here = here; has = (0, lit< tt, refl) },
   (
@@ -88,7 +103,8 @@ own-points all is ms k s here = (
 )
 
 -- so do those of the switches from a place on
-own-points-from : (all : List Switch) (is ms : List (List ℕ)) (k : ℕ) (ss : List Switch) → drop k all ≡ ss → AllByRecursion (IsOwned all is ms) (points_from k ss)
+own-points-from : (all : List Switch) (is ms : List (List ℕ)) (k : ℕ) (ss : List Switch)
+    → drop k all ≡ ss → AllByRecursion (IsOwned all is ms) (points_from k ss)
 own-points-from all is ms k [] rest = tt
 own-points-from all is ms k (s ∷ ss) rest =
     each-append (IsOwned all is ms) (points_of k s) (points_from (k + 1) ss)
@@ -96,12 +112,16 @@ own-points-from all is ms k (s ∷ ss) rest =
     (own-points-from all is ms (k + 1) ss (rest-of-rest all k s ss rest))
 
 -- and those of the inputs and of the meters
-own-inputs : (ss : List Switch) (all ms : List (List ℕ)) (k : ℕ) (is : List (List ℕ)) → drop k all ≡ is → AllByRecursion (IsOwned ss all ms) (inputs_from k is)
+own-inputs : (ss : List Switch) (all ms : List (List ℕ)) (k : ℕ) (is : List (List ℕ))
+    → drop k all ≡ is → AllByRecursion (IsOwned ss all ms) (inputs_from k is)
 own-inputs ss all ms k [] rest = tt
-own-inputs ss all ms k (i ∷ is) rest =
-    (record { name = i; here = first-of-rest all k i is rest; is = refl }, own-inputs ss all ms (k + 1) is (rest-of-rest all k i is rest))
+own-inputs ss all ms k (i ∷ is) rest = (
+  record { name = i; here = first-of-rest all k i is rest; is = refl },
+  own-inputs ss all ms (k + 1) is (rest-of-rest all k i is rest),
+)
 
-own-fields : (ss : List Switch) (is all : List (List ℕ)) (k : ℕ) (m : List ℕ) → slice_get all k ≡ Some m → AllByRecursion (IsOwned ss is all) (meter_points k m)
+own-fields : (ss : List Switch) (is all : List (List ℕ)) (k : ℕ) (m : List ℕ)
+    → slice_get all k ≡ Some m → AllByRecursion (IsOwned ss is all) (meter_points k m)
 own-fields ss is all k m here = (
   record { id = m; here = here; has = (0, lit< tt, refl) },
   (
@@ -110,18 +130,25 @@ own-fields ss is all k m here = (
       record { id = m; here = here; has = (2, lit< tt, refl) },
       (
         record { id = m; here = here; has = (3, lit< tt, refl) },
-        (record { id = m; here = here; has = (4, lit< tt, refl) }, (record { id = m; here = here; has = (5, lit< tt, refl) }, tt)),
+        (
+          record { id = m; here = here; has = (4, lit< tt, refl) },
+          (record { id = m; here = here; has = (5, lit< tt, refl) }, tt),
+        ),
       ),
     ),
   ),
 )
 
-own-meters : (ss : List Switch) (is all : List (List ℕ)) (k : ℕ) (ms : List (List ℕ)) → drop k all ≡ ms → AllByRecursion (IsOwned ss is all) (meters_from k ms)
+own-meters : (ss : List Switch) (is all : List (List ℕ)) (k : ℕ) (ms : List (List ℕ))
+    → drop k all ≡ ms → AllByRecursion (IsOwned ss is all) (meters_from k ms)
 own-meters ss is all k [] rest = tt
 own-meters ss is all k (m ∷ ms) rest =
-    each-append (IsOwned ss is all) (meter_points k m) (meters_from (k + 1) ms) (own-fields ss is all k m (first-of-rest all k m ms rest)) (own-meters ss is all (k + 1) ms (rest-of-rest all k m ms rest))
+    each-append (IsOwned ss is all) (meter_points k m) (meters_from (k + 1) ms)
+    (own-fields ss is all k m (first-of-rest all k m ms rest))
+    (own-meters ss is all (k + 1) ms (rest-of-rest all k m ms rest))
 
-all-owned : (ss : List Switch) (is ms : List (List ℕ)) → All (IsOwned ss is ms) (points_of_all ss is ms)
+all-owned : (ss : List Switch) (is ms : List (List ℕ))
+    → All (IsOwned ss is ms) (points_of_all ss is ms)
 all-owned ss is ms =
     All-append (IsOwned ss is ms) (points_from 0 ss) (inputs_from 0 is ++ meters_from 0 ms)
     (All-from_recursion (IsOwned ss is ms) (points_from 0 ss) (own-points-from ss is ms 0 ss refl))
@@ -130,7 +157,8 @@ all-owned ss is ms =
     (All-from_recursion (IsOwned ss is ms) (meters_from 0 ms) (own-meters ss is ms 0 ms refl)))
 
 -- what checks without a refusal say
-first_of-None : (check : Option BayFault) (rest : List (Option BayFault)) → first_of (check ∷ rest) ≡ None → (check ≡ None) × (first_of rest ≡ None)
+first_of-None : (check : Option BayFault) (rest : List (Option BayFault))
+    → first_of (check ∷ rest) ≡ None → (check ≡ None) × (first_of rest ≡ None)
 first_of-None None rest h = (refl, h)
 first_of-None (Some e) rest h = cc
 
@@ -148,7 +176,8 @@ count-tables (item d ds) h =
     let parts = and_parts (is_some (as_table d)) (are_tables ds) h in
     one-more (as_table d) (tables_of ds) (count_of ds) parts.0 (count-tables ds parts.1)
   where
-    one-more : (o : Option Members) (ts : List Members) (n : ℕ) → is_some o ≡ true → length ts ≡ n → length (option_to_list o ++ ts) ≡ n + 1
+    one-more : (o : Option Members) (ts : List Members) (n : ℕ) → is_some o ≡ true → length ts ≡ n
+        → length (option_to_list o ++ ts) ≡ n + 1
     one-more None ts n h e = cc
     one-more (Some t) ts n h e = omega arith
 
@@ -157,7 +186,8 @@ record AreCounted (least most : ℕ) (tables : List Members) : Type 0 where
   least_is : least ≤ length tables
   most_is : length tables ≤ most
 
-items-counts : (least most : ℕ) (keys : Members → List Key) (items : Items) → items_refusal least most keys items ≡ None → AreCounted least most (tables_of items)
+items-counts : (least most : ℕ) (keys : Members → List Key) (items : Items)
+    → items_refusal least most keys items ≡ None → AreCounted least most (tables_of items)
 items-counts least most keys items h =
     let one = first_of-None (refused_if (nat_lt (count_of items) least) MissingKey) _ h in
     let two = first_of-None (refused_if (not (are_tables items)) BadValue) _ one.1 in
@@ -167,18 +197,25 @@ items-counts least most keys items h =
     let same = count-tables items (not-false-is _ (refused_if-None _ BadValue two.0)) in
     record { least_is = omega arith; most_is = omega arith }
 
-list-counts : (least most : ℕ) (keys : Members → List Key) (o : Option Items) → list_refusal least most keys o ≡ None → AreCounted least most (tables_of (unwrap_or o no_items))
+list-counts : (least most : ℕ) (keys : Members → List Key) (o : Option Items)
+    → list_refusal least most keys o ≡ None
+    → AreCounted least most (tables_of (unwrap_or o no_items))
 list-counts least most keys None h = cc
 list-counts least most keys (Some items) h = items-counts least most keys items h
 
-names-counts : (f : Members) (which : NameSection) → section_refusal f (name_section which) ≡ None → length (names_in f which) ≤ most_names which
+names-counts : (f : Members) (which : NameSection) → section_refusal f (name_section which) ≡ None
+    → length (names_in f which) ≤ most_names which
 names-counts f Input h =
-    let counts = list-counts 0 64 (λ _. name_keys Input) (items_at (get_member (codes "input") f)) h in
-    let long : length (names_in f Input) ≡ length (section_tables f (name_section Input)) = length-map (section_tables f (name_section Input)) (name_in Input) in
+    let counts =
+    list-counts 0 64 (λ _. name_keys Input) (items_at (get_member (codes "input") f)) h in
+    let long : length (names_in f Input) ≡ length (section_tables f (name_section Input)) =
+    length-map (section_tables f (name_section Input)) (name_in Input) in
     omega (arith, counts.most_is)
 names-counts f Meter h =
-    let counts = list-counts 0 8 (λ _. name_keys Meter) (items_at (get_member (codes "meter") f)) h in
-    let long : length (names_in f Meter) ≡ length (section_tables f (name_section Meter)) = length-map (section_tables f (name_section Meter)) (name_in Meter) in
+    let counts =
+    list-counts 0 8 (λ _. name_keys Meter) (items_at (get_member (codes "meter") f)) h in
+    let long : length (names_in f Meter) ≡ length (section_tables f (name_section Meter)) =
+    length-map (section_tables f (name_section Meter)) (name_in Meter) in
     omega (arith, counts.most_is)
 
 sound-bay : (f : Members) → file_refusal f ≡ None → IsBay (bay_in f)
@@ -191,20 +228,27 @@ sound-bay f h =
     let switches = section_refusal f switch_section in
     let inputs = section_refusal f (name_section Input) in
     let meters = section_refusal f (name_section Meter) in
-    let one = first_of-None (unknown_refusal (map (λ section. section.name) sections) f) (bay ∷ switches ∷ inputs ∷ meters ∷ names ∷ []) h in
+    let one =
+    first_of-None (unknown_refusal (map (λ section. section.name) sections) f)
+    (bay ∷ switches ∷ inputs ∷ meters ∷ names ∷ []) h in
     let two = first_of-None bay (switches ∷ inputs ∷ meters ∷ names ∷ []) one.1 in
     let three = first_of-None switches (inputs ∷ meters ∷ names ∷ []) two.1 in
     let four = first_of-None inputs (meters ∷ names ∷ []) three.1 in
     let five = first_of-None meters (names ∷ []) four.1 in
     let six = first_of-None names [] five.1 in
     let counts = list-counts 1 32 switch_keys (items_at (get_member (codes "switch") f)) three.0 in
-    let long : length ss ≡ length (section_tables f switch_section) = length-map (section_tables f switch_section) switch_in in
+    let long : length ss ≡ length (section_tables f switch_section) =
+    length-map (section_tables f switch_section) switch_in in
     let some : 1 ≤ length ss = omega (arith, counts.least_is) in
     let few : length ss ≤ 32 = omega (arith, counts.most_is) in
     let few_inputs : length is ≤ 64 = names-counts f Input four.0 in
     let few_meters : length ms ≤ 8 = names-counts f Meter five.0 in
-    let twin = first_of-None (refused_if (has_twin (names_of (points_of_all ss is ms))) DuplicateName) _ six.0 in
-    let differ = AllDiffer-from_twin (names_of (points_of_all ss is ms)) (refused_if-None _ DuplicateName twin.0) in
+    let twin =
+    first_of-None (refused_if (has_twin (names_of (points_of_all ss is ms))) DuplicateName) _
+    six.0 in
+    let differ =
+    AllDiffer-from_twin (names_of (points_of_all ss is ms))
+    (refused_if-None _ DuplicateName twin.0) in
     record {
       some_switch = some;
       few_switches = few;

@@ -19,58 +19,87 @@ use Rattle.bay_nodes.specs.Node.{Parts, Node, row, node_rows, node_name, class_o
 Contains-cons : {X : Type 0} (y : X) (xs : List X) (x : X) → Contains xs x → Contains (y ∷ xs) x
 Contains-cons y xs x w = (suc w.0, omega (arith, w.1), w.2)
 
-Contains-map : {X Y : Type 0} (f : X → Y) (xs : List X) (x : X) → Contains xs x → Contains (map f xs) (f x)
+Contains-map : {X Y : Type 0} (f : X → Y) (xs : List X) (x : X) → Contains xs x
+    → Contains (map f xs) (f x)
 Contains-map f xs x w =
     let long : length (map f xs) ≡ length xs = length-map xs f in
     (w.0, omega (arith, w.1), get_or-map f xs w.0 x (f x) w.1 ∙ ap f w.2)
 
 -- each row of a node is among the rows of the nodes
-rows-among : (nodes : List Node) (node : Node) (r : Row) (k : ℕ) → k < length nodes → get_or nodes k node ≡ node → Contains (node_rows node) r → Contains (flat_map node_rows nodes) r
+rows-among : (nodes : List Node) (node : Node) (r : Row) (k : ℕ) → k < length nodes
+    → get_or nodes k node ≡ node → Contains (node_rows node) r
+    → Contains (flat_map node_rows nodes) r
 rows-among [] node r k lt e at = absurd (omega arith)
 rows-among (n ∷ nodes) node r zero lt e at =
-    Contains-append_left (node_rows n) (flat_map node_rows nodes) r (subst (λ m. Contains (node_rows m) r) (sym e) at)
+    Contains-append_left (node_rows n) (flat_map node_rows nodes) r
+    (subst (λ m. Contains (node_rows m) r) (sym e) at)
 rows-among (n ∷ nodes) node r (suc k) lt e at =
-    Contains-append_right (node_rows n) (flat_map node_rows nodes) r (rows-among nodes node r k (omega arith) e at)
+    Contains-append_right (node_rows n) (flat_map node_rows nodes) r
+    (rows-among nodes node r k (omega arith) e at)
 
-has-node : (nodes : List Node) (node : Node) → Contains nodes node → All (Contains (flat_map node_rows nodes)) (node_rows node)
-has-node nodes node w = λ k d lt. rows-among nodes node (get_or (node_rows node) k d) w.0 w.1 w.2 (Contains-get_or (node_rows node) k d lt)
+has-node : (nodes : List Node) (node : Node) → Contains nodes node
+    → All (Contains (flat_map node_rows nodes)) (node_rows node)
+has-node nodes node w =
+    λ k d lt. rows-among nodes node (get_or (node_rows node) k d) w.0 w.1 w.2
+    (Contains-get_or (node_rows node) k d lt)
 
-numbered-step : (b : Bool) (t : Switch) (ss : List Switch) (place : ℕ) (s : Switch) (n : ℕ) (c : Bool) → is_of b t ≡ c → ((m : ℕ) → Contains (enumerate_from m (filter (is_of b) ss)) (m + length (filter (is_of b) (take place ss)), s)) → Contains (enumerate_from n (filter (is_of b) (t ∷ ss))) (n + length (filter (is_of b) (t ∷ take place ss)), s)
+numbered-step : (b : Bool) (t : Switch) (ss : List Switch) (place : ℕ) (s : Switch) (n : ℕ)
+    (c : Bool) → is_of b t ≡ c
+    → ((m : ℕ) → Contains (enumerate_from m (filter (is_of b) ss))
+    (m + length (filter (is_of b) (take place ss)), s))
+    → Contains (enumerate_from n (filter (is_of b) (t ∷ ss)))
+    (n + length (filter (is_of b) (t ∷ take place ss)), s)
 numbered-step b t ss place s n true e rest =
-    let more : n + 1 + length (filter (is_of b) (take place ss)) ≡ n + suc (length (filter (is_of b) (take place ss))) = omega arith in
-    rw e (subst (λ m. Contains ((n, t) ∷ enumerate_from (n + 1) (filter (is_of b) ss)) (m, s)) more (Contains-cons (n, t) (enumerate_from (n + 1) (filter (is_of b) ss)) (n + 1 + length (filter (is_of b) (take place ss)), s) (rest (n + 1))))
+    let more : n + 1 + length (filter (is_of b) (take place ss))
+    ≡ n + suc (length (filter (is_of b) (take place ss))) = omega arith in
+    rw e (subst (λ m. Contains ((n, t) ∷ enumerate_from (n + 1) (filter (is_of b) ss)) (m, s)) more
+    (Contains-cons (n, t) (enumerate_from (n + 1) (filter (is_of b) ss))
+    (n + 1 + length (filter (is_of b) (take place ss)), s) (rest (n + 1))))
 numbered-step b t ss place s n false e rest =
     rw e (rest n)
 
-numbered-first : (b : Bool) (t : Switch) (ss : List Switch) (n : ℕ) → is_of b t ≡ true → Contains (enumerate_from n (filter (is_of b) (t ∷ ss))) (n + 0, t)
+numbered-first : (b : Bool) (t : Switch) (ss : List Switch) (n : ℕ) → is_of b t ≡ true
+    → Contains (enumerate_from n (filter (is_of b) (t ∷ ss))) (n + 0, t)
 numbered-first b t ss n is =
     let none : n + 0 ≡ n = omega arith in
     rw is (0, omega arith, ap (λ m. (m, t)) (sym none))
 
-numbered-has : (b : Bool) (ss : List Switch) (place : ℕ) (s : Switch) (n : ℕ) → slice_get ss place ≡ Some s → is_of b s ≡ true → Contains (enumerate_from n (filter (is_of b) ss)) (n + length (filter (is_of b) (take place ss)), s)
+numbered-has : (b : Bool) (ss : List Switch) (place : ℕ) (s : Switch) (n : ℕ)
+    → slice_get ss place ≡ Some s → is_of b s ≡ true
+    → Contains (enumerate_from n (filter (is_of b) ss))
+    (n + length (filter (is_of b) (take place ss)), s)
 numbered-has b [] place s n here is = cc
 numbered-has b (t ∷ ss) zero s n here is =
     let same : s ≡ t = cc in
-    subst (λ u. Contains (enumerate_from n (filter (is_of b) (t ∷ ss))) (n + 0, u)) (sym same) (numbered-first b t ss n (ap (is_of b) (sym same) ∙ is))
+    subst (λ u. Contains (enumerate_from n (filter (is_of b) (t ∷ ss))) (n + 0, u)) (sym same)
+    (numbered-first b t ss n (ap (is_of b) (sym same) ∙ is))
 numbered-has b (t ∷ ss) (suc place) s n here is =
     numbered-step b t ss place s n (is_of b t) refl (λ m. numbered-has b ss place s m here is)
 
-enumerate-has : {T : Type 0} (ts : List T) (place n : ℕ) → place < length ts → (t : T) × Contains (enumerate_from n ts) (n + place, t) × (slice_get ts place ≡ Some t)
+enumerate-has : {T : Type 0} (ts : List T) (place n : ℕ) → place < length ts
+    → (t : T) × Contains (enumerate_from n ts) (n + place, t) × (slice_get ts place ≡ Some t)
 enumerate-has [] place n lt = absurd (omega arith)
 enumerate-has (t ∷ ts) zero n lt =
     let none : n + 0 ≡ n = omega arith in
     (t, (0, omega arith, ap (λ m. (m, t)) (sym none)), refl)
 enumerate-has (t ∷ ts) (suc place) n lt =
     let w = enumerate-has ts place (n + 1) (omega arith) in
-    let more : n + 1 + place ≡ n + suc place = omega arith in
-    (w.0, subst (λ m. Contains ((n, t) ∷ enumerate_from (n + 1) ts) (m, w.0)) more (Contains-cons (n, t) (enumerate_from (n + 1) ts) (n + 1 + place, w.0) w.1), w.2)
+    let more : n + 1 + place ≡ n + suc place = omega arith in (
+      w.0,
+      subst (λ m. Contains ((n, t) ∷ enumerate_from (n + 1) ts) (m, w.0)) more
+          (Contains-cons (n, t) (enumerate_from (n + 1) ts) (n + 1 + place, w.0) w.1),
+      w.2,
+    )
 
-among-class : (b : Bool) (ss : List Switch) (place : ℕ) (s : Switch) → slice_get ss place ≡ Some s → is_breaker s.kind ≡ b → Contains (position_nodes b ss) (position_node (length (filter (is_of b) (take place ss)) + 1, s))
+among-class : (b : Bool) (ss : List Switch) (place : ℕ) (s : Switch) → slice_get ss place ≡ Some s
+    → is_breaker s.kind ≡ b → Contains (position_nodes b ss)
+    (position_node (length (filter (is_of b) (take place ss)) + 1, s))
 among-class b ss place s here e =
     let count = length (filter (is_of b) (take place ss)) in
     let more : 1 + count ≡ count + 1 = omega arith in
     Contains-map position_node (enumerate_from 1 (filter (is_of b) ss)) (count + 1, s)
-    (subst (λ m. Contains (enumerate_from 1 (filter (is_of b) ss)) (m, s)) more (numbered-has b ss place s 1 here (is-own b s e)))
+    (subst (λ m. Contains (enumerate_from 1 (filter (is_of b) ss)) (m, s)) more
+    (numbered-has b ss place s 1 here (is-own b s e)))
   where
     is-own : (b : Bool) (s : Switch) → is_breaker s.kind ≡ b → is_of b s ≡ true
     is-own true s e = e
@@ -83,121 +112,447 @@ behind_positions ss ms = control_nodes ss ++ (interlocking_nodes ss ++ meter_nod
 abbrev general : Nameplate → List Node
 general n = device_node n ∷ physical_node n ∷ []
 
-breakers-within : (n : Nameplate) (ss : List Switch) (ms : List (List ℕ)) (node : Node) → Contains (position_nodes true ss) node → Contains (nodes_of n ss ms) node
+breakers-within : (n : Nameplate) (ss : List Switch) (ms : List (List ℕ)) (node : Node)
+    → Contains (position_nodes true ss) node → Contains (nodes_of n ss ms) node
 breakers-within n ss ms node h =
-    Contains-append_right (general n) (position_nodes true ss ++ (position_nodes false ss ++ behind_positions ss ms)) node
-    (Contains-append_left (position_nodes true ss) (position_nodes false ss ++ behind_positions ss ms) node h)
+    Contains-append_right (general n)
+    (position_nodes true ss ++ (position_nodes false ss ++ behind_positions ss ms)) node
+    (Contains-append_left (position_nodes true ss)
+    (position_nodes false ss ++ behind_positions ss ms) node h)
 
-behind-breakers : (n : Nameplate) (ss : List Switch) (ms : List (List ℕ)) (node : Node) → Contains (position_nodes false ss ++ behind_positions ss ms) node → Contains (nodes_of n ss ms) node
+behind-breakers : (n : Nameplate) (ss : List Switch) (ms : List (List ℕ)) (node : Node)
+    → Contains (position_nodes false ss ++ behind_positions ss ms) node
+    → Contains (nodes_of n ss ms) node
 behind-breakers n ss ms node h =
-    Contains-append_right (general n) (position_nodes true ss ++ (position_nodes false ss ++ behind_positions ss ms)) node
-    (Contains-append_right (position_nodes true ss) (position_nodes false ss ++ behind_positions ss ms) node h)
+    Contains-append_right (general n)
+    (position_nodes true ss ++ (position_nodes false ss ++ behind_positions ss ms)) node
+    (Contains-append_right (position_nodes true ss)
+    (position_nodes false ss ++ behind_positions ss ms) node h)
 
-others-within : (n : Nameplate) (ss : List Switch) (ms : List (List ℕ)) (node : Node) → Contains (position_nodes false ss) node → Contains (nodes_of n ss ms) node
-others-within n ss ms node h = behind-breakers n ss ms node (Contains-append_left (position_nodes false ss) (behind_positions ss ms) node h)
+others-within : (n : Nameplate) (ss : List Switch) (ms : List (List ℕ)) (node : Node)
+    → Contains (position_nodes false ss) node → Contains (nodes_of n ss ms) node
+others-within n ss ms node h =
+    behind-breakers n ss ms node
+    (Contains-append_left (position_nodes false ss) (behind_positions ss ms) node h)
 
-behind-within : (n : Nameplate) (ss : List Switch) (ms : List (List ℕ)) (node : Node) → Contains (behind_positions ss ms) node → Contains (nodes_of n ss ms) node
-behind-within n ss ms node h = behind-breakers n ss ms node (Contains-append_right (position_nodes false ss) (behind_positions ss ms) node h)
+behind-within : (n : Nameplate) (ss : List Switch) (ms : List (List ℕ)) (node : Node)
+    → Contains (behind_positions ss ms) node → Contains (nodes_of n ss ms) node
+behind-within n ss ms node h =
+    behind-breakers n ss ms node
+    (Contains-append_right (position_nodes false ss) (behind_positions ss ms) node h)
 
-controls-within : (n : Nameplate) (ss : List Switch) (ms : List (List ℕ)) (node : Node) → Contains (control_nodes ss) node → Contains (nodes_of n ss ms) node
-controls-within n ss ms node h = behind-within n ss ms node (Contains-append_left (control_nodes ss) (interlocking_nodes ss ++ meter_nodes ms) node h)
+controls-within : (n : Nameplate) (ss : List Switch) (ms : List (List ℕ)) (node : Node)
+    → Contains (control_nodes ss) node → Contains (nodes_of n ss ms) node
+controls-within n ss ms node h =
+    behind-within n ss ms node
+    (Contains-append_left (control_nodes ss) (interlocking_nodes ss ++ meter_nodes ms) node h)
 
-interlockings-within : (n : Nameplate) (ss : List Switch) (ms : List (List ℕ)) (node : Node) → Contains (interlocking_nodes ss) node → Contains (nodes_of n ss ms) node
+interlockings-within : (n : Nameplate) (ss : List Switch) (ms : List (List ℕ)) (node : Node)
+    → Contains (interlocking_nodes ss) node → Contains (nodes_of n ss ms) node
 interlockings-within n ss ms node h =
-    behind-within n ss ms node (Contains-append_right (control_nodes ss) (interlocking_nodes ss ++ meter_nodes ms) node (Contains-append_left (interlocking_nodes ss) (meter_nodes ms) node h))
+    behind-within n ss ms node
+    (Contains-append_right (control_nodes ss) (interlocking_nodes ss ++ meter_nodes ms) node
+    (Contains-append_left (interlocking_nodes ss) (meter_nodes ms) node h))
 
-meters-within : (n : Nameplate) (ss : List Switch) (ms : List (List ℕ)) (node : Node) → Contains (meter_nodes ms) node → Contains (nodes_of n ss ms) node
+meters-within : (n : Nameplate) (ss : List Switch) (ms : List (List ℕ)) (node : Node)
+    → Contains (meter_nodes ms) node → Contains (nodes_of n ss ms) node
 meters-within n ss ms node h =
-    behind-within n ss ms node (Contains-append_right (control_nodes ss) (interlocking_nodes ss ++ meter_nodes ms) node (Contains-append_right (interlocking_nodes ss) (meter_nodes ms) node h))
+    behind-within n ss ms node
+    (Contains-append_right (control_nodes ss) (interlocking_nodes ss ++ meter_nodes ms) node
+    (Contains-append_right (interlocking_nodes ss) (meter_nodes ms) node h))
 
-position-among : (b : Bool) (n : Nameplate) (ss : List Switch) (ms : List (List ℕ)) (place : ℕ) (s : Switch) → slice_get ss place ≡ Some s → is_breaker s.kind ≡ b → Contains (nodes_of n ss ms) (position_node (length (filter (is_of b) (take place ss)) + 1, s))
-position-among true n ss ms place s here e = breakers-within n ss ms _ (among-class true ss place s here e)
-position-among false n ss ms place s here e = others-within n ss ms _ (among-class false ss place s here e)
+position-among : (b : Bool) (n : Nameplate) (ss : List Switch) (ms : List (List ℕ)) (place : ℕ)
+    (s : Switch) → slice_get ss place ≡ Some s → is_breaker s.kind ≡ b
+    → Contains (nodes_of n ss ms) (position_node (length (filter (is_of b) (take place ss)) + 1, s))
+position-among true n ss ms place s here e =
+    breakers-within n ss ms _ (among-class true ss place s here e)
+position-among false n ss ms place s here e =
+    others-within n ss ms _ (among-class false ss place s here e)
 
 -- the rows of nodes, by their places in them
-has-position : (bay : Bay) (name : List ℕ) (kind : SwitchKind) → HasNode bay (record { name = name; parts = position_parts kind }) → HasPosition bay.rows name
-has-position bay name Breaker h = record { position = record { value_there = h 3 (row name None) (omega arith); quality_there = h 4 (row name None) (omega arith); moment_there = h 5 (row name None) (omega arith) }; operations = record { value_there = h 15 (row name None) (omega arith); quality_there = h 16 (row name None) (omega arith); moment_there = h 17 (row name None) (omega arith) } }
-has-position bay name Disconnector h = record { position = record { value_there = h 3 (row name None) (omega arith); quality_there = h 4 (row name None) (omega arith); moment_there = h 5 (row name None) (omega arith) }; operations = record { value_there = h 15 (row name None) (omega arith); quality_there = h 16 (row name None) (omega arith); moment_there = h 17 (row name None) (omega arith) } }
-has-position bay name Earthing h = record { position = record { value_there = h 3 (row name None) (omega arith); quality_there = h 4 (row name None) (omega arith); moment_there = h 5 (row name None) (omega arith) }; operations = record { value_there = h 15 (row name None) (omega arith); quality_there = h 16 (row name None) (omega arith); moment_there = h 17 (row name None) (omega arith) } }
+has-position : (bay : Bay) (name : List ℕ) (kind : SwitchKind)
+    → HasNode bay (record { name = name; parts = position_parts kind }) → HasPosition bay.rows name
+has-position bay name Breaker h =
+    record {
+      position = record {
+        value_there = h 3 (row name None) (omega arith);
+        quality_there = h 4 (row name None) (omega arith);
+        moment_there = h 5 (row name None) (omega arith);
+      };
+      operations = record {
+        value_there = h 15 (row name None) (omega arith);
+        quality_there = h 16 (row name None) (omega arith);
+        moment_there = h 17 (row name None) (omega arith);
+      };
+    }
+has-position bay name Disconnector h =
+    record {
+      position = record {
+        value_there = h 3 (row name None) (omega arith);
+        quality_there = h 4 (row name None) (omega arith);
+        moment_there = h 5 (row name None) (omega arith);
+      };
+      operations = record {
+        value_there = h 15 (row name None) (omega arith);
+        quality_there = h 16 (row name None) (omega arith);
+        moment_there = h 17 (row name None) (omega arith);
+      };
+    }
+has-position bay name Earthing h =
+    record {
+      position = record {
+        value_there = h 3 (row name None) (omega arith);
+        quality_there = h 4 (row name None) (omega arith);
+        moment_there = h 5 (row name None) (omega arith);
+      };
+      operations = record {
+        value_there = h 15 (row name None) (omega arith);
+        quality_there = h 16 (row name None) (omega arith);
+        moment_there = h 17 (row name None) (omega arith);
+      };
+    }
 
-has-open : (bay : Bay) (name : List ℕ) → HasNode bay (record { name = name; parts = interlocking_parts }) → HasEnable bay.rows (opening_names name)
-has-open bay name h = record { value_there = h 3 (row name None) (omega arith); quality_there = h 4 (row name None) (omega arith); moment_there = h 5 (row name None) (omega arith) }
+has-open : (bay : Bay) (name : List ℕ)
+    → HasNode bay (record { name = name; parts = interlocking_parts })
+    → HasEnable bay.rows (opening_names name)
+has-open bay name h =
+    record {
+      value_there = h 3 (row name None) (omega arith);
+      quality_there = h 4 (row name None) (omega arith);
+      moment_there = h 5 (row name None) (omega arith);
+    }
 
-has-close : (bay : Bay) (name : List ℕ) → HasNode bay (record { name = name; parts = interlocking_parts }) → HasEnable bay.rows (closing_names name)
-has-close bay name h = record { value_there = h 7 (row name None) (omega arith); quality_there = h 8 (row name None) (omega arith); moment_there = h 9 (row name None) (omega arith) }
+has-close : (bay : Bay) (name : List ℕ)
+    → HasNode bay (record { name = name; parts = interlocking_parts })
+    → HasEnable bay.rows (closing_names name)
+has-close bay name h =
+    record {
+      value_there = h 7 (row name None) (omega arith);
+      quality_there = h 8 (row name None) (omega arith);
+      moment_there = h 9 (row name None) (omega arith);
+    }
 
-has-control : (bay : Bay) (name : List ℕ) (control : Control) (timeout : ℕ) → HasNode bay (record { name = name; parts = control_parts control timeout }) → HasControl bay.rows name
-has-control bay name Status timeout h = record { position = record { value_there = h 3 (row name None) (omega arith); quality_there = h 4 (row name None) (omega arith); moment_there = h 5 (row name None) (omega arith) }; selected = h 6 (row name None) (omega arith) }
-has-control bay name Direct timeout h = record { position = record { value_there = h 3 (row name None) (omega arith); quality_there = h 4 (row name None) (omega arith); moment_there = h 5 (row name None) (omega arith) }; selected = h 6 (row name None) (omega arith) }
-has-control bay name Sbo timeout h = record { position = record { value_there = h 3 (row name None) (omega arith); quality_there = h 4 (row name None) (omega arith); moment_there = h 5 (row name None) (omega arith) }; selected = h 6 (row name None) (omega arith) }
-has-control bay name SboEnhanced timeout h = record { position = record { value_there = h 3 (row name None) (omega arith); quality_there = h 4 (row name None) (omega arith); moment_there = h 5 (row name None) (omega arith) }; selected = h 6 (row name None) (omega arith) }
+has-control : (bay : Bay) (name : List ℕ) (control : Control) (timeout : ℕ)
+    → HasNode bay (record { name = name; parts = control_parts control timeout })
+    → HasControl bay.rows name
+has-control bay name Status timeout h =
+    record {
+      position = record {
+        value_there = h 3 (row name None) (omega arith);
+        quality_there = h 4 (row name None) (omega arith);
+        moment_there = h 5 (row name None) (omega arith);
+      };
+      selected = h 6 (row name None) (omega arith);
+    }
+has-control bay name Direct timeout h =
+    record {
+      position = record {
+        value_there = h 3 (row name None) (omega arith);
+        quality_there = h 4 (row name None) (omega arith);
+        moment_there = h 5 (row name None) (omega arith);
+      };
+      selected = h 6 (row name None) (omega arith);
+    }
+has-control bay name Sbo timeout h =
+    record {
+      position = record {
+        value_there = h 3 (row name None) (omega arith);
+        quality_there = h 4 (row name None) (omega arith);
+        moment_there = h 5 (row name None) (omega arith);
+      };
+      selected = h 6 (row name None) (omega arith);
+    }
+has-control bay name SboEnhanced timeout h =
+    record {
+      position = record {
+        value_there = h 3 (row name None) (omega arith);
+        quality_there = h 4 (row name None) (omega arith);
+        moment_there = h 5 (row name None) (omega arith);
+      };
+      selected = h 6 (row name None) (omega arith);
+    }
 
 -- the names of a node's rows are its name and their paths
-inside-name : (rows : List Row) (name path word : List ℕ) (leaf : Option Leaf) → Contains rows (row (name ++ (path ++ word)) leaf) → Contains rows (row ((name ++ path) ++ word) leaf)
-inside-name rows name path word leaf h = subst (λ n. Contains rows (row n leaf)) (sym (append_assoc name path word)) h
+inside-name : (rows : List Row) (name path word : List ℕ) (leaf : Option Leaf)
+    → Contains rows (row (name ++ (path ++ word)) leaf)
+    → Contains rows (row ((name ++ path) ++ word) leaf)
+inside-name rows name path word leaf h =
+    subst (λ n. Contains rows (row n leaf)) (sym (append_assoc name path word)) h
 
-has-commands : (bay : Bay) (name : List ℕ) (control : Control) (timeout : ℕ) → HasNode bay (record { name = name; parts = control_parts control timeout }) → HasCommands bay.rows (control_names_of name) control
+has-commands : (bay : Bay) (name : List ℕ) (control : Control) (timeout : ℕ)
+    → HasNode bay (record { name = name; parts = control_parts control timeout })
+    → HasCommands bay.rows (control_names_of name) control
 has-commands bay name Status timeout h = tt
-has-commands bay name Direct timeout h = record { parts = record { structure = h 9 (row name None) (omega arith); value = inside-name bay.rows name (codes "$CO$Pos$Oper") (codes "$ctlVal") _ (h 10 (row name None) (omega arith)); origin = inside-name bay.rows name (codes "$CO$Pos$Oper") (codes "$origin") _ (h 11 (row name None) (omega arith)); category = inside-name bay.rows name (codes "$CO$Pos$Oper") (codes "$origin$orCat") _ (h 12 (row name None) (omega arith)); identity = inside-name bay.rows name (codes "$CO$Pos$Oper") (codes "$origin$orIdent") _ (h 13 (row name None) (omega arith)); number = inside-name bay.rows name (codes "$CO$Pos$Oper") (codes "$ctlNum") _ (h 14 (row name None) (omega arith)); moment = inside-name bay.rows name (codes "$CO$Pos$Oper") (codes "$T") _ (h 15 (row name None) (omega arith)); test = inside-name bay.rows name (codes "$CO$Pos$Oper") (codes "$Test") _ (h 16 (row name None) (omega arith)) }; checks = inside-name bay.rows name (codes "$CO$Pos$Oper") (codes "$Check") _ (h 17 (row name None) (omega arith)) }
-has-commands bay name Sbo timeout h = record { select = h 9 (row name None) (omega arith); operate = record { parts = record { structure = h 10 (row name None) (omega arith); value = inside-name bay.rows name (codes "$CO$Pos$Oper") (codes "$ctlVal") _ (h 11 (row name None) (omega arith)); origin = inside-name bay.rows name (codes "$CO$Pos$Oper") (codes "$origin") _ (h 12 (row name None) (omega arith)); category = inside-name bay.rows name (codes "$CO$Pos$Oper") (codes "$origin$orCat") _ (h 13 (row name None) (omega arith)); identity = inside-name bay.rows name (codes "$CO$Pos$Oper") (codes "$origin$orIdent") _ (h 14 (row name None) (omega arith)); number = inside-name bay.rows name (codes "$CO$Pos$Oper") (codes "$ctlNum") _ (h 15 (row name None) (omega arith)); moment = inside-name bay.rows name (codes "$CO$Pos$Oper") (codes "$T") _ (h 16 (row name None) (omega arith)); test = inside-name bay.rows name (codes "$CO$Pos$Oper") (codes "$Test") _ (h 17 (row name None) (omega arith)) }; checks = inside-name bay.rows name (codes "$CO$Pos$Oper") (codes "$Check") _ (h 18 (row name None) (omega arith)) }; cancel = record { structure = h 19 (row name None) (omega arith); value = inside-name bay.rows name (codes "$CO$Pos$Cancel") (codes "$ctlVal") _ (h 20 (row name None) (omega arith)); origin = inside-name bay.rows name (codes "$CO$Pos$Cancel") (codes "$origin") _ (h 21 (row name None) (omega arith)); category = inside-name bay.rows name (codes "$CO$Pos$Cancel") (codes "$origin$orCat") _ (h 22 (row name None) (omega arith)); identity = inside-name bay.rows name (codes "$CO$Pos$Cancel") (codes "$origin$orIdent") _ (h 23 (row name None) (omega arith)); number = inside-name bay.rows name (codes "$CO$Pos$Cancel") (codes "$ctlNum") _ (h 24 (row name None) (omega arith)); moment = inside-name bay.rows name (codes "$CO$Pos$Cancel") (codes "$T") _ (h 25 (row name None) (omega arith)); test = inside-name bay.rows name (codes "$CO$Pos$Cancel") (codes "$Test") _ (h 26 (row name None) (omega arith)) } }
-has-commands bay name SboEnhanced timeout h = record { select = record { parts = record { structure = h 9 (row name None) (omega arith); value = inside-name bay.rows name (codes "$CO$Pos$SBOw") (codes "$ctlVal") _ (h 10 (row name None) (omega arith)); origin = inside-name bay.rows name (codes "$CO$Pos$SBOw") (codes "$origin") _ (h 11 (row name None) (omega arith)); category = inside-name bay.rows name (codes "$CO$Pos$SBOw") (codes "$origin$orCat") _ (h 12 (row name None) (omega arith)); identity = inside-name bay.rows name (codes "$CO$Pos$SBOw") (codes "$origin$orIdent") _ (h 13 (row name None) (omega arith)); number = inside-name bay.rows name (codes "$CO$Pos$SBOw") (codes "$ctlNum") _ (h 14 (row name None) (omega arith)); moment = inside-name bay.rows name (codes "$CO$Pos$SBOw") (codes "$T") _ (h 15 (row name None) (omega arith)); test = inside-name bay.rows name (codes "$CO$Pos$SBOw") (codes "$Test") _ (h 16 (row name None) (omega arith)) }; checks = inside-name bay.rows name (codes "$CO$Pos$SBOw") (codes "$Check") _ (h 17 (row name None) (omega arith)) }; operate = record { parts = record { structure = h 18 (row name None) (omega arith); value = inside-name bay.rows name (codes "$CO$Pos$Oper") (codes "$ctlVal") _ (h 19 (row name None) (omega arith)); origin = inside-name bay.rows name (codes "$CO$Pos$Oper") (codes "$origin") _ (h 20 (row name None) (omega arith)); category = inside-name bay.rows name (codes "$CO$Pos$Oper") (codes "$origin$orCat") _ (h 21 (row name None) (omega arith)); identity = inside-name bay.rows name (codes "$CO$Pos$Oper") (codes "$origin$orIdent") _ (h 22 (row name None) (omega arith)); number = inside-name bay.rows name (codes "$CO$Pos$Oper") (codes "$ctlNum") _ (h 23 (row name None) (omega arith)); moment = inside-name bay.rows name (codes "$CO$Pos$Oper") (codes "$T") _ (h 24 (row name None) (omega arith)); test = inside-name bay.rows name (codes "$CO$Pos$Oper") (codes "$Test") _ (h 25 (row name None) (omega arith)) }; checks = inside-name bay.rows name (codes "$CO$Pos$Oper") (codes "$Check") _ (h 26 (row name None) (omega arith)) }; cancel = record { structure = h 27 (row name None) (omega arith); value = inside-name bay.rows name (codes "$CO$Pos$Cancel") (codes "$ctlVal") _ (h 28 (row name None) (omega arith)); origin = inside-name bay.rows name (codes "$CO$Pos$Cancel") (codes "$origin") _ (h 29 (row name None) (omega arith)); category = inside-name bay.rows name (codes "$CO$Pos$Cancel") (codes "$origin$orCat") _ (h 30 (row name None) (omega arith)); identity = inside-name bay.rows name (codes "$CO$Pos$Cancel") (codes "$origin$orIdent") _ (h 31 (row name None) (omega arith)); number = inside-name bay.rows name (codes "$CO$Pos$Cancel") (codes "$ctlNum") _ (h 32 (row name None) (omega arith)); moment = inside-name bay.rows name (codes "$CO$Pos$Cancel") (codes "$T") _ (h 33 (row name None) (omega arith)); test = inside-name bay.rows name (codes "$CO$Pos$Cancel") (codes "$Test") _ (h 34 (row name None) (omega arith)) } }
+has-commands bay name Direct timeout h =
+    record {
+      parts = record {
+        structure = h 9 (row name None) (omega arith);
+        value = inside-name bay.rows name (codes "$CO$Pos$Oper") (codes "$ctlVal") _
+            (h 10 (row name None) (omega arith));
+        origin = inside-name bay.rows name (codes "$CO$Pos$Oper") (codes "$origin") _
+            (h 11 (row name None) (omega arith));
+        category = inside-name bay.rows name (codes "$CO$Pos$Oper") (codes "$origin$orCat") _
+            (h 12 (row name None) (omega arith));
+        identity = inside-name bay.rows name (codes "$CO$Pos$Oper") (codes "$origin$orIdent") _
+            (h 13 (row name None) (omega arith));
+        number = inside-name bay.rows name (codes "$CO$Pos$Oper") (codes "$ctlNum") _
+            (h 14 (row name None) (omega arith));
+        moment = inside-name bay.rows name (codes "$CO$Pos$Oper") (codes "$T") _
+            (h 15 (row name None) (omega arith));
+        test = inside-name bay.rows name (codes "$CO$Pos$Oper") (codes "$Test") _
+            (h 16 (row name None) (omega arith));
+      };
+      checks = inside-name bay.rows name (codes "$CO$Pos$Oper") (codes "$Check") _
+          (h 17 (row name None) (omega arith));
+    }
+has-commands bay name Sbo timeout h =
+    record {
+      select = h 9 (row name None) (omega arith);
+      operate = record {
+        parts =
+            record {
+              structure = h 10 (row name None) (omega arith);
+              value = inside-name bay.rows name (codes "$CO$Pos$Oper") (codes "$ctlVal") _
+                  (h 11 (row name None) (omega arith));
+              origin = inside-name bay.rows name (codes "$CO$Pos$Oper") (codes "$origin") _
+                  (h 12 (row name None) (omega arith));
+              category = inside-name bay.rows name (codes "$CO$Pos$Oper") (codes "$origin$orCat") _
+                  (h 13 (row name None) (omega arith));
+              identity =
+                  inside-name bay.rows name (codes "$CO$Pos$Oper") (codes "$origin$orIdent") _
+                  (h 14 (row name None) (omega arith));
+              number = inside-name bay.rows name (codes "$CO$Pos$Oper") (codes "$ctlNum") _
+                  (h 15 (row name None) (omega arith));
+              moment = inside-name bay.rows name (codes "$CO$Pos$Oper") (codes "$T") _
+                  (h 16 (row name None) (omega arith));
+              test = inside-name bay.rows name (codes "$CO$Pos$Oper") (codes "$Test") _
+                  (h 17 (row name None) (omega arith));
+            };
+        checks = inside-name bay.rows name (codes "$CO$Pos$Oper") (codes "$Check") _
+            (h 18 (row name None) (omega arith));
+      };
+      cancel = record {
+        structure = h 19 (row name None) (omega arith);
+        value = inside-name bay.rows name (codes "$CO$Pos$Cancel") (codes "$ctlVal") _
+            (h 20 (row name None) (omega arith));
+        origin = inside-name bay.rows name (codes "$CO$Pos$Cancel") (codes "$origin") _
+            (h 21 (row name None) (omega arith));
+        category = inside-name bay.rows name (codes "$CO$Pos$Cancel") (codes "$origin$orCat") _
+            (h 22 (row name None) (omega arith));
+        identity = inside-name bay.rows name (codes "$CO$Pos$Cancel") (codes "$origin$orIdent") _
+            (h 23 (row name None) (omega arith));
+        number = inside-name bay.rows name (codes "$CO$Pos$Cancel") (codes "$ctlNum") _
+            (h 24 (row name None) (omega arith));
+        moment = inside-name bay.rows name (codes "$CO$Pos$Cancel") (codes "$T") _
+            (h 25 (row name None) (omega arith));
+        test = inside-name bay.rows name (codes "$CO$Pos$Cancel") (codes "$Test") _
+            (h 26 (row name None) (omega arith));
+      };
+    }
+has-commands bay name SboEnhanced timeout h =
+    record {
+      select = record {
+        parts = record {
+          structure = h 9 (row name None) (omega arith);
+          value = inside-name bay.rows name (codes "$CO$Pos$SBOw") (codes "$ctlVal") _
+              (h 10 (row name None) (omega arith));
+          origin = inside-name bay.rows name (codes "$CO$Pos$SBOw") (codes "$origin") _
+              (h 11 (row name None) (omega arith));
+          category = inside-name bay.rows name (codes "$CO$Pos$SBOw") (codes "$origin$orCat") _
+              (h 12 (row name None) (omega arith));
+          identity = inside-name bay.rows name (codes "$CO$Pos$SBOw") (codes "$origin$orIdent") _
+              (h 13 (row name None) (omega arith));
+          number = inside-name bay.rows name (codes "$CO$Pos$SBOw") (codes "$ctlNum") _
+              (h 14 (row name None) (omega arith));
+          moment = inside-name bay.rows name (codes "$CO$Pos$SBOw") (codes "$T") _
+              (h 15 (row name None) (omega arith));
+          test = inside-name bay.rows name (codes "$CO$Pos$SBOw") (codes "$Test") _
+              (h 16 (row name None) (omega arith));
+        };
+        checks = inside-name bay.rows name (codes "$CO$Pos$SBOw") (codes "$Check") _
+            (h 17 (row name None) (omega arith));
+      };
+      operate = record {
+        parts =
+            record {
+              structure = h 18 (row name None) (omega arith);
+              value = inside-name bay.rows name (codes "$CO$Pos$Oper") (codes "$ctlVal") _
+                  (h 19 (row name None) (omega arith));
+              origin = inside-name bay.rows name (codes "$CO$Pos$Oper") (codes "$origin") _
+                  (h 20 (row name None) (omega arith));
+              category = inside-name bay.rows name (codes "$CO$Pos$Oper") (codes "$origin$orCat") _
+                  (h 21 (row name None) (omega arith));
+              identity =
+                  inside-name bay.rows name (codes "$CO$Pos$Oper") (codes "$origin$orIdent") _
+                  (h 22 (row name None) (omega arith));
+              number = inside-name bay.rows name (codes "$CO$Pos$Oper") (codes "$ctlNum") _
+                  (h 23 (row name None) (omega arith));
+              moment = inside-name bay.rows name (codes "$CO$Pos$Oper") (codes "$T") _
+                  (h 24 (row name None) (omega arith));
+              test = inside-name bay.rows name (codes "$CO$Pos$Oper") (codes "$Test") _
+                  (h 25 (row name None) (omega arith));
+            };
+        checks = inside-name bay.rows name (codes "$CO$Pos$Oper") (codes "$Check") _
+            (h 26 (row name None) (omega arith));
+      };
+      cancel = record {
+        structure = h 27 (row name None) (omega arith);
+        value = inside-name bay.rows name (codes "$CO$Pos$Cancel") (codes "$ctlVal") _
+            (h 28 (row name None) (omega arith));
+        origin = inside-name bay.rows name (codes "$CO$Pos$Cancel") (codes "$origin") _
+            (h 29 (row name None) (omega arith));
+        category = inside-name bay.rows name (codes "$CO$Pos$Cancel") (codes "$origin$orCat") _
+            (h 30 (row name None) (omega arith));
+        identity = inside-name bay.rows name (codes "$CO$Pos$Cancel") (codes "$origin$orIdent") _
+            (h 31 (row name None) (omega arith));
+        number = inside-name bay.rows name (codes "$CO$Pos$Cancel") (codes "$ctlNum") _
+            (h 32 (row name None) (omega arith));
+        moment = inside-name bay.rows name (codes "$CO$Pos$Cancel") (codes "$T") _
+            (h 33 (row name None) (omega arith));
+        test = inside-name bay.rows name (codes "$CO$Pos$Cancel") (codes "$Test") _
+            (h 34 (row name None) (omega arith));
+      };
+    }
 
-has-meter : (bay : Bay) (name : List ℕ) → HasNode bay (record { name = name; parts = meter_parts }) → HasMeter bay.rows (meter_names_of name)
+has-meter : (bay : Bay) (name : List ℕ) → HasNode bay (record { name = name; parts = meter_parts })
+    → HasMeter bay.rows (meter_names_of name)
 has-meter bay name h = record {
-  tot_w = record { value_there = h 4 (row name None) (omega arith); quality_there = h 5 (row name None) (omega arith); moment_there = h 6 (row name None) (omega arith) };
-  tot_var = record { value_there = h 9 (row name None) (omega arith); quality_there = h 10 (row name None) (omega arith); moment_there = h 11 (row name None) (omega arith) };
-  hz = record { value_there = h 14 (row name None) (omega arith); quality_there = h 15 (row name None) (omega arith); moment_there = h 16 (row name None) (omega arith) };
-  phase_a = record { value_there = h 21 (row name None) (omega arith); quality_there = h 22 (row name None) (omega arith); moment_there = h 23 (row name None) (omega arith) };
-  phase_b = record { value_there = h 27 (row name None) (omega arith); quality_there = h 28 (row name None) (omega arith); moment_there = h 29 (row name None) (omega arith) };
-  phase_c = record { value_there = h 33 (row name None) (omega arith); quality_there = h 34 (row name None) (omega arith); moment_there = h 35 (row name None) (omega arith) };
+  tot_w = record {
+    value_there = h 4 (row name None) (omega arith);
+    quality_there = h 5 (row name None) (omega arith);
+    moment_there = h 6 (row name None) (omega arith);
+  };
+  tot_var =
+      record {
+        value_there = h 9 (row name None) (omega arith);
+        quality_there = h 10 (row name None) (omega arith);
+        moment_there = h 11 (row name None) (omega arith);
+      };
+  hz = record {
+    value_there = h 14 (row name None) (omega arith);
+    quality_there = h 15 (row name None) (omega arith);
+    moment_there = h 16 (row name None) (omega arith);
+  };
+  phase_a =
+      record {
+        value_there = h 21 (row name None) (omega arith);
+        quality_there = h 22 (row name None) (omega arith);
+        moment_there = h 23 (row name None) (omega arith);
+      };
+  phase_b =
+      record {
+        value_there = h 27 (row name None) (omega arith);
+        quality_there = h 28 (row name None) (omega arith);
+        moment_there = h 29 (row name None) (omega arith);
+      };
+  phase_c =
+      record {
+        value_there = h 33 (row name None) (omega arith);
+        quality_there = h 34 (row name None) (omega arith);
+        moment_there = h 35 (row name None) (omega arith);
+      };
 }
 
 -- a node of a bay has its rows there
-node-there : (bay : Bay) (node : Node) → IsBay bay → Contains (nodes_of (nameplate_of bay) bay.switches bay.meters) node → HasNode bay node
+node-there : (bay : Bay) (node : Node) → IsBay bay
+    → Contains (nodes_of (nameplate_of bay) bay.switches bay.meters) node → HasNode bay node
 node-there bay node is_bay at =
-    subst (λ rows. All (Contains rows) (node_rows node)) (sym is_bay.rows) (has-node (nodes_of (nameplate_of bay) bay.switches bay.meters) node at)
+    subst (λ rows. All (Contains rows) (node_rows node)) (sym is_bay.rows)
+    (has-node (nodes_of (nameplate_of bay) bay.switches bay.meters) node at)
 
-position-node : (bay : Bay) (place : ℕ) (s : Switch) (name : List ℕ) → slice_get bay.switches place ≡ Some s → name ≡ node_name (class_of s.kind) (node_number bay.switches s place) → IsBay bay → HasNode bay (record { name = name; parts = position_parts s.kind })
+position-node : (bay : Bay) (place : ℕ) (s : Switch) (name : List ℕ)
+    → slice_get bay.switches place ≡ Some s
+    → name ≡ node_name (class_of s.kind) (node_number bay.switches s place) → IsBay bay
+    → HasNode bay (record { name = name; parts = position_parts s.kind })
 position-node bay place s name here named is_bay =
     let ss = bay.switches in
     let all = nodes_of (nameplate_of bay) ss bay.meters in
     let node : Node = record { name = name; parts = position_parts s.kind } in
-    let own : position_node (node_number ss s place, s) ≡ node = ap (λ n. record { name = n; parts = position_parts s.kind }) (sym named) in
-    node-there bay node is_bay (subst (Contains all) own (position-among (is_breaker s.kind) (nameplate_of bay) ss bay.meters place s here refl))
+    let own : position_node (node_number ss s place, s) ≡ node =
+    ap (λ n. record { name = n; parts = position_parts s.kind }) (sym named) in
+    node-there bay node is_bay
+    (subst (Contains all) own
+    (position-among (is_breaker s.kind) (nameplate_of bay) ss bay.meters place s here refl))
 
 -- a node that is numbered by its place
-numbered-among : {T : Type 0} (make : ℕ × T → Node) (class : List ℕ) (parts : T → Parts) → ((n : ℕ) (t : T) → make (n, t) ≡ record { name = node_name class n; parts = parts t }) → (ts : List T) (place : ℕ) (name : List ℕ) → place < length ts → name ≡ node_name class (place + 1)
-    → (t : T) × Contains (map make (enumerate_from 1 ts)) (record { name = name; parts = parts t }) × (slice_get ts place ≡ Some t)
+numbered-among : {T : Type 0} (make : ℕ × T → Node) (class : List ℕ) (parts : T → Parts)
+    → ((n : ℕ) (t : T) → make (n, t) ≡ record { name = node_name class n; parts = parts t })
+    → (ts : List T) (place : ℕ) (name : List ℕ) → place < length ts
+    → name ≡ node_name class (place + 1)
+    → (t : T) × Contains (map make (enumerate_from 1 ts)) (record { name = name; parts = parts t })
+    × (slice_get ts place ≡ Some t)
 numbered-among make class parts is ts place name lt named =
     let w = enumerate-has ts place 1 lt in
     let e : 1 + place ≡ place + 1 = omega arith in
-    let own : make (1 + place, w.0) ≡ record { name = name; parts = parts w.0 } = is (1 + place) w.0 ∙ ap (λ m. record { name = node_name class m; parts = parts w.0 }) e ∙ ap (λ n. record { name = n; parts = parts w.0 }) (sym named) in
-    (w.0, subst (Contains (map make (enumerate_from 1 ts))) own (Contains-map make (enumerate_from 1 ts) (1 + place, w.0) w.1), w.2)
+    let own : make (1 + place, w.0) ≡ record { name = name; parts = parts w.0 } =
+    is (1 + place) w.0 ∙ ap (λ m. record { name = node_name class m; parts = parts w.0 }) e
+    ∙ ap (λ n. record { name = n; parts = parts w.0 }) (sym named) in (
+      w.0,
+      subst (Contains (map make (enumerate_from 1 ts))) own
+          (Contains-map make (enumerate_from 1 ts) (1 + place, w.0) w.1),
+      w.2,
+    )
 
-pub names_position : (bay : Bay) (place : ℕ) (s : Switch) (name : List ℕ) → slice_get bay.switches place ≡ Some s → name ≡ node_name (class_of s.kind) (node_number bay.switches s place) → NamesPosition bay place name
+pub names_position : (bay : Bay) (place : ℕ) (s : Switch) (name : List ℕ)
+    → slice_get bay.switches place ≡ Some s
+    → name ≡ node_name (class_of s.kind) (node_number bay.switches s place)
+    → NamesPosition bay place name
 names_position bay place s name here named =
     let node = position-node bay place s name here named in
-    record { switch = s; here = here; named = named; node = node; rows = λ is_bay. has-position bay name s.kind (node is_bay) }
+    record {
+      switch = s;
+      here = here;
+      named = named;
+      node = node;
+      rows = λ is_bay. has-position bay name s.kind (node is_bay);
+    }
 
-pub names_control : (bay : Bay) (place : ℕ) (name : List ℕ) → place < length bay.switches → name ≡ node_name (codes "CSWI") (place + 1) → NamesControl bay place name
+pub names_control : (bay : Bay) (place : ℕ) (name : List ℕ) → place < length bay.switches
+    → name ≡ node_name (codes "CSWI") (place + 1) → NamesControl bay place name
 names_control bay place name lt named =
-    let w = numbered-among control_node (codes "CSWI") (λ s. control_parts s.control s.sbo_timeout_ms) (λ n t. refl) bay.switches place name lt named in
-    let node : IsBay bay → HasNode bay (record { name = name; parts = control_parts w.0.control w.0.sbo_timeout_ms }) = λ is_bay. node-there bay _ is_bay (controls-within (nameplate_of bay) bay.switches bay.meters _ w.1) in
-    record { switch = w.0; here = w.2; named = named; node = node; rows = λ is_bay. has-control bay name w.0.control w.0.sbo_timeout_ms (node is_bay); commands = λ is_bay. has-commands bay name w.0.control w.0.sbo_timeout_ms (node is_bay) }
+    let w = numbered-among control_node (codes "CSWI")
+    (λ s. control_parts s.control s.sbo_timeout_ms) (λ n t. refl) bay.switches place name lt
+    named in
+    let node : IsBay bay → HasNode bay
+    (record { name = name; parts = control_parts w.0.control w.0.sbo_timeout_ms }) =
+    λ is_bay. node-there bay _ is_bay
+    (controls-within (nameplate_of bay) bay.switches bay.meters _ w.1) in
+    record {
+      switch = w.0;
+      here = w.2;
+      named = named;
+      node = node;
+      rows = λ is_bay. has-control bay name w.0.control w.0.sbo_timeout_ms (node is_bay);
+      commands = λ is_bay. has-commands bay name w.0.control w.0.sbo_timeout_ms (node is_bay);
+    }
 
-pub names_interlocking : (bay : Bay) (place : ℕ) (name : List ℕ) → place < length bay.switches → name ≡ node_name (codes "CILO") (place + 1) → NamesInterlocking bay place name
+pub names_interlocking : (bay : Bay) (place : ℕ) (name : List ℕ) → place < length bay.switches
+    → name ≡ node_name (codes "CILO") (place + 1) → NamesInterlocking bay place name
 names_interlocking bay place name lt named =
-    let w = numbered-among interlocking_node (codes "CILO") (λ s. interlocking_parts) (λ n t. refl) bay.switches place name lt named in
-    let node : IsBay bay → HasNode bay (record { name = name; parts = interlocking_parts }) = λ is_bay. node-there bay _ is_bay (interlockings-within (nameplate_of bay) bay.switches bay.meters _ w.1) in
-    record { named = named; node = node; open_rows = λ is_bay. has-open bay name (node is_bay); close_rows = λ is_bay. has-close bay name (node is_bay) }
+    let w = numbered-among interlocking_node (codes "CILO") (λ s. interlocking_parts) (λ n t. refl)
+    bay.switches place name lt named in
+    let node : IsBay bay → HasNode bay (record { name = name; parts = interlocking_parts }) =
+    λ is_bay. node-there bay _ is_bay
+    (interlockings-within (nameplate_of bay) bay.switches bay.meters _ w.1) in
+    record {
+      named = named;
+      node = node;
+      open_rows = λ is_bay. has-open bay name (node is_bay);
+      close_rows = λ is_bay. has-close bay name (node is_bay);
+    }
 
-pub names_meter : (bay : Bay) (place : ℕ) (name : List ℕ) → place < length bay.meters → name ≡ node_name (codes "MMXU") (place + 1) → NamesMeter bay place name
+pub names_meter : (bay : Bay) (place : ℕ) (name : List ℕ) → place < length bay.meters
+    → name ≡ node_name (codes "MMXU") (place + 1) → NamesMeter bay place name
 names_meter bay place name lt named =
-    let w = numbered-among meter_node (codes "MMXU") (λ s. meter_parts) (λ n t. refl) bay.meters place name lt named in
-    let node : IsBay bay → HasNode bay (record { name = name; parts = meter_parts }) = λ is_bay. node-there bay _ is_bay (meters-within (nameplate_of bay) bay.switches bay.meters _ w.1) in
+    let w = numbered-among meter_node (codes "MMXU") (λ s. meter_parts) (λ n t. refl) bay.meters
+    place name lt named in
+    let node : IsBay bay → HasNode bay (record { name = name; parts = meter_parts }) =
+    λ is_bay. node-there bay _ is_bay
+    (meters-within (nameplate_of bay) bay.switches bay.meters _ w.1) in
     record { named = named; node = node; rows = λ is_bay. has-meter bay name (node is_bay) }
 
-pub get-at : (ss : List Switch) (place : ℕ) (s : Switch) → place < length ss → s ≡ get_or ss place s → slice_get ss place ≡ Some s
+pub get-at : (ss : List Switch) (place : ℕ) (s : Switch) → place < length ss → s ≡ get_or ss place s
+    → slice_get ss place ≡ Some s
 get-at [] place s lt at = absurd (omega arith)
 get-at (t ∷ ss) zero s lt at = ap Some (sym at)
 get-at (t ∷ ss) (suc place) s lt at = get-at ss place s (omega arith) at

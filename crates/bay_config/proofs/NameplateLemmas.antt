@@ -32,9 +32,17 @@ nameplate_by_keys t =
     (λ vendor. then (judged (key_refusal t model_key) (text_in t (codes "model")))
     (λ model. then (judged (key_refusal t revision_key) (text_in t (codes "revision")))
     (λ revision. then (judged (key_refusal t age_key) (number_in t (codes "scan_max_age_ms")))
-    (λ age. Ok (record { domain = domain; vendor = vendor; model = model; revision = revision; scan_max_age_ms = age })))))))
+    (λ age. Ok
+    (record {
+      domain = domain;
+      vendor = vendor;
+      model = model;
+      revision = revision;
+      scan_max_age_ms = age;
+    })))))))
 
-pub by_keys : (t : Members) → judged (entry_refusal bay_keys t) (nameplate_in t) ≡ nameplate_by_keys t
+pub by_keys : (t : Members)
+    → judged (entry_refusal bay_keys t) (nameplate_in t) ≡ nameplate_by_keys t
 by_keys t =
     let domain = key_refusal t domain_key in
     let vendor = key_refusal t vendor_key in
@@ -42,7 +50,8 @@ by_keys t =
     let revision = key_refusal t revision_key in
     let age = key_refusal t age_key in
     let bay = nameplate_in t in
-    judged-step (unknown_refusal (map (λ key. key.name) bay_keys) t) (domain ∷ vendor ∷ model ∷ revision ∷ age ∷ []) (tt {0}) bay _
+    judged-step (unknown_refusal (map (λ key. key.name) bay_keys) t)
+    (domain ∷ vendor ∷ model ∷ revision ∷ age ∷ []) (tt {0}) bay _
     (judged-step domain (vendor ∷ model ∷ revision ∷ age ∷ []) (text_in t (codes "domain")) bay _
     (judged-step vendor (model ∷ revision ∷ age ∷ []) (text_in t (codes "vendor")) bay _
     (judged-step model (revision ∷ age ∷ []) (text_in t (codes "model")) bay _

@@ -16,6 +16,7 @@ use Rattle.bay_config.specs.Point.{points_of_all, names_refusal}
 use Rattle.bay_config.specs.Section.{Section, one, many, section_refusal, section_tables}
 use Rattle.bay_config.specs.Switch.{switch_keys, switch_in}
 
+-- the keys of the section `bay`, in the order in which they are judged
 abbrev pub bay_keys : List Key
 bay_keys =
     record { name = codes "domain"; form = identifier 32 }
@@ -25,9 +26,11 @@ bay_keys =
     ∷ record { name = codes "scan_max_age_ms"; form = number 0 600000 }
     ∷ []
 
+-- the section `bay`, which stands once
 abbrev pub bay_section : Section
 bay_section = record { name = codes "bay"; shape = one; keys = λ _. bay_keys }
 
+-- 1 to 32 switches
 abbrev pub switch_section : Section
 switch_section = record { name = codes "switch"; shape = many 1 32; keys = switch_keys }
 
@@ -39,16 +42,23 @@ name_key Meter = codes "id"
 abbrev pub name_keys : NameSection → List Key
 name_keys which = record { name = name_key which; form = identifier 16 } ∷ []
 
+-- the section's name in the file
 abbrev pub section_name : NameSection → List ℕ
 section_name Input = codes "input"
 section_name Meter = codes "meter"
 
+-- at most so many inputs, and so many meters
 abbrev pub most_names : NameSection → ℕ
 most_names Input = 64
 most_names Meter = 8
 
 abbrev pub name_section : NameSection → Section
-name_section which = record { name = section_name which; shape = many 0 (most_names which); keys = λ _. name_keys which }
+name_section which =
+    record {
+      name = section_name which;
+      shape = many 0 (most_names which);
+      keys = λ _. name_keys which;
+    }
 
 -- the sections of a bay file, in their order
 abbrev pub sections : List Section
@@ -68,15 +78,18 @@ nameplate_in table = record {
   scan_max_age_ms = number_in table (codes "scan_max_age_ms");
 }
 
+-- the switches that a file describes
 abbrev pub switches_in : Members → List Switch
 switches_in file = map switch_in (section_tables file switch_section)
 
+-- the name that a table of an input or a meter gives it
 abbrev pub name_in : NameSection → Members → List ℕ
 name_in which table = text_in table (name_key which)
 
 abbrev pub names_in : Members → NameSection → List (List ℕ)
 names_in file which = map (name_in which) (section_tables file (name_section which))
 
+-- a bay of these parts, with the rows and points that follow from them
 abbrev pub bay_with : Nameplate → List Switch → List (List ℕ) → List (List ℕ) → Bay
 bay_with nameplate switches inputs meters = record {
   domain = nameplate.domain;
@@ -91,10 +104,14 @@ bay_with nameplate switches inputs meters = record {
   meters = meters;
 }
 
+-- the bay that a file describes which is not refused
 abbrev pub bay_in : Members → Bay
-bay_in file = bay_with (nameplate_in (bay_table file)) (switches_in file) (names_in file Input) (names_in file Meter)
+bay_in file =
+    bay_with (nameplate_in (bay_table file)) (switches_in file) (names_in file Input)
+    (names_in file Meter)
 
--- the first refusal of a file: a key that is no section, then section by section, then the names of the points
+-- the first refusal of a file: a key that is no section, then section by section, then the names of
+-- the points
 abbrev pub file_refusal : Members → Option BayFault
 file_refusal file =
     first_of
@@ -103,9 +120,11 @@ file_refusal file =
     ++ names_refusal (points_of_all (switches_in file) (names_in file Input) (names_in file Meter))
     ∷ [])
 
+-- the bay of a file, or its first refusal
 abbrev pub bay_of_table : Members → Result Bay BayFault
 bay_of_table file = judged (file_refusal file) (bay_in file)
 
+-- a text that is no TOML is refused first
 abbrev pub bay_of_document : Option Members → Result Bay BayFault
 bay_of_document None = Err BadToml
 bay_of_document (Some file) = bay_of_table file

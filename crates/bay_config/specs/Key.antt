@@ -1,4 +1,5 @@
--- The keys of a section of a bay file: what each may hold, and the first refusal of a table with such keys.
+-- The keys of a section of a bay file: what each may hold, and the first refusal of a table with
+-- such keys.
 use Rattle.std.specs.Prelude.{ℕ, ℤ, pos, negsuc, Bool, false, not, ◌&&◌, ◌||◌, nat_le, List, [], ◌∷◌, length, map, Option, None, Some, option_map, option_and_then, unwrap_or, if◌then◌else◌}
 use Rattle.std.specs.Char.{is_ascii_alphabetic, is_ascii_alphanumeric}
 use Rattle.std.specs.Int.{is_in_range}
@@ -19,6 +20,7 @@ pub data Form : Type 0 where
   -- one of these words
   word : List (List ℕ) → Form
 
+-- a key of a table, and what it may hold
 pub record Key : Type 0 where
   pub name : List ℕ
   pub form : Form
@@ -35,12 +37,16 @@ begins_with_letter (c ∷ cs) = is_ascii_alphabetic c
 abbrev pub is_name_character : ℕ → Bool
 is_name_character c = is_ascii_alphanumeric c || is_in_range 95 95 c
 
+-- a letter, then letters, digits and `_`, at most so many in all
 abbrev pub is_identifier : ℕ → List ℕ → Bool
-is_identifier most s = (begins_with_letter s && list_all is_name_character s) && nat_le (length s) most
+is_identifier most s =
+    (begins_with_letter s && list_all is_name_character s) && nat_le (length s) most
 
+-- 1 to 64 characters from space to `~`
 abbrev pub is_description : List ℕ → Bool
 is_description s = (nat_le 1 (length s) && nat_le (length s) 64) && list_all (is_in_range 32 126) s
 
+-- a whole number from the least to the most
 abbrev pub is_within : ℕ → ℕ → ℤ → Bool
 is_within least most (pos n) = nat_le least n && nat_le n most
 is_within least most (negsuc n) = false
@@ -50,12 +56,14 @@ abbrev pub passes : {T : Type 0} → (T → Bool) → Option T → Bool
 passes test None = false
 passes test (Some x) = test x
 
+-- a value of the form
 abbrev pub accepts : Form → Data → Bool
 accepts (identifier most) d = passes (is_identifier most) (as_str d)
 accepts description d = passes is_description (as_str d)
 accepts (number least most) d = passes (is_within least most) (as_integer d)
 accepts (word words) d = passes (is_among words) (as_str d)
 
+-- the refusal of what stands at a key, or of nothing there
 abbrev pub held_refusal : Form → Option Data → Option BayFault
 held_refusal form None = Some MissingKey
 held_refusal form (Some d) = if accepts form d then None else Some BadValue
@@ -64,6 +72,7 @@ held_refusal form (Some d) = if accepts form d then None else Some BadValue
 abbrev pub key_refusal : Members → Key → Option BayFault
 key_refusal table key = held_refusal key.form (get_member key.name table)
 
+-- a check that refuses where its test is true
 abbrev pub refused_if : Bool → BayFault → Option BayFault
 refused_if test fault = if test then Some fault else None
 
@@ -78,6 +87,7 @@ abbrev pub has_unknown : List (List ℕ) → Members → Bool
 has_unknown known no_members = false
 has_unknown known (member key d rest) = not (is_among known key) || has_unknown known rest
 
+-- a table with another key than these is refused
 abbrev pub unknown_refusal : List (List ℕ) → Members → Option BayFault
 unknown_refusal known table = if has_unknown known table then Some UnknownKey else None
 
@@ -90,13 +100,15 @@ entry_refusal keys table =
 abbrev pub text_in : Members → List ℕ → List ℕ
 text_in table name = unwrap_or (option_and_then as_str (get_member name table)) []
 
+-- a number that is not below 0
 abbrev pub natural : ℤ → ℕ
 natural (pos n) = n
 natural (negsuc n) = 0
 
 -- the number at a key, 0 where there is none
 abbrev pub number_in : Members → List ℕ → ℕ
-number_in table name = unwrap_or (option_map natural (option_and_then as_integer (get_member name table))) 0
+number_in table name =
+    unwrap_or (option_map natural (option_and_then as_integer (get_member name table))) 0
 
 -- the value that a list gives to a word
 abbrev pub named : {T : Type 0} → List (List ℕ × T) → List ℕ → Option T

@@ -43,13 +43,22 @@ IsOwnedAt switches inputs meters point (sources.Switch place which) = Owns switc
 IsOwnedAt switches inputs meters point (sources.Input place) = OwnsInput inputs place point
 IsOwnedAt switches inputs meters point (sources.Meter place field) = OwnsField meters place point
 
+-- the point belongs to what its source names
 abbrev pub IsOwned : List Switch → List (List ℕ) → List (List ℕ) → Point → Type 0
 IsOwned switches inputs meters point = IsOwnedAt switches inputs meters point point.source
 
 -- what the section `bay` said of a bay
 abbrev pub nameplate_of : Bay → Nameplate
-nameplate_of bay = record { domain = bay.domain; vendor = bay.vendor; model = bay.model; revision = bay.revision; scan_max_age_ms = bay.scan_max_age_ms }
+nameplate_of bay =
+    record {
+      domain = bay.domain;
+      vendor = bay.vendor;
+      model = bay.model;
+      revision = bay.revision;
+      scan_max_age_ms = bay.scan_max_age_ms;
+    }
 
+-- what holds of each bay that a file describes
 pub record IsBay (bay : Bay) : Type 0 where
   -- 1 to 32 switches, at most 64 inputs and at most 8 meters
   pub some_switch : 1 ≤ length bay.switches
@@ -70,7 +79,8 @@ abbrev pub HasNode : Bay → Node → Type 0
 HasNode bay node = All (Contains bay.rows) (node_rows node)
 
 -- the rows hold a value with its quality and its moment, as they are at the start
-pub record HasValue (rows : List Row) (names : StatusNames) (value : Leaf) (quality : Validity) : Type 0 where
+pub record HasValue (rows : List Row) (names : StatusNames) (value : Leaf) (quality : Validity)
+    : Type 0 where
   pub value_there : Contains rows (row names.value (Some value))
   pub quality_there : Contains rows (row names.quality (Some (Quality quality)))
   pub moment_there : Contains rows (row names.time (Some (Utc 0)))
@@ -85,7 +95,8 @@ pub record HasControl (rows : List Row) (node : List ℕ) : Type 0 where
   pub position : HasValue rows (position_names node) (Dbpos Intermediate) Invalid
   pub selected : Contains rows (row (control_names_of node).selected (Some (Truth false)))
 
--- the rows hold what is written to a control at a name, with the first value of each part (IEC 61850-8-1)
+-- the rows hold what is written to a control at a name, with the first value of each part (IEC
+-- 61850-8-1)
 pub record HasCancel (rows : List Row) (name : List ℕ) : Type 0 where
   pub structure : Contains rows (row name None)
   pub value : Contains rows (row (name ++ codes "$ctlVal") (Some (Truth false)))
@@ -101,17 +112,20 @@ pub record HasOperate (rows : List Row) (name : List ℕ) : Type 0 where
   pub parts : HasCancel rows name
   pub checks : Contains rows (row (name ++ codes "$Check") (Some (Dbpos Intermediate)))
 
--- what may be written to a switch with each kind of control, or read to select it, by the names of its control
+-- what may be written to a switch with each kind of control, or read to select it, by the names of
+-- its control
 pub record HasSelectByRead (rows : List Row) (names : ControlNames) : Type 0 where
   pub select : Contains rows (row names.select (Some (Reference [])))
   pub operate : HasOperate rows names.operate
   pub cancel : HasCancel rows names.cancel
 
+-- a selection with a value is written, as an operate is
 pub record HasSelectWithValue (rows : List Row) (names : ControlNames) : Type 0 where
   pub select : HasOperate rows names.select_with_value
   pub operate : HasOperate rows names.operate
   pub cancel : HasCancel rows names.cancel
 
+-- what goes with a kind of control
 abbrev pub HasCommands : List Row → ControlNames → Control → Type 0
 HasCommands rows names Status = Unit
 HasCommands rows names Direct = HasOperate rows names.operate
@@ -126,6 +140,7 @@ HasEnable rows names = HasValue rows names (Truth false) Invalid
 abbrev pub HasMeasured : List Row → StatusNames → Type 0
 HasMeasured rows names = HasValue rows names (Int32 (pos 0)) Invalid
 
+-- the rows hold the six measured values of a meter
 pub record HasMeter (rows : List Row) (names : MeterNames) : Type 0 where
   pub tot_w : HasMeasured rows names.tot_w
   pub tot_var : HasMeasured rows names.tot_var
@@ -147,7 +162,8 @@ pub record NamesControl (bay : Bay) (place : ℕ) (name : List ℕ) : Type 0 whe
   pub switch : Switch
   pub here : slice_get bay.switches place ≡ Some switch
   pub named : name ≡ node_name (codes "CSWI") (place + 1)
-  pub node : IsBay bay → HasNode bay (record { name = name; parts = control_parts switch.control switch.sbo_timeout_ms })
+  pub node : IsBay bay → HasNode bay
+      (record { name = name; parts = control_parts switch.control switch.sbo_timeout_ms })
   pub rows : IsBay bay → HasControl bay.rows name
   pub commands : IsBay bay → HasCommands bay.rows (control_names_of name) switch.control
 

@@ -16,8 +16,8 @@ use Rattle.bay_config.specs.declared.fault.BayFault.{BayFault}
 use Rattle.bay_config.specs.declared.fault.BayFault.TheVariants.{BadValue, DuplicateName}
 use Rattle.bay_config.specs.Key.{is_among, first_of, refused_if}
 
--- a point of the switch at a place with this id: what follows the id in its name, its type, whether it may
--- be written, and which of the switch's points it is
+-- a point of the switch at a place with this id: what follows the id in its name, its type, whether
+-- it may be written, and which of the switch's points it is
 abbrev pub point_of : ℕ → List ℕ → List ℕ → ElementaryType → Bool → SwitchPoint → Point
 point_of place id ending kind writable which = record {
   name = str_to_ascii_uppercase id ++ ending;
@@ -52,16 +52,29 @@ points_from place (switch ∷ switches) = points_of place switch ++ points_from 
 
 -- the point of the input at a place, which has its name
 abbrev pub input_point : ℕ → List ℕ → Point
-input_point place name = record { name = str_to_ascii_uppercase name; kind = Truth; writable = false; source = sources.Input place }
+input_point place name =
+    record {
+      name = str_to_ascii_uppercase name;
+      kind = Truth;
+      writable = false;
+      source = sources.Input place;
+    }
 
 -- the points of inputs, of which the first stands at a place
 abbrev pub inputs_from : ℕ → List (List ℕ) → List Point
 inputs_from place [] = []
 inputs_from place (name ∷ names) = input_point place name ∷ inputs_from (place + 1) names
 
--- a field of the meter at a place with this id: what follows the id in its name, and which field it is
+-- a field of the meter at a place with this id: what follows the id in its name, and which field it
+-- is
 abbrev pub field_point : ℕ → List ℕ → List ℕ → MeterField → Point
-field_point place id ending field = record { name = str_to_ascii_uppercase id ++ ending; kind = Dint; writable = false; source = sources.Meter place field }
+field_point place id ending field =
+    record {
+      name = str_to_ascii_uppercase id ++ ending;
+      kind = Dint;
+      writable = false;
+      source = sources.Meter place field;
+    }
 
 -- the points of the meter at a place
 abbrev pub meter_points : ℕ → List ℕ → List Point
@@ -81,7 +94,8 @@ meters_from place (id ∷ ids) = meter_points place id ++ meters_from (place + 1
 
 -- the points of a bay: of its switches, its inputs and its meters
 abbrev pub points_of_all : List Switch → List (List ℕ) → List (List ℕ) → List Point
-points_of_all switches inputs meters = points_from 0 switches ++ (inputs_from 0 inputs ++ meters_from 0 meters)
+points_of_all switches inputs meters =
+    points_from 0 switches ++ (inputs_from 0 inputs ++ meters_from 0 meters)
 
 -- some text stands twice in the list
 abbrev pub has_twin : List (List ℕ) → Bool
@@ -92,4 +106,5 @@ has_twin (s ∷ rest) = is_among rest s || has_twin rest
 abbrev pub names_refusal : List Point → Option BayFault
 names_refusal points =
     let names = map (λ p. p.name) points in
-    first_of (refused_if (has_twin names) DuplicateName ∷ refused_if (list_any (λ name. is_some (reserved_of name)) names) BadValue ∷ [])
+    first_of (refused_if (has_twin names) DuplicateName
+    ∷ refused_if (list_any (λ name. is_some (reserved_of name)) names) BadValue ∷ [])

@@ -8,7 +8,8 @@ use bay_tree::row::Row;
 /// A bay: one logical device with its switches, inputs and meters.
 #[derive(Drop)]
 pub struct Bay {
-    /// The name of the logical device: a letter, then letters, digits and `_`, at most 32 characters.
+    /// The name of the logical device: a letter, then letters, digits and `_`, at most 32
+    /// characters.
     pub domain: Text,
     /// The maker, 1 to 64 characters from space to `~`.
     pub vendor: Text,

@@ -32,14 +32,17 @@ pub fn is_known(known: &[&str], key: &str) -> bool
 
 /// Whether some key of the table is not known.
 fn has_unknown_key(table: &Table, known: &[&str]) -> bool
-    ensures { result ≡ list_any (λ key. not (list_any (λ k. bytes_eq (string_bytes key) k.now) known.now)) (keys table.now) }
+    ensures { result ≡ list_any
+        (λ key. not (list_any (λ k. bytes_eq (string_bytes key) k.now) known.now))
+        (keys table.now) }
 {
     table.keys().any(|key| !is_known(known, key.as_str()))
 }
 
 /// Refuses a table with a key that is not known.
 pub fn check_keys(table: &Table, known: &[&str]) -> Result<(), BayFault>
-    ensures { result ≡ judged (unknown_refusal (map (λ k. k.now) known.now) (table_view table.now)) tt }
+    ensures { result ≡ judged (unknown_refusal (map (λ k. k.now) known.now) (table_view table.now))
+        tt }
 {
     if has_unknown_key(table, known) {
         return Err(BayFault::UnknownKey);
@@ -47,6 +50,7 @@ pub fn check_keys(table: &Table, known: &[&str]) -> Result<(), BayFault>
     Ok(())
 }
 
+// Whether a text begins with a letter of ASCII.
 fn begins_with_letter(text: &[u8]) -> bool
     ensures { result ≡ spec.begins_with_letter text.now }
 {
@@ -56,6 +60,7 @@ fn begins_with_letter(text: &[u8]) -> bool
     }
 }
 
+// Whether a character is a letter, a digit or `_`.
 fn is_name_character(byte: u8) -> bool
     ensures { result ≡ spec.is_name_character byte }
 {
@@ -68,6 +73,7 @@ fn has_name_characters(text: &[u8]) -> bool
     text.iter().all(|byte| is_name_character(*byte))
 }
 
+// Whether a text is a name: a letter, then letters, digits and `_`, at most so many in all.
 fn is_identifier(text: &str, most: usize) -> bool
     ensures { result ≡ spec.is_identifier most text.now }
 {
@@ -81,6 +87,7 @@ fn has_printable_characters(text: &[u8]) -> bool
     text.iter().all(|byte| b' ' <= *byte && *byte <= b'~')
 }
 
+// Whether a text has 1 to 64 characters from space to `~`.
 fn is_description(text: &str) -> bool
     ensures { result ≡ spec.is_description text.now }
 {
@@ -91,7 +98,9 @@ fn is_description(text: &str) -> bool
 /// The identifier at a key, of at most so many characters.
 pub fn identifier_at(alloc: Global, table: &Table, key: &str, most: usize) -> Result<Text, BayFault>
     ensures { let file = table_view table.now in
-        Gives OutOfMemory (λ x. x) result (judged (key_refusal file (record { name = key.now; form = identifier most })) (text_in file key.now)) }
+        Gives OutOfMemory (λ x. x) result
+        (judged (key_refusal file (record { name = key.now; form = identifier most }))
+        (text_in file key.now)) }
 {
     match find(table, key) {
         Some(value) => match value.as_str() {
@@ -105,7 +114,9 @@ pub fn identifier_at(alloc: Global, table: &Table, key: &str, most: usize) -> Re
 /// The description at a key.
 pub fn description_at(alloc: Global, table: &Table, key: &str) -> Result<Text, BayFault>
     ensures { let file = table_view table.now in
-        Gives OutOfMemory (λ x. x) result (judged (key_refusal file (record { name = key.now; form = description })) (text_in file key.now)) }
+        Gives OutOfMemory (λ x. x) result
+        (judged (key_refusal file (record { name = key.now; form = description }))
+        (text_in file key.now)) }
 {
     match find(table, key) {
         Some(value) => match value.as_str() {
@@ -119,7 +130,8 @@ pub fn description_at(alloc: Global, table: &Table, key: &str) -> Result<Text, B
 /// The number at a key, within the two bounds.
 pub fn number_at(table: &Table, key: &str, least: u32, most: u32) -> Result<u32, BayFault>
     ensures { let file = table_view table.now in
-        result ≡ judged (key_refusal file (record { name = key.now; form = number least most })) (number_in file key.now) }
+        result ≡ judged (key_refusal file (record { name = key.now; form = number least most }))
+        (number_in file key.now) }
 {
     match find(table, key) {
         Some(value) => match value.as_integer() {

@@ -1,6 +1,6 @@
-// The configuration of a bay: its switches, inputs and meters, the points that its program reads and writes, and
-// the rows of the tree that clients browse. It is read from TOML, and each text is a bay or is refused with the
-// first fault, in a fixed order. The rows are those of bay_nodes.
+// The configuration of a bay: its switches, inputs and meters, the points that its program reads
+// and writes, and the rows of the tree that clients browse. It is read from TOML, and each text is
+// a bay or is refused with the first fault, in a fixed order. The rows are those of bay_nodes.
 //
 // - `bay`: what a bay is: its nameplate, its switches, inputs and meters, its points and its rows.
 // - `fault`: why a text is no bay.

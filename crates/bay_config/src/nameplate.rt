@@ -12,8 +12,10 @@ use bay_nodes::nameplate::Nameplate;
 use std::alloc::Global;
 use toml::Table;
 
+// What the section `bay` says, once its keys are known ones.
 fn nameplate_from(alloc: Global, table: &Table) -> Result<Nameplate, BayFault>
-    ensures { let t = table_view table.now in Gives OutOfMemory (λ x. x) result (judged (entry_refusal bay_keys t) (nameplate_in t)) }
+    ensures { let t = table_view table.now in
+        Gives OutOfMemory (λ x. x) result (judged (entry_refusal bay_keys t) (nameplate_in t)) }
 {
     check_keys(
         table,
@@ -36,7 +38,8 @@ fn nameplate_from(alloc: Global, table: &Table) -> Result<Nameplate, BayFault>
 /// The section `bay`.
 pub fn nameplate_at(alloc: Global, file: &Table) -> Result<Nameplate, BayFault>
     ensures { let f = table_view file.now in
-        Gives OutOfMemory (λ x. x) result (judged (section_refusal f bay_section) (nameplate_in (bay_table f))) }
+        Gives OutOfMemory (λ x. x) result
+        (judged (section_refusal f bay_section) (nameplate_in (bay_table f))) }
 {
     match find(file, "bay") {
         Some(value) => match value.as_table() {

@@ -68,7 +68,9 @@ impl NameSection {
 
 /// The name of a table.
 fn name_from(alloc: Global, table: &Table, which: NameSection) -> Result<Text, BayFault>
-    ensures { let t = table_view table.now in Gives OutOfMemory (λ x. x) result (judged (entry_refusal (name_keys which) t) (name_in which t)) }
+    ensures { let t = table_view table.now in
+        Gives OutOfMemory (λ x. x) result
+        (judged (entry_refusal (name_keys which) t) (name_in which t)) }
 {
     check_keys(table, which.keys())?;
     identifier_at(alloc, table, which.key(), 16)
@@ -81,7 +83,9 @@ fn names_from(
     which: NameSection,
 ) -> Result<Listing<Text>, BayFault>
     ensures { let tables = tables_of (items_view values.now) in
-        Gives OutOfMemory (λ x. x) result (judged (first_of (map (λ t. entry_refusal (name_keys which) t) tables)) (map (name_in which) tables)) }
+        Gives OutOfMemory (λ x. x) result
+        (judged (first_of (map (λ t. entry_refusal (name_keys which) t) tables))
+        (map (name_in which) tables)) }
 {
     let mut names = Vec::new(alloc);
     for i in 0..values.len() {
@@ -96,7 +100,9 @@ fn names_from(
 /// The names of a list, of which there are not too many, each a table.
 fn names_of(alloc: Global, values: &[Value], which: NameSection) -> Result<Listing<Text>, BayFault>
     ensures { let items = items_view values.now in
-        Gives OutOfMemory (λ x. x) result (judged (items_refusal 0 (most_names which) (λ _. name_keys which) items) (map (name_in which) (tables_of items))) }
+        Gives OutOfMemory (λ x. x) result
+        (judged (items_refusal 0 (most_names which) (λ _. name_keys which) items)
+        (map (name_in which) (tables_of items))) }
 {
     check_list(values, 0, which.most())?;
     names_from(alloc, values, which)
@@ -105,7 +111,8 @@ fn names_of(alloc: Global, values: &[Value], which: NameSection) -> Result<Listi
 /// The names of a section; none where it is missing.
 pub fn names_at(alloc: Global, file: &Table, which: NameSection) -> Result<Listing<Text>, BayFault>
     ensures { let f = table_view file.now in
-        Gives OutOfMemory (λ x. x) result (judged (section_refusal f (name_section which)) (names_in f which)) }
+        Gives OutOfMemory (λ x. x) result
+        (judged (section_refusal f (name_section which)) (names_in f which)) }
 {
     match find(file, which.name()) {
         Some(value) => match value.as_array() {

@@ -33,8 +33,8 @@ pub fn node_name(alloc: Global, bay: &Bay, place: usize) -> Result<Text, AllocEr
     Ok(name)
 }
 
-/// The name of the logical node of the interlocking of the switch at a place of the bay's switches, from
-/// 0: CILO and the place's number, from 1 (IEC 61850-7-4).
+/// The name of the logical node of the interlocking of the switch at a place of the bay's switches,
+/// from 0: CILO and the place's number, from 1 (IEC 61850-7-4).
 pub fn interlocking_name(alloc: Global, bay: &Bay, place: usize) -> Result<Text, AllocError>
     requires { place < length bay.now.switches }
     ensures { IfOk result (NamesInterlocking bay.now place) }
@@ -44,8 +44,8 @@ pub fn interlocking_name(alloc: Global, bay: &Bay, place: usize) -> Result<Text,
     Ok(name)
 }
 
-/// The name of the logical node of the control of the switch at a place of the bay's switches, from 0: CSWI
-/// and the place's number, from 1 (IEC 61850-7-4).
+/// The name of the logical node of the control of the switch at a place of the bay's switches, from
+/// 0: CSWI and the place's number, from 1 (IEC 61850-7-4).
 pub fn control_name(alloc: Global, bay: &Bay, place: usize) -> Result<Text, AllocError>
     requires { place < length bay.now.switches }
     ensures { IfOk result (NamesControl bay.now place) }
@@ -55,8 +55,8 @@ pub fn control_name(alloc: Global, bay: &Bay, place: usize) -> Result<Text, Allo
     Ok(name)
 }
 
-/// The name of the logical node of the meter at a place of the bay's meters, from 0: MMXU and the place's
-/// number, from 1 (IEC 61850-7-4).
+/// The name of the logical node of the meter at a place of the bay's meters, from 0: MMXU and the
+/// place's number, from 1 (IEC 61850-7-4).
 pub fn meter_name(alloc: Global, bay: &Bay, place: usize) -> Result<Text, AllocError>
     requires { place < length bay.now.meters }
     ensures { IfOk result (NamesMeter bay.now place) }

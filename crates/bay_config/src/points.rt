@@ -26,7 +26,12 @@ fn push_point(
     source: Source,
 ) -> Result<(), AllocError>
     ensures { IfOk result (λ _. points.new.items ≡ points.old.items
-        ++ record { name = str_to_ascii_uppercase id.now ++ ending.now; kind = kind; writable = writable; source = source } ∷ []) }
+        ++ record {
+          name = str_to_ascii_uppercase id.now ++ ending.now;
+          kind = kind;
+          writable = writable;
+          source = source;
+        } ∷ []) }
 {
     let mut name = String::from_str(alloc, id)?;
     name.make_ascii_uppercase();
@@ -47,7 +52,8 @@ fn push_position(
     switch: usize,
     id: &str,
 ) -> Result<(), AllocError>
-    ensures { IfOk result (λ _. points.new.items ≡ points.old.items ++ position_points switch id.now) }
+    ensures { IfOk result (λ _. points.new.items
+        ≡ points.old.items ++ position_points switch id.now) }
 {
     let position = Source::Switch {
         switch,
@@ -136,7 +142,8 @@ fn push_points(
     place: usize,
     switch: &Switch,
 ) -> Result<(), AllocError>
-    ensures { IfOk result (λ _. points.new.items ≡ points.old.items ++ spec.points_of place switch.now) }
+    ensures { IfOk result (λ _. points.new.items
+        ≡ points.old.items ++ spec.points_of place switch.now) }
 {
     let id = switch.id.as_str();
     push_position(alloc, points, place, id)?;
@@ -185,7 +192,8 @@ fn push_field(
     ending: &str,
     field: MeterField,
 ) -> Result<(), AllocError>
-    ensures { IfOk result (λ _. points.new.items ≡ points.old.items ++ field_point meter id.now ending.now field ∷ []) }
+    ensures { IfOk result (λ _. points.new.items
+        ≡ points.old.items ++ field_point meter id.now ending.now field ∷ []) }
 {
     let source = Source::Meter { meter, field };
     push_point(

@@ -39,8 +39,15 @@ struct Sections {
 /// The sections of a file, in their order.
 fn sections_at(alloc: Global, file: &Table) -> Result<Sections, BayFault>
     ensures { let f = table_view file.now in
-        Gives OutOfMemory (λ x. x) result (judged (first_of (unknown_refusal (map (λ s. s.name) sections) f ∷ map (section_refusal f) sections))
-        (record { nameplate = nameplate_in (bay_table f); switches = switches_in f; inputs = names_in f Input; meters = names_in f Meter })) }
+        Gives OutOfMemory (λ x. x) result
+        (judged (first_of (unknown_refusal (map (λ s. s.name) sections) f
+        ∷ map (section_refusal f) sections))
+        (record {
+          nameplate = nameplate_in (bay_table f);
+          switches = switches_in f;
+          inputs = names_in f Input;
+          meters = names_in f Meter;
+        })) }
 {
     check_keys(file, &["bay", "switch", "input", "meter"])?;
     let nameplate = nameplate_at(alloc, file)?;
@@ -65,7 +72,9 @@ struct Lists {
 /// The points, no two of one name and none named as a reserved word, and the rows.
 fn lists_of(alloc: Global, sections: &Sections) -> Result<Lists, BayFault>
     ensures { let s = sections.now in let points = points_of_all s.switches s.inputs s.meters in
-        Gives OutOfMemory (λ x. x) result (judged (names_refusal points) (record { points = points; rows = rows_of_all s.nameplate s.switches s.meters })) }
+        Gives OutOfMemory (λ x. x) result
+        (judged (names_refusal points)
+        (record { points = points; rows = rows_of_all s.nameplate s.switches s.meters })) }
 {
     let switches = sections.switches.as_slice();
     let meters = sections.meters.as_slice();
@@ -145,8 +154,8 @@ fn document_at(alloc: Global, text: &str) -> Result<Table, BayFault>
 
 /// Reads a bay from the text of its file, or says why the text is none.
 pub fn read_bay(alloc: Global, text: &str) -> Result<Bay, BayFault>
-    // The bay that the text describes, or its first refusal, unless memory ran out. A text of more than
-    // 262,144 octets is refused, whatever it says.
+    // The bay that the text describes, or its first refusal, unless memory ran out. A text of more
+    // than 262,144 octets is refused, whatever it says.
     ensures read { Gives OutOfMemory (λ x. x) result (bay_of text.now) }
     ensures sound { IfOk result IsBay }
 {

@@ -43,6 +43,7 @@ fn control_named(word: &str) -> Option<Control>
     }
 }
 
+// The kind of a switch: one of three words.
 #[tactic(auto, using(crate::proofs::KeyLemmas::among_named))]
 fn kind_at(table: &Table) -> Result<SwitchKind, BayFault>
     ensures { let t = table_view table.now in
@@ -73,6 +74,7 @@ fn readable_control(table: &Table) -> Option<Control>
     }
 }
 
+// The kind of a switch's control: one of four words.
 #[tactic(auto, using(crate::proofs::KeyLemmas::among_named))]
 fn control_at(table: &Table) -> Result<Control, BayFault>
     ensures held { let t = table_view table.now in
@@ -93,7 +95,8 @@ fn control_at(table: &Table) -> Result<Control, BayFault>
 
 /// The names of the keys that a switch with this control has.
 fn switch_key_names(control: Option<Control>) -> &'static [&'static str]
-    ensures { map (λ k. k.now) result.now ≡ codes "id" ∷ codes "kind" ∷ codes "control" ∷ map (λ k. k.name) (time_keys control) }
+    ensures { map (λ k. k.now) result.now
+        ≡ codes "id" ∷ codes "kind" ∷ codes "control" ∷ map (λ k. k.name) (time_keys control) }
 {
     match control {
         Some(Control::Status) => &["id", "kind", "control"],
@@ -111,19 +114,23 @@ fn switch_key_names(control: Option<Control>) -> &'static [&'static str]
 /// How long a selection lasts and how long the switch may travel.
 fn both_times_at(table: &Table) -> Result<(u32, u32), BayFault>
     ensures { let t = table_view table.now in
-        result ≡ judged (first_of (map (key_refusal t) (sbo_timeout_key ∷ travel_key ∷ []))) (number_in t (codes "sbo_timeout_ms"), number_in t (codes "travel_ms")) }
+        result ≡ judged (first_of (map (key_refusal t) (sbo_timeout_key ∷ travel_key ∷ [])))
+        (number_in t (codes "sbo_timeout_ms"), number_in t (codes "travel_ms")) }
 {
     let sbo_timeout_ms = number_at(table, "sbo_timeout_ms", 1, 600_000)?;
     let travel_ms = number_at(table, "travel_ms", 1, 600_000)?;
     Ok((sbo_timeout_ms, travel_ms))
 }
 
-/// How long a selection lasts and how long the switch may travel; 0 where its control excludes the key.
+/// How long a selection lasts and how long the switch may travel; 0 where its control excludes the
+/// key.
 fn times_at(table: &Table, control: Control) -> Result<(u32, u32), BayFault>
-    requires known { has_unknown (map (λ k. k.name) (switch_keys (table_view table.now))) (table_view table.now) ≡ false }
+    requires known { has_unknown (map (λ k. k.name) (switch_keys (table_view table.now)))
+        (table_view table.now) ≡ false }
     requires readable { control_of (table_view table.now) ≡ Some control }
     ensures { let t = table_view table.now in
-        result ≡ judged (first_of (map (key_refusal t) (time_keys (Some control)))) (number_in t (codes "sbo_timeout_ms"), number_in t (codes "travel_ms")) }
+        result ≡ judged (first_of (map (key_refusal t) (time_keys (Some control))))
+        (number_in t (codes "sbo_timeout_ms"), number_in t (codes "travel_ms")) }
 {
     match control {
         Control::Status => Ok((0, 0)),
@@ -138,7 +145,8 @@ fn times_at(table: &Table, control: Control) -> Result<(u32, u32), BayFault>
 
 /// The switch of a table.
 fn switch_from(alloc: Global, table: &Table) -> Result<Switch, BayFault>
-    ensures { let t = table_view table.now in Gives OutOfMemory (λ x. x) result (judged (entry_refusal (switch_keys t) t) (switch_in t)) }
+    ensures { let t = table_view table.now in
+        Gives OutOfMemory (λ x. x) result (judged (entry_refusal (switch_keys t) t) (switch_in t)) }
 {
     check_keys(table, switch_key_names(readable_control(table)))?;
     let id = identifier_at(alloc, table, "id", 16)?;
@@ -157,7 +165,9 @@ fn switch_from(alloc: Global, table: &Table) -> Result<Switch, BayFault>
 /// The switches of a list's tables.
 fn switches_from(alloc: Global, values: &[Value]) -> Result<Listing<Switch>, BayFault>
     ensures { let tables = tables_of (items_view values.now) in
-        Gives OutOfMemory (λ x. x) result (judged (first_of (map (λ t. entry_refusal (switch_keys t) t) tables)) (map switch_in tables)) }
+        Gives OutOfMemory (λ x. x) result
+        (judged (first_of (map (λ t. entry_refusal (switch_keys t) t) tables))
+        (map switch_in tables)) }
 {
     let mut switches = Vec::new(alloc);
     for i in 0..values.len() {
@@ -172,7 +182,8 @@ fn switches_from(alloc: Global, values: &[Value]) -> Result<Listing<Switch>, Bay
 /// The switches of a list, of which there are 1 to 32, each a table.
 fn switches_of(alloc: Global, values: &[Value]) -> Result<Listing<Switch>, BayFault>
     ensures { let items = items_view values.now in
-        Gives OutOfMemory (λ x. x) result (judged (items_refusal 1 32 switch_keys items) (map switch_in (tables_of items))) }
+        Gives OutOfMemory (λ x. x) result
+        (judged (items_refusal 1 32 switch_keys items) (map switch_in (tables_of items))) }
 {
     check_list(values, 1, 32)?;
     switches_from(alloc, values)
@@ -181,7 +192,8 @@ fn switches_of(alloc: Global, values: &[Value]) -> Result<Listing<Switch>, BayFa
 /// The section `switch`.
 pub fn switches_at(alloc: Global, file: &Table) -> Result<Listing<Switch>, BayFault>
     ensures { let f = table_view file.now in
-        Gives OutOfMemory (λ x. x) result (judged (section_refusal f switch_section) (switches_in f)) }
+        Gives OutOfMemory (λ x. x) result
+        (judged (section_refusal f switch_section) (switches_in f)) }
 {
     match find(file, "switch") {
         Some(value) => match value.as_array() {

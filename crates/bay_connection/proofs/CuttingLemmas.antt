@@ -13,44 +13,75 @@ use Rattle.bay_connection.specs.Feeding.{and_then}
 
 -- ---- doings, and then octets
 
-heard_cut : (s : Stream) (h : Hearing) (terms : Terms) (piece : List ℕ) (longer later : Told) → longer ≡ and_then later (comes_to later.left piece)
-    → on_heard (after s piece) h terms longer ≡ and_then (on_heard s h terms later) (comes_to (on_heard s h terms later).left piece)
-heard_cut s (answer tsdu) terms piece longer later e = ap (λ (t : Told). let r : Told = record { indications = answers (sent terms.size tsdu) ∷ t.indications; left = t.left } in r) e
-heard_cut s (mms pdu) terms piece longer later e = ap (λ (t : Told). let r : Told = record { indications = tells terms pdu ∷ t.indications; left = t.left } in r) e
+heard_cut : (s : Stream) (h : Hearing) (terms : Terms) (piece : List ℕ) (longer later : Told)
+    → longer ≡ and_then later (comes_to later.left piece)
+    → on_heard (after s piece) h terms longer
+    ≡ and_then (on_heard s h terms later) (comes_to (on_heard s h terms later).left piece)
+heard_cut s (answer tsdu) terms piece longer later e =
+    ap (λ (t : Told). let r : Told =
+    record { indications = answers (sent terms.size tsdu) ∷ t.indications; left = t.left } in r) e
+heard_cut s (mms pdu) terms piece longer later e =
+    ap (λ (t : Told). let r : Told =
+    record { indications = tells terms pdu ∷ t.indications; left = t.left } in r) e
 heard_cut s (released tsdu) terms piece longer later e = refl
 heard_cut s aborted terms piece longer later e = refl
 
-hearing_cut : (s : Stream) (r : Result (Hearing × Phase) AssocFault) (size : Option ℕ) (piece : List ℕ) (longer later : Phase → Told) → ((p : Phase) → longer p ≡ and_then (later p) (comes_to (later p).left piece))
-    → on_hearing size (after s piece) r longer ≡ and_then (on_hearing size s r later) (comes_to (on_hearing size s r later).left piece)
-hearing_cut s (Ok x) size piece longer later e = heard_cut s x.0 (record { size = size; phase = x.1 }) piece (longer x.1) (later x.1) (e x.1)
+hearing_cut : (s : Stream) (r : Result (Hearing × Phase) AssocFault) (size : Option ℕ)
+    (piece : List ℕ) (longer later : Phase → Told)
+    → ((p : Phase) → longer p ≡ and_then (later p) (comes_to (later p).left piece))
+    → on_hearing size (after s piece) r longer
+    ≡ and_then (on_hearing size s r later) (comes_to (on_hearing size s r later).left piece)
+hearing_cut s (Ok x) size piece longer later e =
+    heard_cut s x.0 (record { size = size; phase = x.1 }) piece (longer x.1) (later x.1) (e x.1)
 hearing_cut s (Err fault) size piece longer later e = refl
 
-told_cut : (s : Stream) (ds : List Doing) (size : Option ℕ) (phase : Phase) (piece : List ℕ) → agreed s ≡ size_after size ds
-    → told (after s piece) (ds ++ doings s piece) size phase ≡ and_then (told s ds size phase) (comes_to (told s ds size phase).left piece)
-told_cut s [] size phase piece e = ap (λ (z : Option ℕ). told (after s piece) (doings s piece) z phase) (sym e)
+told_cut : (s : Stream) (ds : List Doing) (size : Option ℕ) (phase : Phase) (piece : List ℕ)
+    → agreed s ≡ size_after size ds
+    → told (after s piece) (ds ++ doings s piece) size phase
+    ≡ and_then (told s ds size phase) (comes_to (told s ds size phase).left piece)
+told_cut s [] size phase piece e =
+    ap (λ (z : Option ℕ). told (after s piece) (doings s piece) z phase) (sym e)
 told_cut s (Answers n reply ∷ ds) size phase piece e =
-    ap (λ (t : Told). let r : Told = record { indications = answers reply ∷ t.indications; left = t.left } in r) (told_cut s ds (Some n) phase piece e)
+    ap (λ (t : Told). let r : Told =
+    record { indications = answers reply ∷ t.indications; left = t.left } in r)
+    (told_cut s ds (Some n) phase piece e)
 told_cut s (Delivers tsdu ∷ ds) size phase piece e =
-    hearing_cut s (hearing phase tsdu) size piece (told (after s piece) (ds ++ doings s piece) size) (told s ds size) (λ p. told_cut s ds size p piece e)
+    hearing_cut s (hearing phase tsdu) size piece (told (after s piece) (ds ++ doings s piece) size)
+    (told s ds size) (λ p. told_cut s ds size p piece e)
 told_cut s (Ends ∷ ds) size phase piece e = refl
 told_cut s (Fails fault ∷ ds) size phase piece e = refl
 
 -- ---- octets
 
-pub comes_to-append : (t : Talk) (octets piece : List ℕ) → comes_to t (octets ++ piece) ≡ and_then (comes_to t octets) (comes_to (left_by t octets) piece)
+pub comes_to-append : (t : Talk) (octets piece : List ℕ)
+    → comes_to t (octets ++ piece)
+    ≡ and_then (comes_to t octets) (comes_to (left_by t octets) piece)
 comes_to-append t octets piece =
-    ap (λ (s : Stream). told s (doings t.stream (octets ++ piece)) (agreed t.stream) t.phase) (after-append t.stream octets piece)
-    ∙ ap (λ (ds : List Doing). told (after (after t.stream octets) piece) ds (agreed t.stream) t.phase) (doings-append t.stream octets piece)
-    ∙ told_cut (after t.stream octets) (doings t.stream octets) (agreed t.stream) t.phase piece (after-size t.stream octets)
+    ap (λ (s : Stream). told s (doings t.stream (octets ++ piece)) (agreed t.stream) t.phase)
+    (after-append t.stream octets piece)
+    ∙ ap (λ (ds : List Doing). told (after (after t.stream octets) piece) ds (agreed t.stream)
+    t.phase) (doings-append t.stream octets piece)
+    ∙ told_cut (after t.stream octets) (doings t.stream octets) (agreed t.stream) t.phase piece
+    (after-size t.stream octets)
 
-pub indications-append : (t : Talk) (octets piece : List ℕ) → indications t (octets ++ piece) ≡ indications t octets ++ indications (left_by t octets) piece
-indications-append t octets piece = ap (λ (r : Told). r.indications) (comes_to-append t octets piece)
+pub indications-append : (t : Talk) (octets piece : List ℕ)
+    → indications t (octets ++ piece) ≡ indications t octets ++ indications (left_by t octets) piece
+indications-append t octets piece =
+    ap (λ (r : Told). r.indications) (comes_to-append t octets piece)
 
-pub left_by-append : (t : Talk) (octets piece : List ℕ) → left_by t (octets ++ piece) ≡ left_by (left_by t octets) piece
+pub left_by-append : (t : Talk) (octets piece : List ℕ)
+    → left_by t (octets ++ piece) ≡ left_by (left_by t octets) piece
 left_by-append t octets piece = ap (λ (r : Told). r.left) (comes_to-append t octets piece)
 
-pub indications-take : (t : Talk) (piece : List ℕ) (used : ℕ) → indications t piece ≡ indications t (take used piece) ++ indications (left_by t (take used piece)) (drop used piece)
-indications-take t piece used = ap (indications t) (sym (take-append-drop used piece)) ∙ indications-append t (take used piece) (drop used piece)
+pub indications-take : (t : Talk) (piece : List ℕ) (used : ℕ)
+    → indications t piece ≡ indications t (take used piece)
+    ++ indications (left_by t (take used piece)) (drop used piece)
+indications-take t piece used =
+    ap (indications t) (sym (take-append-drop used piece))
+    ∙ indications-append t (take used piece) (drop used piece)
 
-pub left_by-take : (t : Talk) (piece : List ℕ) (used : ℕ) → left_by t piece ≡ left_by (left_by t (take used piece)) (drop used piece)
-left_by-take t piece used = ap (left_by t) (sym (take-append-drop used piece)) ∙ left_by-append t (take used piece) (drop used piece)
+pub left_by-take : (t : Talk) (piece : List ℕ) (used : ℕ)
+    → left_by t piece ≡ left_by (left_by t (take used piece)) (drop used piece)
+left_by-take t piece used =
+    ap (left_by t) (sym (take-append-drop used piece))
+    ∙ left_by-append t (take used piece) (drop used piece)

@@ -4,7 +4,7 @@ use Rattle.std.proofs.lemmas.List.{length-append, drop_at}
 use Rattle.bay_transport.specs.Doings.{Delivers, Stream}
 use Rattle.bay_transport.specs.Wrap.{wrapped}
 use Rattle.bay_assoc.specs.declared.fault.AssocFault.{AssocFault}
-use Rattle.bay_assoc.specs.declared.hearing.Link.{Link}
+use Rattle.bay_assoc.specs.declared.hearing.AssociationTerms.{AssociationTerms}
 use Rattle.bay_assoc.specs.declared.hearing.Phase.{Phase}
 use Rattle.bay_assoc.specs.Code.{code_of}
 use Rattle.bay_assoc.specs.Hearing.{answer, mms, released, aborted, hearing}
@@ -13,40 +13,61 @@ use Rattle.bay_connection.specs.Talk.{answers, tells, releases, ends, fails, clo
 
 -- ---- what is sent
 
-pub sent_is : (size : Option ℕ) (octets tsdu : List ℕ) → IsSome size → IfSome size (λ n. octets ≡ wrapped n tsdu) → octets ≡ sent size tsdu
+pub sent_is : (size : Option ℕ) (octets tsdu : List ℕ) → IsSome size
+    → IfSome size (λ n. octets ≡ wrapped n tsdu) → octets ≡ sent size tsdu
 sent_is (Some n) octets tsdu some is = is
 sent_is None octets tsdu some is = absurd (cc)
 
-pub sending_is : (size : Option ℕ) (link : Option Link) (octets tsdu pdu : List ℕ) → IsSome link → octets ≡ sent size tsdu → IfSome link (λ l. tsdu ≡ transfer_text (user_text l.contexts.mms pdu)) → octets ≡ sending_in size link pdu
+pub sending_is : (size : Option ℕ) (terms : Option AssociationTerms) (octets tsdu pdu : List ℕ)
+    → IsSome terms → octets ≡ sent size tsdu
+    → IfSome terms (λ l. tsdu ≡ transfer_text (user_text l.contexts.mms pdu))
+    → octets ≡ sending_in size terms pdu
 sending_is size (Some l) octets tsdu pdu some is text = rw (← text) is
 sending_is size None octets tsdu pdu some is text = absurd (cc)
 
 -- ---- what is heard
 
-pub hears_answer : (s : Stream) (size : Option ℕ) (phase next : Phase) (tsdu octets frames : List ℕ) → hearing phase tsdu ≡ Ok (answer octets, next) → frames ≡ sent size octets
-    → told s (Delivers tsdu ∷ []) size phase ≡ record { indications = answers frames ∷ []; left = record { stream = s; phase = next } }
+pub hears_answer : (s : Stream) (size : Option ℕ) (phase next : Phase) (tsdu octets frames : List ℕ)
+    → hearing phase tsdu ≡ Ok (answer octets, next) → frames ≡ sent size octets
+    → told s (Delivers tsdu ∷ []) size phase
+    ≡ record { indications = answers frames ∷ []; left = record { stream = s; phase = next } }
 hears_answer s size phase next tsdu octets frames h f = rw (h, f) refl
 
-pub hears_pdu : (s : Stream) (size : Option ℕ) (phase next : Phase) (tsdu pdu : List ℕ) → hearing phase tsdu ≡ Ok (mms pdu, next)
-    → told s (Delivers tsdu ∷ []) size phase ≡ record { indications = tells (record { size = size; phase = next }) pdu ∷ []; left = record { stream = s; phase = next } }
+pub hears_pdu : (s : Stream) (size : Option ℕ) (phase next : Phase) (tsdu pdu : List ℕ)
+    → hearing phase tsdu ≡ Ok (mms pdu, next)
+    → told s (Delivers tsdu ∷ []) size phase
+    ≡ record {
+      indications = tells (record { size = size; phase = next }) pdu ∷ [];
+      left = record { stream = s; phase = next };
+    }
 hears_pdu s size phase next tsdu pdu h = rw h refl
 
-pub hears_release : (s : Stream) (size : Option ℕ) (phase next : Phase) (tsdu octets frames : List ℕ) → hearing phase tsdu ≡ Ok (released octets, next) → frames ≡ sent size octets
-    → told s (Delivers tsdu ∷ []) size phase ≡ record { indications = releases frames ∷ []; left = closed s }
+pub hears_release : (s : Stream) (size : Option ℕ) (phase next : Phase)
+    (tsdu octets frames : List ℕ) → hearing phase tsdu ≡ Ok (released octets, next)
+    → frames ≡ sent size octets
+    → told s (Delivers tsdu ∷ []) size phase
+    ≡ record { indications = releases frames ∷ []; left = closed s }
 hears_release s size phase next tsdu octets frames h f = rw (h, f) refl
 
-pub hears_abort : (s : Stream) (size : Option ℕ) (phase next : Phase) (tsdu : List ℕ) → hearing phase tsdu ≡ Ok (aborted, next) → told s (Delivers tsdu ∷ []) size phase ≡ record { indications = ends ∷ []; left = closed s }
+pub hears_abort : (s : Stream) (size : Option ℕ) (phase next : Phase) (tsdu : List ℕ)
+    → hearing phase tsdu ≡ Ok (aborted, next)
+    → told s (Delivers tsdu ∷ []) size phase ≡ record { indications = ends ∷ []; left = closed s }
 hears_abort s size phase next tsdu h = rw h refl
 
-pub hears_fault : (s : Stream) (size : Option ℕ) (phase : Phase) (tsdu : List ℕ) (fault : AssocFault) (code : ℕ) → hearing phase tsdu ≡ Err fault → code_of fault ≡ Some code
-    → told s (Delivers tsdu ∷ []) size phase ≡ record { indications = fails code ∷ []; left = closed s }
+pub hears_fault : (s : Stream) (size : Option ℕ) (phase : Phase) (tsdu : List ℕ)
+    (fault : AssocFault) (code : ℕ) → hearing phase tsdu ≡ Err fault → code_of fault ≡ Some code
+    → told s (Delivers tsdu ∷ []) size phase
+    ≡ record { indications = fails code ∷ []; left = closed s }
 hears_fault s size phase tsdu fault code h k = rw (h, k) refl
 
 -- what stands last, by its length
-pub last_part : (octets front part : List ℕ) → octets ≡ front ++ part → drop (length octets - length part) octets ≡ part
+pub last_part : (octets front part : List ℕ) → octets ≡ front ++ part
+    → drop (length octets - length part) octets ≡ part
 last_part octets front part is =
-    let n : length octets - length part ≡ length front = omega (arith, ap length is, length-append front part) in
-    ap (drop (length octets - length part)) is ∙ drop_at front part (length octets - length part) (sym n)
+    let n : length octets - length part ≡ length front =
+    omega (arith, ap length is, length-append front part) in
+    ap (drop (length octets - length part)) is
+    ∙ drop_at front part (length octets - length part) (sym n)
 
 -- ---- a fault's number
 

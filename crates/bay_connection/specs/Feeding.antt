@@ -2,14 +2,15 @@
 use Rattle.std.specs.Prelude.{ℕ, ◌≡◌, ◌-◌, ◌<◌, ◌≤◌, List, [], ◌∷◌, ◌++◌, length, take, drop, Option, Some, None, IsSome}
 use Rattle.bay_transport.specs.Doings.{Left, Going, Over, Broken}
 use Rattle.bay_assoc.specs.declared.hearing.Phase.{Phase}
-use Rattle.bay_assoc.specs.Hears.{link_of}
+use Rattle.bay_assoc.specs.Hears.{association_terms}
 use Rattle.bay_connection.specs.declared.heard.Heard.{Heard}
 use Rattle.bay_connection.specs.declared.heard.Heard.TheVariants as heard
 use Rattle.bay_connection.specs.Talk.{Talk, terms_of, Indication, answers, tells, releases, ends, fails, Told, indications}
 
 -- The octets that are taken come to this and nothing else, and those before the last of them to
 -- nothing.
-pub record Completes (t : Talk) (piece : List ℕ) (used : ℕ) (indication : Indication) : Type 0 where
+pub record CompletesIndication (t : Talk) (piece : List ℕ) (used : ℕ) (indication : Indication)
+    : Type 0 where
   pub moves : 0 < used
   pub within : used ≤ length piece
   pub quiet : indications t (take (used - 1) piece) ≡ []
@@ -17,26 +18,30 @@ pub record Completes (t : Talk) (piece : List ℕ) (used : ℕ) (indication : In
 
 -- The same of a fault, which the octets that are taken may have shown before the last of them.
 abbrev pub Comes : Talk → List ℕ → ℕ → Indication → Type 0
-Comes t piece used (answers octets) = Completes t piece used (answers octets)
-Comes t piece used (tells terms pdu) = Completes t piece used (tells terms pdu)
-Comes t piece used (releases octets) = Completes t piece used (releases octets)
-Comes t piece used ends = Completes t piece used ends
-Comes t piece used (fails code) = (used ≤ length piece) × (indications t (take used piece) ≡ fails code ∷ [])
+Comes t piece used (answers octets) = CompletesIndication t piece used (answers octets)
+Comes t piece used (tells terms pdu) = CompletesIndication t piece used (tells terms pdu)
+Comes t piece used (releases octets) = CompletesIndication t piece used (releases octets)
+Comes t piece used ends = CompletesIndication t piece used ends
+Comes t piece used (fails code) =
+    (used ≤ length piece) × (indications t (take used piece) ≡ fails code ∷ [])
 
 -- So many octets of the piece are taken, and this is answered, or nothing yet: what the piece comes
 -- to first. Where the connection is over no octet is taken, and the end is answered again.
 abbrev pub FeedsFrom : Left → Talk → List ℕ → ℕ → Option Indication → Type 0
-FeedsFrom (Going link rest) t piece used None = (used ≡ length piece) × (indications t piece ≡ [])
-FeedsFrom (Going link rest) t piece used (Some indication) = Comes t piece used indication
+FeedsFrom (Going connection rest) t piece used None =
+    (used ≡ length piece) × (indications t piece ≡ [])
+FeedsFrom (Going connection rest) t piece used (Some indication) = Comes t piece used indication
 FeedsFrom Over t piece used answer = (used ≡ 0) × (answer ≡ Some ends)
 FeedsFrom Broken t piece used answer = ⊥
 
+-- The same for a connection: what its stream left decides.
 abbrev pub Feeds : Talk → List ℕ → ℕ → Option Indication → Type 0
 Feeds t piece used answer = FeedsFrom t.stream.left t piece used answer
 
 -- What was heard, and then what the octets of the piece come to that were not taken.
 abbrev pub GoesOn : Talk → Talk → List ℕ → ℕ → Indication → Type 0
-GoesOn old new piece used indication = indications old piece ≡ indication ∷ indications new (drop used piece)
+GoesOn old new piece used indication =
+    indications old piece ≡ indication ∷ indications new (drop used piece)
 
 -- What is heard leaves the connection as it goes on: behind an answer and a PDU of MMS octets are
 -- still taken.
@@ -49,7 +54,8 @@ IsContinued (fails code) = ⊥
 
 -- two runs, one after the other
 abbrev pub and_then : Told → Told → Told
-and_then first later = record { indications = first.indications ++ later.indications; left = later.left }
+and_then first later =
+    record { indications = first.indications ++ later.indications; left = later.left }
 
 -- a connection: what its octets leave, and the PDU of MMS that was heard last
 pub record Client : Type 0 where
@@ -60,7 +66,7 @@ pub record Client : Type 0 where
 abbrev pub IsOpenFor : Heard → Phase → Type 0
 IsOpenFor heard.Nothing phase = Unit {0}
 IsOpenFor (heard.Answer octets) phase = Unit {0}
-IsOpenFor heard.Mms phase = IsSome (link_of phase)
+IsOpenFor heard.Mms phase = IsSome (association_terms phase)
 IsOpenFor (heard.Released octets) phase = Unit {0}
 IsOpenFor heard.Ended phase = Unit {0}
 IsOpenFor (heard.Fault code) phase = Unit {0}

@@ -6,7 +6,7 @@ use Rattle.bay_transport.specs.Doings.{Doing, Left, Going, Over, Broken}
 use Rattle.bay_transport.specs.Feeding.{agreed}
 use Rattle.bay_assoc.specs.declared.hearing.Phase.{Phase}
 use Rattle.bay_assoc.specs.declared.hearing.Phase.TheVariants as phases
-use Rattle.bay_assoc.specs.Hears.{link_of}
+use Rattle.bay_assoc.specs.Hears.{association_terms}
 use Rattle.bay_connection.specs.declared.line.Line.{Line}
 use Rattle.bay_connection.specs.Talk.{Talk, Indication, told}
 use Rattle.bay_connection.specs.Feeding.{Client}
@@ -14,13 +14,16 @@ use Rattle.bay_connection.specs.Feeding.{Client}
 -- An open association has a size of TPDUs agreed; where the stream has ended the association is
 -- over, and no stream has failed.
 abbrev pub AreJoined : Left → Phase → Type 0
-AreJoined (Going link rest) phase = IfSome (link_of phase) (λ _. IsSome link.size)
+AreJoined (Going connection rest) phase =
+    IfSome (association_terms phase) (λ _. IsSome connection.size)
 AreJoined Over phase = phase ≡ phases.Over
 AreJoined Broken phase = ⊥
 
+-- The stream and the association of a connection fit each other.
 abbrev pub IsJoined : Talk → Type 0
 IsJoined t = AreJoined t.stream.left t.phase
 
+-- what the octets of a line left
 abbrev pub talk_of : Line → Talk
 talk_of l = record { stream = l.transport.stream; phase = l.assoc }
 
@@ -28,9 +31,11 @@ talk_of l = record { stream = l.transport.stream; phase = l.assoc }
 abbrev pub pdu_of : Line → List ℕ
 pdu_of l = drop (length l.transport.shown - l.pdu) l.transport.shown
 
+-- a line as its user sees it
 abbrev pub client_of : Line → Client
 client_of l = record { talk = talk_of l; pdu = pdu_of l }
 
+-- What holds of a line between pieces.
 pub record IsKept (l : Line) : Type 0 where
   pub within : l.pdu ≤ length l.transport.shown
   pub joined : IsJoined (talk_of l)
@@ -51,8 +56,11 @@ TakesMemory got.Ended = ⊥
 
 -- A doing that left the first talk's stream comes to this, in its phase, and leaves the second.
 abbrev pub Tells : Talk → Doing → Option Indication → Talk → Type 0
-Tells old doing heard new = told old.stream (doing ∷ []) (agreed old.stream) old.phase ≡ record { indications = option_to_list heard; left = new }
+Tells old doing heard new =
+    told old.stream (doing ∷ []) (agreed old.stream) old.phase
+    ≡ record { indications = option_to_list heard; left = new }
 
+-- The same where the transport completed something; else nothing is heard, and nothing changes.
 abbrev pub TellsOf : Talk → Option Doing → Option Indication → Talk → Type 0
 TellsOf old None heard new = (heard ≡ None) × (new ≡ old)
 TellsOf old (Some doing) heard new = Tells old doing heard new

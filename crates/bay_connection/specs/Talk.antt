@@ -6,12 +6,12 @@ use Rattle.bay_transport.specs.Doings.{Doing, Answers, Delivers, Ends, Fails, St
 use Rattle.bay_transport.specs.Feeding.{agreed, ended}
 use Rattle.bay_transport.specs.Wrap.{wrapped}
 use Rattle.bay_assoc.specs.declared.fault.AssocFault.{AssocFault}
-use Rattle.bay_assoc.specs.declared.hearing.Link.{Link}
+use Rattle.bay_assoc.specs.declared.hearing.AssociationTerms.{AssociationTerms}
 use Rattle.bay_assoc.specs.declared.hearing.Phase.{Phase}
 use Rattle.bay_assoc.specs.declared.hearing.Phase.TheVariants.{Over}
 use Rattle.bay_assoc.specs.Code.{code_of as association_code}
 use Rattle.bay_assoc.specs.Hearing.{Hearing, answer, mms, released, aborted, hearing}
-use Rattle.bay_assoc.specs.Hears.{link_of}
+use Rattle.bay_assoc.specs.Hears.{association_terms}
 use Rattle.bay_assoc.specs.Texts.{user_text, transfer_text}
 
 -- what octets leave: what they leave of the stream, and the phase of the association
@@ -24,6 +24,7 @@ pub record Terms : Type 0 where
   pub size : Option ℕ
   pub phase : Phase
 
+-- the terms on which something can be answered now
 abbrev pub terms_of : Talk → Terms
 terms_of t = record { size = agreed t.stream; phase = t.phase }
 
@@ -54,38 +55,53 @@ sent (Some size) tsdu = wrapped size tsdu
 -- what is heard comes first, and then what is told later; nothing is told behind a release, an
 -- abort and a fault
 abbrev pub on_heard : Stream → Hearing → Terms → Told → Told
-on_heard s (answer tsdu) terms later = record { indications = answers (sent terms.size tsdu) ∷ later.indications; left = later.left }
-on_heard s (mms pdu) terms later = record { indications = tells terms pdu ∷ later.indications; left = later.left }
-on_heard s (released tsdu) terms later = record { indications = releases (sent terms.size tsdu) ∷ []; left = closed s }
+on_heard s (answer tsdu) terms later =
+    record { indications = answers (sent terms.size tsdu) ∷ later.indications; left = later.left }
+on_heard s (mms pdu) terms later =
+    record { indications = tells terms pdu ∷ later.indications; left = later.left }
+on_heard s (released tsdu) terms later =
+    record { indications = releases (sent terms.size tsdu) ∷ []; left = closed s }
 on_heard s aborted terms later = record { indications = ends ∷ []; left = closed s }
 
-abbrev pub on_hearing : Option ℕ → Stream → Result (Hearing × Phase) AssocFault → (Phase → Told) → Told
+-- what a TSDU comes to, as it is heard or refused, and then what is told later
+abbrev pub on_hearing : Option ℕ → Stream → Result (Hearing × Phase) AssocFault → (Phase → Told)
+    → Told
 on_hearing size s (Ok x) later = on_heard s x.0 (record { size = size; phase = x.1 }) (later x.1)
-on_hearing size s (Err fault) later = record { indications = fails (unwrap_or (association_code fault) 0) ∷ []; left = closed s }
+on_hearing size s (Err fault) later =
+    record { indications = fails (unwrap_or (association_code fault) 0) ∷ []; left = closed s }
 
 -- What the doings of a stream come to, which leave this stream: in a phase, and where this size of
 -- TPDUs was agreed before them.
 abbrev pub told : Stream → List Doing → Option ℕ → Phase → Told
 told s [] size phase = record { indications = []; left = record { stream = s; phase = phase } }
 told s (Answers agreed reply ∷ later) size phase =
-    record { indications = answers reply ∷ (told s later (Some agreed) phase).indications; left = (told s later (Some agreed) phase).left }
-told s (Delivers tsdu ∷ later) size phase = on_hearing size s (hearing phase tsdu) (told s later size)
+    record {
+      indications = answers reply ∷ (told s later (Some agreed) phase).indications;
+      left = (told s later (Some agreed) phase).left;
+    }
+told s (Delivers tsdu ∷ later) size phase =
+    on_hearing size s (hearing phase tsdu) (told s later size)
 told s (Ends ∷ later) size phase = record { indications = ends ∷ []; left = closed s }
-told s (Fails fault ∷ later) size phase = record { indications = fails (unwrap_or (transport_code fault) 0) ∷ []; left = closed s }
+told s (Fails fault ∷ later) size phase =
+    record { indications = fails (unwrap_or (transport_code fault) 0) ∷ []; left = closed s }
 
+-- what octets come to, and what they leave
 abbrev pub comes_to : Talk → List ℕ → Told
 comes_to t octets = told (after t.stream octets) (doings t.stream octets) (agreed t.stream) t.phase
 
+-- what octets come to
 abbrev pub indications : Talk → List ℕ → List Indication
 indications t octets = (comes_to t octets).indications
 
+-- what octets leave
 abbrev pub left_by : Talk → List ℕ → Talk
 left_by t octets = (comes_to t octets).left
 
 -- what is sent of a PDU of MMS: a TSDU in the context of MMS, in data TPDUs of the size agreed
-abbrev pub sending_in : Option ℕ → Option Link → List ℕ → List ℕ
+abbrev pub sending_in : Option ℕ → Option AssociationTerms → List ℕ → List ℕ
 sending_in size None pdu = []
-sending_in size (Some link) pdu = sent size (transfer_text (user_text link.contexts.mms pdu))
+sending_in size (Some terms) pdu = sent size (transfer_text (user_text terms.contexts.mms pdu))
 
+-- what is sent of a PDU of MMS on these terms
 abbrev pub sending : Terms → List ℕ → List ℕ
-sending terms pdu = sending_in terms.size (link_of terms.phase) pdu
+sending terms pdu = sending_in terms.size (association_terms terms.phase) pdu

@@ -2,7 +2,7 @@
 ghost use Rattle.std.specs.Prelude.{◌≡◌, ◌≤◌, ◌↔◌, [], IfOk, IfSome, IsSome, IsTrue, OnErr, length, take};
 ghost use Rattle.bay_transport.specs.Doings.{start};
 ghost use Rattle.bay_transport.specs.Feeding.{IsGoing};
-ghost use Rattle.bay_assoc.specs.Hears.{link_of};
+ghost use Rattle.bay_assoc.specs.Hears.{association_terms};
 ghost use Rattle.bay_connection.specs.Talk.{closed, terms_of, left_by, sending};
 ghost use Rattle.bay_connection.specs.Feeding.{Feeds, indication_of, IsOpenFor};
 
@@ -34,7 +34,13 @@ impl Connection {
     /// A connection before its first octet. The number is sent as the reference of this side (X.224
     /// 13.4).
     pub fn new(alloc: Global, number: u16) -> Connection
-        ensures { result ≡ record { talk = record { stream = record { number = number; left = start }; phase = Phase.Idle }; pdu = [] } }
+        ensures { result ≡ record {
+          talk = record {
+            stream = record { number = number; left = start };
+            phase = Phase.Idle;
+          };
+          pdu = [];
+        } }
     {
         Connection {
             line: Line::new(alloc, number),
@@ -53,8 +59,10 @@ impl Connection {
         ensures within { IfOk result (λ fed. fed.used ≤ length piece.now) }
         // What is answered is what the piece comes to first, and what is left is what the octets
         // that were taken leave.
-        ensures fed { IfOk result (λ fed. Feeds self.old.talk piece.now fed.used (indication_of fed.heard self.new)) }
-        ensures left { IfOk result (λ fed. self.new.talk ≡ left_by self.old.talk (take fed.used piece.now)) }
+        ensures fed { IfOk result
+            (λ fed. Feeds self.old.talk piece.now fed.used (indication_of fed.heard self.new)) }
+        ensures left { IfOk result
+            (λ fed. self.new.talk ≡ left_by self.old.talk (take fed.used piece.now)) }
         // A PDU is heard where it can be answered.
         ensures open { IfOk result (λ fed. IsOpenFor fed.heard self.new.talk.phase) }
         // Memory is wanting only where octets are still taken, and then the connection is over.
@@ -79,15 +87,16 @@ impl Connection {
 
     /// Whether the association is open, so that PDUs of MMS can be sent.
     pub fn is_open(&self) -> bool
-        ensures { IsTrue result ↔ IsSome (link_of self.now.talk.phase) }
+        ensures { IsTrue result ↔ IsSome (association_terms self.now.talk.phase) }
     {
         self.line.assoc.is_open()
     }
 
     /// The octets of the largest PDU of MMS, as agreed: 256 to 65,000. The association is open.
     pub fn pdu_size(&self) -> u32
-        requires { IsSome (link_of self.now.talk.phase) }
-        ensures size { IfSome (link_of self.now.talk.phase) (λ link. result ≡ link.size) }
+        requires { IsSome (association_terms self.now.talk.phase) }
+        ensures size { IfSome (association_terms self.now.talk.phase)
+            (λ terms. result ≡ terms.size) }
         ensures least { 256 ≤ result }
         ensures most { result ≤ 65_000 }
     {
@@ -98,7 +107,7 @@ impl Connection {
     /// size agreed. The PDU is copied once. The association is open, and the PDU has at most 65,000
     /// octets, as one within the size agreed has.
     pub fn send(&self, pdu: &[u8]) -> Result<Vec<u8>, AllocError>
-        requires open { IsSome (link_of self.now.talk.phase) }
+        requires open { IsSome (association_terms self.now.talk.phase) }
         requires short { length pdu.now ≤ 65_000 }
         ensures { IfOk result (λ octets. octets.items ≡ sending (terms_of self.now.talk) pdu.now) }
     {

@@ -7,23 +7,32 @@ ghost use Rattle.bay_connection.specs.Feeding.{Comes, GoesOn, IsContinued, and_t
 /// What octets come to does not hang on how they are cut into pieces: what a list and a piece come
 /// to is the list's, and then the piece's from what the list leaves.
 pub fn any_cutting()
-    ensures told { (t : Talk) (octets piece : List ℕ) → comes_to t (octets ++ piece) ≡ and_then (comes_to t octets) (comes_to (left_by t octets) piece) }
-    ensures indications { (t : Talk) (octets piece : List ℕ) → indications t (octets ++ piece) ≡ indications t octets ++ indications (left_by t octets) piece }
-    ensures left { (t : Talk) (octets piece : List ℕ) → left_by t (octets ++ piece) ≡ left_by (left_by t octets) piece }
+    ensures told { (t : Talk) (octets piece : List ℕ)
+        → comes_to t (octets ++ piece)
+        ≡ and_then (comes_to t octets) (comes_to (left_by t octets) piece) }
+    ensures indications { (t : Talk) (octets piece : List ℕ)
+        → indications t (octets ++ piece)
+        ≡ indications t octets ++ indications (left_by t octets) piece }
+    ensures left { (t : Talk) (octets piece : List ℕ)
+        → left_by t (octets ++ piece) ≡ left_by (left_by t octets) piece }
 {}
 
 /// The octets of a piece that a feeding did not take come to the rest of what the piece comes to,
 /// from what is left then.
 pub fn feeding_goes_on()
-    ensures indications { (old new : Talk) (piece : List ℕ) (used : ℕ) (indication : Indication) → new ≡ left_by old (take used piece)
+    ensures indications { (old new : Talk) (piece : List ℕ) (used : ℕ) (indication : Indication)
+        → new ≡ left_by old (take used piece)
         → Comes old piece used indication → GoesOn old new piece used indication }
-    ensures left { (old new : Talk) (piece : List ℕ) (used : ℕ) → new ≡ left_by old (take used piece) → left_by old piece ≡ left_by new (drop used piece) }
+    ensures left { (old new : Talk) (piece : List ℕ) (used : ℕ)
+        → new ≡ left_by old (take used piece) → left_by old piece ≡ left_by new (drop used piece) }
 {}
 
 /// A connection of which octets are taken goes on behind octets that come to nothing, to an answer
 /// or to a PDU of MMS.
 pub fn heard_goes_on()
-    ensures quiet { (t : Talk) (octets : List ℕ) → IsGoing t.stream.left → indications t octets ≡ [] → IsGoing (left_by t octets).stream.left }
-    ensures heard { (t : Talk) (octets : List ℕ) (indication : Indication) → indications t octets ≡ indication ∷ [] → IsContinued indication
+    ensures quiet { (t : Talk) (octets : List ℕ) → IsGoing t.stream.left → indications t octets ≡ []
+        → IsGoing (left_by t octets).stream.left }
+    ensures heard { (t : Talk) (octets : List ℕ) (indication : Indication)
+        → indications t octets ≡ indication ∷ [] → IsContinued indication
         → IsGoing (left_by t octets).stream.left }
 {}

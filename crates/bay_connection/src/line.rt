@@ -3,7 +3,7 @@
 ghost use Rattle.std.specs.Prelude.{◌≡◌, ◌≤◌, [], Some, IfOk, IsSome, OnErr, OnOk, length, take};
 ghost use Rattle.bay_transport.specs.Doings.{Delivers, start};
 ghost use Rattle.bay_transport.specs.Feeding.{IsGoing, agreed, doing_for};
-ghost use Rattle.bay_assoc.specs.Hears.{link_of};
+ghost use Rattle.bay_assoc.specs.Hears.{association_terms};
 ghost use Rattle.bay_connection.specs.Talk.{answers, closed, terms_of, sent, sending, left_by};
 ghost use Rattle.bay_connection.specs.Feeding.{Feeds, indication_of, IsOpenFor};
 ghost use Rattle.bay_connection.specs.Line.{talk_of, pdu_of, client_of, IsKept, IsReady, TakesMemory, Tells, TellsOf};
@@ -30,7 +30,12 @@ impl Line {
     /// A line on which nothing has come.
     pub(crate) fn new(alloc: Global, number: u16) -> Line
         ensures kept { IsKept result }
-        ensures client { client_of result ≡ record { talk = record { stream = record { number = number; left = start }; phase = Phase.Idle }; pdu = [] } }
+        ensures client { client_of result
+            ≡ record {
+              talk = record
+                  { stream = record { number = number; left = start }; phase = Phase.Idle };
+              pdu = [];
+            } }
     {
         Line {
             alloc,
@@ -62,9 +67,10 @@ impl Line {
     /// The octets in which a PDU of MMS is sent.
     pub(crate) fn send(&self, pdu: &[u8]) -> Result<Vec<u8>, AllocError>
         requires kept { IsKept self.now }
-        requires open { IsSome (link_of self.now.assoc) }
+        requires open { IsSome (association_terms self.now.assoc) }
         requires short { length pdu.now ≤ 65_000 }
-        ensures { IfOk result (λ octets. octets.items ≡ sending (terms_of (talk_of self.now)) pdu.now) }
+        ensures { IfOk result (λ octets. octets.items
+            ≡ sending (terms_of (talk_of self.now)) pdu.now) }
     {
         let front = self.assoc.front(pdu.len() as u32);
         self.transport.wrap(front.as_slice(), pdu)
@@ -74,7 +80,8 @@ impl Line {
     fn wrapped(&self, tsdu: &[u8]) -> Result<Vec<u8>, AllocError>
         requires agreed { IsSome (agreed self.now.transport.stream) }
         requires short { length tsdu.now ≤ 1_000 }
-        ensures { IfOk result (λ octets. octets.items ≡ sent (agreed self.now.transport.stream) tsdu.now) }
+        ensures { IfOk result (λ octets. octets.items
+            ≡ sent (agreed self.now.transport.stream) tsdu.now) }
     {
         self.transport.wrap(&[], tsdu)
     }
@@ -84,7 +91,9 @@ impl Line {
         requires agreed { IsSome (agreed self.old.transport.stream) }
         requires nothing { self.old.pdu ≡ 0 }
         ensures kept { OnOk result (IsKept self.new) }
-        ensures told { IfOk result (λ heard. Tells (talk_of self.old) (Delivers self.old.transport.shown) (indication_of heard (client_of self.new)) (talk_of self.new)) }
+        ensures told { IfOk result
+            (λ heard. Tells (talk_of self.old) (Delivers self.old.transport.shown)
+            (indication_of heard (client_of self.new)) (talk_of self.new)) }
         ensures number { self.new.transport.stream.number ≡ self.old.transport.stream.number }
         ensures open { IfOk result (λ heard. IsOpenFor heard self.new.assoc) }
     {
@@ -117,7 +126,8 @@ impl Line {
 
     // The answer to a request for a connection.
     fn answer(&self) -> Result<Heard, AllocError>
-        ensures { IfOk result (λ heard. indication_of heard (client_of self.now) ≡ Some (answers self.now.transport.shown)) }
+        ensures { IfOk result (λ heard. indication_of heard (client_of self.now)
+            ≡ Some (answers self.now.transport.shown)) }
     {
         let octets = self.transport.shown().to_vec(self.alloc)?;
         Ok(Heard::Answer(octets))
@@ -128,7 +138,9 @@ impl Line {
         requires ready { IsReady got (talk_of self.old) }
         requires nothing { self.old.pdu ≡ 0 }
         ensures kept { OnOk result (IsKept self.new) }
-        ensures told { IfOk result (λ heard. TellsOf (talk_of self.old) (doing_for got self.old.transport) (indication_of heard (client_of self.new)) (talk_of self.new)) }
+        ensures told { IfOk result
+            (λ heard. TellsOf (talk_of self.old) (doing_for got self.old.transport)
+            (indication_of heard (client_of self.new)) (talk_of self.new)) }
         ensures memory { OnErr result (TakesMemory got) }
         ensures number { self.new.transport.stream.number ≡ self.old.transport.stream.number }
         ensures open { IfOk result (λ heard. IsOpenFor heard self.new.assoc) }
@@ -149,8 +161,11 @@ impl Line {
         requires { IsKept self.old }
         ensures kept { OnOk result (IsKept self.new) }
         ensures within { IfOk result (λ fed. fed.used ≤ length piece.now) }
-        ensures fed { IfOk result (λ fed. Feeds (talk_of self.old) piece.now fed.used (indication_of fed.heard (client_of self.new))) }
-        ensures left { IfOk result (λ fed. talk_of self.new ≡ left_by (talk_of self.old) (take fed.used piece.now)) }
+        ensures fed { IfOk result
+            (λ fed. Feeds (talk_of self.old) piece.now fed.used
+            (indication_of fed.heard (client_of self.new))) }
+        ensures left { IfOk result
+            (λ fed. talk_of self.new ≡ left_by (talk_of self.old) (take fed.used piece.now)) }
         ensures memory { OnErr result (IsGoing self.old.transport.stream.left) }
         ensures number { self.new.transport.stream.number ≡ self.old.transport.stream.number }
         ensures open { IfOk result (λ fed. IsOpenFor fed.heard self.new.assoc) }

@@ -1,5 +1,6 @@
 -- Each accepted operate of an SBO switch is backed.
 use Rattle.std.proofs.Common.{◌≡◌, ℕ, ◌<◌, ◌+◌, Bool, true, false, not, ◌&&◌, ◌||◌, List, [], ◌∷◌, ◌++◌, Option, None, Some, Result, Err, refl, ap, sym, ◌∙◌, subst, append_assoc, append-nil}
+use Rattle.std.specs.Bool.{beq}
 use Rattle.std.specs.Prelude.{ℤ, nat_le, if◌then◌else◌, is_ok}
 use Rattle.std.specs.Cmp.Lexicographic.{same_text}
 use Rattle.std.proofs.lemmas.Bool.Decides.{Decides-int_eq}
@@ -9,7 +10,7 @@ use Rattle.bay_control.specs.Acts as act
 use Rattle.bay_control.specs.Backing.{AreBacked, AreBackedAfter, IsBacked}
 use Rattle.bay_control.specs.Happenings.{AreOrderly, Call, Open, Close, Select, SelectWith, Operate, Cancel, Contact, Advance, Happening, Leads, act_of, entries_of, history, is_open_after, outcome_of}
 use Rattle.bay_control.specs.Decisions.{State, is_choice, is_chosen, is_selected_by, operate_outcome, selection_at}
-use Rattle.bay_control.specs.Requests.{asked_choice, control_of, is_enhanced, is_sbo, same_choice, same_truth}
+use Rattle.bay_control.specs.Requests.{asked_choice, control_of, is_enhanced, is_sbo, same_choice}
 use Rattle.bay_control.specs.declared.cause.AddCause.{AddCause}
 use Rattle.bay_control.specs.declared.control.SwitchControl.{SwitchControl}
 use Rattle.bay_control.specs.declared.request.Ask.{Ask}
@@ -44,7 +45,7 @@ passed : (refuses : Bool) (cause : AddCause) (rest : Result (Unit {0}) AddCause)
 passed true cause rest e = absurd cc
 passed false cause rest e = (refl, e)
 
-same-truth : (a b : Bool) → same_truth a b ≡ true → a ≡ b
+same-truth : (a b : Bool) → beq a b ≡ true → a ≡ b
 same-truth true true e = refl
 same-truth true false e = absurd cc
 same-truth false true e = absurd cc
@@ -53,12 +54,15 @@ same-truth false false e = refl
 same-choice : (c d : Choice) → same_choice c d ≡ true → d ≡ c
 same-choice c d e =
     let on : c.on ≡ d.on = same-truth c.on d.on (and-left _ _ e) in
-    let origin = and-right (same_truth c.on d.on) _ e in
-    let cat : c.origin.cat ≡ d.origin.cat = (Decides-int_eq c.origin.cat d.origin.cat).0 (and-left _ _ origin) in
-    let ident : c.origin.ident.items ≡ d.origin.ident.items = same_text _ _ (sym (and-right _ _ origin)) in
+    let origin = and-right (beq c.on d.on) _ e in
+    let cat : c.origin.cat ≡ d.origin.cat =
+    (Decides-int_eq c.origin.cat d.origin.cat).0 (and-left _ _ origin) in
+    let ident : c.origin.ident.items ≡ d.origin.ident.items =
+    same_text _ _ (sym (and-right _ _ origin)) in
     ap (λ (b : Bool). record d { on = b }) (sym on)
     ∙ ap (λ (n : ℤ). record c { origin = record { cat = n; ident = d.origin.ident } }) (sym cat)
-    ∙ ap (λ (os : List ℕ). record c { origin = record { cat = c.origin.cat; ident = record { items = os } } }) (sym ident)
+    ∙ ap (λ (os : List ℕ). record c
+    { origin = record { cat = c.origin.cat; ident = record { items = os } } }) (sym ident)
 
 is-choice : (c : Choice) (chosen : Option Choice) → is_choice c chosen ≡ true → chosen ≡ Some c
 is-choice c None e = absurd cc
@@ -67,13 +71,15 @@ is-choice c (Some d) e = ap (λ (x : Choice). Some x) (same-choice c d e)
 -- ---- a standing selection backs
 
 -- what an accepted operate of an SBO switch finds selected
-record Finds (controls : List SwitchControl) (a k : ℕ) (choice : Choice) (now : ℕ) (s : Selection) : Type 0 where
+record Finds (controls : List SwitchControl) (a k : ℕ) (choice : Choice) (now : ℕ) (s : Selection)
+    : Type 0 where
   owner : s.association ≡ a
   switch : s.switch ≡ k
   in_time : now < s.since + (control_of controls s.switch).sbo_timeout_ms
   chosen : is_enhanced (control_of controls k).model ≡ true → s.choice ≡ Some choice
 
-backed-by : (controls : List SwitchControl) (past : List Entry) (s : Selection) (choice : Choice) (now : ℕ)
+backed-by : (controls : List SwitchControl) (past : List Entry) (s : Selection) (choice : Choice)
+    (now : ℕ)
     → Stands past s → now < s.since + (control_of controls s.switch).sbo_timeout_ms
     → (is_enhanced (control_of controls s.switch).model ≡ true → s.choice ≡ Some choice)
     → IsBacked controls s.association s.switch choice now past
@@ -88,19 +94,23 @@ backed-by controls past s choice now t in_time chosen = record {
   matched = λ e. record { last = t.last; same = t.choice ∙ chosen e };
 }
 
-backed : (controls : List SwitchControl) (past : List Entry) (a k : ℕ) (choice : Choice) (now : ℕ) (s : Selection)
+backed : (controls : List SwitchControl) (past : List Entry) (a k : ℕ) (choice : Choice) (now : ℕ)
+    (s : Selection)
     → Stands past s → Finds controls a k choice now s → IsBacked controls a k choice now past
 backed controls past a k choice now s t f =
     let chosen : is_enhanced (control_of controls s.switch).model ≡ true → s.choice ≡ Some choice =
     λ e. f.chosen (ap (λ (j : ℕ). is_enhanced (control_of controls j).model) (sym f.switch) ∙ e) in
     subst (λ (b : ℕ). IsBacked controls b k choice now past) f.owner
-    (subst (λ (j : ℕ). IsBacked controls s.association j choice now past) f.switch (backed-by controls past s choice now t f.in_time chosen))
+    (subst (λ (j : ℕ). IsBacked controls s.association j choice now past) f.switch
+    (backed-by controls past s choice now t f.in_time chosen))
 
 -- a selection that is not over
-finds-one : (controls : List SwitchControl) (a k : ℕ) (choice : Choice) (now : ℕ) (s : Selection) (over : Bool)
+finds-one : (controls : List SwitchControl) (a k : ℕ) (choice : Choice) (now : ℕ) (s : Selection)
+    (over : Bool)
     → nat_le (s.since + (control_of controls s.switch).sbo_timeout_ms) now ≡ over
     → is_selected_by a k (if over then None else Some s) ≡ true
-    → (is_enhanced (control_of controls k).model ≡ true → is_chosen choice (if over then None else Some s) ≡ true)
+    → (is_enhanced (control_of controls k).model ≡ true
+    → is_chosen choice (if over then None else Some s) ≡ true)
     → Finds controls a k choice now s
 finds-one controls a k choice now s true o e f = absurd cc
 finds-one controls a k choice now s false o e f = record {
@@ -110,17 +120,21 @@ finds-one controls a k choice now s false o e f = record {
   chosen = λ x. is-choice choice s.choice (f x);
 }
 
-found : (controls : List SwitchControl) (is_open : ℕ → Bool) (past : List Entry) (a k : ℕ) (choice : Choice) (now : ℕ) (selection : Option Selection)
+found : (controls : List SwitchControl) (is_open : ℕ → Bool) (past : List Entry) (a k : ℕ)
+    (choice : Choice) (now : ℕ) (selection : Option Selection)
     → Holds is_open past selection
     → is_selected_by a k (selection_at now controls selection) ≡ true
-    → (is_enhanced (control_of controls k).model ≡ true → is_chosen choice (selection_at now controls selection) ≡ true)
+    → (is_enhanced (control_of controls k).model ≡ true
+    → is_chosen choice (selection_at now controls selection) ≡ true)
     → IsBacked controls a k choice now past
 found controls is_open past a k choice now None h e f = absurd cc
 found controls is_open past a k choice now (Some s) h e f =
     backed controls past a k choice now s h.1
-    (finds-one controls a k choice now s (nat_le (s.since + (control_of controls s.switch).sbo_timeout_ms) now) refl e f)
+    (finds-one controls a k choice now s
+    (nat_le (s.since + (control_of controls s.switch).sbo_timeout_ms) now) refl e f)
 
-operate-backed : (is_open : ℕ → Bool) (past : List Entry) (a k : ℕ) (ask : Ask) (view : View) (now : ℕ) (s : State)
+operate-backed : (is_open : ℕ → Bool) (past : List Entry) (a k : ℕ) (ask : Ask) (view : View)
+    (now : ℕ) (s : State)
     → Holds is_open past s.selection
     → is_ok (operate_outcome a k ask view now s).answer ≡ true
     → is_sbo (control_of s.controls k).model ≡ true
@@ -135,7 +149,8 @@ operate-backed is_open past a k ask view now s h ok sbo =
 
 -- ---- whole runs
 
-after-controls : (call : Call) (now : ℕ) (s : State) → (outcome_of call now s).after.controls ≡ s.controls
+after-controls : (call : Call) (now : ℕ) (s : State)
+    → (outcome_of call now s).after.controls ≡ s.controls
 after-controls (Open a) now s = refl
 after-controls (Close a) now s = refl
 after-controls (Select a k) now s = refl
@@ -146,8 +161,10 @@ after-controls (Contact k position) now s = refl
 after-controls Advance now s = refl
 
 -- an accepted operate that was seen of a call
-call-backed : (is_open : ℕ → Bool) (past : List Entry) (call : Call) (now : ℕ) (s : State) → Holds is_open past s.selection
-    → (a k : ℕ) (choice : Choice) → act_of call ≡ Some (act.Operate a k choice) → is_ok (outcome_of call now s).answer ≡ true
+call-backed : (is_open : ℕ → Bool) (past : List Entry) (call : Call) (now : ℕ) (s : State)
+    → Holds is_open past s.selection
+    → (a k : ℕ) (choice : Choice) → act_of call ≡ Some (act.Operate a k choice)
+    → is_ok (outcome_of call now s).answer ≡ true
     → is_sbo (control_of s.controls k).model ≡ true → IsBacked s.controls a k choice now past
 call-backed is_open past (Open b) now s h a k choice e ok sbo = absurd cc
 call-backed is_open past (Close b) now s h a k choice e ok sbo = absurd cc
@@ -157,10 +174,12 @@ call-backed is_open past (Operate b j ask view) now s h a k choice e ok sbo =
     let by : b ≡ a = cc in
     let of : j ≡ k = cc in
     let for : asked_choice ask ≡ choice = cc in
-    let sbo-here : is_sbo (control_of s.controls j).model ≡ true = ap (λ (i : ℕ). is_sbo (control_of s.controls i).model) of ∙ sbo in
+    let sbo-here : is_sbo (control_of s.controls j).model ≡ true =
+    ap (λ (i : ℕ). is_sbo (control_of s.controls i).model) of ∙ sbo in
     subst (λ (c : ℕ). IsBacked s.controls c k choice now past) by
     (subst (λ (i : ℕ). IsBacked s.controls b i choice now past) of
-    (subst (λ (c : Choice). IsBacked s.controls b j c now past) for (operate-backed is_open past b j ask view now s h ok sbo-here)))
+    (subst (λ (c : Choice). IsBacked s.controls b j c now past) for
+    (operate-backed is_open past b j ask view now s h ok sbo-here)))
 call-backed is_open past (Cancel b j) now s h a k choice e ok sbo = absurd cc
 call-backed is_open past (Contact j position) now s h a k choice e ok sbo = absurd cc
 call-backed is_open past Advance now s h a k choice e ok sbo = absurd cc
@@ -172,44 +191,61 @@ tail-of : (x y : Entry) (xs ys : List Entry) → x ∷ xs ≡ y ∷ ys → xs �
 tail-of x y xs ys e = cc
 
 -- what is seen of a call, before what is seen of the rest
-entries-backed : (controls : List SwitchControl) (past : List Entry) (at : ℕ) (what : Option Act) (ok : Bool) (rest : List Entry)
-    → ((a k : ℕ) (choice : Choice) → what ≡ Some (act.Operate a k choice) → ok ≡ true → is_sbo (control_of controls k).model ≡ true
+entries-backed : (controls : List SwitchControl) (past : List Entry) (at : ℕ) (what : Option Act)
+    (ok : Bool) (rest : List Entry)
+    → ((a k : ℕ) (choice : Choice) → what ≡ Some (act.Operate a k choice) → ok ≡ true
+    → is_sbo (control_of controls k).model ≡ true
     → IsBacked controls a k choice at past)
     → AreBackedAfter controls (past ++ entries_of at what ok) rest
     → AreBackedAfter controls past (entries_of at what ok ++ rest)
 entries-backed controls past at None ok rest here later before after now a k choice e sbo =
-    subst (λ (es : List Entry). IsBacked controls a k choice now (es ++ before)) (append-nil past) (later before after now a k choice e sbo)
+    subst (λ (es : List Entry). IsBacked controls a k choice now (es ++ before)) (append-nil past)
+    (later before after now a k choice e sbo)
 entries-backed controls past at (Some what) ok rest here later [] after now a k choice e sbo =
     let first = head-of (record { now = at; act = what; is_accepted = ok }) _ _ _ e in
     let backed-at : IsBacked controls a k choice at past =
-    here a k choice (ap (λ (x : Entry). Some x.act) first) (ap (λ (x : Entry). x.is_accepted) first) sbo in
+    here a k choice (ap (λ (x : Entry). Some x.act) first) (ap (λ (x : Entry). x.is_accepted) first)
+    sbo in
     subst (λ (n : ℕ). IsBacked controls a k choice n (past ++ [])) (ap (λ (x : Entry). x.now) first)
-    (subst (λ (es : List Entry). IsBacked controls a k choice at es) (sym (append-nil past)) backed-at)
-entries-backed controls past at (Some what) ok rest here later (b ∷ before) after now a k choice e sbo =
-    let seam : (past ++ record { now = at; act = what; is_accepted = ok } ∷ []) ++ before ≡ past ++ b ∷ before =
-    append_assoc past (record { now = at; act = what; is_accepted = ok } ∷ []) before ∙ ap (λ (x : Entry). past ++ x ∷ before) (head-of _ _ _ _ e) in
-    subst (λ (es : List Entry). IsBacked controls a k choice now es) seam (later before after now a k choice (tail-of _ _ _ _ e) sbo)
+    (subst (λ (es : List Entry). IsBacked controls a k choice at es) (sym (append-nil past))
+    backed-at)
+entries-backed controls past at (Some what) ok rest here later (b ∷ before) after now a k choice e
+    sbo =
+    let seam : (past ++ record { now = at; act = what; is_accepted = ok } ∷ []) ++ before
+    ≡ past ++ b ∷ before =
+    append_assoc past (record { now = at; act = what; is_accepted = ok } ∷ []) before
+    ∙ ap (λ (x : Entry). past ++ x ∷ before) (head-of _ _ _ _ e) in
+    subst (λ (es : List Entry). IsBacked controls a k choice now es) seam
+    (later before after now a k choice (tail-of _ _ _ _ e) sbo)
 
 none-backed : (controls : List SwitchControl) (past : List Entry) → AreBackedAfter controls past []
 none-backed controls past [] after now a k choice e sbo = absurd cc
 none-backed controls past (b ∷ before) after now a k choice e sbo = absurd cc
 
 -- from any past that the selection goes with
-run-backed : (hs : List Happening) (s : State) (controls : List SwitchControl) (is_open : ℕ → Bool) (past : List Entry)
-    → s.controls ≡ controls → Holds is_open past s.selection → AreOrderly is_open hs → AreBackedAfter controls past (history hs s)
+run-backed : (hs : List Happening) (s : State) (controls : List SwitchControl) (is_open : ℕ → Bool)
+    (past : List Entry)
+    → s.controls ≡ controls → Holds is_open past s.selection → AreOrderly is_open hs
+    → AreBackedAfter controls past (history hs s)
 run-backed [] s controls is_open past same h o = none-backed controls past
 run-backed (d ∷ hs) s controls is_open past same h o =
-    entries-backed controls past d.now (act_of d.call) (is_ok (outcome_of d.call d.now s).answer) (history hs (outcome_of d.call d.now s).after)
-    (λ a k choice e ok sbo. subst (λ (cs : List SwitchControl). IsBacked cs a k choice d.now past) same
-    (call-backed is_open past d.call d.now s h a k choice e ok (ap (λ (cs : List SwitchControl). is_sbo (control_of cs k).model) same ∙ sbo)))
-    (run-backed hs (outcome_of d.call d.now s).after controls (is_open_after is_open d.call) (past ++ seen_of d.call d.now s)
+    entries-backed controls past d.now (act_of d.call) (is_ok (outcome_of d.call d.now s).answer)
+    (history hs (outcome_of d.call d.now s).after)
+    (λ a k choice e ok sbo. subst (λ (cs : List SwitchControl). IsBacked cs a k choice d.now past)
+    same
+    (call-backed is_open past d.call d.now s h a k choice e ok
+    (ap (λ (cs : List SwitchControl). is_sbo (control_of cs k).model) same ∙ sbo)))
+    (run-backed hs (outcome_of d.call d.now s).after controls (is_open_after is_open d.call)
+    (past ++ seen_of d.call d.now s)
     (after-controls d.call d.now s ∙ same) (step-holds is_open past d.call d.now s o.0 h) o.1)
 
 -- from controls with no selection
 pub all-backed : (entries : List Entry) (open_before open_after : ℕ → Bool) (before after : State)
-    → Leads entries open_before before open_after after → before.selection ≡ None → AreBacked before.controls entries
+    → Leads entries open_before before open_after after → before.selection ≡ None
+    → AreBacked before.controls entries
 all-backed entries open_before open_after before after leads none =
-    let holds : Holds open_before [] before.selection = subst (λ (x : Option Selection). Holds open_before [] x) (sym none) tt in
+    let holds : Holds open_before [] before.selection =
+    subst (λ (x : Option Selection). Holds open_before [] x) (sym none) tt in
     let backed-of : AreBacked before.controls (history leads.happened before) =
     run-backed leads.happened before before.controls open_before [] refl holds leads.orderly in
     subst (λ (es : List Entry). AreBacked before.controls es) (sym leads.seen) backed-of

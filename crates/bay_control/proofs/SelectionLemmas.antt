@@ -43,12 +43,15 @@ kept past s e undone granted t = record {
   earlier = t.earlier;
   select = t.select;
   between = t.between ++ e ∷ [];
-  split = ap (λ (es : List Entry). es ++ e ∷ []) t.split ∙ append_assoc t.earlier (t.select ∷ t.between) (e ∷ []);
+  split = ap (λ (es : List Entry). es ++ e ∷ []) t.split
+      ∙ append_assoc t.earlier (t.select ∷ t.between) (e ∷ []);
   granted = t.granted;
   since = t.since;
   choice = t.choice;
-  stands = All-push (λ (x : Entry). undoes s.association s.switch x ≡ false) t.between e t.stands undone;
-  last = All-push (λ (x : Entry). grants s.association s.switch x ≡ false) t.between e t.last granted;
+  stands =
+      All-push (λ (x : Entry). undoes s.association s.switch x ≡ false) t.between e t.stands undone;
+  last = All-push (λ (x : Entry). grants s.association s.switch x ≡ false) t.between e t.last
+      granted;
 }
 
 fresh : (past : List Entry) (s : Selection) (e : Entry)
@@ -75,8 +78,11 @@ record Leaves (is_open after : ℕ → Bool) (e : Entry) : Type 0 where
 left : (is_open after : ℕ → Bool) (past : List Entry) (e : Entry) (selection : Option Selection)
     → Leaves is_open after e → Holds is_open past selection → Holds after (past ++ e ∷ []) selection
 left is_open after past e None l h = tt
-left is_open after past e (Some s) l h =
-    (l.stays_open s.association h.0, kept past s e (l.undoes_none s.association s.switch h.0) (l.grants_none s.association s.switch) h.1)
+left is_open after past e (Some s) l h = (
+  l.stays_open s.association h.0,
+  kept past s e (l.undoes_none s.association s.switch h.0)
+      (l.grants_none s.association s.switch) h.1,
+)
 
 -- what has run out is gone
 stood : (is_open : ℕ → Bool) (past : List Entry) (s : Selection) (over : Bool)
@@ -84,7 +90,8 @@ stood : (is_open : ℕ → Bool) (past : List Entry) (s : Selection) (over : Boo
 stood is_open past s true h = tt
 stood is_open past s false h = h
 
-pub advanced-holds : (is_open : ℕ → Bool) (past : List Entry) (now : ℕ) (controls : List SwitchControl) (selection : Option Selection)
+pub advanced-holds : (is_open : ℕ → Bool) (past : List Entry) (now : ℕ)
+    (controls : List SwitchControl) (selection : Option Selection)
     → Holds is_open past selection → Holds is_open past (selection_at now controls selection)
 advanced-holds is_open past now controls None h = tt
 advanced-holds is_open past now controls (Some s) h =
@@ -95,43 +102,59 @@ advanced-holds is_open past now controls (Some s) h =
 abbrev seen : ℕ → Act → Bool → Entry
 seen now what is_accepted = record { now = now; act = what; is_accepted = is_accepted }
 
-select-holds : (is_open : ℕ → Bool) (past : List Entry) (a k now : ℕ) (choice : Option Choice) (what : Act) (t : State)
+select-holds : (is_open : ℕ → Bool) (past : List Entry) (a k now : ℕ) (choice : Option Choice)
+    (what : Act) (t : State)
     → is_open a ≡ true → selects a k what ≡ true → choice_of what ≡ choice
     → ((b j : ℕ) → undoes_by b j false what ≡ false)
     → Holds is_open past t.selection
     → (answer : Result (Unit {0}) AddCause)
-    → Holds is_open (past ++ seen now what (is_ok answer) ∷ []) (select_of a k now choice answer t).after.selection
-select-holds is_open past a k now choice what t o s c u h (Ok x) =
-    (o, fresh past (record { switch = k; association = a; since = now; choice = choice }) (seen now what true) (ap (λ (b : Bool). b && true) s) refl c)
+    → Holds is_open (past ++ seen now what (is_ok answer) ∷ [])
+    (select_of a k now choice answer t).after.selection
+select-holds is_open past a k now choice what t o s c u h (Ok x) = (
+  o,
+  fresh past (record { switch = k; association = a; since = now; choice = choice })
+      (seen now what true) (ap (λ (b : Bool). b && true) s) refl c,
+)
 select-holds is_open past a k now choice what t o s c u h (Err cause) =
     left is_open is_open past (seen now what false) t.selection
-    (record { stays_open = λ b x. x; undoes_none = λ b j x. u b j; grants_none = λ b j. and-false (selects b j what) }) h
+    (record {
+      stays_open = λ b x. x;
+      undoes_none = λ b j x. u b j;
+      grants_none = λ b j. and-false (selects b j what);
+    }) h
 
 own-select : (a k : ℕ) → ((a == a) && (k == k)) ≡ true
 own-select a k = ap (λ (b : Bool). b && (k == k)) (eq-eqb a a refl) ∙ eq-eqb k k refl
 
-cancel-holds : (is_open : ℕ → Bool) (past : List Entry) (a k now : ℕ) (t : State) → Holds is_open past t.selection
+cancel-holds : (is_open : ℕ → Bool) (past : List Entry) (a k now : ℕ) (t : State)
+    → Holds is_open past t.selection
     → (answer : Result (Unit {0}) AddCause)
-    → Holds is_open (past ++ seen now (act.Cancel a k) (is_ok answer) ∷ []) (cancel_of answer t).after.selection
+    → Holds is_open (past ++ seen now (act.Cancel a k) (is_ok answer) ∷ [])
+    (cancel_of answer t).after.selection
 cancel-holds is_open past a k now t h (Ok x) = tt
 cancel-holds is_open past a k now t h (Err cause) =
     left is_open is_open past (seen now (act.Cancel a k) false) t.selection
     (record { stays_open = λ b x. x; undoes_none = λ b j x. refl; grants_none = λ b j. refl }) h
 
 -- a selection that is ended, or kept by an entry that does not undo it
-ended-or-kept : (is_open after : ℕ → Bool) (past : List Entry) (s : Selection) (e : Entry) (ended : Bool)
-    → (ended ≡ false → undoes s.association s.switch e ≡ false) → grants s.association s.switch e ≡ false
+ended-or-kept : (is_open after : ℕ → Bool) (past : List Entry) (s : Selection) (e : Entry)
+    (ended : Bool)
+    → (ended ≡ false → undoes s.association s.switch e ≡ false)
+    → grants s.association s.switch e ≡ false
     → (ended ≡ false → after s.association ≡ true)
     → Holds is_open past (Some s) → Holds after (past ++ e ∷ []) (if ended then None else Some s)
 ended-or-kept is_open after past s e true u g o h = tt
 ended-or-kept is_open after past s e false u g o h = (o refl, kept past s e (u refl) g h.1)
 
-operate-holds : (is_open : ℕ → Bool) (past : List Entry) (a k : ℕ) (choice : Choice) (now : ℕ) (accepted : Bool) (selection : Option Selection)
+operate-holds : (is_open : ℕ → Bool) (past : List Entry) (a k : ℕ) (choice : Choice) (now : ℕ)
+    (accepted : Bool) (selection : Option Selection)
     → Holds is_open past selection
-    → Holds is_open (past ++ seen now (act.Operate a k choice) accepted ∷ []) (if is_selected_by a k selection then None else selection)
+    → Holds is_open (past ++ seen now (act.Operate a k choice) accepted ∷ [])
+    (if is_selected_by a k selection then None else selection)
 operate-holds is_open past a k choice now accepted None h = tt
 operate-holds is_open past a k choice now accepted (Some s) h =
-    ended-or-kept is_open is_open past s (seen now (act.Operate a k choice) accepted) (s.association == a && s.switch == k)
+    ended-or-kept is_open is_open past s (seen now (act.Operate a k choice) accepted)
+    (s.association == a && s.switch == k)
     (λ e. e) refl (λ e. h.0) h
 
 -- ---- openings and closings
@@ -141,9 +164,14 @@ not-true true e = absurd cc
 not-true false e = refl
 
 -- an association that is opened is no open one
-other-opened : (is_open : ℕ → Bool) (a b : ℕ) → is_open a ≡ true → not (is_open b) ≡ true → (a == b) ≡ false
+other-opened : (is_open : ℕ → Bool) (a b : ℕ) → is_open a ≡ true → not (is_open b) ≡ true
+    → (a == b) ≡ false
 other-opened is_open a b o c =
-    elim (eqb_tells a b) [ inl p ↦ absurd (let d = not-true (is_open b) c in let e = ap is_open p.1 in cc) | inr p ↦ p.0 ]
+    elim (eqb_tells a b) [
+      | inl p
+          ↦ absurd (let d = not-true (is_open b) c in let e = ap is_open p.1 in cc)
+      | inr p ↦ p.0
+    ]
 
 or-right : (a b : Bool) → b ≡ true → (a || b) ≡ true
 or-right true b e = refl
@@ -159,10 +187,12 @@ opened-leaves is_open a now c = record {
 
 closed-holds : (is_open : ℕ → Bool) (past : List Entry) (a now : ℕ) (selection : Option Selection)
     → Holds is_open past selection
-    → Holds (is_open_after is_open (Close a)) (past ++ seen now (act.Closed a) true ∷ []) (selection_without a selection)
+    → Holds (is_open_after is_open (Close a)) (past ++ seen now (act.Closed a) true ∷ [])
+    (selection_without a selection)
 closed-holds is_open past a now None h = tt
 closed-holds is_open past a now (Some s) h =
-    ended-or-kept is_open (is_open_after is_open (Close a)) past s (seen now (act.Closed a) true) (s.association == a)
+    ended-or-kept is_open (is_open_after is_open (Close a)) past s (seen now (act.Closed a) true)
+    (s.association == a)
     (λ e. e) refl (λ e. ap (λ (b : Bool). not b && is_open s.association) e ∙ h.0) h
 
 -- ---- what happens keeps it
@@ -172,21 +202,35 @@ seen_of call now s = entries_of now (act_of call) (is_ok (outcome_of call now s)
 
 pub step-holds : (is_open : ℕ → Bool) (past : List Entry) (call : Call) (now : ℕ) (s : State)
     → is_orderly_call is_open call ≡ true → Holds is_open past s.selection
-    → Holds (is_open_after is_open call) (past ++ seen_of call now s) (outcome_of call now s).after.selection
-step-holds is_open past (Open a) now s o h = left is_open (is_open_after is_open (Open a)) past (seen now (act.Opened a) true) s.selection (opened-leaves is_open a now o) h
+    → Holds (is_open_after is_open call) (past ++ seen_of call now s)
+    (outcome_of call now s).after.selection
+step-holds is_open past (Open a) now s o h =
+    left is_open (is_open_after is_open (Open a)) past (seen now (act.Opened a) true) s.selection
+    (opened-leaves is_open a now o) h
 step-holds is_open past (Close a) now s o h = closed-holds is_open past a now s.selection h
 step-holds is_open past (Select a k) now s o h =
-    select-holds is_open past a k now None (act.Select a k) (advanced now s) o (own-select a k) refl (λ b j. refl)
-    (advanced-holds is_open past now s.controls s.selection h) (answer_of (rows_of_select a k (advanced now s)))
+    select-holds is_open past a k now None (act.Select a k) (advanced now s) o (own-select a k) refl
+    (λ b j. refl)
+    (advanced-holds is_open past now s.controls s.selection h)
+    (answer_of (rows_of_select a k (advanced now s)))
 step-holds is_open past (SelectWith a k ask) now s o h =
-    select-holds is_open past a k now (Some (asked_choice ask)) (act.SelectWith a k (asked_choice ask)) (advanced now s) o (own-select a k) refl (λ b j. refl)
-    (advanced-holds is_open past now s.controls s.selection h) (answer_of (rows_of_select_with a k ask (advanced now s)))
+    select-holds is_open past a k now (Some (asked_choice ask))
+    (act.SelectWith a k (asked_choice ask)) (advanced now s) o (own-select a k) refl
+    (λ b j. refl)
+    (advanced-holds is_open past now s.controls s.selection h)
+    (answer_of (rows_of_select_with a k ask (advanced now s)))
 step-holds is_open past (Operate a k ask view) now s o h =
-    operate-holds is_open past a k (asked_choice ask) now (is_ok (answer_of (rows_of_operate a k ask view (advanced now s)))) (advanced now s).selection
+    operate-holds is_open past a k (asked_choice ask) now
+    (is_ok (answer_of (rows_of_operate a k ask view (advanced now s))))
+    (advanced now s).selection
     (advanced-holds is_open past now s.controls s.selection h)
 step-holds is_open past (Cancel a k) now s o h =
-    cancel-holds is_open past a k now (advanced now s) (advanced-holds is_open past now s.controls s.selection h) (answer_of (rows_of_cancel a k (advanced now s)))
-step-holds is_open past (Contact k position) now s o h = subst (λ (es : List Entry). Holds is_open es s.selection) (sym (append-nil past)) h
+    cancel-holds is_open past a k now (advanced now s)
+    (advanced-holds is_open past now s.controls s.selection h)
+    (answer_of (rows_of_cancel a k (advanced now s)))
+step-holds is_open past (Contact k position) now s o h =
+    subst (λ (es : List Entry). Holds is_open es s.selection) (sym (append-nil past)) h
 step-holds is_open past Advance now s o h =
-    subst (λ (es : List Entry). Holds is_open es (selection_at now s.controls s.selection)) (sym (append-nil past))
+    subst (λ (es : List Entry). Holds is_open es (selection_at now s.controls s.selection))
+    (sym (append-nil past))
     (advanced-holds is_open past now s.controls s.selection h)

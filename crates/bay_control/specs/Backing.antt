@@ -39,18 +39,21 @@ undoes_by a k is_accepted (SelectWith b j choice) = is_accepted && not (a == b &
 undoes_by a k is_accepted (Operate b j choice) = a == b && k == j
 undoes_by a k is_accepted (Cancel b j) = is_accepted && (a == b && k == j)
 
+-- the entry ends what an association had selected of the switch
 abbrev pub undoes : ℕ → ℕ → Entry → Bool
 undoes a k e = undoes_by a k e.is_accepted e.act
 
 -- With enhanced security the select is the last one that was granted, and asked for the same
 -- position and originator.
-pub record IsMatched (a k : ℕ) (choice : Choice) (select : Entry) (between : List Entry) : Type 0 where
+pub record IsMatched (a k : ℕ) (choice : Choice) (select : Entry) (between : List Entry)
+    : Type 0 where
   pub last : All (λ (e : Entry). grants a k e ≡ false) between
   pub same : choice_of select.act ≡ Some choice
 
 -- An operate of switch k by association a at a moment is backed by what was before: a select of k
 -- by a was granted, nothing between the two undid it, and its time is not over.
-pub record IsBacked (controls : List SwitchControl) (a k : ℕ) (choice : Choice) (now : ℕ) (before : List Entry) : Type 0 where
+pub record IsBacked (controls : List SwitchControl) (a k : ℕ) (choice : Choice) (now : ℕ)
+    (before : List Entry) : Type 0 where
   pub earlier : List Entry
   pub select : Entry
   pub between : List Entry
@@ -58,7 +61,8 @@ pub record IsBacked (controls : List SwitchControl) (a k : ℕ) (choice : Choice
   pub granted : grants a k select ≡ true
   pub stands : All (λ (e : Entry). undoes a k e ≡ false) between
   pub in_time : now < select.now + (control_of controls k).sbo_timeout_ms
-  pub matched : is_enhanced (control_of controls k).model ≡ true → IsMatched a k choice select between
+  pub matched : is_enhanced (control_of controls k).model ≡ true
+      → IsMatched a k choice select between
 
 -- Each accepted operate of an SBO switch among these entries, which follow on a past, is backed by
 -- what was before it.

@@ -3,6 +3,7 @@ use Rattle.std.specs.Prelude.{ℕ}
 use Rattle.bay_control.specs.declared.cause.AddCause.{AddCause}
 use Rattle.bay_control.specs.declared.cause.AddCause.TheVariants.{NotSupported, SelectFailed, PositionReached, BlockedByMode, BlockedByInterlocking, CommandAlreadyInExecution, OneOfNControl, TimeLimitOver, ObjectNotSelected}
 
+-- the number of a cause (IEC 61850-7-2, AddCause)
 abbrev pub code_of : AddCause → ℕ
 code_of NotSupported = 1
 code_of SelectFailed = 3

@@ -23,11 +23,18 @@ pub record State : Type 0 where
 
 -- what the bay file says of a switch's control
 abbrev pub control_in : Switch → SwitchControl
-control_in switch = record { model = switch.control; sbo_timeout_ms = switch.sbo_timeout_ms; travel_ms = switch.travel_ms }
+control_in switch =
+    record {
+      model = switch.control;
+      sbo_timeout_ms = switch.sbo_timeout_ms;
+      travel_ms = switch.travel_ms;
+    }
 
+-- what each switch has of its control
 abbrev pub controls_of : List Switch → List SwitchControl
 controls_of switches = map control_in switches
 
+-- nothing is selected, and no switch operates
 abbrev pub initial : List SwitchControl → State
 initial controls = record { controls = controls; selection = None; execution = None }
 
@@ -36,7 +43,8 @@ initial controls = record { controls = controls; selection = None; execution = N
 -- the selection at a moment: it ends where its time is over
 abbrev pub selection_at : ℕ → List SwitchControl → Option Selection → Option Selection
 selection_at now controls None = None
-selection_at now controls (Some s) = if nat_le (s.since + (control_of controls s.switch).sbo_timeout_ms) now then None else Some s
+selection_at now controls (Some s) =
+    if nat_le (s.since + (control_of controls s.switch).sbo_timeout_ms) now then None else Some s
 
 -- the execution's time is over
 abbrev pub is_over_at : ℕ → List SwitchControl → Execution → Bool
@@ -53,7 +61,11 @@ run_out now controls (Some e) = if is_over_at now controls e then Some e.switch 
 
 -- the controls without what has run out
 abbrev pub advanced : ℕ → State → State
-advanced now s = record s { selection = selection_at now s.controls s.selection; execution = execution_at now s.controls s.execution }
+advanced now s =
+    record s {
+      selection = selection_at now s.controls s.selection;
+      execution = execution_at now s.controls s.execution;
+    }
 
 -- ---- tests of the selection and the execution
 
@@ -77,14 +89,17 @@ abbrev pub is_choice : Choice → Option Choice → Bool
 is_choice c None = false
 is_choice c (Some d) = same_choice c d
 
+-- what is asked for is what was selected with it
 abbrev pub is_chosen : Choice → Option Selection → Bool
 is_chosen c None = false
 is_chosen c (Some s) = is_choice c s.choice
 
+-- this switch operates
 abbrev pub is_executing : ℕ → Option Execution → Bool
 is_executing k None = false
 is_executing k (Some e) = e.switch == k
 
+-- another switch than this operates
 abbrev pub other_is_executing : ℕ → Option Execution → Bool
 other_is_executing k None = false
 other_is_executing k (Some e) = not (e.switch == k)
@@ -96,6 +111,7 @@ pub record Row : Type 0 where
   pub refuses : Bool
   pub cause : AddCause
 
+-- a row of a table of refusals: where its test is true it refuses with its cause
 abbrev pub row : Bool → AddCause → Row
 row refuses cause = record { refuses = refuses; cause = cause }
 
@@ -113,17 +129,23 @@ select_rows is_supported a k s more =
     ∷ row (other_is_selected k s.selection) OneOfNControl
     ∷ more
 
+-- what refuses a select, in the order of its judging
 abbrev pub rows_of_select : ℕ → ℕ → State → List Row
 rows_of_select a k s = select_rows (is_normal (control_of s.controls k).model) a k s []
 
+-- what refuses a select with value
 abbrev pub rows_of_select_with : ℕ → ℕ → Ask → State → List Row
-rows_of_select_with a k ask s = select_rows (is_enhanced (control_of s.controls k).model) a k s (row ask.test BlockedByMode ∷ [])
+rows_of_select_with a k ask s =
+    select_rows (is_enhanced (control_of s.controls k).model) a k s
+    (row ask.test BlockedByMode ∷ [])
 
 -- the association has not selected the switch, or has selected it with value for something else
 abbrev pub is_unselected : SwitchControl → ℕ → ℕ → Choice → Option Selection → Bool
 is_unselected c a k choice selection =
-    is_sbo c.model && not (is_selected_by a k selection && (not (is_enhanced c.model) || is_chosen choice selection))
+    is_sbo c.model && not (is_selected_by a k selection
+    && (not (is_enhanced c.model) || is_chosen choice selection))
 
+-- what refuses an operate
 abbrev pub rows_of_operate : ℕ → ℕ → Ask → View → State → List Row
 rows_of_operate a k ask view s =
     let c = control_of s.controls k in
@@ -137,6 +159,7 @@ rows_of_operate a k ask view s =
     ∷ row (not (is_released ask.on view)) BlockedByInterlocking
     ∷ []
 
+-- what refuses a cancel
 abbrev pub rows_of_cancel : ℕ → ℕ → State → List Row
 rows_of_cancel a k s =
     row (not (is_sbo (control_of s.controls k).model)) NotSupported
@@ -146,23 +169,29 @@ rows_of_cancel a k s =
 
 -- ---- answers, and the controls after them: what has run out counts as ended
 
+-- a decision: what it answers, and the controls after it
 pub record Outcome : Type 0 where
   pub answer : Result (Unit {0}) AddCause
   pub after : State
 
+-- a select of either kind, which where it is not refused begins a selection
 abbrev pub select_of : ℕ → ℕ → ℕ → Option Choice → Result (Unit {0}) AddCause → State → Outcome
 select_of a k now choice answer s = record {
   answer = answer;
   after = record s {
-    selection = if is_ok answer then Some (record { switch = k; association = a; since = now; choice = choice }) else s.selection;
+    selection =
+        if is_ok answer then Some
+        (record { switch = k; association = a; since = now; choice = choice }) else s.selection;
   };
 }
 
 abbrev pub select_outcome : ℕ → ℕ → ℕ → State → Outcome
-select_outcome a k now s = let t = advanced now s in select_of a k now None (answer_of (rows_of_select a k t)) t
+select_outcome a k now s = let t =
+    advanced now s in select_of a k now None (answer_of (rows_of_select a k t)) t
 
 abbrev pub select_with_outcome : ℕ → ℕ → Ask → ℕ → State → Outcome
-select_with_outcome a k ask now s = let t = advanced now s in select_of a k now (Some (asked_choice ask)) (answer_of (rows_of_select_with a k ask t)) t
+select_with_outcome a k ask now s = let t = advanced now s in
+    select_of a k now (Some (asked_choice ask)) (answer_of (rows_of_select_with a k ask t)) t
 
 -- an operate by the association that selected the switch ends the selection, accepted or not; an
 -- accepted one starts the execution
@@ -171,15 +200,22 @@ operate_of a k on now answer s = record {
   answer = answer;
   after = record s {
     selection = if is_selected_by a k s.selection then None else s.selection;
-    execution = if is_ok answer then Some (record { switch = k; start = now; on = on }) else s.execution;
+    execution =
+        if is_ok answer then Some (record { switch = k; start = now; on = on }) else s.execution;
   };
 }
 
 abbrev pub operate_outcome : ℕ → ℕ → Ask → View → ℕ → State → Outcome
-operate_outcome a k ask view now s = let t = advanced now s in operate_of a k ask.on now (answer_of (rows_of_operate a k ask view t)) t
+operate_outcome a k ask view now s = let t =
+    advanced now s in operate_of a k ask.on now (answer_of (rows_of_operate a k ask view t)) t
 
+-- a cancel, which where it is not refused ends the selection
 abbrev pub cancel_of : Result (Unit {0}) AddCause → State → Outcome
-cancel_of answer s = record { answer = answer; after = record s { selection = if is_ok answer then None else s.selection } }
+cancel_of answer s =
+    record {
+      answer = answer;
+      after = record s { selection = if is_ok answer then None else s.selection };
+    }
 
 abbrev pub cancel_outcome : ℕ → ℕ → ℕ → State → Outcome
 cancel_outcome a k now s = let t = advanced now s in cancel_of (answer_of (rows_of_cancel a k t)) t
@@ -191,6 +227,7 @@ abbrev pub selection_without : ℕ → Option Selection → Option Selection
 selection_without a None = None
 selection_without a (Some s) = if s.association == a then None else Some s
 
+-- an association is closed, which ends its selection
 abbrev pub dropped : ℕ → State → State
 dropped a s = record s { selection = selection_without a s.selection }
 
@@ -199,19 +236,24 @@ abbrev pub is_done : ℕ → Dbpos → Option Execution → Bool
 is_done k position None = false
 is_done k position (Some e) = e.switch == k && is_reached e.on position
 
+-- a switch that reaches the position which it was told to reach operates no more
 abbrev pub contacted : ℕ → Dbpos → State → State
-contacted k position s = record s { execution = if is_done k position s.execution then None else s.execution }
+contacted k position s =
+    record s { execution = if is_done k position s.execution then None else s.execution }
 
 -- ---- what is taken and put back
 
+-- what a decision may change
 abbrev pub standing_of : State → Standing
 standing_of s = record { selection = s.selection; execution = s.execution }
 
+-- it stands again as it did
 abbrev pub restored : Standing → State → State
 restored standing s = record s { selection = standing.selection; execution = standing.execution }
 
 -- ---- what is shown
 
+-- the switch of a selection
 abbrev pub selected_switch : Option Selection → Option ℕ
 selected_switch None = None
 selected_switch (Some s) = Some s.switch

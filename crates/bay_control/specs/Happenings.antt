@@ -29,6 +29,7 @@ pub record Happening : Type 0 where
 abbrev pub unasked : State → Outcome
 unasked s = record { answer = Ok tt; after = s }
 
+-- the decision of a call
 abbrev pub outcome_of : Call → ℕ → State → Outcome
 outcome_of (Open a) now s = unasked s
 outcome_of (Close a) now s = unasked (dropped a s)
@@ -50,9 +51,11 @@ act_of (Cancel a k) = Some (act.Cancel a k)
 act_of (Contact k position) = None
 act_of Advance = None
 
+-- what a call that asks for something tells, accepted or not
 abbrev pub entries_of : ℕ → Option Act → Bool → List Entry
 entries_of now None is_accepted = []
-entries_of now (Some act) is_accepted = record { now = now; act = act; is_accepted = is_accepted } ∷ []
+entries_of now (Some act) is_accepted =
+    record { now = now; act = act; is_accepted = is_accepted } ∷ []
 
 -- what is seen of a list of happenings
 abbrev pub history : List Happening → State → List Entry
@@ -92,8 +95,10 @@ is_open_after is_open Advance b = is_open b
 
 abbrev pub AreOrderly : (ℕ → Bool) → List Happening → Type 0
 AreOrderly is_open [] = Unit {0}
-AreOrderly is_open (h ∷ hs) = (is_orderly_call is_open h.call ≡ true) × AreOrderly (is_open_after is_open h.call) hs
+AreOrderly is_open (h ∷ hs) =
+    (is_orderly_call is_open h.call ≡ true) × AreOrderly (is_open_after is_open h.call) hs
 
+-- the association is open behind these
 abbrev pub is_open_after_all : (ℕ → Bool) → List Happening → ℕ → Bool
 is_open_after_all is_open [] b = is_open b
 is_open_after_all is_open (h ∷ hs) b = is_open_after_all (is_open_after is_open h.call) hs b
@@ -102,7 +107,8 @@ is_open_after_all is_open (h ∷ hs) b = is_open_after_all (is_open_after is_ope
 
 -- Some happenings lead controls from one state to another, and these entries are seen of them;
 -- which associations are open before and after goes with them.
-pub record Leads (entries : List Entry) (open_before : ℕ → Bool) (before : State) (open_after : ℕ → Bool) (after : State) : Type 0 where
+pub record Leads (entries : List Entry) (open_before : ℕ → Bool) (before : State)
+    (open_after : ℕ → Bool) (after : State) : Type 0 where
   pub happened : List Happening
   pub orderly : AreOrderly open_before happened
   pub seen : entries ≡ history happened before

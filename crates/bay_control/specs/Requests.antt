@@ -1,6 +1,7 @@
 -- What a bay file says of a switch's control, what is asked for and what is seen, as tests (IEC
 -- 61850-7-2, 20; IEC 61850-7-3: ctlModel, Originator, Dbpos).
 use Rattle.std.specs.Prelude.{ℕ, Bool, true, false, not, ◌&&◌, if◌then◌else◌, List, nat_eq, slice_get, Option, None, Some}
+use Rattle.std.specs.Bool.{beq}
 use Rattle.std.specs.Cmp.Lexicographic.{pointwise}
 use Rattle.std.specs.Ordering.{int_eq}
 use Rattle.bay_nodes.specs.declared.switch.Control.{Control}
@@ -15,6 +16,7 @@ use Rattle.bay_control.specs.declared.request.View.{View}
 
 -- ---- what the bay file says of a switch's control
 
+-- what stands in the place of a switch that is not there
 abbrev pub no_control : SwitchControl
 no_control = record { model = Status; sbo_timeout_ms = 0; travel_ms = 0 }
 
@@ -23,6 +25,7 @@ abbrev pub control_or_none : Option SwitchControl → SwitchControl
 control_or_none None = no_control
 control_or_none (Some c) = c
 
+-- the control of the switch at a place
 abbrev pub control_of : List SwitchControl → ℕ → SwitchControl
 control_of controls k = control_or_none (slice_get controls k)
 
@@ -60,14 +63,12 @@ is_sbo SboEnhanced = true
 abbrev pub asked_choice : Ask → Choice
 asked_choice ask = record { on = ask.on; origin = ask.origin }
 
-abbrev pub same_truth : Bool → Bool → Bool
-same_truth a b = if a then b else not b
-
 abbrev pub same_origin : Origin → Origin → Bool
 same_origin c d = int_eq c.cat d.cat && pointwise nat_eq c.ident.items d.ident.items
 
+-- what is asked for twice is the same: position and originator
 abbrev pub same_choice : Choice → Choice → Bool
-same_choice c d = same_truth c.on d.on && same_origin c.origin d.origin
+same_choice c d = beq c.on d.on && same_origin c.origin d.origin
 
 -- ---- what is seen
 

@@ -37,7 +37,11 @@ impl Model for Controls {
 
     ghost Value = { State };
 
-    ghost view = { λ c. record { controls = c.controls.items; selection = c.selection; execution = c.execution } };
+    ghost view = { λ c. record {
+      controls = c.controls.items;
+      selection = c.selection;
+      execution = c.execution;
+    } };
 }
 
 /// What the bay file says of each switch's control.
@@ -82,7 +86,8 @@ impl Controls {
 
     /// The selection's time is over.
     fn is_selection_over(&self, now: u64) -> bool
-        ensures { (if result then None else self.now.selection) ≡ selection_at now self.now.controls self.now.selection }
+        ensures { (if result then None else self.now.selection)
+            ≡ selection_at now self.now.controls self.now.selection }
     {
         match &self.selection {
             Some(selection) => {
@@ -254,8 +259,10 @@ impl Controls {
         view: View,
         now: u64,
     ) -> Result<(), AddCause>
-        ensures answer { result ≡ (operate_outcome association switch ask view now self.old).answer }
-        ensures after { self.new ≡ (operate_outcome association switch ask view now self.old).after }
+        ensures answer { result
+            ≡ (operate_outcome association switch ask view now self.old).answer }
+        ensures after { self.new
+            ≡ (operate_outcome association switch ask view now self.old).after }
     {
         self.advance(now);
         let answer = self.check_operate(association, switch, &ask, view);

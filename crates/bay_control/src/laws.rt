@@ -10,17 +10,22 @@ ghost use Rattle.bay_control.specs.Happenings.{Call, Leads, act_of, entries_of, 
 /// operate of an SBO switch is backed by a select.
 pub fn operates_are_backed()
     ensures { (entries : List Entry) (open_before open_after : ℕ → Bool) (before after : State) →
-        Leads entries open_before before open_after after → before.selection ≡ None → AreBacked before.controls entries }
+        Leads entries open_before before open_after after → before.selection ≡ None
+        → AreBacked before.controls entries }
 {}
 
 /// Runs are made of calls: none, one, or those of two runs.
 pub fn calls_lead()
     ensures none { (is_open : ℕ → Bool) (s : State) → Leads [] is_open s is_open s }
-    ensures one { (call : Call) (now : ℕ) (open_before open_after : ℕ → Bool) (s : State) → is_orderly_call open_before call ≡ true →
+    ensures one { (call : Call) (now : ℕ) (open_before open_after : ℕ → Bool) (s : State)
+        → is_orderly_call open_before call ≡ true →
         ((a : ℕ) → open_after a ≡ is_open_after open_before call a) →
-        Leads (entries_of now (act_of call) (is_ok (outcome_of call now s).answer)) open_before s open_after (outcome_of call now s).after }
-    ensures joined { (first next : List Entry) (open_before open_between open_after : ℕ → Bool) (before between after : State) →
-        Leads first open_before before open_between between → Leads next open_between between open_after after →
+        Leads (entries_of now (act_of call) (is_ok (outcome_of call now s).answer)) open_before s
+        open_after (outcome_of call now s).after }
+    ensures joined { (first next : List Entry) (open_before open_between open_after : ℕ → Bool)
+        (before between after : State) →
+        Leads first open_before before open_between between
+        → Leads next open_between between open_after after →
         Leads (first ++ next) open_before before open_after after }
 {}
 

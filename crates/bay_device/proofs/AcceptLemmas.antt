@@ -24,51 +24,66 @@ use Rattle.bay_device.specs.Meaning.{Runs}
 
 -- ---- what is accepted
 
-checked-is : (r : Result Checked CheckFault) (c : Checked) → elim r as (λ _. Result Checked LoadFault) [ Ok x ↦ Ok x | Err fault ↦ Err (check_refusal fault) ] ≡ Ok c → r ≡ Ok c
-checked-is (Ok x) c e = let is : x ≡ c = cc in ap (λ (y : Checked). let r : Result Checked CheckFault = Ok y in r) is
+checked-is : (r : Result Checked CheckFault) (c : Checked)
+    → elim r as (λ _. Result Checked LoadFault)
+    [ Ok x ↦ Ok x | Err fault ↦ Err (check_refusal fault) ] ≡ Ok c → r ≡ Ok c
+checked-is (Ok x) c e = let is : x ≡ c =
+    cc in ap (λ (y : Checked). let r : Result Checked CheckFault = Ok y in r) is
 checked-is (Err fault) c e = absurd (cc)
 
-right-by : (rb : Result Bay BayFault) (rp : Result PlainProgram TextFault) (bay logic : List ℕ) (c : Checked) → bay_of bay ≡ rb → program_of logic ≡ rp → checked_in rb rp ≡ Ok c → IsRight bay logic
+right-by : (rb : Result Bay BayFault) (rp : Result PlainProgram TextFault) (bay logic : List ℕ)
+    (c : Checked) → bay_of bay ≡ rb → program_of logic ≡ rp → checked_in rb rp ≡ Ok c
+    → IsRight bay logic
 right-by (Ok b) (Ok program) bay logic c file text is = record {
   read = b;
   file = file;
   program = program;
   text = (program_is_read logic (Ok program)).1 text;
-  right = (right_programs_pass b.points program).0 (c, checked-is (checked_of b.points program) c is);
+  right = (right_programs_pass b.points program).0
+      (c, checked-is (checked_of b.points program) c is);
 }
 right-by (Ok b) (Err fault) bay logic c file text is = absurd (cc)
 right-by (Err fault) rp bay logic c file text is = absurd (cc)
 
-pub accepted : (bay logic : List ℕ) (c : Checked) → checked_in (bay_of bay) (program_of logic) ≡ Ok c → IsRight bay logic
+pub accepted : (bay logic : List ℕ) (c : Checked)
+    → checked_in (bay_of bay) (program_of logic) ≡ Ok c → IsRight bay logic
 accepted bay logic c is = right-by (bay_of bay) (program_of logic) bay logic c refl refl is
 
 -- ---- what is refused
 
-compiled-if : (b : Bay) (fits : Bool) (image : Image) (e : LoadFault) → of_compiled b (cond fits (Ok image) (Err CodeTooLong)) ≡ Err e → e ≡ Refused 85 0
+compiled-if : (b : Bay) (fits : Bool) (image : Image) (e : LoadFault)
+    → of_compiled b (cond fits (Ok image) (Err CodeTooLong)) ≡ Err e → e ≡ Refused 85 0
 compiled-if b true image e is = absurd (cc)
 compiled-if b false image e is = cc
 
-pub refused : (bay logic : List ℕ) (e : LoadFault) → of_bay (bay_of bay) (program_of logic) ≡ Err e → IsRight bay logic → e ≡ Refused 85 0
+pub refused : (bay logic : List ℕ) (e : LoadFault) → of_bay (bay_of bay) (program_of logic) ≡ Err e
+    → IsRight bay logic → e ≡ Refused 85 0
 refused bay logic e is right =
     let b = right.read in
     let program = right.program in
     let text : program_of logic ≡ Ok program = (program_is_read logic (Ok program)).0 right.text in
     let checked = (right_programs_pass b.points program).1 right.right in
     let whole : of_bay (bay_of bay) (program_of logic) ≡ of_compiled b (compiled_of checked.0) =
-    ap (λ (r : Result Bay BayFault). of_bay r (program_of logic)) right.file ∙ ap (of_program b) text ∙ ap (of_checked b) checked.1 in
+    ap (λ (r : Result Bay BayFault). of_bay r (program_of logic)) right.file
+    ∙ ap (of_program b) text ∙ ap (of_checked b) checked.1 in
     compiled-if b (nat_le (image_size checked.0) 65_535) (image_of checked.0) e (sym whole ∙ is)
 
 -- ---- the answer of load
 
-pub accepted-ok : (bay logic : List ℕ) (r : Result State LoadFault) → IfOk r (λ device. (c : Checked) × (checked_in (bay_of bay) (program_of logic) ≡ Ok c) × Runs c device) → IfOk r (λ _. IsRight bay logic)
+pub accepted-ok : (bay logic : List ℕ) (r : Result State LoadFault)
+    → IfOk r (λ device. (c : Checked) × (checked_in (bay_of bay) (program_of logic) ≡ Ok c)
+    × Runs c device) → IfOk r (λ _. IsRight bay logic)
 accepted-ok bay logic (Ok device) runs = accepted bay logic runs.0 runs.1
 accepted-ok bay logic (Err e) runs = tt
 
-refused-by : (bay logic : List ℕ) (e : LoadFault) → (e ≡ OutOfMemory) ⊎ (of_bay (bay_of bay) (program_of logic) ≡ Err e) → e ≢ OutOfMemory → IsRight bay logic → e ≡ Refused 85 0
+refused-by : (bay logic : List ℕ) (e : LoadFault)
+    → (e ≡ OutOfMemory) ⊎ (of_bay (bay_of bay) (program_of logic) ≡ Err e) → e ≢ OutOfMemory
+    → IsRight bay logic → e ≡ Refused 85 0
 refused-by bay logic e (inl memory) other right = absurd (other memory)
 refused-by bay logic e (inr is) other right = refused bay logic e is right
 
-pub refused-err : (bay logic : List ℕ) (r : Result State LoadFault) → Gives OutOfMemory (λ device. device) r (of_bay (bay_of bay) (program_of logic))
+pub refused-err : (bay logic : List ℕ) (r : Result State LoadFault)
+    → Gives OutOfMemory (λ device. device) r (of_bay (bay_of bay) (program_of logic))
     → IfErr r (λ e. e ≢ OutOfMemory → IsRight bay logic → e ≡ Refused 85 0)
 refused-err bay logic (Ok device) gives = tt
 refused-err bay logic (Err e) gives = λ other right. refused-by bay logic e gives other right

@@ -33,7 +33,8 @@ abbrev ending : ℕ → List ℕ → ℕ
 ending d [] = d
 ending d (x ∷ xs) = ending x xs
 
-ending-behind : (d : ℕ) (node : List ℕ) (x : ℕ) (xs : List ℕ) → ending d (node ++ x ∷ xs) ≡ ending x xs
+ending-behind : (d : ℕ) (node : List ℕ) (x : ℕ) (xs : List ℕ)
+    → ending d (node ++ x ∷ xs) ≡ ending x xs
 ending-behind d [] x xs = refl
 ending-behind d (y ∷ node) x xs = ending-behind y node x xs
 
@@ -44,22 +45,28 @@ selected-ends k = ending-behind 0 (control_of k) 36 _
 abbrev pub IsApart : List ℕ → Type 0
 IsApart name = (k : ℕ) → bytes_eq name ((control_names k).selected) ≡ false
 
-apart-if : (b : Bool) (name : List ℕ) (k : ℕ) → bytes_eq name ((control_names k).selected) ≡ b → nat_eq (ending 0 name) 100 ≡ false → b ≡ false
+apart-if : (b : Bool) (name : List ℕ) (k : ℕ) → bytes_eq name ((control_names k).selected) ≡ b
+    → nat_eq (ending 0 name) 100 ≡ false → b ≡ false
 apart-if false name k here ends = refl
 apart-if true name k here ends =
-    let same : name ≡ (control_names k).selected = (bytes_eq-Decides name ((control_names k).selected)).0 here in
+    let same : name ≡ (control_names k).selected =
+    (bytes_eq-Decides name ((control_names k).selected)).0 here in
     let last : ending 0 name ≡ 100 = ap (ending 0) same ∙ selected-ends k in
     let yes : nat_eq (ending 0 name) 100 ≡ true = ap (λ n. nat_eq n 100) last in
     absurd (cc)
 
-apart-of : (node : List ℕ) (x : ℕ) (xs : List ℕ) → nat_eq (ending x xs) 100 ≡ false → IsApart (node ++ x ∷ xs)
+apart-of : (node : List ℕ) (x : ℕ) (xs : List ℕ) → nat_eq (ending x xs) 100 ≡ false
+    → IsApart (node ++ x ∷ xs)
 apart-of node x xs ends k =
-    apart-if (bytes_eq (node ++ x ∷ xs) ((control_names k).selected)) (node ++ x ∷ xs) k refl (ap (λ n. nat_eq n 100) (ending-behind 0 node x xs) ∙ ends)
+    apart-if (bytes_eq (node ++ x ∷ xs) ((control_names k).selected)) (node ++ x ∷ xs) k refl
+    (ap (λ n. nat_eq n 100) (ending-behind 0 node x xs) ∙ ends)
 
 -- the same behind an object
-behind-apart : (node : List ℕ) (x : ℕ) (xs word : List ℕ) → nat_eq (ending 100 word) 100 ≡ false → IsApart (node ++ ((x ∷ xs) ++ word))
+behind-apart : (node : List ℕ) (x : ℕ) (xs word : List ℕ) → nat_eq (ending 100 word) 100 ≡ false
+    → IsApart (node ++ ((x ∷ xs) ++ word))
 behind-apart node x xs [] ends = absurd (cc)
-behind-apart node x xs (y ∷ ys) ends = apart-of node x (xs ++ y ∷ ys) (ap (λ n. nat_eq n 100) (ending-behind x xs y ys) ∙ ends)
+behind-apart node x xs (y ∷ ys) ends =
+    apart-of node x (xs ++ y ∷ ys) (ap (λ n. nat_eq n 100) (ending-behind x xs y ys) ∙ ends)
 
 -- ---- what is written there
 
@@ -69,22 +76,52 @@ pub record AreApart (names : StatusNames) : Type 0 where
   pub time_apart : IsApart names.time
 
 position-apart : (node : List ℕ) → AreApart (position_names node)
-position-apart node = record { value_apart = apart-of node 36 _ refl; quality_apart = apart-of node 36 _ refl; time_apart = apart-of node 36 _ refl }
+position-apart node =
+    record {
+      value_apart = apart-of node 36 _ refl;
+      quality_apart = apart-of node 36 _ refl;
+      time_apart = apart-of node 36 _ refl;
+    }
 
 operation-apart : (node : List ℕ) → AreApart (operation_names node)
-operation-apart node = record { value_apart = apart-of node 36 _ refl; quality_apart = apart-of node 36 _ refl; time_apart = apart-of node 36 _ refl }
+operation-apart node =
+    record {
+      value_apart = apart-of node 36 _ refl;
+      quality_apart = apart-of node 36 _ refl;
+      time_apart = apart-of node 36 _ refl;
+    }
 
 opening-apart : (node : List ℕ) → AreApart (opening_names node)
-opening-apart node = record { value_apart = apart-of node 36 _ refl; quality_apart = apart-of node 36 _ refl; time_apart = apart-of node 36 _ refl }
+opening-apart node =
+    record {
+      value_apart = apart-of node 36 _ refl;
+      quality_apart = apart-of node 36 _ refl;
+      time_apart = apart-of node 36 _ refl;
+    }
 
 closing-apart : (node : List ℕ) → AreApart (closing_names node)
-closing-apart node = record { value_apart = apart-of node 36 _ refl; quality_apart = apart-of node 36 _ refl; time_apart = apart-of node 36 _ refl }
+closing-apart node =
+    record {
+      value_apart = apart-of node 36 _ refl;
+      quality_apart = apart-of node 36 _ refl;
+      time_apart = apart-of node 36 _ refl;
+    }
 
 total-apart : (node : List ℕ) (object : List ℕ) → AreApart (total_names node (36 ∷ object))
-total-apart node object = record { value_apart = behind-apart node 36 object (codes "$mag$i") refl; quality_apart = behind-apart node 36 object (codes "$q") refl; time_apart = behind-apart node 36 object (codes "$t") refl }
+total-apart node object =
+    record {
+      value_apart = behind-apart node 36 object (codes "$mag$i") refl;
+      quality_apart = behind-apart node 36 object (codes "$q") refl;
+      time_apart = behind-apart node 36 object (codes "$t") refl;
+    }
 
 phase-apart : (node : List ℕ) (object : List ℕ) → AreApart (phase_names node (36 ∷ object))
-phase-apart node object = record { value_apart = behind-apart node 36 object (codes "$cVal$mag$i") refl; quality_apart = behind-apart node 36 object (codes "$q") refl; time_apart = behind-apart node 36 object (codes "$t") refl }
+phase-apart node object =
+    record {
+      value_apart = behind-apart node 36 object (codes "$cVal$mag$i") refl;
+      quality_apart = behind-apart node 36 object (codes "$q") refl;
+      time_apart = behind-apart node 36 object (codes "$t") refl;
+    }
 
 abbrev meter_node : ℕ → List ℕ
 meter_node k = node_name (codes "MMXU") (k + 1)
@@ -106,15 +143,21 @@ module _ (controls : State) (count : ℕ) where
   shows-if true x y p q = p
   shows-if false x y p q = q
 
-  shows-status : (names : StatusNames) (value : Leaf) (q : Quality) (now : ℕ) (rows : List Row) → AreApart names → Shows rows → Shows (with_status names value q now rows)
+  shows-status : (names : StatusNames) (value : Leaf) (q : Quality) (now : ℕ) (rows : List Row)
+      → AreApart names → Shows rows → Shows (with_status names value q now rows)
   shows-status names value q now rows apart shows =
       shown_kept controls count _ names.time _ apart.time_apart
-      (shown_kept controls count _ names.quality _ apart.quality_apart (shown_kept controls count rows names.value _ apart.value_apart shows))
+      (shown_kept controls count _ names.quality _ apart.quality_apart
+      (shown_kept controls count rows names.value _ apart.value_apart shows))
 
-  shows-counted : (names : StatusNames) (o : Option Leaf) (now : ℕ) (rows : List Row) → AreApart names → Shows rows → Shows (counted names o now rows)
+  shows-counted : (names : StatusNames) (o : Option Leaf) (now : ℕ) (rows : List Row)
+      → AreApart names → Shows rows → Shows (counted names o now rows)
   shows-counted names (Some (leaf.Int32 n)) now rows apart shows =
-      shows-if (int_lt n (pos 2147483647)) (with_leaf_of names.time (leaf.Utc now) (with_leaf_of names.value (leaf.Int32 (n +ℤ pos 1)) rows)) rows
-      (shown_kept controls count _ names.time _ apart.time_apart (shown_kept controls count rows names.value _ apart.value_apart shows)) shows
+      shows-if (int_lt n (pos 2147483647))
+      (with_leaf_of names.time (leaf.Utc now)
+      (with_leaf_of names.value (leaf.Int32 (n +ℤ pos 1)) rows)) rows
+      (shown_kept controls count _ names.time _ apart.time_apart
+      (shown_kept controls count rows names.value _ apart.value_apart shows)) shows
   shows-counted names None now rows apart shows = shows
   shows-counted names (Some (leaf.Truth b)) now rows apart shows = shows
   shows-counted names (Some (leaf.Dbpos p)) now rows apart shows = shows
@@ -127,47 +170,72 @@ module _ (controls : State) (count : ℕ) where
   shows-counted names (Some (leaf.Text n)) now rows apart shows = shows
   shows-counted names (Some (leaf.Utc n)) now rows apart shows = shows
 
-  pub shows-contact : (switches : List Switch) (j : ℕ) (switch : Switch) (position : Dbpos) (now : ℕ) (rows : List Row) → Shows rows
+  pub shows-contact : (switches : List Switch) (j : ℕ) (switch : Switch) (position : Dbpos)
+      (now : ℕ) (rows : List Row) → Shows rows
       → Shows (rows_after_contact (switch_names switches j switch) position now rows)
   shows-contact switches j switch position now rows shows =
       let names = switch_names switches j switch in
-      let told = with_status names.position (leaf.Dbpos position) (position_quality position) now rows in
-      let after = with_status names.control (leaf.Dbpos position) (position_quality position) now told in
+      let told =
+      with_status names.position (leaf.Dbpos position) (position_quality position) now rows in
+      let after =
+      with_status names.control (leaf.Dbpos position) (position_quality position) now told in
       let both : Shows after =
-      shows-status names.control _ _ now told (position-apart (control_of j)) (shows-status names.position _ _ now rows (position-apart (node_of switches j switch)) shows) in
+      shows-status names.control _ _ now told (position-apart (control_of j))
+      (shows-status names.position _ _ now rows (position-apart (node_of switches j switch))
+      shows) in
       let counted = operation_counted names.operations now after in
-      shows-if (tells names.position position rows) rows (rows_after_change names position now rows) shows
+      shows-if (tells names.position position rows) rows (rows_after_change names position now rows)
+      shows
       (shows-if (is_operation position (leaf_of names.position.value rows)) counted after
-      (shows-counted names.operations (leaf_of names.operations.value after) now after (operation-apart (node_of switches j switch)) both) both)
+      (shows-counted names.operations (leaf_of names.operations.value after) now after
+      (operation-apart (node_of switches j switch)) both) both)
 
-  pub shows-measure : (k : ℕ) (field : MeterField) (value : ℤ) (now : ℕ) (rows : List Row) → Shows rows → Shows (rows_after_measure (field_names field (meter_names k)) value now rows)
+  pub shows-measure : (k : ℕ) (field : MeterField) (value : ℤ) (now : ℕ) (rows : List Row)
+      → Shows rows → Shows (rows_after_measure (field_names field (meter_names k)) value now rows)
   shows-measure k field value now rows shows =
       shows-if (tells_measure (field_names field (meter_names k)) value rows) rows _ shows
-      (shows-status (field_names field (meter_names k)) (leaf.Int32 value) Good now rows (field-apart k field) shows)
+      (shows-status (field_names field (meter_names k)) (leaf.Int32 value) Good now rows
+      (field-apart k field) shows)
 
-  shows-enabled : (names : StatusNames) (value : Bool) (now : ℕ) (rows : List Row) → AreApart names → Shows rows → Shows (with_enabled names value now rows)
+  shows-enabled : (names : StatusNames) (value : Bool) (now : ℕ) (rows : List Row) → AreApart names
+      → Shows rows → Shows (with_enabled names value now rows)
   shows-enabled names value now rows apart shows =
-      shows-if _ rows (with_status names (leaf.Truth value) Good now rows) shows (shows-status names (leaf.Truth value) Good now rows apart shows)
+      shows-if _ rows (with_status names (leaf.Truth value) Good now rows) shows
+      (shows-status names (leaf.Truth value) Good now rows apart shows)
 
   -- both interlocking values of a switch, at handles that have its names
-  shows-output : (layout : Layout) (k : ℕ) (own : SwitchRows) (opens closes : Bool) (now : ℕ) (rows : List Row) → AreEnabling layout k own → Shows rows
+  shows-output : (layout : Layout) (k : ℕ) (own : SwitchRows) (opens closes : Bool) (now : ℕ)
+      (rows : List Row) → AreEnabling layout k own → Shows rows
       → Shows (with_output (switch_in layout own) opens closes now rows)
   shows-output layout k own opens closes now rows named shows =
-      subst (λ (o : StatusNames). Shows (with_enabled (status_in layout own.ena_cls) closes now (with_enabled o opens now rows))) (sym named.opening)
-      (subst (λ (o : StatusNames). Shows (with_enabled o closes now (with_enabled (opening_of k) opens now rows))) (sym named.closing)
-      (shows-enabled (closing_names (interlocking_of k)) closes now _ (closing-apart (interlocking_of k)) (shows-enabled (opening_names (interlocking_of k)) opens now rows (opening-apart (interlocking_of k)) shows)))
+      subst (λ (o : StatusNames). Shows
+      (with_enabled (status_in layout own.ena_cls) closes now (with_enabled o opens now rows)))
+      (sym named.opening)
+      (subst (λ (o : StatusNames). Shows
+      (with_enabled o closes now (with_enabled (opening_of k) opens now rows)))
+      (sym named.closing)
+      (shows-enabled (closing_names (interlocking_of k)) closes now _
+      (closing-apart (interlocking_of k))
+      (shows-enabled (opening_names (interlocking_of k)) opens now rows
+      (opening-apart (interlocking_of k)) shows)))
 
-  shows-outputs : (layout : Layout) (outputs : List Value) (now k : ℕ) (bound : List BoundSwitch) (rows : List Row)
-      → ((j : ℕ) (b : BoundSwitch) → slice_get bound j ≡ Some b → AreEnabling layout (k + j) b.rows) → Shows rows → Shows (outputs_put layout bound outputs now rows)
+  shows-outputs : (layout : Layout) (outputs : List Value) (now k : ℕ) (bound : List BoundSwitch)
+      (rows : List Row)
+      → ((j : ℕ) (b : BoundSwitch) → slice_get bound j ≡ Some b → AreEnabling layout (k + j) b.rows)
+      → Shows rows → Shows (outputs_put layout bound outputs now rows)
   shows-outputs layout outputs now k [] rows all shows = shows
   shows-outputs layout outputs now k (b ∷ bs) rows all shows =
       let none : k + 0 ≡ k = omega arith in
       shows-outputs layout outputs now (k + 1) bs _
-      (λ j c h. let more : k + suc j ≡ k + 1 + j = omega arith in subst (λ m. AreEnabling layout m c.rows) more (all (suc j) c h))
-      (shows-output layout k b.rows _ _ now rows (subst (λ m. AreEnabling layout m b.rows) none (all 0 b refl)) shows)
+      (λ j c h. let more : k + suc j ≡ k + 1 + j = omega arith in
+      subst (λ m. AreEnabling layout m c.rows) more (all (suc j) c h))
+      (shows-output layout k b.rows _ _ now rows
+      (subst (λ m. AreEnabling layout m b.rows) none (all 0 b refl)) shows)
 
-  pub shows-scan : (layout : Layout) (outputs : List Value) (now : ℕ) (bound : List BoundSwitch) (rows : List Row) → AreInterlocked layout bound → Shows rows
+  pub shows-scan : (layout : Layout) (outputs : List Value) (now : ℕ) (bound : List BoundSwitch)
+      (rows : List Row) → AreInterlocked layout bound → Shows rows
       → Shows (outputs_put layout bound outputs now rows)
   shows-scan layout outputs now bound rows all shows =
       shows-outputs layout outputs now 0 bound rows
-      (λ j b h. let none : j ≡ 0 + j = omega arith in subst (λ m. AreEnabling layout m b.rows) none (all j b h).named) shows
+      (λ j b h. let none : j ≡ 0 + j = omega arith in
+      subst (λ m. AreEnabling layout m b.rows) none (all j b h).named) shows

@@ -14,7 +14,7 @@ use Rattle.bay_services.specs.Released.{AreTimed, Leaves, releasing}
 use Rattle.bay_services.specs.Released as services
 use Rattle.bay_services.specs.declared.answer.Command.{Command}
 use Rattle.bay_services.proofs.ReleaseLemmas.{Sole, all-of, answer-sent, at-most-one, busy-still, commands-each, idle-now, leaves-none, leaves-then, leaves-with, request-leaves, sole-said}
-use Rattle.bay_device.specs.Commands.{AllCommanded, AreCommanded, IsReleased, IsSingle}
+use Rattle.bay_device.specs.Commands.{AllCommanded, AreCommanded, IsReleasedAt, IsSingle}
 use Rattle.bay_device.specs.Device.{State, advanced, bay_of, ended_at, is_fresh}
 use Rattle.bay_device.specs.Hearing.{Done, Heard, client_at, heard, on_heard, said, sent_on, with_sent}
 use Rattle.bay_device.specs.Outcomes.{Outcome, close_outcome, connection_at, contact_outcome, event_outcome, input_outcome, first_talk, last_moment, measure_outcome, nothing_done, octets_outcome, open_outcome, outcome, outcomes, place_of, recv_after, recv_outcome, with_connection, without_owner}
@@ -29,55 +29,76 @@ use Rattle.bay_device.specs.declared.fault.StepFault.{StepFault}
 record Makes (now : ℕ) (s : State) (d : Done) : Type 0 where
   leaves : Leaves now (bay_of s) (bay_of d.state)
   fresh : is_fresh now d.state ≡ is_fresh now s
-  released : AllByRecursion (IsReleased now s) d.commands
+  released : AllByRecursion (IsReleasedAt now s) d.commands
   replied : d.commands ≢ [] → d.sent ≢ []
   sole : AreTimed s.controls.controls → Sole now d.commands d.state.controls
 
 begins : (now : ℕ) (s : State) → Makes now s (nothing_done (advanced now s))
 begins now s = record {
-  leaves = leaves-with now (bay_of s) (bay_of s) (control.advanced now s.controls) (leaves-none now (bay_of s)) (busy-still now s.controls);
+  leaves =
+      leaves-with now (bay_of s) (bay_of s) (control.advanced now s.controls)
+      (leaves-none now (bay_of s)) (busy-still now s.controls);
   fresh = refl;
   released = tt;
   replied = λ some. absurd (some refl);
   sole = λ timed. record { timed = timed; single = tt };
 }
 
-enabled-before : (now k : ℕ) (on : Bool) (b d : Bay) → Leaves now b d → is_truth true (leaf_of (releasing k on) d.rows) ≡ true → is_truth true (leaf_of (releasing k on) b.rows) ≡ true
+enabled-before : (now k : ℕ) (on : Bool) (b d : Bay) → Leaves now b d
+    → is_truth true (leaf_of (releasing k on) d.rows) ≡ true
+    → is_truth true (leaf_of (releasing k on) b.rows) ≡ true
 enabled-before now k true b d left h = ap (is_truth true) (sym (left.enabled k _)) ∙ h
 enabled-before now k false b d left h = ap (is_truth true) (sym (left.enabled k _)) ∙ h
 
-released-before : (now a : ℕ) (terms : Terms) (s : State) (d : Done) (command : Command) → Makes now s d → services.IsReleased (client_at now a terms d.state) (bay_of d.state) command
-    → IsReleased now s command
+released-before : (now a : ℕ) (terms : Terms) (s : State) (d : Done) (command : Command)
+    → Makes now s d → services.IsReleased (client_at now a terms d.state) (bay_of d.state) command
+    → IsReleasedAt now s command
 released-before now a terms s d command makes is = record {
   fresh = sym makes.fresh ∙ is.fresh;
-  enabled = enabled-before now command.switch command.on (bay_of s) (bay_of d.state) makes.leaves is.enabled;
-  idle = idle-now now s.controls d.state.controls (control.advanced now s.controls).execution makes.leaves.busy is.idle refl;
+  enabled =
+      enabled-before now command.switch command.on (bay_of s) (bay_of d.state) makes.leaves
+      is.enabled;
+  idle = idle-now now s.controls d.state.controls (control.advanced now s.controls).execution
+      makes.leaves.busy is.idle refl;
 }
 
-all-before : (now a : ℕ) (terms : Terms) (s : State) (d : Done) (commands : List Command) → Makes now s d
-    → AllByRecursion (services.IsReleased (client_at now a terms d.state) (bay_of d.state)) commands → AllByRecursion (IsReleased now s) commands
+all-before : (now a : ℕ) (terms : Terms) (s : State) (d : Done) (commands : List Command)
+    → Makes now s d
+    → AllByRecursion (services.IsReleased (client_at now a terms d.state) (bay_of d.state)) commands
+    → AllByRecursion (IsReleasedAt now s) commands
 all-before now a terms s d [] makes all = tt
-all-before now a terms s d (x ∷ commands) makes all = (released-before now a terms s d x makes all.0, all-before now a terms s d commands makes all.1)
+all-before now a terms s d (x ∷ commands) makes all =
+    (released-before now a terms s d x makes all.0, all-before now a terms s d commands makes all.1)
 
-joined : (now : ℕ) (s : State) (first more : List Command) → AllByRecursion (IsReleased now s) first → AllByRecursion (IsReleased now s) more → AllByRecursion (IsReleased now s) (first ++ more)
+joined : (now : ℕ) (s : State) (first more : List Command)
+    → AllByRecursion (IsReleasedAt now s) first → AllByRecursion (IsReleasedAt now s) more
+    → AllByRecursion (IsReleasedAt now s) (first ++ more)
 joined now s [] more p q = q
 joined now s (x ∷ first) more p q = (p.0, joined now s first more p.1 q)
 
 -- an answer has something to send
-not-empty : {A B : Type 0} (f : A → B) (before : List B) (xs : List A) → xs ≢ [] → before ++ map f xs ≢ []
+not-empty : {A B : Type 0} (f : A → B) (before : List B) (xs : List A) → xs ≢ []
+    → before ++ map f xs ≢ []
 not-empty f [] [] some = absurd (some refl)
 not-empty f [] (x ∷ xs) some = λ e. cc
 not-empty f (b ∷ before) xs some = λ e. cc
 
-makes-said : (now a : ℕ) (terms : Terms) (pdu : List ℕ) (s : State) (d : Done) → Makes now s d → Makes now s (said now a terms pdu d)
+makes-said : (now a : ℕ) (terms : Terms) (pdu : List ℕ) (s : State) (d : Done) → Makes now s d
+    → Makes now s (said now a terms pdu d)
 makes-said now a terms pdu s d makes =
     let c = client_at now a terms d.state in
     let b = bay_of d.state in
     record {
-      leaves = leaves-then now (bay_of s) b (answered c pdu b).after makes.leaves (request-leaves c pdu b);
+      leaves =
+          leaves-then now (bay_of s) b (answered c pdu b).after makes.leaves
+          (request-leaves c pdu b);
       fresh = makes.fresh;
-      released = joined now s d.commands (answered c pdu b).commands makes.released (all-before now a terms s d (answered c pdu b).commands makes (commands-each c pdu b));
-      replied = λ some. not-empty (λ x. sent_on a (sending terms x)) d.sent (answered c pdu b).sent (answer-sent c pdu b);
+      released =
+          joined now s d.commands (answered c pdu b).commands makes.released
+          (all-before now a terms s d (answered c pdu b).commands makes (commands-each c pdu b));
+      replied =
+          λ some. not-empty (λ x. sent_on a (sending terms x)) d.sent (answered c pdu b).sent
+          (answer-sent c pdu b);
       sole = λ timed. sole-said c pdu b d.commands (makes.sole timed);
     }
 
@@ -88,209 +109,307 @@ snoc-some (y ∷ xs) x e = cc
 sent-some : (a : ℕ) (octets : List ℕ) (d : Done) → (with_sent a octets d).sent ≢ []
 sent-some a octets d = snoc-some d.sent (sent_on a octets)
 
-makes-sent : (now a : ℕ) (octets : List ℕ) (s : State) (d : Done) → Makes now s d → Makes now s (with_sent a octets d)
-makes-sent now a octets s d makes = record { leaves = makes.leaves; fresh = makes.fresh; released = makes.released; replied = λ some. sent-some a octets d; sole = makes.sole }
+makes-sent : (now a : ℕ) (octets : List ℕ) (s : State) (d : Done) → Makes now s d
+    → Makes now s (with_sent a octets d)
+makes-sent now a octets s d makes =
+    record {
+      leaves = makes.leaves;
+      fresh = makes.fresh;
+      released = makes.released;
+      replied = λ some. sent-some a octets d;
+      sole = makes.sole;
+    }
 
-makes-one : (now a : ℕ) (i : Indication) (s : State) (d : Done) (later : Done → Heard) → Makes now s d → ((e : Done) → Makes now s e → Makes now s (later e).done)
+makes-one : (now a : ℕ) (i : Indication) (s : State) (d : Done) (later : Done → Heard)
+    → Makes now s d → ((e : Done) → Makes now s e → Makes now s (later e).done)
     → Makes now s (on_heard now a i d later).done
 makes-one now a (answers octets) s d later makes rest = rest _ (makes-sent now a octets s d makes)
-makes-one now a (tells terms pdu) s d later makes rest = rest _ (makes-said now a terms pdu s d makes)
+makes-one now a (tells terms pdu) s d later makes rest =
+    rest _ (makes-said now a terms pdu s d makes)
 makes-one now a (releases octets) s d later makes rest = makes-sent now a octets s d makes
 makes-one now a ends-heard s d later makes rest = makes
 makes-one now a (fails code) s d later makes rest = makes
 
-makes-heard : (choice : Option ℕ) (now a : ℕ) (is : List Indication) (s : State) (d : Done) → Makes now s d → Makes now s (heard choice now a is d).done
+makes-heard : (choice : Option ℕ) (now a : ℕ) (is : List Indication) (s : State) (d : Done)
+    → Makes now s d → Makes now s (heard choice now a is d).done
 makes-heard None now a [] s d makes = makes
-makes-heard None now a (i ∷ is) s d makes = makes-one now a i s d (heard None now a is) makes (λ e m. makes-heard None now a is s e m)
+makes-heard None now a (i ∷ is) s d makes =
+    makes-one now a i s d (heard None now a is) makes (λ e m. makes-heard None now a is s e m)
 makes-heard (Some zero) now a [] s d makes = makes
 makes-heard (Some zero) now a (i ∷ is) s d makes = makes
 makes-heard (Some (suc n)) now a [] s d makes = makes
-makes-heard (Some (suc n)) now a (i ∷ is) s d makes = makes-one now a i s d (heard (Some n) now a is) makes (λ e m. makes-heard (Some n) now a is s e m)
+makes-heard (Some (suc n)) now a (i ∷ is) s d makes =
+    makes-one now a i s d (heard (Some n) now a is) makes
+    (λ e m. makes-heard (Some n) now a is s e m)
 
 -- ---- events
 
 abbrev Commanded : ℕ → State → Result Step StepFault → Type 0
 Commanded now s answer = IfOk answer (AreCommanded now s)
 
-none-commanded : (now : ℕ) (s : State) (ended : Option Sent) (scan : Option ℕ) → AreCommanded now s (record { ended = ended; sent = []; commands = []; closed = None; scan = scan })
-none-commanded now s ended scan = record { released = λ k d lt. absurd (omega (arith, lt)); replied = λ some. absurd (some refl) }
+none-commanded : (now : ℕ) (s : State) (ended : Option Sent) (scan : Option ℕ)
+    → AreCommanded now s (record
+    { ended = ended; sent = []; commands = []; closed = None; scan = scan })
+none-commanded now s ended scan =
+    record { released = λ k d lt. absurd (omega (arith, lt)); replied = λ some. absurd (some refl) }
 
-octets-commanded : (choice : Option ℕ) (now a : ℕ) (s : State) (talk : Talk) (octets : List ℕ) → Commanded now s (octets_outcome choice now a s talk octets).answer
+octets-commanded : (choice : Option ℕ) (now a : ℕ) (s : State) (talk : Talk) (octets : List ℕ)
+    → Commanded now s (octets_outcome choice now a s talk octets).answer
 octets-commanded choice now a s talk [] = none-commanded now s (ended_at now s) None
 octets-commanded choice now a s talk (octet ∷ octets) =
-    let makes = makes-heard choice now a (indications talk (octet ∷ octets)) s (nothing_done (advanced now s)) (begins now s) in
-    record { released = all-of (IsReleased now s) _ makes.released; replied = makes.replied }
+    let makes =
+    makes-heard choice now a (indications talk (octet ∷ octets)) s
+    (nothing_done (advanced now s)) (begins now s) in
+    record { released = all-of (IsReleasedAt now s) _ makes.released; replied = makes.replied }
 
-recv-commanded : (choice : Option ℕ) (now a : ℕ) (octets : List ℕ) (s : State) (talk : Option Talk) → Commanded now s (recv_outcome choice now a octets s talk).answer
+recv-commanded : (choice : Option ℕ) (now a : ℕ) (octets : List ℕ) (s : State) (talk : Option Talk)
+    → Commanded now s (recv_outcome choice now a octets s talk).answer
 recv-commanded choice now a octets s None = tt
 recv-commanded choice now a octets s (Some talk) = octets-commanded choice now a s talk octets
 
-open-commanded : (now a : ℕ) (s : State) (o : Option ℕ) (talk : Option Talk) → Commanded now s (open_outcome now a s o talk).answer
+open-commanded : (now a : ℕ) (s : State) (o : Option ℕ) (talk : Option Talk)
+    → Commanded now s (open_outcome now a s o talk).answer
 open-commanded now a s None talk = tt
 open-commanded now a s (Some place) (Some talk) = tt
 open-commanded now a s (Some place) None = none-commanded now s (ended_at now s) None
 
-close-commanded : (now a : ℕ) (s : State) (talk : Option Talk) → Commanded now s (close_outcome now a s talk).answer
+close-commanded : (now a : ℕ) (s : State) (talk : Option Talk)
+    → Commanded now s (close_outcome now a s talk).answer
 close-commanded now a s None = tt
 close-commanded now a s (Some talk) = none-commanded now s (ended_at now s) None
 
-contact-commanded : (now k : ℕ) (position : Dbpos) (s : State) (o : Option Switch) → Commanded now s (contact_outcome now k position s o).answer
+contact-commanded : (now k : ℕ) (position : Dbpos) (s : State) (o : Option Switch)
+    → Commanded now s (contact_outcome now k position s o).answer
 contact-commanded now k position s None = tt
 contact-commanded now k position s (Some switch) = none-commanded now s _ None
 
-input-commanded : (now k : ℕ) (value : Bool) (s : State) (o : Option Bool) → Commanded now s (input_outcome now k value s o).answer
+input-commanded : (now k : ℕ) (value : Bool) (s : State) (o : Option Bool)
+    → Commanded now s (input_outcome now k value s o).answer
 input-commanded now k value s None = tt
 input-commanded now k value s (Some before) = none-commanded now s (ended_at now s) None
 
-measure-commanded : (now k : ℕ) (field : MeterField) (value : _) (s : State) (o : Option (List ℕ)) → Commanded now s (measure_outcome now k field value s o).answer
+measure-commanded : (now k : ℕ) (field : MeterField) (value : _) (s : State) (o : Option (List ℕ))
+    → Commanded now s (measure_outcome now k field value s o).answer
 measure-commanded now k field value s None = tt
 measure-commanded now k field value s (Some id) = none-commanded now s (ended_at now s) None
 
-event-commanded : (choice : Option ℕ) (now : ℕ) (event : Event) (s : State) → Commanded now s (event_outcome choice now event s).answer
-event-commanded choice now (Open a) s = open-commanded now a s (place_of a) (connection_at (place_of a) s)
-event-commanded choice now (Recv a octets) s = recv-commanded choice now a octets.now s (connection_at (place_of a) s)
+event-commanded : (choice : Option ℕ) (now : ℕ) (event : Event) (s : State)
+    → Commanded now s (event_outcome choice now event s).answer
+event-commanded choice now (Open a) s =
+    open-commanded now a s (place_of a) (connection_at (place_of a) s)
+event-commanded choice now (Recv a octets) s =
+    recv-commanded choice now a octets.now s (connection_at (place_of a) s)
 event-commanded choice now (Close a) s = close-commanded now a s (connection_at (place_of a) s)
-event-commanded choice now (Contact k position) s = contact-commanded now k position s (slice_get s.switches k)
-event-commanded choice now (Input k value) s = input-commanded now k value s (slice_get s.input_values k)
-event-commanded choice now (Measure k field value) s = measure-commanded now k field value s (slice_get s.meters k)
+event-commanded choice now (Contact k position) s =
+    contact-commanded now k position s (slice_get s.switches k)
+event-commanded choice now (Input k value) s =
+    input-commanded now k value s (slice_get s.input_values k)
+event-commanded choice now (Measure k field value) s =
+    measure-commanded now k field value s (slice_get s.meters k)
 event-commanded choice now Scan s = none-commanded now s (ended_at now s) _
 
-commanded-if : (b : Bool) (now : ℕ) (s : State) (x y : Outcome) → Commanded now s x.answer → Commanded now s y.answer → Commanded now s (cond b x y).answer
+commanded-if : (b : Bool) (now : ℕ) (s : State) (x y : Outcome) → Commanded now s x.answer
+    → Commanded now s y.answer → Commanded now s (cond b x y).answer
 commanded-if true now s x y p q = p
 commanded-if false now s x y p q = q
 
-pub step-commanded : (choice : Option ℕ) (now : ℕ) (event : Event) (s : State) → Commanded now s (outcome choice now event s).answer
-step-commanded choice now event s = commanded-if (nat_lt last_moment now) now s _ _ tt (commanded-if (nat_lt now s.moment) now s _ _ tt (event-commanded choice now event s))
+pub step-commanded : (choice : Option ℕ) (now : ℕ) (event : Event) (s : State)
+    → Commanded now s (outcome choice now event s).answer
+step-commanded choice now event s =
+    commanded-if (nat_lt last_moment now) now s _ _ tt
+    (commanded-if (nat_lt now s.moment) now s _ _ tt (event-commanded choice now event s))
 
-pub all-commanded : (choices : List (Option ℕ)) (events : List (ℕ × Event)) (s : State) → AllCommanded choices events s
+pub all-commanded : (choices : List (Option ℕ)) (events : List (ℕ × Event)) (s : State)
+    → AllCommanded choices events s
 all-commanded choices [] s = tt
-all-commanded [] (e ∷ es) s = (step-commanded None e.0 e.1 s, all-commanded [] es (outcome None e.0 e.1 s).after)
-all-commanded (choice ∷ choices) (e ∷ es) s = (step-commanded choice e.0 e.1 s, all-commanded choices es (outcome choice e.0 e.1 s).after)
+all-commanded [] (e ∷ es) s =
+    (step-commanded None e.0 e.1 s, all-commanded [] es (outcome None e.0 e.1 s).after)
+all-commanded (choice ∷ choices) (e ∷ es) s =
+    (step-commanded choice e.0 e.1 s, all-commanded choices es (outcome choice e.0 e.1 s).after)
 
 -- ---- one command at most
 
 none-single : 0 ≤ 1
 none-single = omega arith
 
-octets-single : (choice : Option ℕ) (now a : ℕ) (s : State) (talk : Talk) (octets : List ℕ) → AreTimed s.controls.controls → IsSingle (octets_outcome choice now a s talk octets).answer
+octets-single : (choice : Option ℕ) (now a : ℕ) (s : State) (talk : Talk) (octets : List ℕ)
+    → AreTimed s.controls.controls → IsSingle (octets_outcome choice now a s talk octets).answer
 octets-single choice now a s talk [] timed = none-single
 octets-single choice now a s talk (octet ∷ octets) timed =
-    let made = heard choice now a (indications talk (octet ∷ octets)) (nothing_done (advanced now s)) in
-    let makes = makes-heard choice now a (indications talk (octet ∷ octets)) s (nothing_done (advanced now s)) (begins now s) in
+    let made =
+    heard choice now a (indications talk (octet ∷ octets)) (nothing_done (advanced now s)) in
+    let makes =
+    makes-heard choice now a (indications talk (octet ∷ octets)) s
+    (nothing_done (advanced now s)) (begins now s) in
     at-most-one now made.done.commands made.done.state.controls (makes.sole timed).single
 
-recv-single : (choice : Option ℕ) (now a : ℕ) (octets : List ℕ) (s : State) (talk : Option Talk) → AreTimed s.controls.controls → IsSingle (recv_outcome choice now a octets s talk).answer
+recv-single : (choice : Option ℕ) (now a : ℕ) (octets : List ℕ) (s : State) (talk : Option Talk)
+    → AreTimed s.controls.controls → IsSingle (recv_outcome choice now a octets s talk).answer
 recv-single choice now a octets s None timed = tt
 recv-single choice now a octets s (Some talk) timed = octets-single choice now a s talk octets timed
 
-open-single : (now a : ℕ) (s : State) (o : Option ℕ) (talk : Option Talk) → IsSingle (open_outcome now a s o talk).answer
+open-single : (now a : ℕ) (s : State) (o : Option ℕ) (talk : Option Talk)
+    → IsSingle (open_outcome now a s o talk).answer
 open-single now a s None talk = tt
 open-single now a s (Some place) (Some talk) = tt
 open-single now a s (Some place) None = none-single
 
-close-single : (now a : ℕ) (s : State) (talk : Option Talk) → IsSingle (close_outcome now a s talk).answer
+close-single : (now a : ℕ) (s : State) (talk : Option Talk)
+    → IsSingle (close_outcome now a s talk).answer
 close-single now a s None = tt
 close-single now a s (Some talk) = none-single
 
-contact-single : (now k : ℕ) (position : Dbpos) (s : State) (o : Option Switch) → IsSingle (contact_outcome now k position s o).answer
+contact-single : (now k : ℕ) (position : Dbpos) (s : State) (o : Option Switch)
+    → IsSingle (contact_outcome now k position s o).answer
 contact-single now k position s None = tt
 contact-single now k position s (Some switch) = none-single
 
-input-single : (now k : ℕ) (value : Bool) (s : State) (o : Option Bool) → IsSingle (input_outcome now k value s o).answer
+input-single : (now k : ℕ) (value : Bool) (s : State) (o : Option Bool)
+    → IsSingle (input_outcome now k value s o).answer
 input-single now k value s None = tt
 input-single now k value s (Some before) = none-single
 
-measure-single : (now k : ℕ) (field : MeterField) (value : _) (s : State) (o : Option (List ℕ)) → IsSingle (measure_outcome now k field value s o).answer
+measure-single : (now k : ℕ) (field : MeterField) (value : _) (s : State) (o : Option (List ℕ))
+    → IsSingle (measure_outcome now k field value s o).answer
 measure-single now k field value s None = tt
 measure-single now k field value s (Some id) = none-single
 
-event-single : (choice : Option ℕ) (now : ℕ) (event : Event) (s : State) → AreTimed s.controls.controls → IsSingle (event_outcome choice now event s).answer
-event-single choice now (Open a) s timed = open-single now a s (place_of a) (connection_at (place_of a) s)
-event-single choice now (Recv a octets) s timed = recv-single choice now a octets.now s (connection_at (place_of a) s) timed
+event-single : (choice : Option ℕ) (now : ℕ) (event : Event) (s : State)
+    → AreTimed s.controls.controls → IsSingle (event_outcome choice now event s).answer
+event-single choice now (Open a) s timed =
+    open-single now a s (place_of a) (connection_at (place_of a) s)
+event-single choice now (Recv a octets) s timed =
+    recv-single choice now a octets.now s (connection_at (place_of a) s) timed
 event-single choice now (Close a) s timed = close-single now a s (connection_at (place_of a) s)
-event-single choice now (Contact k position) s timed = contact-single now k position s (slice_get s.switches k)
-event-single choice now (Input k value) s timed = input-single now k value s (slice_get s.input_values k)
-event-single choice now (Measure k field value) s timed = measure-single now k field value s (slice_get s.meters k)
+event-single choice now (Contact k position) s timed =
+    contact-single now k position s (slice_get s.switches k)
+event-single choice now (Input k value) s timed =
+    input-single now k value s (slice_get s.input_values k)
+event-single choice now (Measure k field value) s timed =
+    measure-single now k field value s (slice_get s.meters k)
 event-single choice now Scan s timed = none-single
 
-single-if : (b : Bool) (x y : Outcome) → IsSingle x.answer → IsSingle y.answer → IsSingle (cond b x y).answer
+single-if : (b : Bool) (x y : Outcome) → IsSingle x.answer → IsSingle y.answer
+    → IsSingle (cond b x y).answer
 single-if true x y p q = p
 single-if false x y p q = q
 
-pub step-single : (choice : Option ℕ) (now : ℕ) (event : Event) (s : State) → AreTimed s.controls.controls → IsSingle (outcome choice now event s).answer
-step-single choice now event s timed = single-if (nat_lt last_moment now) _ _ tt (single-if (nat_lt now s.moment) _ _ tt (event-single choice now event s timed))
+pub step-single : (choice : Option ℕ) (now : ℕ) (event : Event) (s : State)
+    → AreTimed s.controls.controls → IsSingle (outcome choice now event s).answer
+step-single choice now event s timed =
+    single-if (nat_lt last_moment now) _ _ tt
+    (single-if (nat_lt now s.moment) _ _ tt (event-single choice now event s timed))
 
 -- ---- what the bay file says of controls stays
 
-heard-timed : (choice : Option ℕ) (now a : ℕ) (is : List Indication) (s : State) → AreTimed s.controls.controls
+heard-timed : (choice : Option ℕ) (now a : ℕ) (is : List Indication) (s : State)
+    → AreTimed s.controls.controls
     → AreTimed (heard choice now a is (nothing_done (advanced now s))).done.state.controls.controls
-heard-timed choice now a is s timed = ((makes-heard choice now a is s (nothing_done (advanced now s)) (begins now s)).sole timed).timed
+heard-timed choice now a is s timed =
+    ((makes-heard choice now a is s (nothing_done (advanced now s)) (begins now s)).sole
+    timed).timed
 
-with-connection-timed : (o : Option ℕ) (talk : Option Talk) (s : State) → AreTimed s.controls.controls → AreTimed (with_connection o talk s).controls.controls
+with-connection-timed : (o : Option ℕ) (talk : Option Talk) (s : State)
+    → AreTimed s.controls.controls → AreTimed (with_connection o talk s).controls.controls
 with-connection-timed None talk s timed = timed
 with-connection-timed (Some place) talk s timed = timed
 
-after-timed : (a : ℕ) (left : Talk) (s : State) (why : Option Why) → AreTimed s.controls.controls → AreTimed (recv_after a left s why).controls.controls
+after-timed : (a : ℕ) (left : Talk) (s : State) (why : Option Why) → AreTimed s.controls.controls
+    → AreTimed (recv_after a left s why).controls.controls
 after-timed a left s None timed = with-connection-timed (place_of a) (Some left) s timed
-after-timed a left s (Some why) timed = with-connection-timed (place_of a) None (without_owner a s) timed
+after-timed a left s (Some why) timed =
+    with-connection-timed (place_of a) None (without_owner a s) timed
 
-octets-timed : (choice : Option ℕ) (now a : ℕ) (s : State) (talk : Talk) (octets : List ℕ) → AreTimed s.controls.controls
+octets-timed : (choice : Option ℕ) (now a : ℕ) (s : State) (talk : Talk) (octets : List ℕ)
+    → AreTimed s.controls.controls
     → AreTimed (octets_outcome choice now a s talk octets).after.controls.controls
 octets-timed choice now a s talk [] timed = timed
 octets-timed choice now a s talk (octet ∷ octets) timed =
     let is = indications talk (octet ∷ octets) in
     let made = heard choice now a is (nothing_done (advanced now s)) in
-    after-timed a (left_by talk (octet ∷ octets)) made.done.state made.why (heard-timed choice now a is s timed)
+    after-timed a (left_by talk (octet ∷ octets)) made.done.state made.why
+    (heard-timed choice now a is s timed)
 
-recv-timed : (choice : Option ℕ) (now a : ℕ) (octets : List ℕ) (s : State) (talk : Option Talk) → AreTimed s.controls.controls
+recv-timed : (choice : Option ℕ) (now a : ℕ) (octets : List ℕ) (s : State) (talk : Option Talk)
+    → AreTimed s.controls.controls
     → AreTimed (recv_outcome choice now a octets s talk).after.controls.controls
 recv-timed choice now a octets s None timed = timed
 recv-timed choice now a octets s (Some talk) timed = octets-timed choice now a s talk octets timed
 
-open-timed : (now a : ℕ) (s : State) (o : Option ℕ) (talk : Option Talk) → AreTimed s.controls.controls → AreTimed (open_outcome now a s o talk).after.controls.controls
+open-timed : (now a : ℕ) (s : State) (o : Option ℕ) (talk : Option Talk)
+    → AreTimed s.controls.controls → AreTimed (open_outcome now a s o talk).after.controls.controls
 open-timed now a s None talk timed = timed
 open-timed now a s (Some place) (Some talk) timed = timed
-open-timed now a s (Some place) None timed = with-connection-timed (place_of a) (Some (first_talk a)) (advanced now s) timed
+open-timed now a s (Some place) None timed =
+    with-connection-timed (place_of a) (Some (first_talk a)) (advanced now s) timed
 
-close-timed : (now a : ℕ) (s : State) (talk : Option Talk) → AreTimed s.controls.controls → AreTimed (close_outcome now a s talk).after.controls.controls
+close-timed : (now a : ℕ) (s : State) (talk : Option Talk) → AreTimed s.controls.controls
+    → AreTimed (close_outcome now a s talk).after.controls.controls
 close-timed now a s None timed = timed
-close-timed now a s (Some talk) timed = with-connection-timed (place_of a) None (without_owner a (advanced now s)) timed
+close-timed now a s (Some talk) timed =
+    with-connection-timed (place_of a) None (without_owner a (advanced now s)) timed
 
-contact-timed : (now k : ℕ) (position : Dbpos) (s : State) (o : Option Switch) → AreTimed s.controls.controls → AreTimed (contact_outcome now k position s o).after.controls.controls
+contact-timed : (now k : ℕ) (position : Dbpos) (s : State) (o : Option Switch)
+    → AreTimed s.controls.controls
+    → AreTimed (contact_outcome now k position s o).after.controls.controls
 contact-timed now k position s None timed = timed
 contact-timed now k position s (Some switch) timed = timed
 
-input-timed : (now k : ℕ) (value : Bool) (s : State) (o : Option Bool) → AreTimed s.controls.controls → AreTimed (input_outcome now k value s o).after.controls.controls
+input-timed : (now k : ℕ) (value : Bool) (s : State) (o : Option Bool)
+    → AreTimed s.controls.controls
+    → AreTimed (input_outcome now k value s o).after.controls.controls
 input-timed now k value s None timed = timed
 input-timed now k value s (Some before) timed = timed
 
-measure-timed : (now k : ℕ) (field : MeterField) (value : _) (s : State) (o : Option (List ℕ)) → AreTimed s.controls.controls
+measure-timed : (now k : ℕ) (field : MeterField) (value : _) (s : State) (o : Option (List ℕ))
+    → AreTimed s.controls.controls
     → AreTimed (measure_outcome now k field value s o).after.controls.controls
 measure-timed now k field value s None timed = timed
 measure-timed now k field value s (Some id) timed = timed
 
-event-timed : (choice : Option ℕ) (now : ℕ) (event : Event) (s : State) → AreTimed s.controls.controls → AreTimed (event_outcome choice now event s).after.controls.controls
-event-timed choice now (Open a) s timed = open-timed now a s (place_of a) (connection_at (place_of a) s) timed
-event-timed choice now (Recv a octets) s timed = recv-timed choice now a octets.now s (connection_at (place_of a) s) timed
+event-timed : (choice : Option ℕ) (now : ℕ) (event : Event) (s : State)
+    → AreTimed s.controls.controls
+    → AreTimed (event_outcome choice now event s).after.controls.controls
+event-timed choice now (Open a) s timed =
+    open-timed now a s (place_of a) (connection_at (place_of a) s) timed
+event-timed choice now (Recv a octets) s timed =
+    recv-timed choice now a octets.now s (connection_at (place_of a) s) timed
 event-timed choice now (Close a) s timed = close-timed now a s (connection_at (place_of a) s) timed
-event-timed choice now (Contact k position) s timed = contact-timed now k position s (slice_get s.switches k) timed
-event-timed choice now (Input k value) s timed = input-timed now k value s (slice_get s.input_values k) timed
-event-timed choice now (Measure k field value) s timed = measure-timed now k field value s (slice_get s.meters k) timed
+event-timed choice now (Contact k position) s timed =
+    contact-timed now k position s (slice_get s.switches k) timed
+event-timed choice now (Input k value) s timed =
+    input-timed now k value s (slice_get s.input_values k) timed
+event-timed choice now (Measure k field value) s timed =
+    measure-timed now k field value s (slice_get s.meters k) timed
 event-timed choice now Scan s timed = timed
 
-timed-if : (b : Bool) (x y : Outcome) → AreTimed x.after.controls.controls → AreTimed y.after.controls.controls → AreTimed (cond b x y).after.controls.controls
+timed-if : (b : Bool) (x y : Outcome) → AreTimed x.after.controls.controls
+    → AreTimed y.after.controls.controls → AreTimed (cond b x y).after.controls.controls
 timed-if true x y p q = p
 timed-if false x y p q = q
 
-pub step-timed : (choice : Option ℕ) (now : ℕ) (event : Event) (s : State) → AreTimed s.controls.controls → AreTimed (outcome choice now event s).after.controls.controls
-step-timed choice now event s timed = timed-if (nat_lt last_moment now) _ _ timed (timed-if (nat_lt now s.moment) _ _ timed (event-timed choice now event s timed))
+pub step-timed : (choice : Option ℕ) (now : ℕ) (event : Event) (s : State)
+    → AreTimed s.controls.controls → AreTimed (outcome choice now event s).after.controls.controls
+step-timed choice now event s timed =
+    timed-if (nat_lt last_moment now) _ _ timed
+    (timed-if (nat_lt now s.moment) _ _ timed (event-timed choice now event s timed))
 
-pub all-single : (choices : List (Option ℕ)) (events : List (ℕ × Event)) (s : State) → AreTimed s.controls.controls → AllByRecursion IsSingle (outcomes choices events s).answers
+pub all-single : (choices : List (Option ℕ)) (events : List (ℕ × Event)) (s : State)
+    → AreTimed s.controls.controls → AllByRecursion IsSingle (outcomes choices events s).answers
 all-single choices [] s timed = tt
-all-single [] (e ∷ es) s timed = (step-single None e.0 e.1 s timed, all-single [] es (outcome None e.0 e.1 s).after (step-timed None e.0 e.1 s timed))
-all-single (choice ∷ choices) (e ∷ es) s timed = (step-single choice e.0 e.1 s timed, all-single choices es (outcome choice e.0 e.1 s).after (step-timed choice e.0 e.1 s timed))
+all-single [] (e ∷ es) s timed = (
+  step-single None e.0 e.1 s timed,
+  all-single [] es (outcome None e.0 e.1 s).after (step-timed None e.0 e.1 s timed),
+)
+all-single (choice ∷ choices) (e ∷ es) s timed = (
+  step-single choice e.0 e.1 s timed,
+  all-single choices es (outcome choice e.0 e.1 s).after (step-timed choice e.0 e.1 s timed),
+)
 
-pub all-timed : (choices : List (Option ℕ)) (events : List (ℕ × Event)) (s : State) → AreTimed s.controls.controls → AreTimed (outcomes choices events s).after.controls.controls
+pub all-timed : (choices : List (Option ℕ)) (events : List (ℕ × Event)) (s : State)
+    → AreTimed s.controls.controls → AreTimed (outcomes choices events s).after.controls.controls
 all-timed choices [] s timed = timed
-all-timed [] (e ∷ es) s timed = all-timed [] es (outcome None e.0 e.1 s).after (step-timed None e.0 e.1 s timed)
-all-timed (choice ∷ choices) (e ∷ es) s timed = all-timed choices es (outcome choice e.0 e.1 s).after (step-timed choice e.0 e.1 s timed)
+all-timed [] (e ∷ es) s timed =
+    all-timed [] es (outcome None e.0 e.1 s).after (step-timed None e.0 e.1 s timed)
+all-timed (choice ∷ choices) (e ∷ es) s timed =
+    all-timed choices es (outcome choice e.0 e.1 s).after (step-timed choice e.0 e.1 s timed)

@@ -7,43 +7,65 @@ use Rattle.bay_connection.specs.Talk.{Talk}
 use Rattle.bay_device.specs.Connections.{AreEight, AreGoing, talk_in, talks}
 
 -- a place that is set
-pub talks-set : (clients : List (Option Client)) (place : ℕ) (c : Option Client) → talks (slice_set clients place c) ≡ slice_set (talks clients) place (talk_in c)
+pub talks-set : (clients : List (Option Client)) (place : ℕ) (c : Option Client)
+    → talks (slice_set clients place c) ≡ slice_set (talks clients) place (talk_in c)
 talks-set [] place c = refl
 talks-set (x ∷ clients) zero c = refl
 talks-set (x ∷ clients) (suc place) c = ap (λ ts. talk_in x ∷ ts) (talks-set clients place c)
 
-pub talk-at : (clients : List (Option Client)) (place : ℕ) → talk_in (slice_index_or clients place None) ≡ unwrap_or (slice_get (talks clients) place) None
+pub talk-at : (clients : List (Option Client)) (place : ℕ)
+    → talk_in (slice_index_or clients place None) ≡ unwrap_or (slice_get (talks clients) place) None
 talk-at [] place = refl
 talk-at (x ∷ clients) zero = refl
 talk-at (x ∷ clients) (suc place) = talk-at clients place
 
-sized : (ts : List (Option Talk)) (place : ℕ) (t : Option Talk) → length (slice_set ts place t) ≡ length ts
+sized : (ts : List (Option Talk)) (place : ℕ) (t : Option Talk)
+    → length (slice_set ts place t) ≡ length ts
 sized [] place t = refl
 sized (x ∷ ts) zero t = refl
 sized (x ∷ ts) (suc place) t = ap (λ n. suc n) (sized ts place t)
 
-going : (ts : List (Option Talk)) (place : ℕ) (t : Option Talk) → AreGoing ts → IfSome t (λ u. IsGoing u.stream.left) → AreGoing (slice_set ts place t)
+going : (ts : List (Option Talk)) (place : ℕ) (t : Option Talk) → AreGoing ts
+    → IfSome t (λ u. IsGoing u.stream.left) → AreGoing (slice_set ts place t)
 going [] place t all own k u here = absurd (cc)
 going (x ∷ ts) zero t all own zero u here = let is : t ≡ Some u = cc in rw is at own
 going (x ∷ ts) zero t all own (suc k) u here = all (suc k) u here
 going (x ∷ ts) (suc place) t all own zero u here = all zero u here
-going (x ∷ ts) (suc place) t all own (suc k) u here = going ts place t (λ j v h. all (suc j) v h) own k u here
+going (x ∷ ts) (suc place) t all own (suc k) u here =
+    going ts place t (λ j v h. all (suc j) v h) own k u here
 
-pub are-eight : (clients : List (Option Client)) (place : ℕ) (c : Option Client) → AreEight (talks clients) → IfSome c (λ x. IsGoing x.talk.stream.left) → AreEight (talks (slice_set clients place c))
-are-eight clients place None all own = rw (talks-set clients place None) (record { sized = sized (talks clients) place None ∙ all.sized; going = going (talks clients) place None all.going tt })
-are-eight clients place (Some x) all own = rw (talks-set clients place (Some x)) (record { sized = sized (talks clients) place (Some x.talk) ∙ all.sized; going = going (talks clients) place (Some x.talk) all.going own })
+pub are-eight : (clients : List (Option Client)) (place : ℕ) (c : Option Client)
+    → AreEight (talks clients) → IfSome c (λ x. IsGoing x.talk.stream.left)
+    → AreEight (talks (slice_set clients place c))
+are-eight clients place None all own =
+    rw (talks-set clients place None)
+    (record {
+      sized = sized (talks clients) place None ∙ all.sized;
+      going = going (talks clients) place None all.going tt;
+    })
+are-eight clients place (Some x) all own =
+    rw (talks-set clients place (Some x))
+    (record {
+      sized = sized (talks clients) place (Some x.talk) ∙ all.sized;
+      going = going (talks clients) place (Some x.talk) all.going own;
+    })
 
-taken-going : (ts : List (Option Talk)) (place : ℕ) (u : Talk) → AreGoing ts → unwrap_or (slice_get ts place) None ≡ Some u → slice_get ts place ≡ Some (Some u)
+taken-going : (ts : List (Option Talk)) (place : ℕ) (u : Talk) → AreGoing ts
+    → unwrap_or (slice_get ts place) None ≡ Some u → slice_get ts place ≡ Some (Some u)
 taken-going [] place u all e = absurd (cc)
 taken-going (x ∷ ts) zero u all e = ap (λ o. Some o) e
 taken-going (x ∷ ts) (suc place) u all e = taken-going ts place u (λ j v h. all (suc j) v h) e
 
-pub taken : (clients : List (Option Client)) (place : ℕ) (c : Option Client) → AreEight (talks clients) → c ≡ slice_index_or clients place None → IfSome c (λ x. IsGoing x.talk.stream.left)
+pub taken : (clients : List (Option Client)) (place : ℕ) (c : Option Client)
+    → AreEight (talks clients) → c ≡ slice_index_or clients place None
+    → IfSome c (λ x. IsGoing x.talk.stream.left)
 taken clients place None all is = tt
 taken clients place (Some x) all is =
-    all.going place x.talk (taken-going (talks clients) place x.talk all.going (sym (talk-at clients place) ∙ ap talk_in (sym is)))
+    all.going place x.talk (taken-going (talks clients) place x.talk all.going
+    (sym (talk-at clients place) ∙ ap talk_in (sym is)))
 
-prefix-talks : (clients : List (Option Client)) → prefix_len (λ t. not (is_none t)) (talks clients) ≡ prefix_len (λ c. not (is_none c)) clients
+prefix-talks : (clients : List (Option Client))
+    → prefix_len (λ t. not (is_none t)) (talks clients) ≡ prefix_len (λ c. not (is_none c)) clients
 prefix-talks [] = refl
 prefix-talks (None ∷ clients) = refl
 prefix-talks (Some c ∷ clients) = ap (λ n. 1 + n) (prefix-talks clients)
@@ -53,5 +75,6 @@ talks-length [] = refl
 talks-length (c ∷ clients) = ap (λ n. suc n) (talks-length clients)
 
 -- the lowest place that is free
-pub talks-free : (clients : List (Option Client)) → position is_none (talks clients) ≡ position is_none clients
+pub talks-free : (clients : List (Option Client))
+    → position is_none (talks clients) ≡ position is_none clients
 talks-free clients = rw (prefix-talks clients, talks-length clients) refl

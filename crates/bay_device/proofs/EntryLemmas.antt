@@ -30,9 +30,11 @@ use Rattle.bay_device.specs.declared.fault.StepFault.TheVariants.{TimeWentBack}
 
 -- ---- which associations are open
 
-connections-at : (o : Option ℕ) (s t : State) → t.connections ≡ s.connections → connection_at o t ≡ connection_at o s
+connections-at : (o : Option ℕ) (s t : State) → t.connections ≡ s.connections
+    → connection_at o t ≡ connection_at o s
 connections-at None s t same = refl
-connections-at (Some place) s t same = ap (λ (cs : List (Option Talk)). unwrap_or (slice_get cs place) None) same
+connections-at (Some place) s t same =
+    ap (λ (cs : List (Option Talk)). unwrap_or (slice_get cs place) None) same
 
 opens-same : (s t : State) (a : ℕ) → t.connections ≡ s.connections → opens t a ≡ opens s a
 opens-same s t a same = ap (λ (o : Option Talk). is_some o) (connections-at (place_of a) s t same)
@@ -42,20 +44,24 @@ record IsPlaced (a place : ℕ) : Type 0 where
   within : place < 8
   is : a ≡ place + 1
 
-placed-if : (b : Bool) (a place : ℕ) → (nat_lt 0 a && nat_lt a 9) ≡ b → cond b (Some (a - 1)) None ≡ Some place → IsPlaced a place
-placed-if true a place e is = let p : a - 1 ≡ place = cc in record { within = grind arith; is = grind arith }
+placed-if : (b : Bool) (a place : ℕ) → (nat_lt 0 a && nat_lt a 9) ≡ b
+    → cond b (Some (a - 1)) None ≡ Some place → IsPlaced a place
+placed-if true a place e is = let p : a - 1 ≡ place =
+    cc in record { within = grind arith; is = grind arith }
 placed-if false a place e is = absurd cc
 
 placed : (a place : ℕ) → place_of a ≡ Some place → IsPlaced a place
 placed a place is = placed-if (nat_lt 0 a && nat_lt a 9) a place refl is
 
 -- a place that is set, and another one
-at-set : (cs : List (Option Talk)) (i : ℕ) (x : Option Talk) → i < length cs → unwrap_or (slice_get (slice_set cs i x) i) None ≡ x
+at-set : (cs : List (Option Talk)) (i : ℕ) (x : Option Talk) → i < length cs
+    → unwrap_or (slice_get (slice_set cs i x) i) None ≡ x
 at-set [] i x within = absurd (omega arith)
 at-set (c ∷ cs) zero x within = refl
 at-set (c ∷ cs) (suc i) x within = at-set cs i x (omega arith)
 
-beside-set : (cs : List (Option Talk)) (i j : ℕ) (x : Option Talk) → i ≢ j → slice_get (slice_set cs i x) j ≡ slice_get cs j
+beside-set : (cs : List (Option Talk)) (i j : ℕ) (x : Option Talk) → i ≢ j
+    → slice_get (slice_set cs i x) j ≡ slice_get cs j
 beside-set [] i j x apart = refl
 beside-set (c ∷ cs) zero zero x apart = absurd (apart refl)
 beside-set (c ∷ cs) zero (suc j) x apart = refl
@@ -63,35 +69,47 @@ beside-set (c ∷ cs) (suc i) zero x apart = refl
 beside-set (c ∷ cs) (suc i) (suc j) x apart = beside-set cs i j x (λ e. apart (ap (λ n. suc n) e))
 
 -- another association's connection, when one is set
-others-at : (a b place : ℕ) (x : Option Talk) (s : State) (o : Option ℕ) → place_of a ≡ Some place → place_of b ≡ o → (b ≡ a → ⊥)
+others-at : (a b place : ℕ) (x : Option Talk) (s : State) (o : Option ℕ) → place_of a ≡ Some place
+    → place_of b ≡ o → (b ≡ a → ⊥)
     → connection_at o (with_connection (Some place) x s) ≡ connection_at o s
 others-at a b place x s None here there apart = refl
 others-at a b place x s (Some other) here there apart =
     let p = placed a place here in
     let q = placed b other there in
-    ap (λ (c : Option (Option Talk)). unwrap_or c None) (beside-set s.connections place other x (λ e. apart (q.is ∙ ap (λ n. n + 1) (sym e) ∙ sym p.is)))
+    ap (λ (c : Option (Option Talk)). unwrap_or c None)
+    (beside-set s.connections place other x
+    (λ e. apart (q.is ∙ ap (λ n. n + 1) (sym e) ∙ sym p.is)))
 
-opens-set-if : (is : Bool) (a b place : ℕ) (x : Option Talk) (s : State) → length s.connections ≡ 8 → place_of a ≡ Some place → (b == a) ≡ is
+opens-set-if : (is : Bool) (a b place : ℕ) (x : Option Talk) (s : State) → length s.connections ≡ 8
+    → place_of a ≡ Some place → (b == a) ≡ is
     → opens (with_connection (Some place) x s) b ≡ cond is (is_some x) (opens s b)
 opens-set-if true a b place x s sized here is =
     let same : place_of b ≡ Some place = ap place_of (eqb-true b a is) ∙ here in
-    let within : place < length s.connections = (let p = placed a place here in omega (arith, p.within, sized)) in
-    ap (λ (o : Option ℕ). is_some (connection_at o (with_connection (Some place) x s))) same ∙ ap (λ (o : Option Talk). is_some o) (at-set s.connections place x within)
+    let within : place < length s.connections =
+    (let p = placed a place here in omega (arith, p.within, sized)) in
+    ap (λ (o : Option ℕ). is_some (connection_at o (with_connection (Some place) x s))) same
+    ∙ ap (λ (o : Option Talk). is_some o) (at-set s.connections place x within)
 opens-set-if false a b place x s sized here is =
     ap (λ (o : Option Talk). is_some o)
-    (others-at a b place x s (place_of b) here refl (λ e. let yes : (b == a) ≡ true = eq-eqb b a e in absurd (let no : true ≡ false = sym yes ∙ is in cc)))
+    (others-at a b place x s (place_of b) here refl
+    (λ e. let yes : (b == a) ≡ true = eq-eqb b a e in
+    absurd (let no : true ≡ false = sym yes ∙ is in cc)))
 
-opens-set : (a b place : ℕ) (x : Option Talk) (s : State) → length s.connections ≡ 8 → place_of a ≡ Some place
+opens-set : (a b place : ℕ) (x : Option Talk) (s : State) → length s.connections ≡ 8
+    → place_of a ≡ Some place
     → opens (with_connection (place_of a) x s) b ≡ cond (b == a) (is_some x) (opens s b)
 opens-set a b place x s sized here =
-    ap (λ (o : Option ℕ). opens (with_connection o x s) b) here ∙ opens-set-if (b == a) a b place x s sized here refl
+    ap (λ (o : Option ℕ). opens (with_connection o x s) b) here
+    ∙ opens-set-if (b == a) a b place x s sized here refl
 
 -- what an association's connection leaves
-sized-with : (o : Option ℕ) (x : Option Talk) (s : State) → length (with_connection o x s).connections ≡ length s.connections
+sized-with : (o : Option ℕ) (x : Option Talk) (s : State)
+    → length (with_connection o x s).connections ≡ length s.connections
 sized-with None x s = refl
 sized-with (Some place) x s = length-set s.connections place x
 
-controls-with : (o : Option ℕ) (x : Option Talk) (s : State) → (with_connection o x s).controls ≡ s.controls
+controls-with : (o : Option ℕ) (x : Option Talk) (s : State)
+    → (with_connection o x s).controls ≡ s.controls
 controls-with None x s = refl
 controls-with (Some place) x s = refl
 
@@ -103,7 +121,8 @@ record Led (entries : List Entry) (s t : State) : Type 0 where
   leads : Leads entries (opens s) s.controls (opens t) t.controls
   sized : length t.connections ≡ length s.connections
 
-quiet : (s t : State) → t.controls ≡ s.controls → ((a : ℕ) → opens t a ≡ opens s a) → length t.connections ≡ length s.connections → Led [] s t
+quiet : (s t : State) → t.controls ≡ s.controls → ((a : ℕ) → opens t a ≡ opens s a)
+    → length t.connections ≡ length s.connections → Led [] s t
 quiet s t controls still sized = record {
   leads = record { happened = []; orderly = tt; seen = refl; ends = controls; opens = still };
   sized = sized;
@@ -112,34 +131,44 @@ quiet s t controls still sized = record {
 nothing : (s : State) → Led [] s s
 nothing s = quiet s s refl (λ a. refl) refl
 
-called : (asked : call.Call) (now : ℕ) (s t : State) → is_orderly_call (opens s) asked ≡ true → t.controls ≡ (outcome_of asked now s.controls).after
-    → ((a : ℕ) → opens t a ≡ is_open_after (opens s) asked a) → length t.connections ≡ length s.connections
+called : (asked : call.Call) (now : ℕ) (s t : State) → is_orderly_call (opens s) asked ≡ true
+    → t.controls ≡ (outcome_of asked now s.controls).after
+    → ((a : ℕ) → opens t a ≡ is_open_after (opens s) asked a)
+    → length t.connections ≡ length s.connections
     → Led (entries_of now (act_of asked) (is_ok (outcome_of asked now s.controls).answer)) s t
 called asked now s t orderly controls still sized = record {
   leads = record {
     happened = record { now = now; call = asked } ∷ [];
     orderly = (orderly, tt);
-    seen = sym (append-nil (entries_of now (act_of asked) (is_ok (outcome_of asked now s.controls).answer)));
+    seen = sym
+        (append-nil (entries_of now (act_of asked)
+        (is_ok (outcome_of asked now s.controls).answer)));
     ends = controls;
     opens = still;
   };
   sized = sized;
 }
 
-behind : (first next : List Entry) (s t u : State) → Led first s t → Led next t u → Led (first ++ next) s u
+behind : (first next : List Entry) (s t u : State) → Led first s t → Led next t u
+    → Led (first ++ next) s u
 behind first next s t u p q = record {
-  leads = two-lead first next (opens s) (opens t) (opens u) s.controls t.controls u.controls p.leads q.leads;
+  leads = two-lead first next (opens s) (opens t) (opens u) s.controls t.controls u.controls p.leads
+      q.leads;
   sized = q.sized ∙ p.sized;
 }
 
 -- ---- what ends by itself, and contacts
 
 led-advanced : (now : ℕ) (s : State) → Led [] s (advanced now s)
-led-advanced now s = called call.Advance now s (advanced now s) refl refl (λ a. opens-same s (advanced now s) a refl) refl
+led-advanced now s =
+    called call.Advance now s (advanced now s) refl refl (λ a. opens-same s (advanced now s) a refl)
+    refl
 
-led-contact : (now k : ℕ) (switch : Switch) (position : Dbpos) (s : State) → Led [] s (contact_taken now k switch position s)
+led-contact : (now k : ℕ) (switch : Switch) (position : Dbpos) (s : State)
+    → Led [] s (contact_taken now k switch position s)
 led-contact now k switch position s =
-    called (call.Contact k position) now s (contact_taken now k switch position s) refl refl (λ a. opens-same s (contact_taken now k switch position s) a refl) refl
+    called (call.Contact k position) now s (contact_taken now k switch position s) refl refl
+    (λ a. opens-same s (contact_taken now k switch position s) a refl) refl
 
 -- ---- associations are opened and closed
 
@@ -155,43 +184,54 @@ kept-if : (t : Bool) (f : ℕ → Bool) (a b : ℕ) → (b == a) ≡ t → f a �
 kept-if true f a b is opened = sym (ap f (eqb-true b a is) ∙ opened)
 kept-if false f a b is opened = refl
 
-led-opened : (now a place : ℕ) (x : Talk) (s : State) → length s.connections ≡ 8 → place_of a ≡ Some place → connection_at (Some place) s ≡ None
+led-opened : (now a place : ℕ) (x : Talk) (s : State) → length s.connections ≡ 8
+    → place_of a ≡ Some place → connection_at (Some place) s ≡ None
     → Led (told now (act.Opened a)) s (with_connection (place_of a) (Some x) s)
 led-opened now a place x s sized here none =
     called (call.Open a) now s (with_connection (place_of a) (Some x) s)
-    (ap (λ (o : Option ℕ). not (is_some (connection_at o s))) here ∙ ap (λ (o : Option Talk). not (is_some o)) none)
+    (ap (λ (o : Option ℕ). not (is_some (connection_at o s))) here
+    ∙ ap (λ (o : Option Talk). not (is_some o)) none)
     (controls-with (place_of a) (Some x) s)
     (λ b. opens-set a b place (Some x) s sized here ∙ or-if (b == a) (opens s b))
     (sized-with (place_of a) (Some x) s)
 
-led-closed : (now a place : ℕ) (s : State) → length s.connections ≡ 8 → place_of a ≡ Some place → opens s a ≡ true → Led (told now (act.Closed a)) s (closed a s)
+led-closed : (now a place : ℕ) (s : State) → length s.connections ≡ 8 → place_of a ≡ Some place
+    → opens s a ≡ true → Led (told now (act.Closed a)) s (closed a s)
 led-closed now a place s sized here opened =
     called (call.Close a) now s (closed a s) opened
     (controls-with (place_of a) None (without_owner a s))
-    (λ b. opens-set a b place None (without_owner a s) sized here ∙ ap (cond (b == a) false) (opens-same s (without_owner a s) b refl) ∙ and-if (b == a) (opens s b))
+    (λ b. opens-set a b place None (without_owner a s) sized here
+    ∙ ap (cond (b == a) false) (opens-same s (without_owner a s) b refl)
+    ∙ and-if (b == a) (opens s b))
     (sized-with (place_of a) None (without_owner a s))
 
-led-kept : (a place : ℕ) (x : Talk) (s : State) → length s.connections ≡ 8 → place_of a ≡ Some place → opens s a ≡ true → Led [] s (with_connection (place_of a) (Some x) s)
+led-kept : (a place : ℕ) (x : Talk) (s : State) → length s.connections ≡ 8 → place_of a ≡ Some place
+    → opens s a ≡ true → Led [] s (with_connection (place_of a) (Some x) s)
 led-kept a place x s sized here opened =
     quiet s (with_connection (place_of a) (Some x) s) (controls-with (place_of a) (Some x) s)
     (λ b. opens-set a b place (Some x) s sized here ∙ kept-if (b == a) (opens s) a b refl opened)
     (sized-with (place_of a) (Some x) s)
 
-led-after : (now a place : ℕ) (left : Talk) (s : State) (why : Option Why) → length s.connections ≡ 8 → place_of a ≡ Some place → opens s a ≡ true
+led-after : (now a place : ℕ) (left : Talk) (s : State) (why : Option Why)
+    → length s.connections ≡ 8 → place_of a ≡ Some place → opens s a ≡ true
     → Led (entries_closed now a why) s (recv_after a left s why)
 led-after now a place left s None sized here opened = led-kept a place left s sized here opened
-led-after now a place left s (Some why) sized here opened = led-closed now a place s sized here opened
+led-after now a place left s (Some why) sized here opened =
+    led-closed now a place s sized here opened
 
 -- ---- what is heard
 
 module _ (now a : ℕ) (is_open : ℕ → Bool) (opened : is_open a ≡ true) where
   on-heard-leads : (i : Indication) (d : Done) (entries : Done → List Entry) (later : Done → Heard)
-      → ((e : Done) → Leads (entries e) is_open e.state.controls is_open (later e).done.state.controls)
-      → Leads (entries_on now a i d entries) is_open d.state.controls is_open (on_heard now a i d later).done.state.controls
+      → ((e : Done) → Leads (entries e) is_open e.state.controls is_open
+      (later e).done.state.controls)
+      → Leads (entries_on now a i d entries) is_open d.state.controls is_open
+      (on_heard now a i d later).done.state.controls
   on-heard-leads (answers octets) d entries later rest = rest _
   on-heard-leads (tells terms pdu) d entries later rest =
       let e : Done = said now a terms pdu d in
-      two-lead (entries_in (client_at now a terms d.state) pdu (bay_of d.state)) (entries e) is_open is_open is_open
+      two-lead (entries_in (client_at now a terms d.state) pdu (bay_of d.state)) (entries e) is_open
+      is_open is_open
       d.state.controls e.state.controls (later e).done.state.controls
       (request-leads (client_at now a terms d.state) pdu (bay_of d.state) is_open opened) (rest e)
   on-heard-leads (releases octets) d entries later rest = none-leads is_open d.state.controls
@@ -199,15 +239,21 @@ module _ (now a : ℕ) (is_open : ℕ → Bool) (opened : is_open a ≡ true) wh
   on-heard-leads (fails code) d entries later rest = none-leads is_open d.state.controls
 
   heard-leads : (choice : Option ℕ) (is : List Indication) (d : Done)
-      → Leads (entries_heard choice now a is d) is_open d.state.controls is_open (heard choice now a is d).done.state.controls
+      → Leads (entries_heard choice now a is d) is_open d.state.controls is_open
+      (heard choice now a is d).done.state.controls
   heard-leads None [] d = none-leads is_open d.state.controls
-  heard-leads None (i ∷ is) d = on-heard-leads i d (entries_heard None now a is) (heard None now a is) (λ e. heard-leads None is e)
+  heard-leads None (i ∷ is) d =
+      on-heard-leads i d (entries_heard None now a is) (heard None now a is)
+      (λ e. heard-leads None is e)
   heard-leads (Some zero) [] d = none-leads is_open d.state.controls
   heard-leads (Some zero) (i ∷ is) d = none-leads is_open d.state.controls
   heard-leads (Some (suc n)) [] d = none-leads is_open d.state.controls
-  heard-leads (Some (suc n)) (i ∷ is) d = on-heard-leads i d (entries_heard (Some n) now a is) (heard (Some n) now a is) (λ e. heard-leads (Some n) is e)
+  heard-leads (Some (suc n)) (i ∷ is) d =
+      on-heard-leads i d (entries_heard (Some n) now a is) (heard (Some n) now a is)
+      (λ e. heard-leads (Some n) is e)
 
-on-heard-connected : (now a : ℕ) (i : Indication) (d : Done) (later : Done → Heard) → ((e : Done) → (later e).done.state.connections ≡ e.state.connections)
+on-heard-connected : (now a : ℕ) (i : Indication) (d : Done) (later : Done → Heard)
+    → ((e : Done) → (later e).done.state.connections ≡ e.state.connections)
     → (on_heard now a i d later).done.state.connections ≡ d.state.connections
 on-heard-connected now a (answers octets) d later rest = rest _
 on-heard-connected now a (tells terms pdu) d later rest = rest (said now a terms pdu d)
@@ -215,19 +261,27 @@ on-heard-connected now a (releases octets) d later rest = refl
 on-heard-connected now a ends-heard d later rest = refl
 on-heard-connected now a (fails code) d later rest = refl
 
-pub heard-connected : (choice : Option ℕ) (now a : ℕ) (is : List Indication) (d : Done) → (heard choice now a is d).done.state.connections ≡ d.state.connections
+pub heard-connected : (choice : Option ℕ) (now a : ℕ) (is : List Indication) (d : Done)
+    → (heard choice now a is d).done.state.connections ≡ d.state.connections
 heard-connected None now a [] d = refl
-heard-connected None now a (i ∷ is) d = on-heard-connected now a i d (heard None now a is) (λ e. heard-connected None now a is e)
+heard-connected None now a (i ∷ is) d =
+    on-heard-connected now a i d (heard None now a is) (λ e. heard-connected None now a is e)
 heard-connected (Some zero) now a [] d = refl
 heard-connected (Some zero) now a (i ∷ is) d = refl
 heard-connected (Some (suc n)) now a [] d = refl
-heard-connected (Some (suc n)) now a (i ∷ is) d = on-heard-connected now a i d (heard (Some n) now a is) (λ e. heard-connected (Some n) now a is e)
+heard-connected (Some (suc n)) now a (i ∷ is) d =
+    on-heard-connected now a i d (heard (Some n) now a is)
+    (λ e. heard-connected (Some n) now a is e)
 
-led-heard : (choice : Option ℕ) (now a : ℕ) (is : List Indication) (d : Done) → opens d.state a ≡ true → Led (entries_heard choice now a is d) d.state (heard choice now a is d).done.state
+led-heard : (choice : Option ℕ) (now a : ℕ) (is : List Indication) (d : Done)
+    → opens d.state a ≡ true
+    → Led (entries_heard choice now a is d) d.state (heard choice now a is d).done.state
 led-heard choice now a is d opened =
     let h : Heard = heard choice now a is d in
     let same : h.done.state.connections ≡ d.state.connections = heard-connected choice now a is d in
-    let leads : Leads (entries_heard choice now a is d) (opens d.state) d.state.controls (opens d.state) h.done.state.controls = heard-leads now a (opens d.state) opened choice is d in
+    let leads : Leads (entries_heard choice now a is d) (opens d.state) d.state.controls
+    (opens d.state) h.done.state.controls =
+    heard-leads now a (opens d.state) opened choice is d in
     record {
       leads = record {
         happened = leads.happened;
@@ -241,12 +295,15 @@ led-heard choice now a is d opened =
 
 -- ---- a Recv
 
-place-at : (a : ℕ) (o : Option ℕ) (s : State) (talk : Talk) → place_of a ≡ o → connection_at o s ≡ Some talk → (place : ℕ) × (place_of a ≡ Some place)
+place-at : (a : ℕ) (o : Option ℕ) (s : State) (talk : Talk) → place_of a ≡ o
+    → connection_at o s ≡ Some talk → (place : ℕ) × (place_of a ≡ Some place)
 place-at a None s talk here is = absurd cc
 place-at a (Some place) s talk here is = (place, here)
 
-led-octets : (choice : Option ℕ) (now a : ℕ) (s : State) (talk : Talk) (octets : List ℕ) → length s.connections ≡ 8 → connection_at (place_of a) s ≡ Some talk
-    → Led (entries_octets choice now a s talk octets) s (octets_outcome choice now a s talk octets).after
+led-octets : (choice : Option ℕ) (now a : ℕ) (s : State) (talk : Talk) (octets : List ℕ)
+    → length s.connections ≡ 8 → connection_at (place_of a) s ≡ Some talk
+    → Led (entries_octets choice now a s talk octets) s
+    (octets_outcome choice now a s talk octets).after
 led-octets choice now a s talk [] sized is = led-advanced now s
 led-octets choice now a s talk (octet ∷ octets) sized is =
     let place = place-at a (place_of a) s talk refl is in
@@ -254,102 +311,139 @@ led-octets choice now a s talk (octet ∷ octets) sized is =
     let left : Talk = left_by talk (octet ∷ octets) in
     let is-heard : List Indication = indications talk (octet ∷ octets) in
     let h : Heard = heard choice now a is-heard (nothing_done t) in
-    let opened : opens t a ≡ true = opens-same s t a refl ∙ ap (λ (o : Option Talk). is_some o) is in
+    let opened : opens t a ≡ true =
+    opens-same s t a refl ∙ ap (λ (o : Option Talk). is_some o) is in
     let first : Led [] s t = led-advanced now s in
-    let heard-so : Led (entries_heard choice now a is-heard (nothing_done t)) t h.done.state = led-heard choice now a is-heard (nothing_done t) opened in
-    let connected : h.done.state.connections ≡ t.connections = heard-connected choice now a is-heard (nothing_done t) in
-    let last : Led (entries_closed now a h.why) h.done.state (recv_after a left h.done.state h.why) =
-    led-after now a place.0 left h.done.state h.why (heard-so.sized ∙ sized) place.1 (opens-same t h.done.state a connected ∙ opened) in
-    behind [] (entries_heard choice now a is-heard (nothing_done t) ++ entries_closed now a h.why) s t (recv_after a left h.done.state h.why) first
-    (behind (entries_heard choice now a is-heard (nothing_done t)) (entries_closed now a h.why) t h.done.state (recv_after a left h.done.state h.why) heard-so last)
+    let heard-so : Led (entries_heard choice now a is-heard (nothing_done t)) t h.done.state =
+    led-heard choice now a is-heard (nothing_done t) opened in
+    let connected : h.done.state.connections ≡ t.connections =
+    heard-connected choice now a is-heard (nothing_done t) in
+    let last : Led (entries_closed now a h.why) h.done.state
+    (recv_after a left h.done.state h.why) =
+    led-after now a place.0 left h.done.state h.why (heard-so.sized ∙ sized) place.1
+    (opens-same t h.done.state a connected ∙ opened) in
+    behind [] (entries_heard choice now a is-heard (nothing_done t) ++ entries_closed now a h.why) s
+    t (recv_after a left h.done.state h.why) first
+    (behind (entries_heard choice now a is-heard (nothing_done t)) (entries_closed now a h.why) t
+    h.done.state (recv_after a left h.done.state h.why) heard-so last)
 
-led-recv : (choice : Option ℕ) (now a : ℕ) (octets : List ℕ) (s : State) (talk : Option Talk) → length s.connections ≡ 8 → connection_at (place_of a) s ≡ talk
-    → Led (entries_recv choice now a octets s talk) s (recv_outcome choice now a octets s talk).after
+led-recv : (choice : Option ℕ) (now a : ℕ) (octets : List ℕ) (s : State) (talk : Option Talk)
+    → length s.connections ≡ 8 → connection_at (place_of a) s ≡ talk
+    → Led (entries_recv choice now a octets s talk) s
+    (recv_outcome choice now a octets s talk).after
 led-recv choice now a octets s None sized is = nothing s
 led-recv choice now a octets s (Some talk) sized is = led-octets choice now a s talk octets sized is
 
 -- ---- an event
 
 module _ (now : ℕ) (s : State) (sized : length s.connections ≡ 8) where
-  led-open : (a : ℕ) (o : Option ℕ) (talk : Option Talk) → place_of a ≡ o → connection_at o s ≡ talk → Led (entries_open now a o talk) s (open_outcome now a s o talk).after
+  led-open : (a : ℕ) (o : Option ℕ) (talk : Option Talk) → place_of a ≡ o → connection_at o s ≡ talk
+      → Led (entries_open now a o talk) s (open_outcome now a s o talk).after
   led-open a None talk here is = nothing s
   led-open a (Some place) (Some talk) here is = nothing s
   led-open a (Some place) None here is =
-      behind [] (told now (act.Opened a)) s (advanced now s) (with_connection (place_of a) (Some (first_talk a)) (advanced now s)) (led-advanced now s)
-      (led-opened now a place (first_talk a) (advanced now s) sized here (connections-at (Some place) s (advanced now s) refl ∙ is))
+      behind [] (told now (act.Opened a)) s (advanced now s)
+      (with_connection (place_of a) (Some (first_talk a)) (advanced now s)) (led-advanced now s)
+      (led-opened now a place (first_talk a) (advanced now s) sized here
+      (connections-at (Some place) s (advanced now s) refl ∙ is))
 
-  led-close : (a : ℕ) (talk : Option Talk) → connection_at (place_of a) s ≡ talk → Led (entries_close now a talk) s (close_outcome now a s talk).after
+  led-close : (a : ℕ) (talk : Option Talk) → connection_at (place_of a) s ≡ talk
+      → Led (entries_close now a talk) s (close_outcome now a s talk).after
   led-close a None is = nothing s
   led-close a (Some talk) is =
       let place = place-at a (place_of a) s talk refl is in
-      let opened : opens (advanced now s) a ≡ true = opens-same s (advanced now s) a refl ∙ ap (λ (o : Option Talk). is_some o) is in
-      behind [] (told now (act.Closed a)) s (advanced now s) (closed a (advanced now s)) (led-advanced now s) (led-closed now a place.0 (advanced now s) sized place.1 opened)
+      let opened : opens (advanced now s) a ≡ true =
+      opens-same s (advanced now s) a refl ∙ ap (λ (o : Option Talk). is_some o) is in
+      behind [] (told now (act.Closed a)) s (advanced now s) (closed a (advanced now s))
+      (led-advanced now s) (led-closed now a place.0 (advanced now s) sized place.1 opened)
 
-  led-contacted : (k : ℕ) (position : Dbpos) (o : Option Switch) → Led [] s (contact_outcome now k position s o).after
+  led-contacted : (k : ℕ) (position : Dbpos) (o : Option Switch)
+      → Led [] s (contact_outcome now k position s o).after
   led-contacted k position None = nothing s
   led-contacted k position (Some switch) =
-      behind [] [] s (advanced now s) (contact_taken now k switch position (advanced now s)) (led-advanced now s) (led-contact now k switch position (advanced now s))
+      behind [] [] s (advanced now s) (contact_taken now k switch position (advanced now s))
+      (led-advanced now s) (led-contact now k switch position (advanced now s))
 
   -- what leaves controls and connections
-  led-beside : (t : State) → t.controls ≡ (advanced now s).controls → t.connections ≡ s.connections → Led [] s t
+  led-beside : (t : State) → t.controls ≡ (advanced now s).controls → t.connections ≡ s.connections
+      → Led [] s t
   led-beside t controls connections =
       behind [] [] s (advanced now s) t (led-advanced now s)
-      (quiet (advanced now s) t controls (λ a. opens-same (advanced now s) t a connections) (ap (λ (cs : List (Option Talk)). length cs) connections))
+      (quiet (advanced now s) t controls (λ a. opens-same (advanced now s) t a connections)
+      (ap (λ (cs : List (Option Talk)). length cs) connections))
 
-  led-input : (k : ℕ) (value : Bool) (o : Option Bool) → Led [] s (input_outcome now k value s o).after
+  led-input : (k : ℕ) (value : Bool) (o : Option Bool)
+      → Led [] s (input_outcome now k value s o).after
   led-input k value None = nothing s
   led-input k value (Some before) = led-beside _ refl refl
 
-  led-measure : (k : ℕ) (field : MeterField) (value : ℤ) (o : Option (List ℕ)) → Led [] s (measure_outcome now k field value s o).after
+  led-measure : (k : ℕ) (field : MeterField) (value : ℤ) (o : Option (List ℕ))
+      → Led [] s (measure_outcome now k field value s o).after
   led-measure k field value None = nothing s
   led-measure k field value (Some id) = led-beside _ refl refl
 
-  led-event : (choice : Option ℕ) (event : Event) → Led (entries_of_event choice now event s) s (event_outcome choice now event s).after
+  led-event : (choice : Option ℕ) (event : Event)
+      → Led (entries_of_event choice now event s) s (event_outcome choice now event s).after
   led-event choice (Open a) = led-open a (place_of a) (connection_at (place_of a) s) refl refl
-  led-event choice (Recv a octets) = led-recv choice now a octets.now s (connection_at (place_of a) s) sized refl
+  led-event choice (Recv a octets) =
+      led-recv choice now a octets.now s (connection_at (place_of a) s) sized refl
   led-event choice (Close a) = led-close a (connection_at (place_of a) s) refl
   led-event choice (Contact k position) = led-contacted k position (slice_get s.switches k)
   led-event choice (Input k value) = led-input k value (slice_get s.input_values k)
   led-event choice (Measure k field value) = led-measure k field value (slice_get s.meters k)
   led-event choice Scan = led-beside _ refl refl
 
-  led-if : (b : Bool) (xs ys : List Entry) (x y : Outcome) → Led xs s x.after → Led ys s y.after → Led (cond b xs ys) s (cond b x y).after
+  led-if : (b : Bool) (xs ys : List Entry) (x y : Outcome) → Led xs s x.after → Led ys s y.after
+      → Led (cond b xs ys) s (cond b x y).after
   led-if true xs ys x y p q = p
   led-if false xs ys x y p q = q
 
-  led-outcome : (choice : Option ℕ) (event : Event) → Led (entries_at choice now event s) s (outcome choice now event s).after
+  led-outcome : (choice : Option ℕ) (event : Event)
+      → Led (entries_at choice now event s) s (outcome choice now event s).after
   led-outcome choice event =
       led-if (nat_lt last_moment now) _ _ _ _ (nothing s)
-      (led-if (nat_lt now s.moment) [] (entries_of_event choice now event s) (refused TimeWentBack s) (event_outcome choice now event s) (nothing s) (led-event choice event))
+      (led-if (nat_lt now s.moment) [] (entries_of_event choice now event s)
+      (refused TimeWentBack s) (event_outcome choice now event s) (nothing s)
+      (led-event choice event))
 
 -- an event, from whatever was before
-pub leading : (now : ℕ) (event : Event) (old : State) (answer : Result Step StepFault) (new : State) → length old.connections ≡ 8 → Steps now event old answer new → Leading now event old answer new
+pub leading : (now : ℕ) (event : Event) (old : State) (answer : Result Step StepFault) (new : State)
+    → length old.connections ≡ 8 → Steps now event old answer new → Leading now event old answer new
 leading now event old answer new sized steps =
     let after : State = (outcome steps.choice now event old).after in
-    let led : Led (entries_at steps.choice now event old) old after = led-outcome now old sized steps.choice event in
+    let led : Led (entries_at steps.choice now event old) old after =
+    led-outcome now old sized steps.choice event in
     record {
       steps = steps;
       leads = λ past open_before before so_far.
-          subst (λ (t : State). Leads (past ++ entries_at steps.choice now event old) open_before before (opens t) t.controls) (sym steps.left)
-          (two-lead past (entries_at steps.choice now event old) open_before (opens old) (opens after) before old.controls after.controls so_far led.leads);
+          subst (λ (t : State). Leads (past ++ entries_at steps.choice now event old) open_before
+          before (opens t) t.controls) (sym steps.left)
+          (two-lead past (entries_at steps.choice now event old) open_before (opens old)
+          (opens after) before old.controls after.controls so_far led.leads);
     }
 
 -- ---- a list of events
 
-led-all : (choices : List (Option ℕ)) (events : List (ℕ × Event)) (s : State) → length s.connections ≡ 8 → Led (entries_all choices events s) s (outcomes choices events s).after
+led-all : (choices : List (Option ℕ)) (events : List (ℕ × Event)) (s : State)
+    → length s.connections ≡ 8
+    → Led (entries_all choices events s) s (outcomes choices events s).after
 led-all choices [] s sized = nothing s
 led-all [] (e ∷ es) s sized =
     let t : State = (outcome None e.0 e.1 s).after in
     let first : Led (entries_at None e.0 e.1 s) s t = led-outcome e.0 s sized None e.1 in
-    behind (entries_at None e.0 e.1 s) (entries_all [] es t) s t (outcomes [] es t).after first (led-all [] es t (first.sized ∙ sized))
+    behind (entries_at None e.0 e.1 s) (entries_all [] es t) s t (outcomes [] es t).after first
+    (led-all [] es t (first.sized ∙ sized))
 led-all (choice ∷ choices) (e ∷ es) s sized =
     let t : State = (outcome choice e.0 e.1 s).after in
     let first : Led (entries_at choice e.0 e.1 s) s t = led-outcome e.0 s sized choice e.1 in
-    behind (entries_at choice e.0 e.1 s) (entries_all choices es t) s t (outcomes choices es t).after first (led-all choices es t (first.sized ∙ sized))
+    behind (entries_at choice e.0 e.1 s) (entries_all choices es t) s t
+    (outcomes choices es t).after first (led-all choices es t (first.sized ∙ sized))
 
-pub all-are-backed : (choices : List (Option ℕ)) (events : List (ℕ × Event)) (s : State) → length s.connections ≡ 8 → s.controls.selection ≡ None
+pub all-are-backed : (choices : List (Option ℕ)) (events : List (ℕ × Event)) (s : State)
+    → length s.connections ≡ 8 → s.controls.selection ≡ None
     → AreBacked s.controls.controls (entries_all choices events s)
 all-are-backed choices events s sized none =
     let after : State = (outcomes choices events s).after in
     let led : Led (entries_all choices events s) s after = led-all choices events s sized in
-    all-backed (entries_all choices events s) (opens s) (opens after) s.controls after.controls led.leads none
+    all-backed (entries_all choices events s) (opens s) (opens after) s.controls after.controls
+    led.leads none

@@ -26,35 +26,44 @@ record IsFirst (bay : Bay) (s : State) : Type 0 where
   image : Image
   is : s ≡ initial_device bay image
 
-first-compiled : (bay : Bay) (image : Result Image CompileFault) (s : State) → of_compiled bay image ≡ Ok s → IsFirst bay s
+first-compiled : (bay : Bay) (image : Result Image CompileFault) (s : State)
+    → of_compiled bay image ≡ Ok s → IsFirst bay s
 first-compiled bay (Ok image) s e = record { image = image; is = cc }
 first-compiled bay (Err fault) s e = absurd cc
 
-first-checked : (bay : Bay) (checked : Result Checked CheckFault) (s : State) → of_checked bay checked ≡ Ok s → IsFirst bay s
+first-checked : (bay : Bay) (checked : Result Checked CheckFault) (s : State)
+    → of_checked bay checked ≡ Ok s → IsFirst bay s
 first-checked bay (Ok checked) s e = first-compiled bay (compiled_of checked) s e
 first-checked bay (Err fault) s e = absurd cc
 
-first-program : (bay : Bay) (program : Result PlainProgram TextFault) (s : State) → of_program bay program ≡ Ok s → IsFirst bay s
+first-program : (bay : Bay) (program : Result PlainProgram TextFault) (s : State)
+    → of_program bay program ≡ Ok s → IsFirst bay s
 first-program bay (Ok program) s e = first-checked bay (checked_of bay.points program) s e
 first-program bay (Err fault) s e = absurd cc
 
-first-read : (bay : Bay) (image : Result Image ImageFault) (s : State) → LoadsRead bay image (Ok s) → IsFirst bay s
+first-read : (bay : Bay) (image : Result Image ImageFault) (s : State) → LoadsRead bay image (Ok s)
+    → IsFirst bay s
 first-read bay (Ok image) s loads = record { image = image; is = loads.1 }
 first-read bay (Err fault) s loads = absurd cc
 
 idle-first : (bay : Bay) (s : State) → IsFirst bay s → IsIdle s
-idle-first bay s first = let idle : IsIdle (initial_device bay first.image) = record { unselected = refl; closed = refl } in subst IsIdle (sym first.is) idle
+idle-first bay s first = let idle : IsIdle (initial_device bay first.image) =
+    record { unselected = refl; closed = refl } in subst IsIdle (sym first.is) idle
 
-timed-first : (bay : Bay) (s : State) → AreTimed (controls_of bay.switches) → IsFirst bay s → AreTimed s.controls.controls
-timed-first bay s timed first = subst (λ (t : State). AreTimed t.controls.controls) (sym first.is) timed
+timed-first : (bay : Bay) (s : State) → AreTimed (controls_of bay.switches) → IsFirst bay s
+    → AreTimed s.controls.controls
+timed-first bay s timed first =
+    subst (λ (t : State). AreTimed t.controls.controls) (sym first.is) timed
 
-pub text-idle : (bay : Result Bay BayFault) (program : Result PlainProgram TextFault) (result : Result State LoadFault)
+pub text-idle : (bay : Result Bay BayFault) (program : Result PlainProgram TextFault)
+    (result : Result State LoadFault)
     → Gives OutOfMemory (λ (s : State). s) result (of_bay bay program) → IfOk result IsIdle
 text-idle (Ok bay) program (Ok s) e = idle-first bay s (first-program bay program s e)
 text-idle (Err fault) program (Ok s) e = absurd cc
 text-idle bay program (Err refusal) e = tt
 
-pub image-idle : (bay : Bay) (image : Result Image ImageFault) (result : Result State LoadFault) → IfOk result (λ s. LoadsRead bay image (Ok s)) → IfOk result IsIdle
+pub image-idle : (bay : Bay) (image : Result Image ImageFault) (result : Result State LoadFault)
+    → IfOk result (λ s. LoadsRead bay image (Ok s)) → IfOk result IsIdle
 image-idle bay image (Ok s) loads = idle-first bay s (first-read bay image s loads)
 image-idle bay image (Err refusal) loads = tt
 
@@ -62,13 +71,17 @@ image-idle bay image (Err refusal) loads = tt
 abbrev IsTimed : Result State LoadFault → Type 0
 IsTimed result = IfOk result (λ (s : State). AreTimed s.controls.controls)
 
-pub text-timed : (bay : Result Bay BayFault) (program : Result PlainProgram TextFault) (result : Result State LoadFault)
-    → ((b : Bay) → bay ≡ Ok b → AreTimed (controls_of b.switches)) → Gives OutOfMemory (λ (s : State). s) result (of_bay bay program) → IsTimed result
-text-timed (Ok bay) program (Ok s) timed e = timed-first bay s (timed bay refl) (first-program bay program s e)
+pub text-timed : (bay : Result Bay BayFault) (program : Result PlainProgram TextFault)
+    (result : Result State LoadFault)
+    → ((b : Bay) → bay ≡ Ok b → AreTimed (controls_of b.switches))
+    → Gives OutOfMemory (λ (s : State). s) result (of_bay bay program) → IsTimed result
+text-timed (Ok bay) program (Ok s) timed e =
+    timed-first bay s (timed bay refl) (first-program bay program s e)
 text-timed (Err fault) program (Ok s) timed e = absurd cc
 text-timed bay program (Err refusal) timed e = tt
 
-pub image-timed : (bay : Bay) (image : Result Image ImageFault) (result : Result State LoadFault) → AreTimed (controls_of bay.switches)
+pub image-timed : (bay : Bay) (image : Result Image ImageFault) (result : Result State LoadFault)
+    → AreTimed (controls_of bay.switches)
     → IfOk result (λ s. LoadsRead bay image (Ok s)) → IsTimed result
 image-timed bay image (Ok s) timed loads = timed-first bay s timed (first-read bay image s loads)
 image-timed bay image (Err refusal) timed loads = tt

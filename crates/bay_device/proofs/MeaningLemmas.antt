@@ -53,9 +53,12 @@ value-typed s (source.Switch k EnableClose) = refl
 value-typed s (source.Input k) = refl
 value-typed s (source.Meter k field) = refl
 
-values-typed : (s : State) (os : List Source) → map type_of (map (point_value s) os) ≡ map type_of_source os
+values-typed : (s : State) (os : List Source)
+    → map type_of (map (point_value s) os) ≡ map type_of_source os
 values-typed s [] = refl
-values-typed s (o ∷ os) = ap₂ (λ (t : ElementaryType) (ts : List ElementaryType). t ∷ ts) (value-typed s o) (values-typed s os)
+values-typed s (o ∷ os) =
+    ap₂ (λ (t : ElementaryType) (ts : List ElementaryType). t ∷ ts) (value-typed s o)
+    (values-typed s os)
 
 -- ---- slots with inputs
 
@@ -66,45 +69,66 @@ tail-of : (a b : ElementaryType) (xs ys : List ElementaryType) → a ∷ xs ≡ 
 tail-of a b xs ys e = cc
 
 pub record Put (points : List ImagePoint) (inputs slots : List Value) : Type 0 where
-  pub front : map type_of (take (length points) (with_inputs points inputs slots)) ≡ map type_of_point points
+  pub front : map type_of (take (length points) (with_inputs points inputs slots))
+      ≡ map type_of_point points
   pub back : drop (length points) (with_inputs points inputs slots) ≡ drop (length points) slots
 
 -- the slots of one point more
-abbrev slots_with : Bool → ImagePoint → List ImagePoint → List Value → Value → List Value → List Value
-slots_with w p points inputs slot slots = cond w slot (first_input inputs slot) ∷ with_inputs points (cond w inputs (drop 1 inputs)) slots
+abbrev slots_with : Bool → ImagePoint → List ImagePoint → List Value → Value → List Value
+    → List Value
+slots_with w p points inputs slot slots =
+    cond w slot (first_input inputs slot) ∷ with_inputs points (cond w inputs (drop 1 inputs)) slots
 
-put-more : (p : ImagePoint) (points : List ImagePoint) (slot : Value) (slots : List Value) → type_of slot ≡ p.elementary
-    → ((inputs : List Value) → map type_of inputs ≡ map type_of_point (read_only points) → Put points inputs slots)
-    → (w : Bool) (inputs : List Value) → p.writable ≡ w → map type_of inputs ≡ map type_of_point (cond (not w) (p ∷ read_only points) (read_only points)) → Put (p ∷ points) inputs (slot ∷ slots)
+put-more : (p : ImagePoint) (points : List ImagePoint) (slot : Value) (slots : List Value)
+    → type_of slot ≡ p.elementary
+    → ((inputs : List Value) → map type_of inputs ≡ map type_of_point (read_only points)
+    → Put points inputs slots)
+    → (w : Bool) (inputs : List Value) → p.writable ≡ w
+    → map type_of inputs ≡ map type_of_point
+    (cond (not w) (p ∷ read_only points) (read_only points))
+    → Put (p ∷ points) inputs (slot ∷ slots)
 put-more p points slot slots here rest true inputs w g =
     let q = rest inputs g in
     record {
-      front = ap (λ b. map type_of (take (length (p ∷ points)) (slots_with b p points inputs slot slots))) w ∙ ap₂ (λ (t : ElementaryType) (ts : List ElementaryType). t ∷ ts) here q.front;
-      back = ap (λ b. drop (length (p ∷ points)) (slots_with b p points inputs slot slots)) w ∙ q.back;
+      front = ap (λ b. map type_of
+          (take (length (p ∷ points)) (slots_with b p points inputs slot slots))) w
+          ∙ ap₂ (λ (t : ElementaryType) (ts : List ElementaryType). t ∷ ts) here q.front;
+      back = ap (λ b. drop (length (p ∷ points)) (slots_with b p points inputs slot slots)) w
+          ∙ q.back;
     }
 put-more p points slot slots here rest false [] w g = absurd cc
 put-more p points slot slots here rest false (i ∷ inputs) w g =
     let q = rest inputs (tail-of _ _ _ _ g) in
     record {
-      front = ap (λ b. map type_of (take (length (p ∷ points)) (slots_with b p points (i ∷ inputs) slot slots))) w ∙ ap₂ (λ (t : ElementaryType) (ts : List ElementaryType). t ∷ ts) (head-of _ _ _ _ g) q.front;
-      back = ap (λ b. drop (length (p ∷ points)) (slots_with b p points (i ∷ inputs) slot slots)) w ∙ q.back;
+      front = ap (λ b. map type_of
+          (take (length (p ∷ points)) (slots_with b p points (i ∷ inputs) slot slots))) w
+          ∙ ap₂ (λ (t : ElementaryType) (ts : List ElementaryType). t ∷ ts) (head-of _ _ _ _ g)
+          q.front;
+      back = ap (λ b. drop (length (p ∷ points)) (slots_with b p points (i ∷ inputs) slot slots)) w
+          ∙ q.back;
     }
 
-put : (points : List ImagePoint) (inputs slots : List Value) → map type_of (take (length points) slots) ≡ map type_of_point points → map type_of inputs ≡ map type_of_point (read_only points) → Put points inputs slots
+put : (points : List ImagePoint) (inputs slots : List Value)
+    → map type_of (take (length points) slots) ≡ map type_of_point points
+    → map type_of inputs ≡ map type_of_point (read_only points) → Put points inputs slots
 put [] inputs slots e f = record { front = refl; back = refl }
 put (p ∷ points) inputs [] e f = absurd cc
 put (p ∷ points) inputs (slot ∷ slots) e f =
-    put-more p points slot slots (head-of _ _ _ _ e) (λ others g. put points others slots (tail-of _ _ _ _ e) g) p.writable inputs refl f
+    put-more p points slot slots (head-of _ _ _ _ e)
+    (λ others g. put points others slots (tail-of _ _ _ _ e) g) p.writable inputs refl f
 
-points-kinds : (es : List External) → map type_of_point (map point_of es) ≡ map (λ (e : External). e.kind) es
+points-kinds : (es : List External)
+    → map type_of_point (map point_of es) ≡ map (λ (e : External). e.kind) es
 points-kinds [] = refl
 points-kinds (e ∷ es) = ap (λ (ts : List ElementaryType). e.kind ∷ ts) (points-kinds es)
 
 -- the outputs are those of the points' slots
-outputs-front : (points : List ImagePoint) (xs ys : List Value) → length xs ≡ length points → outputs_of points (xs ++ ys) ≡ outputs_of points xs
+outputs-front : (points : List ImagePoint) (xs ys : List Value) → length xs ≡ length points
+    → outputs_of points (xs ++ ys) ≡ outputs_of points xs
 outputs-front [] xs ys e = refl
 outputs-front (p ∷ points) [] ys e = absurd (omega arith)
-outputs-front (p ∷ points) (x ∷ xs) ys e = ap (λ (os : List Value). cond p.writable (x ∷ os) os) (outputs-front points xs ys (omega arith))
+outputs-front (p ∷ points) (x ∷ xs) ys e =
+    ap (λ (os : List Value). cond p.writable (x ∷ os) os) (outputs-front points xs ys (omega arith))
 
 -- ---- a scan
 
@@ -131,8 +155,13 @@ module _ (c : Checked) (s : State) (r : Runs c s) (now : ℕ) where
 
   typed-before : HasTypes c before
   typed-before = record {
-    externals = ap (λ n. map type_of (take n (with_inputs points (inputs_of s) s.machine.slots))) (sym many) ∙ slots-put.front ∙ kinds;
-    variables = ap (λ n. map type_of (drop n (with_inputs points (inputs_of s) s.machine.slots))) (sym many) ∙ ap (map type_of) slots-put.back ∙ ap (λ n. map type_of (drop n s.machine.slots)) many ∙ r.types.variables;
+    externals =
+        ap (λ n. map type_of (take n (with_inputs points (inputs_of s) s.machine.slots))) (sym many)
+        ∙ slots-put.front ∙ kinds;
+    variables =
+        ap (λ n. map type_of (drop n (with_inputs points (inputs_of s) s.machine.slots))) (sym many)
+        ∙ ap (map type_of) slots-put.back ∙ ap (λ n. map type_of (drop n s.machine.slots)) many
+        ∙ r.types.variables;
     timers = r.types.timers;
   }
 
@@ -143,19 +172,30 @@ module _ (c : Checked) (s : State) (r : Runs c s) (now : ℕ) where
   after = follows.means.after
 
   ends : ending_at now s ≡ Halted (after.externals ++ after.variables) after.timers follows.steps
-  ends = ap (λ (slots : List Value). run s.machine.image.code now (length s.machine.image.code) (initial_state slots s.machine.timers) 0) (sym (take-append-drop count (with_inputs points (inputs_of s) s.machine.slots))) ∙ follows.halts
+  ends = ap (λ (slots : List Value). run s.machine.image.code now (length s.machine.image.code)
+      (initial_state slots s.machine.timers) 0)
+      (sym (take-append-drop count (with_inputs points (inputs_of s) s.machine.slots)))
+      ∙ follows.halts
 
-  ran : ran_at now s ≡ record { slots = after.externals ++ after.variables; timers = after.timers; steps = follows.steps }
+  ran : ran_at now s ≡ record
+      { slots = after.externals ++ after.variables; timers = after.timers; steps = follows.steps }
   ran = ap ran_of ends
 
   sized : length after.externals ≡ count
-  sized = sym (length-map after.externals type_of) ∙ ap (λ (ts : List ElementaryType). length ts) follows.means.typed.externals ∙ length-map c.externals (λ (e : External). e.kind)
+  sized = sym (length-map after.externals type_of)
+      ∙ ap (λ (ts : List ElementaryType). length ts) follows.means.typed.externals
+      ∙ length-map c.externals (λ (e : External). e.kind)
 
   kept : memory_of c (after.externals ++ after.variables) after.timers ≡ after
   kept =
-      let externals : take count (after.externals ++ after.variables) ≡ after.externals = ap (λ n. take n (after.externals ++ after.variables)) (sym sized) ∙ take-append_seam after.externals after.variables in
-      let variables : drop count (after.externals ++ after.variables) ≡ after.variables = ap (λ n. drop n (after.externals ++ after.variables)) (sym sized) ∙ drop-append_seam after.externals after.variables in
-      ap₂ (λ es vs. let m : Memory = record { externals = es; variables = vs; timers = after.timers } in m) externals variables
+      let externals : take count (after.externals ++ after.variables) ≡ after.externals =
+      ap (λ n. take n (after.externals ++ after.variables)) (sym sized)
+      ∙ take-append_seam after.externals after.variables in
+      let variables : drop count (after.externals ++ after.variables) ≡ after.variables =
+      ap (λ n. drop n (after.externals ++ after.variables)) (sym sized)
+      ∙ drop-append_seam after.externals after.variables in
+      ap₂ (λ es vs. let m : Memory =
+      record { externals = es; variables = vs; timers = after.timers } in m) externals variables
 
   keeps : memory_of c (scanned now s).machine.slots (scanned now s).machine.timers ≡ after
   keeps = ap (λ (x : Ran). memory_of c x.slots x.timers) ran ∙ kept
@@ -166,9 +206,11 @@ module _ (c : Checked) (s : State) (r : Runs c s) (now : ℕ) where
     is = follows.means.is;
     keeps = keeps;
     rows =
-        ap (λ (x : Ran). with_outputs s.switches s.writes (outputs_of points x.slots) now 0 s.switches s.rows) ran
+        ap (λ (x : Ran). with_outputs s.switches s.writes (outputs_of points x.slots) now 0
+        s.switches s.rows) ran
         ∙ ap (λ os. with_outputs s.switches s.writes os now 0 s.switches s.rows)
-        (outputs-front points after.externals after.variables (sized ∙ sym many) ∙ ap (λ (ps : List ImagePoint). outputs_of ps after.externals) r.points);
+        (outputs-front points after.externals after.variables (sized ∙ sym many)
+        ∙ ap (λ (ps : List ImagePoint). outputs_of ps after.externals) r.points);
   }
 
   pub runs-on : Runs c (scanned now s)
@@ -182,12 +224,14 @@ module _ (c : Checked) (s : State) (r : Runs c s) (now : ℕ) where
 -- ---- an event
 
 -- what the program's run hangs on stays
-runs-as : (c : Checked) (s t : State) → Runs c s → t.machine ≡ s.machine → t.reads ≡ s.reads → Runs c t
+runs-as : (c : Checked) (s t : State) → Runs c s → t.machine ≡ s.machine → t.reads ≡ s.reads
+    → Runs c t
 runs-as c s t r machine reads = record {
   points = ap (λ (h : Held). h.image.points) machine ∙ r.points;
   does = subst (λ (h : Held). DoesTheText c h.image.code) (sym machine) r.does;
   types = subst (λ (h : Held). HasTypes c (memory_of c h.slots h.timers)) (sym machine) r.types;
-  reads = ap (map type_of_source) reads ∙ r.reads ∙ sym (ap (λ (h : Held). map type_of_point (read_only h.image.points)) machine);
+  reads = ap (map type_of_source) reads ∙ r.reads
+      ∙ sym (ap (λ (h : Held). map type_of_point (read_only h.image.points)) machine);
 }
 
 -- what a client does leaves the program as it is
@@ -195,47 +239,64 @@ pub record SameProgram (s t : State) : Type 0 where
   pub machine : t.machine ≡ s.machine
   pub reads : t.reads ≡ s.reads
 
-connected : (o : Option ℕ) (talk : Option Talk) (s t : State) → SameProgram s t → SameProgram s (with_connection o talk t)
+connected : (o : Option ℕ) (talk : Option Talk) (s t : State) → SameProgram s t
+    → SameProgram s (with_connection o talk t)
 connected None talk s t same = same
 connected (Some place) talk s t same = record { machine = same.machine; reads = same.reads }
 
-on-heard : (now a : ℕ) (i : Indication) (s : State) (d : Done) (later : Done → Heard) → SameProgram s d.state
-    → ((e : Done) → SameProgram s e.state → SameProgram s (later e).done.state) → SameProgram s (on_heard now a i d later).done.state
+on-heard : (now a : ℕ) (i : Indication) (s : State) (d : Done) (later : Done → Heard)
+    → SameProgram s d.state
+    → ((e : Done) → SameProgram s e.state → SameProgram s (later e).done.state)
+    → SameProgram s (on_heard now a i d later).done.state
 on-heard now a (answers octets) s d later same rest = rest _ same
-on-heard now a (tells terms pdu) s d later same rest = rest _ (record { machine = same.machine; reads = same.reads })
+on-heard now a (tells terms pdu) s d later same rest =
+    rest _ (record { machine = same.machine; reads = same.reads })
 on-heard now a (releases octets) s d later same rest = same
 on-heard now a ends-heard s d later same rest = same
 on-heard now a (fails code) s d later same rest = same
 
-same-heard : (choice : Option ℕ) (now a : ℕ) (is : List Indication) (s : State) (d : Done) → SameProgram s d.state → SameProgram s (heard choice now a is d).done.state
+same-heard : (choice : Option ℕ) (now a : ℕ) (is : List Indication) (s : State) (d : Done)
+    → SameProgram s d.state → SameProgram s (heard choice now a is d).done.state
 same-heard None now a [] s d same = same
-same-heard None now a (i ∷ is) s d same = on-heard now a i s d (heard None now a is) same (λ e h. same-heard None now a is s e h)
+same-heard None now a (i ∷ is) s d same =
+    on-heard now a i s d (heard None now a is) same (λ e h. same-heard None now a is s e h)
 same-heard (Some zero) now a [] s d same = same
 same-heard (Some zero) now a (i ∷ is) s d same = same
 same-heard (Some (suc n)) now a [] s d same = same
-same-heard (Some (suc n)) now a (i ∷ is) s d same = on-heard now a i s d (heard (Some n) now a is) same (λ e h. same-heard (Some n) now a is s e h)
+same-heard (Some (suc n)) now a (i ∷ is) s d same =
+    on-heard now a i s d (heard (Some n) now a is) same (λ e h. same-heard (Some n) now a is s e h)
 
-same-after : (a : ℕ) (left : Talk) (s t : State) (why : Option Why) → SameProgram s t → SameProgram s (recv_after a left t why)
+same-after : (a : ℕ) (left : Talk) (s t : State) (why : Option Why) → SameProgram s t
+    → SameProgram s (recv_after a left t why)
 same-after a left s t None same = connected (place_of a) (Some left) s t same
-same-after a left s t (Some why) same = connected (place_of a) None s _ (record { machine = same.machine; reads = same.reads })
+same-after a left s t (Some why) same =
+    connected (place_of a) None s _ (record { machine = same.machine; reads = same.reads })
 
-same-octets : (choice : Option ℕ) (now a : ℕ) (s : State) (talk : Talk) (octets : List ℕ) → SameProgram s (octets_outcome choice now a s talk octets).after
+same-octets : (choice : Option ℕ) (now a : ℕ) (s : State) (talk : Talk) (octets : List ℕ)
+    → SameProgram s (octets_outcome choice now a s talk octets).after
 same-octets choice now a s talk [] = record { machine = refl; reads = refl }
 same-octets choice now a s talk (octet ∷ octets) =
-    same-after a (left_by talk (octet ∷ octets)) s _ _ (same-heard choice now a (indications talk (octet ∷ octets)) s (nothing_done (advanced now s)) (record { machine = refl; reads = refl }))
+    same-after a (left_by talk (octet ∷ octets)) s _ _
+    (same-heard choice now a (indications talk (octet ∷ octets)) s
+    (nothing_done (advanced now s)) (record { machine = refl; reads = refl }))
 
-same-recv : (choice : Option ℕ) (now a : ℕ) (octets : List ℕ) (s : State) (talk : Option Talk) → SameProgram s (recv_outcome choice now a octets s talk).after
+same-recv : (choice : Option ℕ) (now a : ℕ) (octets : List ℕ) (s : State) (talk : Option Talk)
+    → SameProgram s (recv_outcome choice now a octets s talk).after
 same-recv choice now a octets s None = record { machine = refl; reads = refl }
 same-recv choice now a octets s (Some talk) = same-octets choice now a s talk octets
 
-same-open : (now a : ℕ) (s : State) (o : Option ℕ) (talk : Option Talk) → SameProgram s (open_outcome now a s o talk).after
+same-open : (now a : ℕ) (s : State) (o : Option ℕ) (talk : Option Talk)
+    → SameProgram s (open_outcome now a s o talk).after
 same-open now a s None talk = record { machine = refl; reads = refl }
 same-open now a s (Some place) (Some talk) = record { machine = refl; reads = refl }
-same-open now a s (Some place) None = connected (place_of a) _ s (advanced now s) (record { machine = refl; reads = refl })
+same-open now a s (Some place) None =
+    connected (place_of a) _ s (advanced now s) (record { machine = refl; reads = refl })
 
-same-close : (now a : ℕ) (s : State) (talk : Option Talk) → SameProgram s (close_outcome now a s talk).after
+same-close : (now a : ℕ) (s : State) (talk : Option Talk)
+    → SameProgram s (close_outcome now a s talk).after
 same-close now a s None = record { machine = refl; reads = refl }
-same-close now a s (Some talk) = connected (place_of a) None s _ (record { machine = refl; reads = refl })
+same-close now a s (Some talk) =
+    connected (place_of a) None s _ (record { machine = refl; reads = refl })
 
 module _ (c : Checked) (s : State) (r : Runs c s) (now : ℕ) where
   runs-advanced : Runs c (advanced now s)
@@ -244,21 +305,26 @@ module _ (c : Checked) (s : State) (r : Runs c s) (now : ℕ) where
   runs-same : (t : State) → SameProgram s t → Runs c t
   runs-same t same = runs-as c s t r same.machine same.reads
 
-  runs-contact : (k : ℕ) (position : _) (o : Option Switch) → Runs c (contact_outcome now k position s o).after
+  runs-contact : (k : ℕ) (position : _) (o : Option Switch)
+      → Runs c (contact_outcome now k position s o).after
   runs-contact k position None = r
   runs-contact k position (Some switch) = runs-as c s _ r refl refl
 
-  runs-input : (k : ℕ) (value : Bool) (o : Option Bool) → Runs c (input_outcome now k value s o).after
+  runs-input : (k : ℕ) (value : Bool) (o : Option Bool)
+      → Runs c (input_outcome now k value s o).after
   runs-input k value None = r
   runs-input k value (Some old) = runs-as c s _ r refl refl
 
-  runs-measure : (k : ℕ) (field : MeterField) (value : _) (o : Option (List ℕ)) → Runs c (measure_outcome now k field value s o).after
+  runs-measure : (k : ℕ) (field : MeterField) (value : _) (o : Option (List ℕ))
+      → Runs c (measure_outcome now k field value s o).after
   runs-measure k field value None = r
   runs-measure k field value (Some id) = runs-as c s _ r refl refl
 
   runs-event : (choice : Option ℕ) (event : Event) → Runs c (event_outcome choice now event s).after
-  runs-event choice (Open a) = runs-same _ (same-open now a s (place_of a) (connection_at (place_of a) s))
-  runs-event choice (Recv a octets) = runs-same _ (same-recv choice now a octets.now s (connection_at (place_of a) s))
+  runs-event choice (Open a) =
+      runs-same _ (same-open now a s (place_of a) (connection_at (place_of a) s))
+  runs-event choice (Recv a octets) =
+      runs-same _ (same-recv choice now a octets.now s (connection_at (place_of a) s))
   runs-event choice (Close a) = runs-same _ (same-close now a s (connection_at (place_of a) s))
   runs-event choice (Contact k position) = runs-contact k position (slice_get s.switches k)
   runs-event choice (Input k value) = runs-input k value (slice_get s.input_values k)
@@ -270,7 +336,9 @@ module _ (c : Checked) (s : State) (r : Runs c s) (now : ℕ) where
   runs-if false x y h k = k
 
   pub runs-still : (choice : Option ℕ) (event : Event) → Runs c (outcome choice now event s).after
-  runs-still choice event = runs-if (nat_lt last_moment now) _ _ r (runs-if (nat_lt now s.moment) _ _ r (runs-event choice event))
+  runs-still choice event =
+      runs-if (nat_lt last_moment now) _ _ r
+      (runs-if (nat_lt now s.moment) _ _ r (runs-event choice event))
 
   pub means-event : (event : Event) → MeansAt c now event s
   means-event Scan = means-scan c (advanced now s) runs-advanced now
@@ -283,42 +351,68 @@ module _ (c : Checked) (s : State) (r : Runs c s) (now : ℕ) where
 
 -- ---- a list of events
 
-pub all-mean : (c : Checked) (choices : List (Option ℕ)) (events : List (ℕ × Event)) (s : State) → Runs c s → AllMean c choices events s
+pub all-mean : (c : Checked) (choices : List (Option ℕ)) (events : List (ℕ × Event)) (s : State)
+    → Runs c s → AllMean c choices events s
 all-mean c choices [] s r = tt
-all-mean c [] (e ∷ events) s r = (means-event c s r e.0 e.1, all-mean c [] events (outcome None e.0 e.1 s).after (runs-still c s r e.0 None e.1))
-all-mean c (choice ∷ choices) (e ∷ events) s r = (means-event c s r e.0 e.1, all-mean c choices events (outcome choice e.0 e.1 s).after (runs-still c s r e.0 choice e.1))
+all-mean c [] (e ∷ events) s r = (
+  means-event c s r e.0 e.1,
+  all-mean c [] events (outcome None e.0 e.1 s).after (runs-still c s r e.0 None e.1),
+)
+all-mean c (choice ∷ choices) (e ∷ events) s r = (
+  means-event c s r e.0 e.1,
+  all-mean c choices events (outcome choice e.0 e.1 s).after (runs-still c s r e.0 choice e.1),
+)
 
-pub all-run : (c : Checked) (choices : List (Option ℕ)) (events : List (ℕ × Event)) (s : State) → Runs c s → Runs c (outcomes choices events s).after
+pub all-run : (c : Checked) (choices : List (Option ℕ)) (events : List (ℕ × Event)) (s : State)
+    → Runs c s → Runs c (outcomes choices events s).after
 all-run c choices [] s r = r
-all-run c [] (e ∷ events) s r = all-run c [] events (outcome None e.0 e.1 s).after (runs-still c s r e.0 None e.1)
-all-run c (choice ∷ choices) (e ∷ events) s r = all-run c choices events (outcome choice e.0 e.1 s).after (runs-still c s r e.0 choice e.1)
+all-run c [] (e ∷ events) s r =
+    all-run c [] events (outcome None e.0 e.1 s).after (runs-still c s r e.0 None e.1)
+all-run c (choice ∷ choices) (e ∷ events) s r =
+    all-run c choices events (outcome choice e.0 e.1 s).after (runs-still c s r e.0 choice e.1)
 
 -- ---- before the first event
 
-first-typed : (es : List External) (vs : List Value) → map type_of (take (length es) (first_slots (map point_of es) vs)) ≡ map (λ (e : External). e.kind) es
+first-typed : (es : List External) (vs : List Value)
+    → map type_of (take (length es) (first_slots (map point_of es) vs))
+    ≡ map (λ (e : External). e.kind) es
 first-typed [] vs = refl
-first-typed (e ∷ es) vs = ap₂ (λ (t : ElementaryType) (ts : List ElementaryType). t ∷ ts) (default_typed e.kind).0 (first-typed es vs)
+first-typed (e ∷ es) vs =
+    ap₂ (λ (t : ElementaryType) (ts : List ElementaryType). t ∷ ts) (default_typed e.kind).0
+    (first-typed es vs)
 
-first-behind : (es : List External) (vs : List Value) → drop (length es) (first_slots (map point_of es) vs) ≡ vs
+first-behind : (es : List External) (vs : List Value)
+    → drop (length es) (first_slots (map point_of es) vs) ≡ vs
 first-behind [] vs = refl
 first-behind (e ∷ es) vs = first-behind es vs
 
-initial-types : (vs : List Variable) → map type_of (map (λ (v : Variable). v.initial) vs) ≡ map (λ (v : Variable). type_of v.initial) vs
+initial-types : (vs : List Variable)
+    → map type_of (map (λ (v : Variable). v.initial) vs)
+    ≡ map (λ (v : Variable). type_of v.initial) vs
 initial-types [] = refl
-initial-types (v ∷ vs) = ap (λ (ts : List ElementaryType). type_of v.initial ∷ ts) (initial-types vs)
+initial-types (v ∷ vs) =
+    ap (λ (ts : List ElementaryType). type_of v.initial ∷ ts) (initial-types vs)
 
-timers-first : (ts : List DeclaredTimer) → map (λ (t : TimerState). t.kind) (map first_state (map (λ (t : DeclaredTimer). t.kind) ts)) ≡ map (λ (t : DeclaredTimer). t.kind) ts
+timers-first : (ts : List DeclaredTimer)
+    → map (λ (t : TimerState). t.kind) (map first_state (map (λ (t : DeclaredTimer). t.kind) ts))
+    ≡ map (λ (t : DeclaredTimer). t.kind) ts
 timers-first [] = refl
 timers-first (t ∷ ts) = ap (λ (ks : List TimerKind). t.kind ∷ ks) (timers-first ts)
 
-pub runs-first : (c : Checked) (bay : Bay) → IsBay bay → IsVerified bay.points (image_of c) → DoesTheText c (image_of c).code → Runs c (initial_device bay (image_of c))
+pub runs-first : (c : Checked) (bay : Bay) → IsBay bay → IsVerified bay.points (image_of c)
+    → DoesTheText c (image_of c).code → Runs c (initial_device bay (image_of c))
 runs-first c bay is verified does = record {
   points = refl;
   does = does;
   types = record {
     externals = first-typed c.externals (map (λ (v : Variable). v.initial) c.variables);
-    variables = ap (map type_of) (first-behind c.externals (map (λ (v : Variable). v.initial) c.variables)) ∙ initial-types c.variables;
+    variables =
+        ap (map type_of) (first-behind c.externals (map (λ (v : Variable). v.initial) c.variables))
+        ∙ initial-types c.variables;
     timers = timers-first c.timers;
   };
-  reads = reads-typed bay.points (subst (λ (ps : List Point). Each IsTyped ps) (sym is.points) (bay-typed bay.switches bay.inputs bay.meters)) (image_of c).points (points-fit bay.points (image_of c) verified.fits);
+  reads = reads-typed bay.points
+      (subst (λ (ps : List Point). Each IsTyped ps) (sym is.points)
+      (bay-typed bay.switches bay.inputs bay.meters)) (image_of c).points
+      (points-fit bay.points (image_of c) verified.fits);
 }

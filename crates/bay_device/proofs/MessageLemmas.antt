@@ -2,7 +2,7 @@
 use Rattle.std.proofs.Common.{◌≡◌, ◌<◌, ℕ, ◌+◌, List, [], ◌∷◌, ◌++◌, length, map, drop, take, get_or, Option, Some, None, IsSome, IfSome, Result, Ok, Err, refl, ap, sym, ◌∙◌, arith, append_assoc}
 use Rattle.std.proofs.lemmas.Grind.{common_steps}
 use Rattle.std.specs.Result.{OnErr, OnOk}
-use Rattle.bay_assoc.specs.declared.hearing.Link.{Link}
+use Rattle.bay_assoc.specs.declared.hearing.AssociationTerms.{AssociationTerms}
 use Rattle.bay_connection.specs.Talk.{Terms, sending}
 use Rattle.bay_control.specs.declared.selection.Standing.{Standing}
 use Rattle.bay_services.specs.Answers.{Answered}
@@ -15,13 +15,15 @@ use Rattle.bay_device.specs.declared.due.Due.{Due}
 use Rattle.bay_device.specs.declared.event.Sent.{Sent}
 
 -- a front stays a front
-pub front-kept : {A : Type 0} (front xs ys : List A) → take (length front) xs ≡ front → take (length front) (xs ++ ys) ≡ front
+pub front-kept : {A : Type 0} (front xs ys : List A) → take (length front) xs ≡ front
+    → take (length front) (xs ++ ys) ≡ front
 front-kept [] xs ys is = refl
 front-kept (a ∷ front) [] ys is = absurd (cc)
 front-kept (a ∷ front) (x ∷ xs) ys is =
     let first : x ≡ a = cc in
     let rest : take (length front) xs ≡ front = cc in
-    ap (λ b. b ∷ take (length front) (xs ++ ys)) first ∙ ap (λ bs. a ∷ bs) (front-kept front xs ys rest)
+    ap (λ b. b ∷ take (length front) (xs ++ ys)) first
+    ∙ ap (λ bs. a ∷ bs) (front-kept front xs ys rest)
 
 pub front-whole : {A : Type 0} (xs : List A) → take (length xs) xs ≡ xs
 front-whole [] = refl
@@ -30,39 +32,55 @@ front-whole (x ∷ xs) = ap (λ ys. x ∷ ys) (front-whole xs)
 pub front-of : {A : Type 0} (xs ys : List A) → take (length xs) (xs ++ ys) ≡ xs
 front-of xs ys = front-kept xs xs ys (front-whole xs)
 
-rest-more : {A : Type 0} (xs : List A) (i : ℕ) (d : A) → i < length xs → drop i xs ≡ get_or xs i d ∷ drop (i + 1) xs
+rest-more : {A : Type 0} (xs : List A) (i : ℕ) (d : A) → i < length xs
+    → drop i xs ≡ get_or xs i d ∷ drop (i + 1) xs
 rest-more xs i d lt = grind (arith, common_steps)
 
 -- one more of a list that is gone over
-pub one-more : {A B : Type 0} (f : A → B) (before : List B) (xs : List A) (i : ℕ) (d : A) → i < length xs
+pub one-more : {A B : Type 0} (f : A → B) (before : List B) (xs : List A) (i : ℕ) (d : A)
+    → i < length xs
     → before ++ map f (drop i xs) ≡ (before ++ f (get_or xs i d) ∷ []) ++ map f (drop (i + 1) xs)
 one-more f before xs i d lt =
     let rest : drop i xs ≡ get_or xs i d ∷ drop (i + 1) xs = rest-more xs i d lt in
-    ap (λ ys. before ++ map f ys) rest ∙ sym (append_assoc before (f (get_or xs i d) ∷ []) (map f (drop (i + 1) xs)))
+    ap (λ ys. before ++ map f ys) rest
+    ∙ sym (append_assoc before (f (get_or xs i d) ∷ []) (map f (drop (i + 1) xs)))
 
 -- a device, and what is made of it
 abbrev done : State → List Sent → List Command → Done
 done s sent commands = record { state = s; sent = sent; commands = commands }
 
 -- what an answer comes to
-pub answered-done : (a : ℕ) (terms : Terms) (x : Answered) (s : State) (sent made : List Sent) (commands obeyed : List Command) (b : Bay) (due : Option Due) → b ≡ x.after
-    → due ≡ later_due s.due (due_if a terms x.ending) → made ≡ sent ++ map (λ pdu. sent_on a (sending terms pdu)) x.sent → obeyed ≡ commands ++ x.commands
-    → done (record (with_bay b s) { due = due }) made obeyed ≡ answered_with a terms x (done s sent commands)
+pub answered-done : (a : ℕ) (terms : Terms) (x : Answered) (s : State) (sent made : List Sent)
+    (commands obeyed : List Command) (b : Bay) (due : Option Due) → b ≡ x.after
+    → due ≡ later_due s.due (due_if a terms x.ending)
+    → made ≡ sent ++ map (λ pdu. sent_on a (sending terms pdu)) x.sent
+    → obeyed ≡ commands ++ x.commands
+    → done (record (with_bay b s) { due = due }) made obeyed
+    ≡ answered_with a terms x (done s sent commands)
 answered-done a terms x s sent made commands obeyed b due after is sends does =
     ap (λ (y : Bay). done (record (with_bay y s) { due = due }) made obeyed) after
     ∙ ap (λ (y : Option Due). done (record (with_bay x.after s) { due = y }) made obeyed) is
-    ∙ ap (λ (y : List Sent). done (record (with_bay x.after s) { due = later_due s.due (due_if a terms x.ending) }) y obeyed) sends
-    ∙ ap (λ (y : List Command). done (record (with_bay x.after s) { due = later_due s.due (due_if a terms x.ending) }) (sent ++ map (λ pdu. sent_on a (sending terms pdu)) x.sent) y) does
+    ∙ ap (λ (y : List Sent). done
+    (record (with_bay x.after s) { due = later_due s.due (due_if a terms x.ending) }) y obeyed)
+    sends
+    ∙ ap (λ (y : List Command). done
+    (record (with_bay x.after s) { due = later_due s.due (due_if a terms x.ending) })
+    (sent ++ map (λ pdu. sent_on a (sending terms pdu)) x.sent) y) does
 
 -- what stood before is put back
-pub put-back-done : (standing : Standing) (s m : State) (b : Bay) (sent made : List Sent) (commands obeyed : List Command) → b ≡ standing_again standing (bay_of m)
-    → put_back standing m ≡ put_back standing s → standing_again standing (bay_of s) ≡ bay_of s → made ≡ sent → obeyed ≡ commands → done (with_bay b m) made obeyed ≡ done s sent commands
+pub put-back-done : (standing : Standing) (s m : State) (b : Bay) (sent made : List Sent)
+    (commands obeyed : List Command) → b ≡ standing_again standing (bay_of m)
+    → put_back standing m ≡ put_back standing s → standing_again standing (bay_of s) ≡ bay_of s
+    → made ≡ sent → obeyed ≡ commands → done (with_bay b m) made obeyed ≡ done s sent commands
 put-back-done standing s m b sent made commands obeyed restored back own sends does =
-    ap (λ (y : Bay). done (with_bay y m) made obeyed) restored ∙ ap (λ (t : State). done t made obeyed) back ∙ ap (λ (y : Bay). done (with_bay y s) made obeyed) own
+    ap (λ (y : Bay). done (with_bay y m) made obeyed) restored
+    ∙ ap (λ (t : State). done t made obeyed) back
+    ∙ ap (λ (y : Bay). done (with_bay y s) made obeyed) own
     ∙ ap (λ (y : List Sent). done s y obeyed) sends ∙ ap (λ (y : List Command). done s sent y) does
 
 -- the size that is agreed
-pub size-is : (o : Option Link) (n : ℕ) → IsSome o → IfSome o (λ (l : Link). n ≡ l.size) → n ≡ size_of o
+pub size-is : (o : Option AssociationTerms) (n : ℕ) → IsSome o
+    → IfSome o (λ (l : AssociationTerms). n ≡ l.size) → n ≡ size_of o
 size-is None n some is = absurd (cc)
 size-is (Some l) n some is = is
 

@@ -16,32 +16,44 @@ use Rattle.bay_tree.specs.declared.leaf.Quality.TheVariants.{Good}
 use Rattle.bay_tree.specs.declared.row.Row.{Row}
 use Rattle.bay_process.specs.Values.{counted, is_operation, operation_counted, output_of, position_quality, rows_after_change, rows_after_contact, rows_after_measure, tells, tells_measure, with_enabled, with_output, with_outputs, with_status}
 
-leaf-if : (b : Bool) (r : Row) (v : Leaf) → (cond b (let s : Row = record { name = r.name; leaf = Some v } in s) r).name ≡ r.name
+leaf-if : (b : Bool) (r : Row) (v : Leaf)
+    → (cond b (let s : Row = record { name = r.name; leaf = Some v } in s) r).name ≡ r.name
 leaf-if true r v = refl
 leaf-if false r v = refl
 
-leaf-names : (name : List ℕ) (v : Leaf) (rows : List Row) → names_of (with_leaf_of name v rows) ≡ names_of rows
+leaf-names : (name : List ℕ) (v : Leaf) (rows : List Row)
+    → names_of (with_leaf_of name v rows) ≡ names_of rows
 leaf-names name v [] = refl
-leaf-names name v (r ∷ rows) = ap₂ (λ (n : List ℕ) (ns : List (List ℕ)). n ∷ ns) (leaf-if (bytes_eq r.name name) r v) (leaf-names name v rows)
+leaf-names name v (r ∷ rows) =
+    ap₂ (λ (n : List ℕ) (ns : List (List ℕ)). n ∷ ns) (leaf-if (bytes_eq r.name name) r v)
+    (leaf-names name v rows)
 
-status-names : (names : StatusNames) (v : Leaf) (quality : Quality) (now : ℕ) (rows : List Row) → names_of (with_status names v quality now rows) ≡ names_of rows
+status-names : (names : StatusNames) (v : Leaf) (quality : Quality) (now : ℕ) (rows : List Row)
+    → names_of (with_status names v quality now rows) ≡ names_of rows
 status-names names v quality now rows =
-    leaf-names names.time (leaf.Utc now) (with_leaf_of names.quality (leaf.Quality quality) (with_leaf_of names.value v rows))
-    ∙ leaf-names names.quality (leaf.Quality quality) (with_leaf_of names.value v rows) ∙ leaf-names names.value v rows
+    leaf-names names.time (leaf.Utc now)
+    (with_leaf_of names.quality (leaf.Quality quality) (with_leaf_of names.value v rows))
+    ∙ leaf-names names.quality (leaf.Quality quality) (with_leaf_of names.value v rows)
+    ∙ leaf-names names.value v rows
 
-names-if : (b : Bool) (old : List (List ℕ)) (xs ys : List Row) → names_of xs ≡ old → names_of ys ≡ old → names_of (cond b xs ys) ≡ old
+names-if : (b : Bool) (old : List (List ℕ)) (xs ys : List Row) → names_of xs ≡ old
+    → names_of ys ≡ old → names_of (cond b xs ys) ≡ old
 names-if true old xs ys p q = p
 names-if false old xs ys p q = q
 
-counted-names : (names : StatusNames) (value : Option Leaf) (now : ℕ) (rows : List Row) → names_of (counted names value now rows) ≡ names_of rows
+counted-names : (names : StatusNames) (value : Option Leaf) (now : ℕ) (rows : List Row)
+    → names_of (counted names value now rows) ≡ names_of rows
 counted-names names None now rows = refl
 counted-names names (Some (leaf.Truth v)) now rows = refl
 counted-names names (Some (leaf.Dbpos v)) now rows = refl
 counted-names names (Some (leaf.Quality v)) now rows = refl
 counted-names names (Some (leaf.Int8 v)) now rows = refl
 counted-names names (Some (leaf.Int32 n)) now rows =
-    names-if (int_lt n (pos 2147483647)) (names_of rows) (with_leaf_of names.time (leaf.Utc now) (with_leaf_of names.value (leaf.Int32 (n +ℤ pos 1)) rows)) rows
-    (leaf-names names.time (leaf.Utc now) (with_leaf_of names.value (leaf.Int32 (n +ℤ pos 1)) rows) ∙ leaf-names names.value (leaf.Int32 (n +ℤ pos 1)) rows) refl
+    names-if (int_lt n (pos 2147483647)) (names_of rows)
+    (with_leaf_of names.time (leaf.Utc now)
+    (with_leaf_of names.value (leaf.Int32 (n +ℤ pos 1)) rows)) rows
+    (leaf-names names.time (leaf.Utc now) (with_leaf_of names.value (leaf.Int32 (n +ℤ pos 1)) rows)
+    ∙ leaf-names names.value (leaf.Int32 (n +ℤ pos 1)) rows) refl
 counted-names names (Some (leaf.Unsigned8 v)) now rows = refl
 counted-names names (Some (leaf.Unsigned32 v)) now rows = refl
 counted-names names (Some (leaf.Octets v)) now rows = refl
@@ -49,26 +61,41 @@ counted-names names (Some (leaf.Reference v)) now rows = refl
 counted-names names (Some (leaf.Text v)) now rows = refl
 counted-names names (Some (leaf.Utc v)) now rows = refl
 
-change-names : (names : SwitchNames) (position : Dbpos) (now : ℕ) (rows : List Row) → names_of (rows_after_change names position now rows) ≡ names_of rows
+change-names : (names : SwitchNames) (position : Dbpos) (now : ℕ) (rows : List Row)
+    → names_of (rows_after_change names position now rows) ≡ names_of rows
 change-names names position now rows =
-    let told : List Row = with_status names.position (leaf.Dbpos position) (position_quality position) now rows in
-    let after : List Row = with_status names.control (leaf.Dbpos position) (position_quality position) now told in
+    let told : List Row =
+    with_status names.position (leaf.Dbpos position) (position_quality position) now rows in
+    let after : List Row =
+    with_status names.control (leaf.Dbpos position) (position_quality position) now told in
     let same : names_of after ≡ names_of rows =
-    status-names names.control (leaf.Dbpos position) (position_quality position) now told ∙ status-names names.position (leaf.Dbpos position) (position_quality position) now rows in
-    names-if (is_operation position (leaf_of names.position.value rows)) (names_of rows) (operation_counted names.operations now after) after
+    status-names names.control (leaf.Dbpos position) (position_quality position) now told
+    ∙ status-names names.position (leaf.Dbpos position) (position_quality position) now rows in
+    names-if (is_operation position (leaf_of names.position.value rows)) (names_of rows)
+    (operation_counted names.operations now after) after
     (counted-names names.operations (leaf_of names.operations.value after) now after ∙ same) same
 
-pub contact-names : (names : SwitchNames) (position : Dbpos) (now : ℕ) (rows : List Row) → names_of (rows_after_contact names position now rows) ≡ names_of rows
-contact-names names position now rows = names-if (tells names.position position rows) (names_of rows) rows (rows_after_change names position now rows) refl (change-names names position now rows)
+pub contact-names : (names : SwitchNames) (position : Dbpos) (now : ℕ) (rows : List Row)
+    → names_of (rows_after_contact names position now rows) ≡ names_of rows
+contact-names names position now rows =
+    names-if (tells names.position position rows) (names_of rows) rows
+    (rows_after_change names position now rows) refl (change-names names position now rows)
 
-pub measure-names : (names : StatusNames) (value : ℤ) (now : ℕ) (rows : List Row) → names_of (rows_after_measure names value now rows) ≡ names_of rows
+pub measure-names : (names : StatusNames) (value : ℤ) (now : ℕ) (rows : List Row)
+    → names_of (rows_after_measure names value now rows) ≡ names_of rows
 measure-names names value now rows =
-    names-if (tells_measure names value rows) (names_of rows) rows (with_status names (leaf.Int32 value) Good now rows) refl (status-names names (leaf.Int32 value) Good now rows)
+    names-if (tells_measure names value rows) (names_of rows) rows
+    (with_status names (leaf.Int32 value) Good now rows) refl
+    (status-names names (leaf.Int32 value) Good now rows)
 
-enabled-names : (names : StatusNames) (value : Bool) (now : ℕ) (rows : List Row) → names_of (with_enabled names value now rows) ≡ names_of rows
-enabled-names names value now rows = names-if _ (names_of rows) rows (with_status names (leaf.Truth value) Good now rows) refl (status-names names (leaf.Truth value) Good now rows)
+enabled-names : (names : StatusNames) (value : Bool) (now : ℕ) (rows : List Row)
+    → names_of (with_enabled names value now rows) ≡ names_of rows
+enabled-names names value now rows =
+    names-if _ (names_of rows) rows (with_status names (leaf.Truth value) Good now rows) refl
+    (status-names names (leaf.Truth value) Good now rows)
 
-pub outputs-names : (switches : List Switch) (writes : List Source) (outputs : List Value) (now k : ℕ) (ss : List Switch) (rows : List Row)
+pub outputs-names : (switches : List Switch) (writes : List Source) (outputs : List Value)
+    (now k : ℕ) (ss : List Switch) (rows : List Row)
     → names_of (with_outputs switches writes outputs now k ss rows) ≡ names_of rows
 outputs-names switches writes outputs now k [] rows = refl
 outputs-names switches writes outputs now k (s ∷ ss) rows =
@@ -76,4 +103,5 @@ outputs-names switches writes outputs now k (s ∷ ss) rows =
     let opens : Bool = output_of k EnableOpen writes outputs in
     let closes : Bool = output_of k EnableClose writes outputs in
     outputs-names switches writes outputs now (k + 1) ss (with_output names opens closes now rows)
-    ∙ enabled-names names.ena_cls closes now (with_enabled names.ena_opn opens now rows) ∙ enabled-names names.ena_opn opens now rows
+    ∙ enabled-names names.ena_cls closes now (with_enabled names.ena_opn opens now rows)
+    ∙ enabled-names names.ena_opn opens now rows

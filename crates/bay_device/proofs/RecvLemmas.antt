@@ -16,33 +16,53 @@ use Rattle.bay_device.specs.declared.event.Step.{Step}
 use Rattle.bay_device.specs.declared.event.Why.{Why}
 use Rattle.bay_device.specs.declared.fault.StepFault.{StepFault}
 
-pub ended : {T : Type 0} (r : Result T Why) (P : Option Why → Type 0) → OnOk r (P None) → IfErr r (λ why. P (Some why)) → P (result_err r)
+pub ended : {T : Type 0} (r : Result T Why) (P : Option Why → Type 0) → OnOk r (P None)
+    → IfErr r (λ why. P (Some why)) → P (result_err r)
 ended (Ok x) P ok err = ok
 ended (Err why) P ok err = err
 
 -- what is left is asked only where the association goes on
-pub left-if : {T : Type 0} (r : Result T Why) (a : ℕ) (s : State) (left wanted : Talk) → OnOk r (left ≡ wanted) → recv_after a left s (result_err r) ≡ recv_after a wanted s (result_err r)
+pub left-if : {T : Type 0} (r : Result T Why) (a : ℕ) (s : State) (left wanted : Talk)
+    → OnOk r (left ≡ wanted)
+    → recv_after a left s (result_err r) ≡ recv_after a wanted s (result_err r)
 left-if (Ok x) a s left wanted is = ap (λ (t : Talk). recv_after a t s None) is
 left-if (Err why) a s left wanted is = refl
 
 -- the connection may have been taken out before
-one : (place : ℕ) (x : Option Talk) (s : State) → with_connection (Some place) x (record s { connections = slice_set s.connections place None }) ≡ with_connection (Some place) x s
-one place x s = ap (λ (cs : List (Option Talk)). record s { connections = cs }) (set-set s.connections place None x)
+one : (place : ℕ) (x : Option Talk) (s : State)
+    → with_connection (Some place) x (record s { connections = slice_set s.connections place None })
+    ≡ with_connection (Some place) x s
+one place x s =
+    ap (λ (cs : List (Option Talk)). record s { connections = cs })
+    (set-set s.connections place None x)
 
 placed : (a place : ℕ) (x : Option Talk) (s : State) → place_of a ≡ Some place
-    → with_connection (place_of a) x (record s { connections = slice_set s.connections place None }) ≡ with_connection (place_of a) x s
+    → with_connection (place_of a) x (record s { connections = slice_set s.connections place None })
+    ≡ with_connection (place_of a) x s
 placed a place x s here =
-    ap (λ (o : Option ℕ). with_connection o x (record s { connections = slice_set s.connections place None })) here ∙ one place x s ∙ sym (ap (λ (o : Option ℕ). with_connection o x s) here)
+    ap (λ (o : Option ℕ). with_connection o x
+    (record s { connections = slice_set s.connections place None })) here ∙ one place x s
+    ∙ sym (ap (λ (o : Option ℕ). with_connection o x s) here)
 
-pub after-taken : (a place : ℕ) (s : State) (left : Talk) (why : Option Why) → place_of a ≡ Some place
-    → recv_after a left (record s { connections = slice_set s.connections place None }) why ≡ recv_after a left s why
+pub after-taken : (a place : ℕ) (s : State) (left : Talk) (why : Option Why)
+    → place_of a ≡ Some place
+    → recv_after a left (record s { connections = slice_set s.connections place None }) why
+    ≡ recv_after a left s why
 after-taken a place s left None here = placed a place (Some left) s here
 after-taken a place s left (Some why) here = placed a place None (without_owner a s) here
 
 -- the device and its answer, from what the octets come to
-pub heard-from : (now a : ℕ) (octets : List ℕ) (told : Option Sent) (s new : State) (talk : Talk) (why : Option Why) (e : Done) → ComesTo now a talk octets (nothing_done s) why e
+pub heard-from : (now a : ℕ) (octets : List ℕ) (told : Option Sent) (s new : State) (talk : Talk)
+    (why : Option Why) (e : Done) → ComesTo now a talk octets (nothing_done s) why e
     → new ≡ recv_after a (left_by talk octets) e.state why
-    → HearsFrom now a octets told s talk (record { ended = told; sent = e.sent; commands = e.commands; closed = closed_by a why; scan = None }) new
+    → HearsFrom now a octets told s talk
+    (record {
+      ended = told;
+      sent = e.sent;
+      commands = e.commands;
+      closed = closed_by a why;
+      scan = None;
+    }) new
 heard-from now a octets told s new talk why e comes is =
     let whole = ap (recv_done a (left_by talk octets) told) comes.is in
     record {
@@ -53,8 +73,10 @@ heard-from now a octets told s new talk why e comes is =
 
 -- ---- a Recv
 
-pub received : (now a : ℕ) (octets : List ℕ) (old new : State) (talk : Talk) (step : Step) → connection_at (place_of a) old ≡ Some talk → 0 < length octets
-    → HearsFrom now a octets (ended_at now old) (advanced now old) talk step new → Receives now a octets old (Ok step) new
+pub received : (now a : ℕ) (octets : List ℕ) (old new : State) (talk : Talk) (step : Step)
+    → connection_at (place_of a) old ≡ Some talk → 0 < length octets
+    → HearsFrom now a octets (ended_at now old) (advanced now old) talk step new
+    → Receives now a octets old (Ok step) new
 received now a [] old new talk step here some hears = absurd (omega arith)
 received now a (octet ∷ octets) old new talk step here some hears =
     let whole = ap (recv_outcome hears.choice now a (octet ∷ octets) old) here in
@@ -65,8 +87,11 @@ received now a (octet ∷ octets) old new talk step here some hears =
     }
 
 -- without octets, which need no choice
-pub received-none : (now a : ℕ) (old : State) (talk : Talk) → connection_at (place_of a) old ≡ Some talk
-    → Receives now a [] old (Ok (record { ended = ended_at now old; sent = []; commands = []; closed = None; scan = None })) (advanced now old)
+pub received-none : (now a : ℕ) (old : State) (talk : Talk)
+    → connection_at (place_of a) old ≡ Some talk
+    → Receives now a [] old (Ok
+    (record { ended = ended_at now old; sent = []; commands = []; closed = None; scan = None }))
+    (advanced now old)
 received-none now a old talk here =
     let whole = ap (recv_outcome None now a [] old) here in
     record {
@@ -75,7 +100,9 @@ received-none now a old talk here =
       left = sym (ap (λ (o : Outcome). o.after) whole);
     }
 
-pub received-refused : (now a : ℕ) (octets : List ℕ) (old : State) (fault : StepFault) → connection_at (place_of a) old ≡ None → Err fault ≡ (recv_outcome None now a octets old None).answer
+pub received-refused : (now a : ℕ) (octets : List ℕ) (old : State) (fault : StepFault)
+    → connection_at (place_of a) old ≡ None
+    → Err fault ≡ (recv_outcome None now a octets old None).answer
     → Receives now a octets old (Err fault) old
 received-refused now a octets old fault none is =
     let whole = ap (recv_outcome None now a octets old) none in
@@ -95,8 +122,10 @@ not-opened None is = refl
 not-opened (Some talk) is = absurd (cc)
 
 -- what octets come to, whichever it is
-pub ended-at : {T : Type 0} (r : Result T Why) (P : List (Option Talk) → Option Why → Type 0) → OnOk r ((cs : List (Option Talk)) → P cs None)
-    → IfErr r (λ why. (cs : List (Option Talk)) → P cs (Some why)) → (cs : List (Option Talk)) → P cs (result_err r)
+pub ended-at : {T : Type 0} (r : Result T Why) (P : List (Option Talk) → Option Why → Type 0)
+    → OnOk r ((cs : List (Option Talk)) → P cs None)
+    → IfErr r (λ why. (cs : List (Option Talk)) → P cs (Some why)) → (cs : List (Option Talk))
+    → P cs (result_err r)
 ended-at (Ok x) P ok err = ok
 ended-at (Err why) P ok err = err
 
@@ -109,14 +138,17 @@ no-octets (x ∷ xs) is = absurd (omega arith)
 
 -- ---- an event without octets has one outcome
 
-none-heard : (choice : Option ℕ) (now a : ℕ) (s : State) (o : Option Talk) → recv_outcome choice now a [] s o ≡ recv_outcome None now a [] s o
+none-heard : (choice : Option ℕ) (now a : ℕ) (s : State) (o : Option Talk)
+    → recv_outcome choice now a [] s o ≡ recv_outcome None now a [] s o
 none-heard choice now a s None = refl
 none-heard choice now a s (Some talk) = refl
 
-one-event : (choice : Option ℕ) (now : ℕ) (event : Event) (s : State) → IsWithoutOctets event → event_outcome choice now event s ≡ event_outcome None now event s
+one-event : (choice : Option ℕ) (now : ℕ) (event : Event) (s : State) → IsWithoutOctets event
+    → event_outcome choice now event s ≡ event_outcome None now event s
 one-event choice now (Open a) s h = refl
 one-event choice now (Recv a octets) s h =
-    ap (λ xs. recv_outcome choice now a xs s (connection_at (place_of a) s)) h ∙ none-heard choice now a s (connection_at (place_of a) s)
+    ap (λ xs. recv_outcome choice now a xs s (connection_at (place_of a) s)) h
+    ∙ none-heard choice now a s (connection_at (place_of a) s)
     ∙ sym (ap (λ xs. recv_outcome None now a xs s (connection_at (place_of a) s)) h)
 one-event choice now (Close a) s h = refl
 one-event choice now (Contact k position) s h = refl
@@ -124,8 +156,15 @@ one-event choice now (Input k value) s h = refl
 one-event choice now (Measure k field value) s h = refl
 one-event choice now Scan s h = refl
 
-pub one-outcome : (now : ℕ) (event : Event) (s : State) (answer : Result Step StepFault) (new : State) → Steps now event s answer new → IsWithoutOctets event → IsOutcome (outcome None now event s) answer new
+pub one-outcome : (now : ℕ) (event : Event) (s : State) (answer : Result Step StepFault)
+    (new : State) → Steps now event s answer new → IsWithoutOctets event
+    → IsOutcome (outcome None now event s) answer new
 one-outcome now event s answer new steps h =
     let same : outcome steps.choice now event s ≡ outcome None now event s =
-    ap (λ (x : Outcome). cond (nat_lt last_moment now) (refused MomentTooLarge s) (cond (nat_lt now s.moment) (refused TimeWentBack s) x)) (one-event steps.choice now event s h) in
-    record { answered = steps.answered ∙ ap (λ (o : Outcome). o.answer) same; left = steps.left ∙ ap (λ (o : Outcome). o.after) same }
+    ap (λ (x : Outcome). cond (nat_lt last_moment now) (refused MomentTooLarge s)
+    (cond (nat_lt now s.moment) (refused TimeWentBack s) x))
+    (one-event steps.choice now event s h) in
+    record {
+      answered = steps.answered ∙ ap (λ (o : Outcome). o.answer) same;
+      left = steps.left ∙ ap (λ (o : Outcome). o.after) same;
+    }

@@ -16,7 +16,7 @@ use Rattle.il_scan.specs.Scans.{Held, Scans, outputs_of, started}
 use Rattle.bay_connection.specs.Talk.{Talk}
 use Rattle.bay_device.specs.Device.{Ran, after_run, ending_at, inputs_of, point_value, ran_at, ran_of, scanned}
 use Rattle.bay_process.specs.Values.{measure_leaf, number_of_leaf, output_at, position_leaf, position_value, with_output, with_outputs}
-use Rattle.bay_process.specs.Layout.{Layout, layout_of, switches_of, IsBound, AreBound, AreKinded, AreMetersBound, AreMeterKinded}
+use Rattle.bay_process.specs.Layout.{Layout, layout_of, switches_of, IsBound, AreBound, AreLeafTyped, AreMetersBound, AreMetersLeafTyped}
 use Rattle.bay_device.specs.Meaning.{Halts}
 use Rattle.bay_nodes.specs.Names.{StatusNames, SwitchNames, switch_names}
 use Rattle.bay_process.specs.Names.{field_names}
@@ -29,88 +29,160 @@ use Rattle.bay_process.specs.declared.switch.BoundSwitch.{BoundSwitch}
 use Rattle.bay_process.proofs.FieldLemmas.{field-named}
 
 -- the values at the handles of bound switches and meters have the kinds that a step wants
-pub kinded : (layout : Layout) (writes : List Source) (bound : List BoundSwitch) → AreBound layout writes bound → AreKinded layout bound
-kinded layout writes bound all k d lt = (all k (get_or bound k d) (slice_get-get_or bound k d lt)).kinded
+pub leaf_typed : (layout : Layout) (writes : List Source) (bound : List BoundSwitch)
+    → AreBound layout writes bound → AreLeafTyped layout bound
+leaf_typed layout writes bound all k d lt =
+    (all k (get_or bound k d) (slice_get-get_or bound k d lt)).leaf_typed
 
-pub meters-kinded : (layout : Layout) (bound : List BoundMeter) → AreMetersBound layout bound → AreMeterKinded layout bound
-meters-kinded layout bound all k d lt = (all k (get_or bound k d) (slice_get-get_or bound k d lt)).kinded
+pub meters-leaf_typed : (layout : Layout) (bound : List BoundMeter) → AreMetersBound layout bound
+    → AreMetersLeafTyped layout bound
+meters-leaf_typed layout bound all k d lt =
+    (all k (get_or bound k d) (slice_get-get_or bound k d lt)).leaf_typed
 
 -- those of the interlocking values have their names
-pub interlocked : (layout : Layout) (writes : List Source) (bound : List BoundSwitch) → AreBound layout writes bound → AreInterlocked layout bound
+pub interlocked : (layout : Layout) (writes : List Source) (bound : List BoundSwitch)
+    → AreBound layout writes bound → AreInterlocked layout bound
 interlocked layout writes bound all k b here =
     let is = all k b here in
-    record { kinded = is.kinded; named = record { opening = ap (λ (n : SwitchNames). n.ena_opn) is.named; closing = ap (λ (n : SwitchNames). n.ena_cls) is.named } }
+    record {
+      leaf_typed = is.leaf_typed;
+      named = record {
+        opening = ap (λ (n : SwitchNames). n.ena_opn) is.named;
+        closing = ap (λ (n : SwitchNames). n.ena_cls) is.named;
+      };
+    }
 
 -- what is read at handles is read by names
 module _ (connections : List (Option Talk)) (d : DeviceState) where
-  switch-named : (k : ℕ) (point : SwitchPoint) (b : Option BoundSwitch) → slice_get d.bay.switches k ≡ b
-      → switch_value d.bay.tree point b ≡ position_value point (position_leaf (switches_of d.bay.switches) d.bay.tree k (option_map (λ (b : BoundSwitch). b.switch) b))
+  switch-named : (k : ℕ) (point : SwitchPoint) (b : Option BoundSwitch)
+      → slice_get d.bay.switches k ≡ b
+      → switch_value d.bay.tree point b
+      ≡ position_value point
+      (position_leaf (switches_of d.bay.switches) d.bay.tree k
+      (option_map (λ (b : BoundSwitch). b.switch) b))
   switch-named k point None here = refl
-  switch-named k point (Some b) here = ap (λ (n : SwitchNames). position_value point (leaf_of n.position.value d.bay.tree)) (d.bound k b here).named
+  switch-named k point (Some b) here =
+      ap (λ (n : SwitchNames). position_value point (leaf_of n.position.value d.bay.tree))
+      (d.bound k b here).named
 
   meter-named : (k : ℕ) (field : MeterField) (m : Option BoundMeter) → slice_get d.meters k ≡ m
-      → meter_value d.bay.tree field m ≡ Long (number_of_leaf (measure_leaf d.bay.tree k field (option_map (λ (m : BoundMeter). m.id) m)))
+      → meter_value d.bay.tree field m
+      ≡ Long (number_of_leaf
+      (measure_leaf d.bay.tree k field (option_map (λ (m : BoundMeter). m.id) m)))
   meter-named k field None here = refl
   meter-named k field (Some m) here =
       ap (λ (n : StatusNames). Long (number_of_leaf (leaf_of n.value d.bay.tree)))
-      (field-named (layout_of d.bay.tree) m.rows field ∙ ap (field_names field) (d.metered k m here).named)
+      (field-named (layout_of d.bay.tree) m.rows field
+      ∙ ap (field_names field) (d.metered k m here).named)
 
-  pub point-named : (o : Source) → bound_value d.bay.tree d.bay.switches d.input_values d.meters o ≡ point_value (state_view connections d) o
+  pub point-named : (o : Source)
+      → bound_value d.bay.tree d.bay.switches d.input_values d.meters o
+      ≡ point_value (state_view connections d) o
   point-named (source.Switch k point) =
       switch-named k point (slice_get d.bay.switches k) refl
-      ∙ ap (λ s. position_value point (position_leaf (switches_of d.bay.switches) d.bay.tree k s)) (sym (slice_get-map (λ (b : BoundSwitch). b.switch) d.bay.switches k))
+      ∙ ap (λ s. position_value point (position_leaf (switches_of d.bay.switches) d.bay.tree k s))
+      (sym (slice_get-map (λ (b : BoundSwitch). b.switch) d.bay.switches k))
   point-named (source.Input k) = refl
   point-named (source.Meter k field) =
       meter-named k field (slice_get d.meters k) refl
-      ∙ ap (λ m. Long (number_of_leaf (measure_leaf d.bay.tree k field m))) (sym (slice_get-map (λ (m : BoundMeter). m.id) d.meters k))
+      ∙ ap (λ m. Long (number_of_leaf (measure_leaf d.bay.tree k field m)))
+      (sym (slice_get-map (λ (m : BoundMeter). m.id) d.meters k))
 
-  points-named : (os : List Source) → map (bound_value d.bay.tree d.bay.switches d.input_values d.meters) os ≡ map (point_value (state_view connections d)) os
+  points-named : (os : List Source)
+      → map (bound_value d.bay.tree d.bay.switches d.input_values d.meters) os
+      ≡ map (point_value (state_view connections d)) os
   points-named [] = refl
   points-named (o ∷ os) =
-      ap (λ v. v ∷ map (bound_value d.bay.tree d.bay.switches d.input_values d.meters) os) (point-named o)
+      ap (λ v. v ∷ map (bound_value d.bay.tree d.bay.switches d.input_values d.meters) os)
+      (point-named o)
       ∙ ap (λ (vs : List Value). point_value (state_view connections d) o ∷ vs) (points-named os)
 
-  pub inputs-named : (switches : List BoundSwitch) (meters : List BoundMeter) (reads : List Source) → switches ≡ d.bay.switches → meters ≡ d.meters → reads ≡ d.reads
-      → map (bound_value d.bay.tree switches d.input_values meters) reads ≡ inputs_of (state_view connections d)
+  pub inputs-named : (switches : List BoundSwitch) (meters : List BoundMeter) (reads : List Source)
+      → switches ≡ d.bay.switches → meters ≡ d.meters → reads ≡ d.reads
+      → map (bound_value d.bay.tree switches d.input_values meters) reads
+      ≡ inputs_of (state_view connections d)
   inputs-named switches meters reads a b c = rw (a, b, c) (points-named d.reads)
 
 -- the interlocking values of all switches
-module _ (layout : Layout) (switches : List Switch) (writes : List Source) (outputs : List Value) (now : ℕ) where
+module _ (layout : Layout) (switches : List Switch) (writes : List Source) (outputs : List Value)
+    (now : ℕ) where
   outputs-named : (k : ℕ) (bound : List BoundSwitch) (rows : List Row)
-      → ((j : ℕ) (b : BoundSwitch) → slice_get bound j ≡ Some b → IsBound layout writes switches (k + j) b)
-      → outputs_put layout bound outputs now rows ≡ with_outputs switches writes outputs now k (switches_of bound) rows
+      → ((j : ℕ) (b : BoundSwitch) → slice_get bound j ≡ Some b
+      → IsBound layout writes switches (k + j) b)
+      → outputs_put layout bound outputs now rows
+      ≡ with_outputs switches writes outputs now k (switches_of bound) rows
   outputs-named k [] rows all = refl
   outputs-named k (b ∷ bs) rows all =
-      let here : IsBound layout writes switches k b = let none : k + 0 ≡ k = omega arith in subst (λ m. IsBound layout writes switches m b) none (all 0 b refl) in
-      ap (λ n. outputs_put layout bs outputs now (with_output n (is_true (output_at b.outputs.ena_opn outputs)) (is_true (output_at b.outputs.ena_cls outputs)) now rows)) here.named
-      ∙ ap (λ o. outputs_put layout bs outputs now (with_output (switch_names switches k b.switch) (is_true (output_at o.ena_opn outputs)) (is_true (output_at o.ena_cls outputs)) now rows)) here.outputs
-      ∙ outputs-named (k + 1) bs _ (λ j c h. let more : k + suc j ≡ k + 1 + j = omega arith in subst (λ m. IsBound layout writes switches m c) more (all (suc j) c h))
+      let here : IsBound layout writes switches k b = let none : k + 0 ≡ k =
+      omega arith in subst (λ m. IsBound layout writes switches m b) none (all 0 b refl) in
+      ap (λ n. outputs_put layout bs outputs now
+      (with_output n (is_true (output_at b.outputs.ena_opn outputs))
+      (is_true (output_at b.outputs.ena_cls outputs)) now rows)) here.named
+      ∙ ap (λ o. outputs_put layout bs outputs now
+      (with_output (switch_names switches k b.switch) (is_true (output_at o.ena_opn outputs))
+      (is_true (output_at o.ena_cls outputs)) now rows)) here.outputs
+      ∙ outputs-named (k + 1) bs _
+      (λ j c h. let more : k + suc j ≡ k + 1 + j = omega arith in
+      subst (λ m. IsBound layout writes switches m c) more (all (suc j) c h))
 
 -- a machine with another's image
-held-as : (old new : Held) → new.image ≡ old.image → new ≡ record old { slots = new.slots; timers = new.timers }
-held-as old new e = ap (λ i. let h : Held = record { image = i; slots = new.slots; timers = new.timers } in h) e
+held-as : (old new : Held) → new.image ≡ old.image
+    → new ≡ record old { slots = new.slots; timers = new.timers }
+held-as old new e =
+    ap (λ i. let h : Held = record { image = i; slots = new.slots; timers = new.timers } in h) e
 
 -- a scan of the machine
-module _ (connections : List (Option Talk)) (d : DeviceState) (now : ℕ) (inputs : List Value) (read : inputs ≡ inputs_of (state_view connections d)) (new : Held) (steps : ℕ) (outputs : List Value) (did : Scans d.machine inputs now new steps outputs) where
+module _ (connections : List (Option Talk)) (d : DeviceState) (now : ℕ) (inputs : List Value)
+    (read : inputs ≡ inputs_of (state_view connections d)) (new : Held) (steps : ℕ)
+    (outputs : List Value) (did : Scans d.machine inputs now new steps outputs) where
   pub ended : ending_at now (state_view connections d) ≡ Halted new.slots new.timers steps
   ended =
-      ap (λ is. let s : Ending = run d.machine.image.code now (length d.machine.image.code) (started d.machine is) 0 in s) (sym read)
+      ap (λ is. let s : Ending =
+      run d.machine.image.code now (length d.machine.image.code) (started d.machine is) 0 in s)
+      (sym read)
       ∙ did.halts (length d.machine.image.code) did.few
 
-  pub ran : ran_at now (state_view connections d) ≡ record { slots = new.slots; timers = new.timers; steps = steps }
+  pub ran : ran_at now (state_view connections d)
+      ≡ record { slots = new.slots; timers = new.timers; steps = steps }
   ran = ap ran_of ended
 
   pub halted : Halts now (state_view connections d)
-  halted = record { slots = new.slots; timers = new.timers; steps = steps; halts = ended; within = did.within }
+  halted =
+      record {
+        slots = new.slots;
+        timers = new.timers;
+        steps = steps;
+        halts = ended;
+        within = did.within;
+      }
 
-  pub scan-done : (rows : List Row) → rows ≡ outputs_put (layout_of d.bay.tree) d.bay.switches outputs now d.bay.tree
-      → record (state_view connections d) { machine = new; rows = rows; last_scan = Some now; is_stale = false } ≡ scanned now (state_view connections d)
+  pub scan-done : (rows : List Row)
+      → rows ≡ outputs_put (layout_of d.bay.tree) d.bay.switches outputs now d.bay.tree
+      → record (state_view connections d)
+      { machine = new; rows = rows; last_scan = Some now; is_stale = false }
+      ≡ scanned now (state_view connections d)
   scan-done rows writes =
       let s = state_view connections d in
       let written : rows ≡ with_outputs s.switches s.writes outputs now 0 s.switches s.rows =
-      writes ∙ outputs-named (layout_of d.bay.tree) s.switches d.writes outputs now 0 d.bay.switches d.bay.tree
-      (λ j b h. let none : j ≡ 0 + j = omega arith in subst (λ m. IsBound (layout_of d.bay.tree) d.writes s.switches m b) none (d.bound j b h)) in
-      ap (λ rs. record s { machine = new; rows = rs; last_scan = Some now; is_stale = false }) written
-      ∙ ap (λ os. record s { machine = new; rows = with_outputs s.switches s.writes os now 0 s.switches s.rows; last_scan = Some now; is_stale = false }) did.given
-      ∙ ap (λ h. record s { machine = h; rows = with_outputs s.switches s.writes (outputs_of d.machine.image.points new.slots) now 0 s.switches s.rows; last_scan = Some now; is_stale = false }) (held-as d.machine new did.image)
+      writes ∙ outputs-named (layout_of d.bay.tree) s.switches d.writes outputs now 0 d.bay.switches
+      d.bay.tree
+      (λ j b h. let none : j ≡ 0 + j = omega arith in
+      subst (λ m. IsBound (layout_of d.bay.tree) d.writes s.switches m b) none (d.bound j b h))
+      in
+      ap (λ rs. record s { machine = new; rows = rs; last_scan = Some now; is_stale = false })
+      written
+      ∙ ap (λ os. record s {
+        machine = new;
+        rows = with_outputs s.switches s.writes os now 0 s.switches s.rows;
+        last_scan = Some now;
+        is_stale = false;
+      }) did.given
+      ∙ ap (λ h. record s {
+        machine = h;
+        rows = with_outputs s.switches s.writes (outputs_of d.machine.image.points new.slots) now
+            0 s.switches s.rows;
+        last_scan = Some now;
+        is_stale = false;
+      })
+      (held-as d.machine new did.image)
       ∙ ap (λ (r : Ran). after_run now r s) (sym ran)

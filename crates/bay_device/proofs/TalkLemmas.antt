@@ -1,11 +1,11 @@
 -- The terms on which a PDU of a client is answered: a size of TPDUs is agreed, and one of PDUs, of
 -- at most 65,000 octets.
 use Rattle.std.proofs.Common.{◌≡◌, ◌≤◌, ℕ, ℤ, pos, negsuc, Bool, true, false, cond, nat_lt, min, List, [], ◌∷◌, ◌++◌, drop, Option, Some, None, Result, Ok, Err, IsSome, refl, arith, ◌==◌}
-use Rattle.bay_ber.specs.Options.{◌>>=◌}
+use Rattle.bay_base.specs.Options.{◌>>=◌}
 use Rattle.bay_mms.specs.declared.request.Proposal.{Proposal}
 use Rattle.bay_mms.specs.declared.response.Agreed.{Agreed}
 use Rattle.bay_mms.specs.Grammar.{initiate_in}
-use Rattle.bay_mms.specs.Spelled.{◌>>◌}
+use Rattle.bay_base.specs.Results.{◌>>=◌ as ◌>>◌}
 use Rattle.bay_transport.specs.declared.fault.TransportFault.{TransportFault}
 use Rattle.bay_transport.specs.declared.fault.TransportFault.TheVariants.{BadCotp}
 use Rattle.bay_transport.specs.declared.frame.Front.{Front}
@@ -13,13 +13,13 @@ use Rattle.bay_transport.specs.declared.frame.Front.TheVariants.{Begun, NoFrame,
 use Rattle.bay_transport.specs.declared.frame.Tpdu.{Tpdu}
 use Rattle.bay_transport.specs.declared.frame.Tpdu.TheVariants.{Request, Data, Release, Unknown}
 use Rattle.bay_transport.specs.Frame.{front_of, tpdu_of, cut}
-use Rattle.bay_transport.specs.Connect.{Connection}
-use Rattle.bay_transport.specs.Doings.{Doing, Answers, Delivers, Ends, Fails, Link, Left, Going, Over, Broken, Run, Event, Joins, Completes, Agrees, Closes, Refuses, connected as connected_event, data_event, kind_event, tpdu_event, event_of, link_after, on_event, at_rest, frames_run, run, Stream, doings, after}
+use Rattle.bay_transport.specs.Connect.{Confirmation}
+use Rattle.bay_transport.specs.Doings.{Doing, Answers, Delivers, Ends, Fails, TransportConnection, Left, Going, Over, Broken, Run, TpduEffect, Joins, Finishes, Agrees, Closes, Refuses, connected as connected_effect, data_effect, kind_effect, tpdu_effect, effect_of, connection_after, on_effect, at_rest, frames_run, run, Stream, doings, after}
 use Rattle.bay_transport.specs.Feeding.{agreed_from, agreed}
 use Rattle.bay_assoc.specs.declared.fault.AssocFault.{AssocFault}
 use Rattle.bay_assoc.specs.declared.fault.AssocFault.TheVariants as fault
 use Rattle.bay_assoc.specs.declared.hearing.Accepted.{Accepted}
-use Rattle.bay_assoc.specs.declared.hearing.Link.{Link as Agreement}
+use Rattle.bay_assoc.specs.declared.hearing.AssociationTerms.{AssociationTerms}
 use Rattle.bay_assoc.specs.declared.hearing.Phase.{Phase}
 use Rattle.bay_assoc.specs.declared.hearing.Phase.TheVariants as phases
 use Rattle.bay_assoc.specs.declared.presentation.Context.{Context}
@@ -34,33 +34,41 @@ use Rattle.bay_connection.specs.Talk.{Indication, Talk, Told, answers, tells, re
 -- ---- a TSDU comes where a size is agreed
 
 -- its data join a group or complete it
-abbrev Gathers : Event → Type 0
+abbrev Gathers : TpduEffect → Type 0
 Gathers (Joins group) = Unit {0}
-Gathers (Completes group) = Unit {0}
+Gathers (Finishes group) = Unit {0}
 Gathers (Agrees size reply) = ⊥
 Gathers Closes = ⊥
 Gathers (Refuses fault) = ⊥
 
-connected-not : (c : Result Connection TransportFault) → Gathers (connected_event c) → ⊥
+connected-not : (c : Result Confirmation TransportFault) → Gathers (connected_effect c) → ⊥
 connected-not (Ok c) h = h
 connected-not (Err fault) h = h
 
-data-sized : (size : Option ℕ) (group : List ℕ) (indicator : ℕ) (octets : List ℕ) → Gathers (data_event (record { size = size; group = group }) indicator octets) → IsSome size
+data-sized : (size : Option ℕ) (group : List ℕ) (indicator : ℕ) (octets : List ℕ)
+    → Gathers (data_effect (record { size = size; group = group }) indicator octets) → IsSome size
 data-sized size group indicator [] h = absurd h
 data-sized (Some size) group indicator (mark ∷ octets) h = refl
 data-sized None group indicator (mark ∷ octets) h =
-    absurd (elim (indicator == 2) as (λ b. Gathers (cond b (Refuses BadCotp) (Refuses BadCotp)) → ⊥) [ true ↦ λ k. k | false ↦ λ k. k ] h)
+    absurd (elim (indicator == 2) as
+    (λ b. Gathers (cond b (Refuses BadCotp) (Refuses BadCotp)) → ⊥)
+    [ true ↦ λ k. k | false ↦ λ k. k ] h)
 
-kind-sized : (number : ℕ) (link : Link) (kind : Tpdu) (indicator : ℕ) (octets : List ℕ) → Gathers (kind_event number link kind indicator octets) → IsSome link.size
-kind-sized number link Request indicator octets h = absurd (connected-not _ h)
-kind-sized number link Data indicator octets h = data-sized link.size link.group indicator octets h
-kind-sized number link Release indicator octets h = absurd h
-kind-sized number link Unknown indicator octets h = absurd h
+kind-sized : (number : ℕ) (connection : TransportConnection) (kind : Tpdu) (indicator : ℕ)
+    (octets : List ℕ) → Gathers (kind_effect number connection kind indicator octets)
+    → IsSome connection.size
+kind-sized number connection Request indicator octets h = absurd (connected-not _ h)
+kind-sized number connection Data indicator octets h =
+    data-sized connection.size connection.group indicator octets h
+kind-sized number connection Release indicator octets h = absurd h
+kind-sized number connection Unknown indicator octets h = absurd h
 
-tpdu-sized : (number : ℕ) (link : Link) (tpdu : List ℕ) → Gathers (tpdu_event number link tpdu) → IsSome link.size
-tpdu-sized number link [] h = absurd h
-tpdu-sized number link (indicator ∷ []) h = absurd h
-tpdu-sized number link (indicator ∷ code ∷ octets) h = kind-sized number link (tpdu_of code) indicator octets h
+tpdu-sized : (number : ℕ) (connection : TransportConnection) (tpdu : List ℕ)
+    → Gathers (tpdu_effect number connection tpdu) → IsSome connection.size
+tpdu-sized number connection [] h = absurd h
+tpdu-sized number connection (indicator ∷ []) h = absurd h
+tpdu-sized number connection (indicator ∷ code ∷ octets) h =
+    kind-sized number connection (tpdu_of code) indicator octets h
 
 -- each TSDU of these doings comes where a size is agreed, before them or among them
 abbrev AreSized : Option ℕ → List Doing → Type 0
@@ -70,26 +78,35 @@ AreSized size (Delivers tsdu ∷ ds) = IsSome size × AreSized size ds
 AreSized size (Ends ∷ ds) = Unit {0}
 AreSized size (Fails fault ∷ ds) = Unit {0}
 
-rest-sized : (front : Front) (link : Link) (rest : List ℕ) → AreSized link.size (at_rest front link rest).doings
-rest-sized Begun link rest = tt
-rest-sized NoFrame link rest = tt
-rest-sized (Whole frame) link rest = tt
+rest-sized : (front : Front) (connection : TransportConnection) (rest : List ℕ)
+    → AreSized connection.size (at_rest front connection rest).doings
+rest-sized Begun connection rest = tt
+rest-sized NoFrame connection rest = tt
+rest-sized (Whole frame) connection rest = tt
 
-event-sized : (event : Event) (link : Link) (later : Run) → (Gathers event → IsSome link.size) → AreSized (link_after event link).size later.doings → AreSized link.size (on_event event later).doings
-event-sized (Joins group) link later some rest = rest
-event-sized (Completes group) link later some rest = (some tt, rest)
-event-sized (Agrees size reply) link later some rest = rest
-event-sized Closes link later some rest = tt
-event-sized (Refuses fault) link later some rest = tt
+effect-sized : (effect : TpduEffect) (connection : TransportConnection) (later : Run)
+    → (Gathers effect → IsSome connection.size)
+    → AreSized (connection_after effect connection).size later.doings
+    → AreSized connection.size (on_effect effect later).doings
+effect-sized (Joins group) connection later some rest = rest
+effect-sized (Finishes group) connection later some rest = (some tt, rest)
+effect-sized (Agrees size reply) connection later some rest = rest
+effect-sized Closes connection later some rest = tt
+effect-sized (Refuses fault) connection later some rest = tt
 
-frames-sized : (number : ℕ) (link : Link) (frames : List (List ℕ)) (rest : List ℕ) → AreSized link.size (frames_run number link frames rest).doings
-frames-sized number link [] rest = rest-sized (front_of rest) link rest
-frames-sized number link (frame ∷ frames) rest =
-    let next : Link = link_after (event_of number link frame) link in
-    event-sized (event_of number link frame) link (frames_run number next frames rest) (tpdu-sized number link (drop 4 frame)) (frames-sized number next frames rest)
+frames-sized : (number : ℕ) (connection : TransportConnection) (frames : List (List ℕ))
+    (rest : List ℕ) → AreSized connection.size (frames_run number connection frames rest).doings
+frames-sized number connection [] rest = rest-sized (front_of rest) connection rest
+frames-sized number connection (frame ∷ frames) rest =
+    let next : TransportConnection =
+    connection_after (effect_of number connection frame) connection in
+    effect-sized (effect_of number connection frame) connection (frames_run number next frames rest)
+    (tpdu-sized number connection (drop 4 frame)) (frames-sized number next frames rest)
 
-left-sized : (number : ℕ) (left : Left) (octets : List ℕ) → AreSized (agreed_from left) (run number left octets).doings
-left-sized number (Going link rest) octets = frames-sized number link (cut (rest ++ octets)).frames (cut (rest ++ octets)).rest
+left-sized : (number : ℕ) (left : Left) (octets : List ℕ)
+    → AreSized (agreed_from left) (run number left octets).doings
+left-sized number (Going connection rest) octets =
+    frames-sized number connection (cut (rest ++ octets)).frames (cut (rest ++ octets)).rest
 left-sized number Over octets = tt
 left-sized number Broken octets = tt
 
@@ -99,11 +116,13 @@ abbrev OkIs : {B : Type 0} → (B → Type 0) → Result B AssocFault → Type 0
 OkIs P (Ok x) = P x
 OkIs P (Err e) = Unit {0}
 
-bound : {A B : Type 0} (P : B → Type 0) (r : Result A AssocFault) (f : A → Result B AssocFault) → ((x : A) → OkIs P (f x)) → OkIs P (r >> f)
+bound : {A B : Type 0} (P : B → Type 0) (r : Result A AssocFault) (f : A → Result B AssocFault)
+    → ((x : A) → OkIs P (f x)) → OkIs P (r >> f)
 bound P (Ok x) f h = h x
 bound P (Err e) f h = tt
 
-bound-by : {A B : Type 0} (Q : A → Type 0) (P : B → Type 0) (r : Result A AssocFault) (f : A → Result B AssocFault) → OkIs Q r → ((x : A) → Q x → OkIs P (f x)) → OkIs P (r >> f)
+bound-by : {A B : Type 0} (Q : A → Type 0) (P : B → Type 0) (r : Result A AssocFault)
+    (f : A → Result B AssocFault) → OkIs Q r → ((x : A) → Q x → OkIs P (f x)) → OkIs P (r >> f)
 bound-by Q P (Ok x) f q h = h x q
 bound-by Q P (Err e) f q h = tt
 
@@ -111,23 +130,29 @@ abbrev SomeIs : {B : Type 0} → (B → Type 0) → Option B → Type 0
 SomeIs P (Some x) = P x
 SomeIs P None = Unit {0}
 
-size-if : (b : Bool) (n : ℕ) → nat_lt n 256 ≡ b → SomeIs IsPduSize (cond b None (Some (min n 65000)))
+size-if : (b : Bool) (n : ℕ) → nat_lt n 256 ≡ b
+    → SomeIs IsPduSize (cond b None (Some (min n 65000)))
 size-if true n is = tt
-size-if false n is = let least : 256 ≤ n = grind arith in record { least = grind arith; most = grind arith }
+size-if false n is = let least : 256 ≤ n =
+    grind arith in record { least = grind arith; most = grind arith }
 
 size-is : (proposed : Option ℤ) → SomeIs IsPduSize (size_of proposed)
 size-is None = record { least = omega arith; most = omega arith }
 size-is (Some (pos n)) = size-if (nat_lt n 256) n refl
 size-is (Some (negsuc n)) = tt
 
-agreed-by : (size : Option ℕ) (f : ℕ → Agreed) → ((n : ℕ) → (f n).size ≡ n) → SomeIs IsPduSize size → OkIs (λ (x : Agreed). IsPduSize x.size) (wanted fault.PduSizeTooSmall (size >>= λ n. Some (f n)))
+agreed-by : (size : Option ℕ) (f : ℕ → Agreed) → ((n : ℕ) → (f n).size ≡ n) → SomeIs IsPduSize size
+    → OkIs (λ (x : Agreed). IsPduSize x.size)
+    (wanted fault.PduSizeTooSmall (size >>= λ n. Some (f n)))
 agreed-by (Some n) f same is = record { least = rw (same n) is.least; most = rw (same n) is.most }
 agreed-by None f same is = tt
 
-agreed-sized : (p : Proposal) → OkIs (λ (x : Agreed). IsPduSize x.size) (wanted fault.PduSizeTooSmall (agreed_of p))
+agreed-sized : (p : Proposal)
+    → OkIs (λ (x : Agreed). IsPduSize x.size) (wanted fault.PduSizeTooSmall (agreed_of p))
 agreed-sized p = agreed-by (size_of p.size) _ (λ n. refl) (size-is p.size)
 
-agreement-sized : (contexts : List Context) (user : Carried) → OkIs (λ (x : Accepted × Agreed). IsPduSize x.1.size) (agreement contexts user)
+agreement-sized : (contexts : List Context) (user : Carried)
+    → OkIs (λ (x : Accepted × Agreed). IsPduSize x.1.size) (agreement contexts user)
 unfolding agreement
 agreement-sized contexts user =
     let P : Accepted × Agreed → Type 0 = λ x. IsPduSize x.1.size in
@@ -136,12 +161,14 @@ agreement-sized contexts user =
     bound P (wanted fault.BadAcse (associate_in value)) _ (λ information.
     bound P (mms_value a information) _ (λ pdu.
     bound P (wanted fault.BadAcse (initiate_in pdu)) _ (λ proposal.
-    bound-by (λ (x : Agreed). IsPduSize x.size) P (wanted fault.PduSizeTooSmall (agreed_of proposal)) _ (agreed-sized proposal) (λ agreed is. is))))))
+    bound-by (λ (x : Agreed). IsPduSize x.size) P
+    (wanted fault.PduSizeTooSmall (agreed_of proposal)) _ (agreed-sized proposal)
+    (λ agreed is. is))))))
 
 -- an association that is open, with a size of PDUs
 abbrev pub IsOpen : Phase → Type 0
 IsOpen phases.Idle = ⊥
-IsOpen (phases.Open link) = IsPduSize link.size
+IsOpen (phases.Open terms) = IsPduSize terms.size
 IsOpen phases.Over = ⊥
 IsOpen phases.Failed = ⊥
 
@@ -158,21 +185,25 @@ connected-sized : (user : List ℕ) → OkIs IsHeard (connected user)
 unfolding connected
 connected-sized user =
     bound IsHeard (wanted fault.BadPresentation (request_in user)) _ (λ request.
-    bound-by (λ (x : Accepted × Agreed). IsPduSize x.1.size) IsHeard (agreement request.contexts request.user) _ (agreement-sized request.contexts request.user) (λ x is. (is, tt)))
+    bound-by (λ (x : Accepted × Agreed). IsPduSize x.1.size) IsHeard
+    (agreement request.contexts request.user) _ (agreement-sized request.contexts request.user)
+    (λ x is. (is, tt)))
 
-finished-sized : (link : Agreement) (user : Option (List ℕ)) → OkIs IsHeard (finished link user)
+finished-sized : (terms : AssociationTerms) (user : Option (List ℕ))
+    → OkIs IsHeard (finished terms user)
 unfolding finished
-finished-sized link None = (tt, tt)
-finished-sized link (Some user) =
+finished-sized terms None = (tt, tt)
+finished-sized terms (Some user) =
     bound IsHeard (wanted fault.BadPresentation (user_in user)) _ (λ c.
-    bound IsHeard (acse_value link.contexts c) _ (λ value.
+    bound IsHeard (acse_value terms.contexts c) _ (λ value.
     bound IsHeard (wanted fault.BadAcse (release_in value)) _ (λ ignored. (tt, tt))))
 
-transferred-sized : (link : Agreement) (user : List ℕ) → IsPduSize link.size → OkIs IsHeard (transferred link user)
+transferred-sized : (terms : AssociationTerms) (user : List ℕ) → IsPduSize terms.size
+    → OkIs IsHeard (transferred terms user)
 unfolding transferred
-transferred-sized link user is =
+transferred-sized terms user is =
     bound IsHeard (wanted fault.BadPresentation (user_in user)) _ (λ c.
-    bound IsHeard (mms_value link.contexts c) _ (λ pdu. (is, is)))
+    bound IsHeard (mms_value terms.contexts c) _ (λ pdu. (is, is)))
 
 idle-sized : (s : Spdu) → OkIs IsHeard (heard_idle s)
 idle-sized (connect user) = connected-sized user
@@ -182,18 +213,22 @@ idle-sized disconnect = tt
 idle-sized abort = (tt, tt)
 idle-sized (transfer user) = tt
 
-open-sized : (link : Agreement) (s : Spdu) → IsPduSize link.size → OkIs IsHeard (heard_open link s)
-open-sized link (connect user) is = tt
-open-sized link accept is = tt
-open-sized link (finish user) is = finished-sized link user
-open-sized link disconnect is = tt
-open-sized link abort is = (tt, tt)
-open-sized link (transfer user) is = transferred-sized link user is
+open-sized : (terms : AssociationTerms) (s : Spdu) → IsPduSize terms.size
+    → OkIs IsHeard (heard_open terms s)
+open-sized terms (connect user) is = tt
+open-sized terms accept is = tt
+open-sized terms (finish user) is = finished-sized terms user
+open-sized terms disconnect is = tt
+open-sized terms abort is = (tt, tt)
+open-sized terms (transfer user) is = transferred-sized terms user is
 
 hearing-sized : (phase : Phase) (tsdu : List ℕ) → IsSized phase → OkIs IsHeard (hearing phase tsdu)
 unfolding hearing
-hearing-sized phases.Idle tsdu is = bound IsHeard (wanted fault.BadSession (spdu_in tsdu)) heard_idle idle-sized
-hearing-sized (phases.Open link) tsdu is = bound IsHeard (wanted fault.BadSession (spdu_in tsdu)) (heard_open link) (λ s. open-sized link s is)
+hearing-sized phases.Idle tsdu is =
+    bound IsHeard (wanted fault.BadSession (spdu_in tsdu)) heard_idle idle-sized
+hearing-sized (phases.Open terms) tsdu is =
+    bound IsHeard (wanted fault.BadSession (spdu_in tsdu)) (heard_open terms)
+    (λ s. open-sized terms s is)
 hearing-sized phases.Over tsdu is = tt
 hearing-sized phases.Failed tsdu is = tt
 
@@ -214,29 +249,43 @@ record IsTold (t : Told) : Type 0 where
   all : CanAnswerAll t.indications
   left : IsSized t.left.phase
 
-heard-told : (s : Stream) (h : Hearing) (size : Option ℕ) (phase : Phase) (later : Told) → IsSome size → HeardOpen h phase → IsTold later → IsTold (on_heard s h (record { size = size; phase = phase }) later)
-heard-told s (answer tsdu) size phase later some is rest = record { all = (tt, rest.all); left = rest.left }
-heard-told s (mms pdu) size phase later some is rest = record { all = ((some, is), rest.all); left = rest.left }
+heard-told : (s : Stream) (h : Hearing) (size : Option ℕ) (phase : Phase) (later : Told)
+    → IsSome size → HeardOpen h phase → IsTold later
+    → IsTold (on_heard s h (record { size = size; phase = phase }) later)
+heard-told s (answer tsdu) size phase later some is rest =
+    record { all = (tt, rest.all); left = rest.left }
+heard-told s (mms pdu) size phase later some is rest =
+    record { all = ((some, is), rest.all); left = rest.left }
 heard-told s (released tsdu) size phase later some is rest = record { all = (tt, tt); left = tt }
 heard-told s aborted size phase later some is rest = record { all = (tt, tt); left = tt }
 
-hearing-told : (s : Stream) (r : Result (Hearing × Phase) AssocFault) (size : Option ℕ) (later : Phase → Told) → IsSome size → OkIs IsHeard r → ((p : Phase) → IsSized p → IsTold (later p))
+hearing-told : (s : Stream) (r : Result (Hearing × Phase) AssocFault) (size : Option ℕ)
+    (later : Phase → Told) → IsSome size → OkIs IsHeard r
+    → ((p : Phase) → IsSized p → IsTold (later p))
     → IsTold (on_hearing size s r later)
-hearing-told s (Ok x) size later some is rest = heard-told s x.0 size x.1 (later x.1) some is.1 (rest x.1 is.0)
+hearing-told s (Ok x) size later some is rest =
+    heard-told s x.0 size x.1 (later x.1) some is.1 (rest x.1 is.0)
 hearing-told s (Err e) size later some is rest = record { all = (tt, tt); left = tt }
 
-told-so : (s : Stream) (ds : List Doing) (size : Option ℕ) (phase : Phase) → AreSized size ds → IsSized phase → IsTold (told s ds size phase)
+told-so : (s : Stream) (ds : List Doing) (size : Option ℕ) (phase : Phase) → AreSized size ds
+    → IsSized phase → IsTold (told s ds size phase)
 told-so s [] size phase sized is = record { all = tt; left = is }
-told-so s (Answers n reply ∷ ds) size phase sized is = let rest : IsTold (told s ds (Some n) phase) = told-so s ds (Some n) phase sized is in record { all = (tt, rest.all); left = rest.left }
+told-so s (Answers n reply ∷ ds) size phase sized is =
+    let rest : IsTold (told s ds (Some n) phase) =
+    told-so s ds (Some n) phase sized is in record { all = (tt, rest.all); left = rest.left }
 told-so s (Delivers tsdu ∷ ds) size phase sized is =
-    hearing-told s (hearing phase tsdu) size (told s ds size) sized.0 (hearing-sized phase tsdu is) (λ p q. told-so s ds size p sized.1 q)
+    hearing-told s (hearing phase tsdu) size (told s ds size) sized.0 (hearing-sized phase tsdu is)
+    (λ p q. told-so s ds size p sized.1 q)
 told-so s (Ends ∷ ds) size phase sized is = record { all = (tt, tt); left = tt }
 told-so s (Fails fault ∷ ds) size phase sized is = record { all = (tt, tt); left = tt }
 
 comes-told : (t : Talk) (octets : List ℕ) → IsSized t.phase → IsTold (comes_to t octets)
-comes-told t octets is = told-so (after t.stream octets) (doings t.stream octets) (agreed t.stream) t.phase (left-sized t.stream.number t.stream.left octets) is
+comes-told t octets is =
+    told-so (after t.stream octets) (doings t.stream octets) (agreed t.stream) t.phase
+    (left-sized t.stream.number t.stream.left octets) is
 
-pub can-answer : (t : Talk) (octets : List ℕ) → IsSized t.phase → CanAnswerAll (indications t octets)
+pub can-answer : (t : Talk) (octets : List ℕ) → IsSized t.phase
+    → CanAnswerAll (indications t octets)
 can-answer t octets is = (comes-told t octets is).all
 
 pub sized-behind : (t : Talk) (octets : List ℕ) → IsSized t.phase → IsSized (left_by t octets).phase

@@ -1,7 +1,7 @@
 -- What events and their answers tell is what the device's definitions say of them.
 use Rattle.std.specs.Prelude.{replicate}
 use Rattle.std.proofs.Common.{◌≡◌, ◌≤◌, ℕ, zero, suc, ℤ, Bool, true, false, cond, nat_lt, List, [], ◌∷◌, ◌++◌, length, map, slice_get, slice_set, Option, None, Some, IsSome, unwrap_or, Result, Ok, Err, refl, ap, ap₂, sym, ◌∙◌, subst, arith, append-nil, append_assoc}
-use Rattle.bay_ber.specs.Options.{◌>>=◌}
+use Rattle.bay_base.specs.Options.{◌>>=◌}
 use Rattle.bay_ber.specs.Values.{Part, only_one, under, value_in, values_in}
 use Rattle.bay_ber.proofs.ListingLemmas.{no_values}
 use Rattle.bay_nodes.specs.declared.switch.Switch.{Switch}
@@ -14,7 +14,7 @@ use Rattle.bay_mms.specs.Grammar.{answer_to}
 use Rattle.bay_mms.specs.Requests.{identify, names, attributes, read, write, Message, initiate, conclude, confirmed}
 use Rattle.bay_mms.specs.Tags.{constructed}
 use Rattle.bay_mms.specs.declared.fault.MmsFault.{MmsFault}
-use Rattle.bay_assoc.specs.Hears.{link_of}
+use Rattle.bay_assoc.specs.Hears.{association_terms}
 use Rattle.bay_assoc.specs.Sized.{IsSized}
 use Rattle.bay_assoc.specs.declared.hearing.Phase.{Phase}
 use Rattle.bay_assoc.specs.declared.hearing.Phase.TheVariants as phases
@@ -54,58 +54,79 @@ no-value : value_in [] ≡ None
 no-value = ap (λ (o : Option (List Part)). o >>= only_one) no_values
 
 none-read-in : read_results [] ≡ None
-none-read-in = ap (λ (o : Option Part). o >>= under (constructed 1) >>= values_in >>= behind_id >>= under (constructed 4) >>= value_in >>= under (constructed 1) >>= values_in) no-value
+none-read-in =
+    ap (λ (o : Option Part). o >>= under (constructed 1) >>= values_in >>= behind_id
+    >>= under (constructed 4) >>= value_in >>= under (constructed 1) >>= values_in) no-value
 
 none-written-in : write_results [] ≡ None
-none-written-in = ap (λ (o : Option Part). o >>= under (constructed 1) >>= values_in >>= behind_id >>= under (constructed 5) >>= values_in) no-value
+none-written-in =
+    ap (λ (o : Option Part). o >>= under (constructed 1) >>= values_in >>= behind_id
+    >>= under (constructed 5) >>= values_in) no-value
 
-none-accepted : (now a : ℕ) (n : Bay) (m : Result Message MmsFault) → message_accepted now a n m [] ≡ []
+none-accepted : (now a : ℕ) (n : Bay) (m : Result Message MmsFault)
+    → message_accepted now a n m [] ≡ []
 none-accepted now a n (Ok (initiate proposal)) = refl
 none-accepted now a n (Ok conclude) = refl
 none-accepted now a n (Ok (confirmed id identify)) = refl
 none-accepted now a n (Ok (confirmed id (names class place after))) = refl
 none-accepted now a n (Ok (confirmed id (attributes name))) = refl
-none-accepted now a n (Ok (confirmed id (read ns))) = ap (λ (o : Option (List Part)). read_accepted now a n ns (unwrap_or o [])) none-read-in ∙ none-read now a n ns
+none-accepted now a n (Ok (confirmed id (read ns))) =
+    ap (λ (o : Option (List Part)). read_accepted now a n ns (unwrap_or o [])) none-read-in
+    ∙ none-read now a n ns
 none-accepted now a n (Ok (confirmed id (write ns values))) =
-    ap (λ (o : Option (List Part)). write_accepted now a n ns values (unwrap_or o [])) none-written-in ∙ none-written now a n ns values
+    ap (λ (o : Option (List Part)). write_accepted now a n ns values (unwrap_or o []))
+    none-written-in ∙ none-written now a n ns values
 none-accepted now a n (Err fault) = refl
 
 nothing-told : (now a : ℕ) (n : Bay) (is : List Indication) → told_heard now a n is [] ≡ []
 nothing-told now a n [] = refl
 nothing-told now a n (answers octets ∷ is) = nothing-told now a n is
-nothing-told now a n (tells terms pdu ∷ is) = ap₂ (λ (xs ys : List Entry). xs ++ ys) (none-accepted now a n (answer_to pdu)) (nothing-told now a n is)
+nothing-told now a n (tells terms pdu ∷ is) =
+    ap₂ (λ (xs ys : List Entry). xs ++ ys) (none-accepted now a n (answer_to pdu))
+    (nothing-told now a n is)
 nothing-told now a n (releases octets ∷ is) = refl
 nothing-told now a n (ends-heard ∷ is) = refl
 nothing-told now a n (fails code ∷ is) = refl
 
 -- ---- what is heard
 
-size-small : (phase : Phase) → IsOpen phase → size_of (link_of phase) ≤ 65000
+size-small : (phase : Phase) → IsOpen phase → size_of (association_terms phase) ≤ 65000
 size-small phases.Idle is = absurd is
-size-small (phases.Open link) is = is.most
+size-small (phases.Open terms) is = is.most
 size-small phases.Over is = absurd is
 size-small phases.Failed is = absurd is
 
-pdus-back : (a : ℕ) (terms : Terms) (pdus : List (List ℕ)) (later : List Sent) → IsSome terms.size → IsOpen terms.phase → AreShort pdus
+pdus-back : (a : ℕ) (terms : Terms) (pdus : List (List ℕ)) (later : List Sent) → IsSome terms.size
+    → IsOpen terms.phase → AreShort pdus
     → pdus_in (map (λ pdu. sent_on a (sending terms pdu)) pdus ++ later) ≡ pdus ++ pdus_in later
 pdus-back a terms [] later some is short = refl
 pdus-back a terms (pdu ∷ pdus) later some is short =
-    ap₂ (λ (p : List ℕ) (ps : List (List ℕ)). p ∷ ps) (read-back terms pdu some is (short 0 [] (omega arith)))
+    ap₂ (λ (p : List ℕ) (ps : List (List ℕ)). p ∷ ps)
+    (read-back terms pdu some is (short 0 [] (omega arith)))
     (pdus-back a terms pdus later some is (λ k d lt. short (suc k) d (omega arith)))
 
 -- What was heard has sent more, which tells what is seen, and leaves the names as they are.
-record Walks (now a : ℕ) (n : Bay) (is : List Indication) (h : Heard) (d : Done) (entries : List Entry) : Type 0 where
+record Walks (now a : ℕ) (n : Bay) (is : List Indication) (h : Heard) (d : Done)
+    (entries : List Entry) : Type 0 where
   more : List Sent
   sent : h.done.sent ≡ d.sent ++ more
   told : told_heard now a n is (pdus_in more) ≡ entries
   alike : AreNamedAlike n (bay_of h.done.state)
 
-on-walks : (now a : ℕ) (n : Bay) (i : Indication) (is : List Indication) (d : Done) (later : Done → Heard) (entries : Done → List Entry) → CanAnswer i → AreNamedAlike n (bay_of d.state)
-    → ((e : Done) → AreNamedAlike n (bay_of e.state) → Walks now a n is (later e) e (entries e)) → Walks now a n (i ∷ is) (on_heard now a i d later) d (entries_on now a i d entries)
+on-walks : (now a : ℕ) (n : Bay) (i : Indication) (is : List Indication) (d : Done)
+    (later : Done → Heard) (entries : Done → List Entry) → CanAnswer i
+    → AreNamedAlike n (bay_of d.state)
+    → ((e : Done) → AreNamedAlike n (bay_of e.state) → Walks now a n is (later e) e (entries e))
+    → Walks now a n (i ∷ is) (on_heard now a i d later) d (entries_on now a i d entries)
 on-walks now a n (answers octets) is d later entries can alike rest =
     let e : Done = with_sent a octets d in
     let w : Walks now a n is (later e) e (entries e) = rest e alike in
-    record { more = sent_on a octets ∷ w.more; sent = w.sent ∙ append_assoc d.sent (sent_on a octets ∷ []) w.more; told = w.told; alike = w.alike }
+    record {
+      more = sent_on a octets ∷ w.more;
+      sent = w.sent ∙ append_assoc d.sent (sent_on a octets ∷ []) w.more;
+      told = w.told;
+      alike = w.alike;
+    }
 on-walks now a n (tells terms pdu) is d later entries can alike rest =
     let c : Client = client_at now a terms d.state in
     let b : Bay = bay_of d.state in
@@ -114,31 +135,50 @@ on-walks now a n (tells terms pdu) is d later entries can alike rest =
     let sents : List Sent = map (λ p. sent_on a (sending terms p)) x.sent in
     let w : Walks now a n is (later e) e (entries e) = rest e (alike-after n c pdu b alike) in
     let small : c.size ≤ 65000 = size-small terms.phase can.1 in
-    let back : pdus_in (sents ++ w.more) ≡ x.sent ++ pdus_in w.more = pdus-back a terms x.sent w.more can.0 can.1 (answer_short c b (answer_to pdu) small) in
+    let back : pdus_in (sents ++ w.more) ≡ x.sent ++ pdus_in w.more =
+    pdus-back a terms x.sent w.more can.0 can.1 (answer_short c b (answer_to pdu) small) in
     let response = response-tells c pdu n b (pdus_in w.more) small alike in
     let may : Bool = may_be_reported (answer_to pdu) in
     record {
       more = sents ++ w.more;
       sent = w.sent ∙ append_assoc d.sent sents w.more;
       told =
-          ap (λ (pdus : List (List ℕ)). accepted_in now a pdu n (first_response may pdus).0 ++ told_heard now a n is (first_response may pdus).1) back
-          ∙ ap₂ (λ (xs : List Entry) (pdus : List (List ℕ)). xs ++ told_heard now a n is pdus) response.0 response.1
+          ap (λ (pdus : List (List ℕ)). accepted_in now a pdu n (first_response may pdus).0
+          ++ told_heard now a n is (first_response may pdus).1) back
+          ∙ ap₂ (λ (xs : List Entry) (pdus : List (List ℕ)). xs ++ told_heard now a n is pdus)
+          response.0 response.1
           ∙ ap (λ (ys : List Entry). entries_in c pdu b ++ ys) w.told;
       alike = w.alike;
     }
-on-walks now a n (releases octets) is d later entries can alike rest = record { more = sent_on a octets ∷ []; sent = refl; told = refl; alike = alike }
-on-walks now a n ends-heard is d later entries can alike rest = record { more = []; sent = sym (append-nil d.sent); told = refl; alike = alike }
-on-walks now a n (fails code) is d later entries can alike rest = record { more = []; sent = sym (append-nil d.sent); told = refl; alike = alike }
+on-walks now a n (releases octets) is d later entries can alike rest =
+    record { more = sent_on a octets ∷ []; sent = refl; told = refl; alike = alike }
+on-walks now a n ends-heard is d later entries can alike rest =
+    record { more = []; sent = sym (append-nil d.sent); told = refl; alike = alike }
+on-walks now a n (fails code) is d later entries can alike rest =
+    record { more = []; sent = sym (append-nil d.sent); told = refl; alike = alike }
 
-walks : (choice : Option ℕ) (now a : ℕ) (n : Bay) (is : List Indication) (d : Done) → CanAnswerAll is → AreNamedAlike n (bay_of d.state)
+walks : (choice : Option ℕ) (now a : ℕ) (n : Bay) (is : List Indication) (d : Done)
+    → CanAnswerAll is → AreNamedAlike n (bay_of d.state)
     → Walks now a n is (heard choice now a is d) d (entries_heard choice now a is d)
-walks None now a n [] d can alike = record { more = []; sent = sym (append-nil d.sent); told = refl; alike = alike }
-walks None now a n (i ∷ is) d can alike = on-walks now a n i is d (heard None now a is) (entries_heard None now a is) can.0 alike (λ e same. walks None now a n is e can.1 same)
-walks (Some zero) now a n [] d can alike = record { more = []; sent = sym (append-nil d.sent); told = refl; alike = alike }
-walks (Some zero) now a n (i ∷ is) d can alike = record { more = []; sent = sym (append-nil d.sent); told = nothing-told now a n (i ∷ is); alike = alike }
-walks (Some (suc k)) now a n [] d can alike = record { more = []; sent = sym (append-nil d.sent); told = refl; alike = alike }
+walks None now a n [] d can alike =
+    record { more = []; sent = sym (append-nil d.sent); told = refl; alike = alike }
+walks None now a n (i ∷ is) d can alike =
+    on-walks now a n i is d (heard None now a is) (entries_heard None now a is) can.0 alike
+    (λ e same. walks None now a n is e can.1 same)
+walks (Some zero) now a n [] d can alike =
+    record { more = []; sent = sym (append-nil d.sent); told = refl; alike = alike }
+walks (Some zero) now a n (i ∷ is) d can alike =
+    record {
+      more = [];
+      sent = sym (append-nil d.sent);
+      told = nothing-told now a n (i ∷ is);
+      alike = alike;
+    }
+walks (Some (suc k)) now a n [] d can alike =
+    record { more = []; sent = sym (append-nil d.sent); told = refl; alike = alike }
 walks (Some (suc k)) now a n (i ∷ is) d can alike =
-    on-walks now a n i is d (heard (Some k) now a is) (entries_heard (Some k) now a is) can.0 alike (λ e same. walks (Some k) now a n is e can.1 same)
+    on-walks now a n i is d (heard (Some k) now a is) (entries_heard (Some k) now a is) can.0 alike
+    (λ e same. walks (Some k) now a n is e can.1 same)
 
 -- ---- talks
 
@@ -146,11 +186,13 @@ at-talk : (o : Option ℕ) (s : State) → connection_at o s ≡ talk_at o s.con
 at-talk None s = refl
 at-talk (Some place) s = refl
 
-with-one : (o : Option ℕ) (x : Option Talk) (s : State) → (with_connection o x s).connections ≡ with_talk o x s.connections
+with-one : (o : Option ℕ) (x : Option Talk) (s : State)
+    → (with_connection o x s).connections ≡ with_talk o x s.connections
 with-one None x s = refl
 with-one (Some place) x s = refl
 
-alike-with : (n : Bay) (o : Option ℕ) (x : Option Talk) (s : State) → AreNamedAlike n (bay_of s) → AreNamedAlike n (bay_of (with_connection o x s))
+alike-with : (n : Bay) (o : Option ℕ) (x : Option Talk) (s : State) → AreNamedAlike n (bay_of s)
+    → AreNamedAlike n (bay_of (with_connection o x s))
 alike-with n None x s alike = alike
 alike-with n (Some place) x s alike = alike
 
@@ -162,47 +204,58 @@ talk-set : (x : Option Talk) (t : Talk) → IsTalk x → x ≡ Some t → IsSize
 talk-set None t is e = absurd cc
 talk-set (Some u) t is e = let same : u ≡ t = cc in subst (λ (v : Talk). IsSized v.phase) same is
 
-set-talks : (talks : List (Option Talk)) (i : ℕ) (x : Option Talk) → AreTalks talks → IsTalk x → AreTalks (slice_set talks i x)
+set-talks : (talks : List (Option Talk)) (i : ℕ) (x : Option Talk) → AreTalks talks → IsTalk x
+    → AreTalks (slice_set talks i x)
 set-talks [] i x all is place t e = all place t e
 set-talks (y ∷ talks) zero x all is zero t e = talk-set x t is e
 set-talks (y ∷ talks) zero x all is (suc place) t e = all (suc place) t e
 set-talks (y ∷ talks) (suc i) x all is zero t e = all zero t e
-set-talks (y ∷ talks) (suc i) x all is (suc place) t e = set-talks talks i x (λ k u f. all (suc k) u f) is place t e
+set-talks (y ∷ talks) (suc i) x all is (suc place) t e =
+    set-talks talks i x (λ k u f. all (suc k) u f) is place t e
 
-with-talks : (o : Option ℕ) (x : Option Talk) (s : State) → AreTalks s.connections → IsTalk x → AreTalks (with_connection o x s).connections
+with-talks : (o : Option ℕ) (x : Option Talk) (s : State) → AreTalks s.connections → IsTalk x
+    → AreTalks (with_connection o x s).connections
 with-talks None x s all is = all
 with-talks (Some place) x s all is = set-talks s.connections place x all is
 
-talk-sized : (o : Option ℕ) (s : State) (t : Talk) → AreTalks s.connections → connection_at o s ≡ Some t → IsSized t.phase
+talk-sized : (o : Option ℕ) (s : State) (t : Talk) → AreTalks s.connections
+    → connection_at o s ≡ Some t → IsSized t.phase
 talk-sized None s t all e = absurd cc
 talk-sized (Some place) s t all e = all place t e
 
 -- ---- an event
 
 -- The answer tells what is seen, and of each talk what is left of it; the names and the sizes stay.
-record IsTold (n : Bay) (talks : List (Option Talk)) (f : Step → List Entry) (g : Step → List (Option Talk)) (o : Outcome) (entries : List Entry) : Type 0 where
+record IsTold (n : Bay) (talks : List (Option Talk)) (f : Step → List Entry)
+    (g : Step → List (Option Talk)) (o : Outcome) (entries : List Entry) : Type 0 where
   told : of_answer [] f o.answer ≡ entries
   left : o.after.connections ≡ of_answer talks g o.answer
   alike : AreNamedAlike n (bay_of o.after)
   sized : AreTalks o.after.connections
 
-closed-told : (now a : ℕ) (why : Option Why) → told_closed now (closed_by a why) ≡ entries_closed now a why
+closed-told : (now a : ℕ) (why : Option Why)
+    → told_closed now (closed_by a why) ≡ entries_closed now a why
 closed-told now a None = refl
 closed-told now a (Some why) = refl
 
-module _ (n : Bay) (now : ℕ) (s : State) (alike : AreNamedAlike n (bay_of s)) (sized : AreTalks s.connections) where
+module _ (n : Bay) (now : ℕ) (s : State) (alike : AreNamedAlike n (bay_of s))
+    (sized : AreTalks s.connections) where
   abbrev talks : List (Option Talk)
   talks = s.connections
 
   alike-advanced : AreNamedAlike n (bay_of (advanced now s))
   alike-advanced = alike-still n (bay_of s) (control.advanced now s.controls) alike
 
-  refused-told : (f : Step → List Entry) (g : Step → List (Option Talk)) (fault : StepFault) → IsTold n talks f g (refused fault s) []
+  refused-told : (f : Step → List Entry) (g : Step → List (Option Talk)) (fault : StepFault)
+      → IsTold n talks f g (refused fault s) []
   refused-told f g fault = record { told = refl; left = refl; alike = alike; sized = sized }
 
-  open-told : (a : ℕ) (o : Option ℕ) (talk : Option Talk) → IsTold n talks (told_step now (Open a) n talks) (talks_step (Open a) talks) (open_outcome now a s o talk) (entries_open now a o talk)
+  open-told : (a : ℕ) (o : Option ℕ) (talk : Option Talk)
+      → IsTold n talks (told_step now (Open a) n talks) (talks_step (Open a) talks)
+      (open_outcome now a s o talk) (entries_open now a o talk)
   open-told a None talk = record { told = refl; left = refl; alike = alike; sized = sized }
-  open-told a (Some place) (Some talk) = record { told = refl; left = refl; alike = alike; sized = sized }
+  open-told a (Some place) (Some talk) =
+      record { told = refl; left = refl; alike = alike; sized = sized }
   open-told a (Some place) None = record {
     told = refl;
     left = with-one (place_of a) (Some (first_talk a)) (advanced now s);
@@ -211,10 +264,15 @@ module _ (n : Bay) (now : ℕ) (s : State) (alike : AreNamedAlike n (bay_of s)) 
   }
 
   -- an association that is closed, on a device with these talks and names
-  closed-alike : (a : ℕ) (t : State) → AreNamedAlike n (bay_of t) → AreNamedAlike n (bay_of (closed a t))
-  closed-alike a t same = alike-with n (place_of a) None (without_owner a t) (alike-still n (bay_of t) (dropped a t.controls) same)
+  closed-alike : (a : ℕ) (t : State) → AreNamedAlike n (bay_of t)
+      → AreNamedAlike n (bay_of (closed a t))
+  closed-alike a t same =
+      alike-with n (place_of a) None (without_owner a t)
+      (alike-still n (bay_of t) (dropped a t.controls) same)
 
-  close-told : (a : ℕ) (talk : Option Talk) → IsTold n talks (told_step now (Close a) n talks) (talks_step (Close a) talks) (close_outcome now a s talk) (entries_close now a talk)
+  close-told : (a : ℕ) (talk : Option Talk)
+      → IsTold n talks (told_step now (Close a) n talks) (talks_step (Close a) talks)
+      (close_outcome now a s talk) (entries_close now a talk)
   close-told a None = record { told = refl; left = refl; alike = alike; sized = sized }
   close-told a (Some talk) = record {
     told = refl;
@@ -225,29 +283,39 @@ module _ (n : Bay) (now : ℕ) (s : State) (alike : AreNamedAlike n (bay_of s)) 
 
   -- ---- octets
 
-  after-left : (a : ℕ) (left : Talk) (octet : ℕ) (octets : List ℕ) (talk : Talk) (t : State) (why : Option Why) → t.connections ≡ talks → talk_at (place_of a) talks ≡ Some talk
-      → left ≡ left_by talk (octet ∷ octets) → (recv_after a left t why).connections ≡ talks_heard a (octet ∷ octets) talks (closed_by a why)
+  after-left : (a : ℕ) (left : Talk) (octet : ℕ) (octets : List ℕ) (talk : Talk) (t : State)
+      (why : Option Why) → t.connections ≡ talks → talk_at (place_of a) talks ≡ Some talk
+      → left ≡ left_by talk (octet ∷ octets)
+      → (recv_after a left t why).connections
+      ≡ talks_heard a (octet ∷ octets) talks (closed_by a why)
   after-left a left octet octets talk t None same here is =
       with-one (place_of a) (Some left) t ∙ ap (with_talk (place_of a) (Some left)) same
       ∙ ap (λ (u : Talk). with_talk (place_of a) (Some u) talks) is
-      ∙ sym (ap (λ (o : Option Talk). with_talk (place_of a) (talk_behind (octet ∷ octets) o) talks) here)
-  after-left a left octet octets talk t (Some why) same here is = with-one (place_of a) None (without_owner a t) ∙ ap (with_talk (place_of a) None) same
+      ∙ sym (ap (λ (o : Option Talk). with_talk (place_of a) (talk_behind (octet ∷ octets) o) talks)
+      here)
+  after-left a left octet octets talk t (Some why) same here is =
+      with-one (place_of a) None (without_owner a t) ∙ ap (with_talk (place_of a) None) same
 
-  after-alike : (a : ℕ) (left : Talk) (t : State) (why : Option Why) → AreNamedAlike n (bay_of t) → AreNamedAlike n (bay_of (recv_after a left t why))
+  after-alike : (a : ℕ) (left : Talk) (t : State) (why : Option Why) → AreNamedAlike n (bay_of t)
+      → AreNamedAlike n (bay_of (recv_after a left t why))
   after-alike a left t None same = alike-with n (place_of a) (Some left) t same
   after-alike a left t (Some why) same = closed-alike a t same
 
-  after-sized : (a : ℕ) (left : Talk) (t : State) (why : Option Why) → AreTalks t.connections → IsSized left.phase → AreTalks (recv_after a left t why).connections
+  after-sized : (a : ℕ) (left : Talk) (t : State) (why : Option Why) → AreTalks t.connections
+      → IsSized left.phase → AreTalks (recv_after a left t why).connections
   after-sized a left t None all is = with-talks (place_of a) (Some left) t all is
   after-sized a left t (Some why) all is = with-talks (place_of a) None (without_owner a t) all tt
 
-  octets-told : (choice : Option ℕ) (a : ℕ) (talk : Talk) (octets : List ℕ) → connection_at (place_of a) s ≡ Some talk
-      → IsTold n talks (λ step. told_recv now a n octets (talk_at (place_of a) talks) step.sent ++ told_closed now step.closed) (λ step. talks_heard a octets talks step.closed)
+  octets-told : (choice : Option ℕ) (a : ℕ) (talk : Talk) (octets : List ℕ)
+      → connection_at (place_of a) s ≡ Some talk
+      → IsTold n talks (λ step. told_recv now a n octets (talk_at (place_of a) talks) step.sent
+      ++ told_closed now step.closed) (λ step. talks_heard a octets talks step.closed)
       (octets_outcome choice now a s talk octets) (entries_octets choice now a s talk octets)
   octets-told choice a talk [] is =
       let here : talk_at (place_of a) talks ≡ Some talk = sym (at-talk (place_of a) s) ∙ is in
       record {
-        told = ap (λ (o : Option Talk). told_recv now a n [] o [] ++ []) here ∙ ap (λ (es : List Entry). es ++ []) (nothing-told now a n (indications talk []));
+        told = ap (λ (o : Option Talk). told_recv now a n [] o [] ++ []) here
+            ∙ ap (λ (es : List Entry). es ++ []) (nothing-told now a n (indications talk []));
         left = refl;
         alike = alike-advanced;
         sized = sized;
@@ -258,29 +326,39 @@ module _ (n : Bay) (now : ℕ) (s : State) (alike : AreNamedAlike n (bay_of s)) 
       let begun : Done = nothing_done (advanced now s) in
       let phased : IsSized talk.phase = talk-sized (place_of a) s talk sized is in
       let h : Heard = heard choice now a (indications talk all) begun in
-      let w : Walks now a n (indications talk all) h begun (entries_heard choice now a (indications talk all) begun) =
-      walks choice now a n (indications talk all) begun (can-answer talk all phased) alike-advanced in
-      let same : h.done.state.connections ≡ talks = heard-connected choice now a (indications talk all) begun in
+      let w : Walks now a n (indications talk all) h begun
+      (entries_heard choice now a (indications talk all) begun) =
+      walks choice now a n (indications talk all) begun (can-answer talk all phased) alike-advanced
+      in
+      let same : h.done.state.connections ≡ talks =
+      heard-connected choice now a (indications talk all) begun in
       record {
         told =
-            ap (λ (o : Option Talk). told_recv now a n all o h.done.sent ++ told_closed now (closed_by a h.why)) here
-            ∙ ap (λ (sent : List Sent). told_heard now a n (indications talk all) (pdus_in sent) ++ told_closed now (closed_by a h.why)) w.sent
+            ap (λ (o : Option Talk). told_recv now a n all o h.done.sent
+            ++ told_closed now (closed_by a h.why)) here
+            ∙ ap (λ (sent : List Sent). told_heard now a n (indications talk all) (pdus_in sent)
+            ++ told_closed now (closed_by a h.why)) w.sent
             ∙ ap₂ (λ (xs ys : List Entry). xs ++ ys) w.told (closed-told now a h.why);
         left = after-left a (left_by talk all) octet octets talk h.done.state h.why same here refl;
         alike = after-alike a (left_by talk all) h.done.state h.why w.alike;
-        sized = after-sized a (left_by talk all) h.done.state h.why (subst AreTalks (sym same) sized) (sized-behind talk all phased);
+        sized = after-sized a (left_by talk all) h.done.state h.why
+            (subst AreTalks (sym same) sized) (sized-behind talk all phased);
       }
 
-  recv-told : (choice : Option ℕ) (a : ℕ) (octets : List ℕ) (talk : Option Talk) → connection_at (place_of a) s ≡ talk
-      → IsTold n talks (λ step. told_recv now a n octets (talk_at (place_of a) talks) step.sent ++ told_closed now step.closed) (λ step. talks_heard a octets talks step.closed)
+  recv-told : (choice : Option ℕ) (a : ℕ) (octets : List ℕ) (talk : Option Talk)
+      → connection_at (place_of a) s ≡ talk
+      → IsTold n talks (λ step. told_recv now a n octets (talk_at (place_of a) talks) step.sent
+      ++ told_closed now step.closed) (λ step. talks_heard a octets talks step.closed)
       (recv_outcome choice now a octets s talk) (entries_recv choice now a octets s talk)
-  recv-told choice a octets None is = record { told = refl; left = refl; alike = alike; sized = sized }
+  recv-told choice a octets None is =
+      record { told = refl; left = refl; alike = alike; sized = sized }
   recv-told choice a octets (Some talk) is = octets-told choice a talk octets is
 
   -- ---- the process
 
   contact-told : (k : ℕ) (position : Dbpos) (o : Option Switch)
-      → IsTold n talks (told_step now (Contact k position) n talks) (talks_step (Contact k position) talks) (contact_outcome now k position s o) []
+      → IsTold n talks (told_step now (Contact k position) n talks)
+      (talks_step (Contact k position) talks) (contact_outcome now k position s o) []
   contact-told k position None = record { told = refl; left = refl; alike = alike; sized = sized }
   contact-told k position (Some switch) =
       let t : State = advanced now s in
@@ -290,23 +368,32 @@ module _ (n : Bay) (now : ℕ) (s : State) (alike : AreNamedAlike n (bay_of s)) 
         alike = record {
           domain = alike-advanced.domain;
           switches = alike-advanced.switches;
-          names = contact-names (switch_names t.switches k switch) position now t.rows ∙ alike-advanced.names;
+          names = contact-names (switch_names t.switches k switch) position now t.rows
+              ∙ alike-advanced.names;
         };
         sized = sized;
       }
 
-  input-told : (k : ℕ) (value : Bool) (o : Option Bool) → IsTold n talks (told_step now (Input k value) n talks) (talks_step (Input k value) talks) (input_outcome now k value s o) []
+  input-told : (k : ℕ) (value : Bool) (o : Option Bool)
+      → IsTold n talks (told_step now (Input k value) n talks) (talks_step (Input k value) talks)
+      (input_outcome now k value s o) []
   input-told k value None = record { told = refl; left = refl; alike = alike; sized = sized }
   input-told k value (Some before) = record {
     told = refl;
     left = refl;
-    alike = record { domain = alike-advanced.domain; switches = alike-advanced.switches; names = alike-advanced.names };
+    alike = record {
+      domain = alike-advanced.domain;
+      switches = alike-advanced.switches;
+      names = alike-advanced.names;
+    };
     sized = sized;
   }
 
   measure-told : (k : ℕ) (field : MeterField) (value : ℤ) (o : Option (List ℕ))
-      → IsTold n talks (told_step now (Measure k field value) n talks) (talks_step (Measure k field value) talks) (measure_outcome now k field value s o) []
-  measure-told k field value None = record { told = refl; left = refl; alike = alike; sized = sized }
+      → IsTold n talks (told_step now (Measure k field value) n talks)
+      (talks_step (Measure k field value) talks) (measure_outcome now k field value s o) []
+  measure-told k field value None =
+      record { told = refl; left = refl; alike = alike; sized = sized }
   measure-told k field value (Some id) =
       let t : State = advanced now s in
       record {
@@ -315,12 +402,14 @@ module _ (n : Bay) (now : ℕ) (s : State) (alike : AreNamedAlike n (bay_of s)) 
         alike = record {
           domain = alike-advanced.domain;
           switches = alike-advanced.switches;
-          names = measure-names (field_names field (meter_names k)) value now t.rows ∙ alike-advanced.names;
+          names = measure-names (field_names field (meter_names k)) value now t.rows
+              ∙ alike-advanced.names;
         };
         sized = sized;
       }
 
-  scan-told : IsTold n talks (told_step now Scan n talks) (talks_step Scan talks) (event_outcome None now Scan s) []
+  scan-told : IsTold n talks (told_step now Scan n talks) (talks_step Scan talks)
+      (event_outcome None now Scan s) []
   scan-told =
       let t : State = advanced now s in
       record {
@@ -329,83 +418,120 @@ module _ (n : Bay) (now : ℕ) (s : State) (alike : AreNamedAlike n (bay_of s)) 
         alike = record {
           domain = alike-advanced.domain;
           switches = alike-advanced.switches;
-          names = outputs-names t.switches t.writes (outputs_of t.machine.image.points (ran_at now t).slots) now 0 t.switches t.rows ∙ alike-advanced.names;
+          names = outputs-names t.switches t.writes
+              (outputs_of t.machine.image.points (ran_at now t).slots) now 0 t.switches t.rows
+              ∙ alike-advanced.names;
         };
         sized = sized;
       }
 
-  event-told : (choice : Option ℕ) (event : Event) → IsTold n talks (told_step now event n talks) (talks_step event talks) (event_outcome choice now event s) (entries_of_event choice now event s)
+  event-told : (choice : Option ℕ) (event : Event)
+      → IsTold n talks (told_step now event n talks) (talks_step event talks)
+      (event_outcome choice now event s) (entries_of_event choice now event s)
   event-told choice (Open a) = open-told a (place_of a) (connection_at (place_of a) s)
-  event-told choice (Recv a octets) = recv-told choice a octets.now (connection_at (place_of a) s) refl
+  event-told choice (Recv a octets) =
+      recv-told choice a octets.now (connection_at (place_of a) s) refl
   event-told choice (Close a) = close-told a (connection_at (place_of a) s)
   event-told choice (Contact k position) = contact-told k position (slice_get s.switches k)
   event-told choice (Input k value) = input-told k value (slice_get s.input_values k)
   event-told choice (Measure k field value) = measure-told k field value (slice_get s.meters k)
   event-told choice Scan = scan-told
 
-  told-if : (b : Bool) (f : Step → List Entry) (g : Step → List (Option Talk)) (x y : Outcome) (xs ys : List Entry) → IsTold n talks f g x xs → IsTold n talks f g y ys → IsTold n talks f g (cond b x y) (cond b xs ys)
+  told-if : (b : Bool) (f : Step → List Entry) (g : Step → List (Option Talk)) (x y : Outcome)
+      (xs ys : List Entry) → IsTold n talks f g x xs → IsTold n talks f g y ys
+      → IsTold n talks f g (cond b x y) (cond b xs ys)
   told-if true f g x y xs ys p q = p
   told-if false f g x y xs ys p q = q
 
-  outcome-told : (choice : Option ℕ) (event : Event) → IsTold n talks (told_step now event n talks) (talks_step event talks) (outcome choice now event s) (entries_at choice now event s)
+  outcome-told : (choice : Option ℕ) (event : Event)
+      → IsTold n talks (told_step now event n talks) (talks_step event talks)
+      (outcome choice now event s) (entries_at choice now event s)
   outcome-told choice event =
       let f : Step → List Entry = told_step now event n talks in
       let g : Step → List (Option Talk) = talks_step event talks in
-      let inner : IsTold n talks f g (cond (nat_lt now s.moment) (refused TimeWentBack s) (event_outcome choice now event s)) (cond (nat_lt now s.moment) [] (entries_of_event choice now event s)) =
-      told-if (nat_lt now s.moment) f g (refused TimeWentBack s) (event_outcome choice now event s) [] (entries_of_event choice now event s) (refused-told f g TimeWentBack) (event-told choice event) in
-      told-if (nat_lt last_moment now) f g (refused MomentTooLarge s) (cond (nat_lt now s.moment) (refused TimeWentBack s) (event_outcome choice now event s)) []
-      (cond (nat_lt now s.moment) [] (entries_of_event choice now event s)) (refused-told f g MomentTooLarge) inner
+      let inner : IsTold n talks f g
+      (cond (nat_lt now s.moment) (refused TimeWentBack s) (event_outcome choice now event s))
+      (cond (nat_lt now s.moment) [] (entries_of_event choice now event s)) =
+      told-if (nat_lt now s.moment) f g (refused TimeWentBack s) (event_outcome choice now event s)
+      [] (entries_of_event choice now event s) (refused-told f g TimeWentBack)
+      (event-told choice event) in
+      told-if (nat_lt last_moment now) f g (refused MomentTooLarge s)
+      (cond (nat_lt now s.moment) (refused TimeWentBack s) (event_outcome choice now event s))
+      []
+      (cond (nat_lt now s.moment) [] (entries_of_event choice now event s))
+      (refused-told f g MomentTooLarge) inner
 
 -- an event, from whatever was before
-pub telling : (n : Bay) (now : ℕ) (event : Event) (old : State) (answer : Result Step StepFault) (new : State) → AreNamedAlike n (bay_of old) → AreTalks old.connections
+pub telling : (n : Bay) (now : ℕ) (event : Event) (old : State) (answer : Result Step StepFault)
+    (new : State) → AreNamedAlike n (bay_of old) → AreTalks old.connections
     → Leading now event old answer new → Telling n now event old answer new
 telling n now event old answer new alike sized l =
     let o : Outcome = outcome l.steps.choice now event old in
-    let t : IsTold n old.connections (told_step now event n old.connections) (talks_step event old.connections) o (entries_at l.steps.choice now event old) =
+    let t : IsTold n old.connections (told_step now event n old.connections)
+    (talks_step event old.connections) o (entries_at l.steps.choice now event old) =
     outcome-told n now old alike sized l.steps.choice event in
-    let same : told_answer now event n old.connections answer ≡ entries_at l.steps.choice now event old =
+    let same : told_answer now event n old.connections answer
+    ≡ entries_at l.steps.choice now event old =
     ap (told_answer now event n old.connections) l.steps.answered ∙ t.told in
     record {
       leads = λ past open_before before so_far.
-          subst (λ (es : List Entry). Leads (past ++ es) open_before before (opens new) new.controls) (sym same) (l.leads past open_before before so_far);
-      left = ap (λ (u : State). u.connections) l.steps.left ∙ t.left ∙ sym (ap (talks_answer event old.connections) l.steps.answered);
+          subst (λ (es : List Entry). Leads (past ++ es) open_before before (opens new)
+          new.controls) (sym same) (l.leads past open_before before so_far);
+      left = ap (λ (u : State). u.connections) l.steps.left ∙ t.left
+          ∙ sym (ap (talks_answer event old.connections) l.steps.answered);
       alike = subst (λ (u : State). AreNamedAlike n (bay_of u)) (sym l.steps.left) t.alike;
       sized = subst (λ (u : State). AreTalks u.connections) (sym l.steps.left) t.sized;
     }
 
 -- ---- a list of events
 
-pub all-told : (n : Bay) (choices : List (Option ℕ)) (events : List (ℕ × Event)) (s : State) → AreNamedAlike n (bay_of s) → AreTalks s.connections
-    → told_all n s.connections events (outcomes choices events s).answers ≡ entries_all choices events s
+pub all-told : (n : Bay) (choices : List (Option ℕ)) (events : List (ℕ × Event)) (s : State)
+    → AreNamedAlike n (bay_of s) → AreTalks s.connections
+    → told_all n s.connections events (outcomes choices events s).answers
+    ≡ entries_all choices events s
 all-told n choices [] s alike sized = refl
 all-told n [] (e ∷ es) s alike sized =
     let o : Outcome = outcome None e.0 e.1 s in
-    let t : IsTold n s.connections (told_step e.0 e.1 n s.connections) (talks_step e.1 s.connections) o (entries_at None e.0 e.1 s) = outcome-told n e.0 s alike sized None e.1 in
+    let t : IsTold n s.connections (told_step e.0 e.1 n s.connections)
+    (talks_step e.1 s.connections) o (entries_at None e.0 e.1 s) =
+    outcome-told n e.0 s alike sized None e.1 in
     ap₂ (λ (xs ys : List Entry). xs ++ ys) t.told
-    (ap (λ (talks : List (Option Talk)). told_all n talks es (outcomes [] es o.after).answers) (sym t.left) ∙ all-told n [] es o.after t.alike t.sized)
+    (ap (λ (talks : List (Option Talk)). told_all n talks es (outcomes [] es o.after).answers)
+    (sym t.left) ∙ all-told n [] es o.after t.alike t.sized)
 all-told n (choice ∷ choices) (e ∷ es) s alike sized =
     let o : Outcome = outcome choice e.0 e.1 s in
-    let t : IsTold n s.connections (told_step e.0 e.1 n s.connections) (talks_step e.1 s.connections) o (entries_at choice e.0 e.1 s) = outcome-told n e.0 s alike sized choice e.1 in
+    let t : IsTold n s.connections (told_step e.0 e.1 n s.connections)
+    (talks_step e.1 s.connections) o (entries_at choice e.0 e.1 s) =
+    outcome-told n e.0 s alike sized choice e.1 in
     ap₂ (λ (xs ys : List Entry). xs ++ ys) t.told
-    (ap (λ (talks : List (Option Talk)). told_all n talks es (outcomes choices es o.after).answers) (sym t.left) ∙ all-told n choices es o.after t.alike t.sized)
+    (ap (λ (talks : List (Option Talk)). told_all n talks es (outcomes choices es o.after).answers)
+    (sym t.left) ∙ all-told n choices es o.after t.alike t.sized)
 
 -- ---- a device as load made it
 
-none-there : (n place : ℕ) → unwrap_or (slice_get (replicate n (let o : Option Talk = None in o)) place) None ≡ None
+none-there : (n place : ℕ)
+    → unwrap_or (slice_get (replicate n (let o : Option Talk = None in o)) place) None ≡ None
 none-there zero place = refl
 none-there (suc n) zero = refl
 none-there (suc n) (suc place) = none-there n place
 
 idle-talks : (s : State) → IsIdle s → AreTalks s.connections
 idle-talks s idle place t e =
-    let none : unwrap_or (slice_get s.connections place) None ≡ None = ap (λ (cs : List (Option Talk)). unwrap_or (slice_get cs place) None) idle.closed ∙ none-there 8 place in
+    let none : unwrap_or (slice_get s.connections place) None ≡ None =
+    ap (λ (cs : List (Option Talk)). unwrap_or (slice_get cs place) None) idle.closed
+    ∙ none-there 8 place in
     absurd (let no : None ≡ Some t = sym none ∙ e in cc)
 
 -- What the events of a run and their answers tell is backed.
-pub told-backed : (choices : List (Option ℕ)) (events : List (ℕ × Event)) (s : State) (replies : List (Result Step StepFault)) → length s.connections ≡ 8 → IsIdle s
-    → replies ≡ (outcomes choices events s).answers → AreBacked s.controls.controls (told_all (bay_of s) s.connections events replies)
+pub told-backed : (choices : List (Option ℕ)) (events : List (ℕ × Event)) (s : State)
+    (replies : List (Result Step StepFault)) → length s.connections ≡ 8 → IsIdle s
+    → replies ≡ (outcomes choices events s).answers
+    → AreBacked s.controls.controls (told_all (bay_of s) s.connections events replies)
 told-backed choices events s replies sized idle is =
-    let alike : AreNamedAlike (bay_of s) (bay_of s) = record { domain = refl; switches = refl; names = refl } in
+    let alike : AreNamedAlike (bay_of s) (bay_of s) =
+    record { domain = refl; switches = refl; names = refl } in
     let same : told_all (bay_of s) s.connections events replies ≡ entries_all choices events s =
-    ap (λ (rs : List (Result Step StepFault)). told_all (bay_of s) s.connections events rs) is ∙ all-told (bay_of s) choices events s alike (idle-talks s idle) in
-    subst (λ (es : List Entry). AreBacked s.controls.controls es) (sym same) (all-are-backed choices events s sized idle.unselected)
+    ap (λ (rs : List (Result Step StepFault)). told_all (bay_of s) s.connections events rs) is
+    ∙ all-told (bay_of s) choices events s alike (idle-talks s idle) in
+    subst (λ (es : List Entry). AreBacked s.controls.controls es) (sym same)
+    (all-are-backed choices events s sized idle.unselected)

@@ -21,28 +21,33 @@ next : Option ℕ → Option ℕ
 next None = None
 next (Some n) = Some (suc n)
 
-heard-next : (later : Option ℕ) (now a : ℕ) (i : Indication) (is : List Indication) (d : Done) → heard (next later) now a (i ∷ is) d ≡ on_heard now a i d (heard later now a is)
+heard-next : (later : Option ℕ) (now a : ℕ) (i : Indication) (is : List Indication) (d : Done)
+    → heard (next later) now a (i ∷ is) d ≡ on_heard now a i d (heard later now a is)
 unfolding next
 heard-next None now a i is d = refl
 heard-next (Some n) now a i is d = refl
 
-refused-here : (now a : ℕ) (is : List Indication) (d : Done) → heard (Some 0) now a is d ≡ record { done = d; why = Some Memory }
+refused-here : (now a : ℕ) (is : List Indication) (d : Done)
+    → heard (Some 0) now a is d ≡ record { done = d; why = Some Memory }
 refused-here now a [] d = refl
 refused-here now a (i ∷ is) d = refl
 
 -- ---- what was fed
 
-fed-some : (left : Left) (t : Talk) (piece : List ℕ) (used : ℕ) (i : Indication) → IsGoing left → FeedsFrom left t piece used (Some i) → Comes t piece used i
-fed-some (Going link rest) t piece used i going fed = fed
+fed-some : (left : Left) (t : Talk) (piece : List ℕ) (used : ℕ) (i : Indication) → IsGoing left
+    → FeedsFrom left t piece used (Some i) → Comes t piece used i
+fed-some (Going connection rest) t piece used i going fed = fed
 fed-some Over t piece used i going fed = absurd going
 fed-some Broken t piece used i going fed = absurd going
 
-fed-none : (left : Left) (t : Talk) (piece : List ℕ) (used : ℕ) → IsGoing left → FeedsFrom left t piece used None → (used ≡ length piece) × (indications t piece ≡ [])
-fed-none (Going link rest) t piece used going fed = fed
+fed-none : (left : Left) (t : Talk) (piece : List ℕ) (used : ℕ) → IsGoing left
+    → FeedsFrom left t piece used None → (used ≡ length piece) × (indications t piece ≡ [])
+fed-none (Going connection rest) t piece used going fed = fed
 fed-none Over t piece used going fed = absurd going
 fed-none Broken t piece used going fed = absurd going
 
-comes-some : (t : Talk) (piece : List ℕ) (used : ℕ) (i : Indication) → IsContinued i → Comes t piece used i → (0 < used) × (indications t (take used piece) ≡ i ∷ [])
+comes-some : (t : Talk) (piece : List ℕ) (used : ℕ) (i : Indication) → IsContinued i
+    → Comes t piece used i → (0 < used) × (indications t (take used piece) ≡ i ∷ [])
 comes-some t piece used (answers octets) goes comes = (comes.moves, comes.does)
 comes-some t piece used (tells terms pdu) goes comes = (comes.moves, comes.does)
 comes-some t piece used (releases octets) goes comes = absurd goes
@@ -54,67 +59,94 @@ nothing-left : (xs ys : List Indication) → xs ≡ xs ++ ys → ys ≡ []
 nothing-left xs ys e = sym (append_cancel_left xs [] ys (append-nil xs ∙ e))
 
 left-quiet : (t : Talk) (octets : List ℕ) → indications (left_by t octets) [] ≡ []
-left-quiet t octets = nothing-left (indications t octets) _ (ap (indications t) (sym (append-nil octets)) ∙ indications-append t octets [])
+left-quiet t octets =
+    nothing-left (indications t octets) _
+    (ap (indications t) (sym (append-nil octets)) ∙ indications-append t octets [])
 
 -- ---- turns
 
-module _ (now a : ℕ) (old : Talk) (rest : List ℕ) (used : ℕ) (new : Talk) (going : IsGoing old.stream.left) (left : new ≡ left_by old (take used rest)) where
-  pub used-some : (i : Option Indication) → 0 < length rest → Feeds old rest used i → IsContinuedIf i → 0 < used
-  used-some None some fed goes = let all = fed-none old.stream.left old rest used going fed in omega (arith, all.0, some)
-  used-some (Some i) some fed goes = (comes-some old rest used i goes (fed-some old.stream.left old rest used i going fed)).0
+module _ (now a : ℕ) (old : Talk) (rest : List ℕ) (used : ℕ) (new : Talk)
+    (going : IsGoing old.stream.left) (left : new ≡ left_by old (take used rest)) where
+  pub used-some : (i : Option Indication) → 0 < length rest → Feeds old rest used i
+      → IsContinuedIf i → 0 < used
+  used-some None some fed goes = let all =
+      fed-none old.stream.left old rest used going fed in omega (arith, all.0, some)
+  used-some (Some i) some fed goes =
+      (comes-some old rest used i goes (fed-some old.stream.left old rest used i going fed)).0
 
-  pub goes-on : (i : Option Indication) → Feeds old rest used i → IsContinuedIf i → IsGoing new.stream.left
+  pub goes-on : (i : Option Indication) → Feeds old rest used i → IsContinuedIf i
+      → IsGoing new.stream.left
   goes-on None fed goes =
       let all = fed-none old.stream.left old rest used going fed in
       let whole : take used rest ≡ rest = ap (λ n. take n rest) all.0 ∙ take-length rest in
       rw (left, whole) (nothing_going old rest going all.1)
   goes-on (Some i) fed goes =
-      let does = (comes-some old rest used i goes (fed-some old.stream.left old rest used i going fed)).1 in
+      let does =
+      (comes-some old rest used i goes (fed-some old.stream.left old rest used i going fed)).1
+      in
       rw left (heard_going old (take used rest) i does goes)
 
-  pub moves-heard : (i : Option Indication) (d e : Done) → Feeds old rest used i → ((later : Done → Heard) → on_heard_if now a i d later ≡ later e)
+  pub moves-heard : (i : Option Indication) (d e : Done) → Feeds old rest used i
+      → ((later : Done → Heard) → on_heard_if now a i d later ≡ later e)
       → Moves now a old rest d new (drop used rest) e
   moves-heard None d e fed done =
       let all = fed-none old.stream.left old rest used going fed in
       let whole : take used rest ≡ rest = ap (λ n. take n rest) all.0 ∙ take-length rest in
-      let none : drop used rest ≡ [] = ap (λ n. drop n rest) all.0 ∙ drop_of_length-le rest (omega arith) in
-      let quiet : indications new (drop used rest) ≡ [] = rw (none, left, whole) (left-quiet old rest) in
+      let none : drop used rest ≡ [] =
+      ap (λ n. drop n rest) all.0 ∙ drop_of_length-le rest (omega arith) in
+      let quiet : indications new (drop used rest) ≡ [] =
+      rw (none, left, whole) (left-quiet old rest) in
       record {
         goes = λ later. (
           later,
-          ap (λ is. heard later now a is d) (all.1 ∙ sym quiet) ∙ done (heard later now a (indications new (drop used rest))),
+          ap (λ is. heard later now a is d) (all.1 ∙ sym quiet)
+              ∙ done (heard later now a (indications new (drop used rest))),
         );
       }
   moves-heard (Some i) d e fed done =
-      let comes = feeding-indications old new rest used i left (fed-some old.stream.left old rest used i going fed) in
+      let comes =
+      feeding-indications old new rest used i left
+      (fed-some old.stream.left old rest used i going fed) in
       record {
         goes = λ later. (
           next later,
-          ap (λ is. heard (next later) now a is d) comes ∙ heard-next later now a i (indications new (drop used rest)) d ∙ done (heard later now a (indications new (drop used rest))),
+          ap (λ is. heard (next later) now a is d) comes
+              ∙ heard-next later now a i (indications new (drop used rest)) d
+              ∙ done (heard later now a (indications new (drop used rest))),
         );
       }
 
   -- the association is closed by what was heard, which is not want of memory
   pub stops-heard : (i : Option Indication) (d e : Done) (why : Why) → Feeds old rest used i
-      → ((later : Done → Heard) → on_heard_if now a i d later ≡ record { done = e; why = Some why }) → ComesTo now a old rest d (Some why) e
+      → ((later : Done → Heard) → on_heard_if now a i d later ≡ record { done = e; why = Some why })
+      → ComesTo now a old rest d (Some why) e
   stops-heard None d e why fed done =
-      let no : record { done = d; why = None } ≡ (let h : Heard = record { done = e; why = Some why } in h) = done (λ x. record { done = x; why = None }) in
-      absurd (let w : None ≡ (let o : Option Why = Some why in o) = ap (λ (h : Heard). h.why) no in cc)
+      let no : record { done = d; why = None }
+      ≡ (let h : Heard = record { done = e; why = Some why } in h) =
+      done (λ x. record { done = x; why = None }) in
+      absurd (let w : None ≡ (let o : Option Why = Some why in o) = ap (λ (h : Heard). h.why) no in
+      cc)
   stops-heard (Some i) d e why fed done =
-      let comes = feeding-indications old new rest used i left (fed-some old.stream.left old rest used i going fed) in
+      let comes =
+      feeding-indications old new rest used i left
+      (fed-some old.stream.left old rest used i going fed) in
       record {
         choice = None;
-        is = ap (λ is. heard None now a is d) comes ∙ done (heard None now a (indications new (drop used rest)));
+        is = ap (λ is. heard None now a is d) comes
+            ∙ done (heard None now a (indications new (drop used rest)));
       }
 
-pub stops-memory : (now a : ℕ) (old : Talk) (octets : List ℕ) (d e : Done) → e ≡ d → ComesTo now a old octets d (Some Memory) e
+pub stops-memory : (now a : ℕ) (old : Talk) (octets : List ℕ) (d e : Done) → e ≡ d
+    → ComesTo now a old octets d (Some Memory) e
 stops-memory now a old octets d e is = record {
   choice = Some 0;
-  is = refused-here now a (indications old octets) d ∙ ap (λ (x : Done). record { done = x; why = Some Memory }) (sym is);
+  is = refused-here now a (indications old octets) d
+      ∙ ap (λ (x : Done). record { done = x; why = Some Memory }) (sym is);
 }
 
 -- why it is closed is want of memory, or something else
-pub stops-by : (now a : ℕ) (old : Talk) (octets : List ℕ) (d e : Done) (why : Why) → (why ≡ Memory → e ≡ d) → (why ≢ Memory → ComesTo now a old octets d (Some why) e)
+pub stops-by : (now a : ℕ) (old : Talk) (octets : List ℕ) (d e : Done) (why : Why)
+    → (why ≡ Memory → e ≡ d) → (why ≢ Memory → ComesTo now a old octets d (Some why) e)
     → ComesTo now a old octets d (Some why) e
 stops-by now a old octets d e Memory same stops = stops-memory now a old octets d e (same refl)
 stops-by now a old octets d e Ended same stops = stops (λ is. cc)
@@ -122,11 +154,14 @@ stops-by now a old octets d e (Fault code) same stops = stops (λ is. cc)
 
 -- ---- all turns
 
-pub moves-none : (now a : ℕ) (old : Talk) (octets : List ℕ) (d : Done) → Moves now a old octets d old octets d
+pub moves-none : (now a : ℕ) (old : Talk) (octets : List ℕ) (d : Done)
+    → Moves now a old octets d old octets d
 moves-none now a old octets d = record { goes = λ later. (later, refl) }
 
-pub moves-on : (now a : ℕ) (old : Talk) (octets : List ℕ) (d : Done) (mid : Talk) (middle : List ℕ) (v : Done) (new : Talk) (rest : List ℕ) (e : Done)
-    → Moves now a old octets d mid middle v → Moves now a mid middle v new rest e → Moves now a old octets d new rest e
+pub moves-on : (now a : ℕ) (old : Talk) (octets : List ℕ) (d : Done) (mid : Talk) (middle : List ℕ)
+    (v : Done) (new : Talk) (rest : List ℕ) (e : Done)
+    → Moves now a old octets d mid middle v → Moves now a mid middle v new rest e
+    → Moves now a old octets d new rest e
 moves-on now a old octets d mid middle v new rest e first second = record {
   goes = λ later.
       let s = second.goes later in
@@ -134,13 +169,17 @@ moves-on now a old octets d mid middle v new rest e first second = record {
       (f.0, f.1 ∙ s.1);
 }
 
-pub stops-then : (now a : ℕ) (old : Talk) (octets : List ℕ) (d : Done) (mid : Talk) (middle : List ℕ) (v : Done) (why : Why) (e : Done)
-    → Moves now a old octets d mid middle v → ComesTo now a mid middle v (Some why) e → ComesTo now a old octets d (Some why) e
+pub stops-then : (now a : ℕ) (old : Talk) (octets : List ℕ) (d : Done) (mid : Talk)
+    (middle : List ℕ) (v : Done) (why : Why) (e : Done)
+    → Moves now a old octets d mid middle v → ComesTo now a mid middle v (Some why) e
+    → ComesTo now a old octets d (Some why) e
 stops-then now a old octets d mid middle v why e first stops =
     let f = first.goes stops.choice in
     record { choice = f.0; is = f.1 ∙ stops.is }
 
-pub ends-all : (now a : ℕ) (old : Talk) (octets : List ℕ) (d : Done) (new : Talk) (e : Done) → new ≡ left_by old octets → Moves now a old octets d new [] e → ComesTo now a old octets d None e
+pub ends-all : (now a : ℕ) (old : Talk) (octets : List ℕ) (d : Done) (new : Talk) (e : Done)
+    → new ≡ left_by old octets → Moves now a old octets d new [] e
+    → ComesTo now a old octets d None e
 ends-all now a old octets d new e left moves =
     let m = moves.goes None in
     let quiet : indications new [] ≡ [] = rw left (left-quiet old octets) in
@@ -148,15 +187,18 @@ ends-all now a old octets d new e left moves =
 
 -- ---- what is left
 
-nothing-more : (i j : ℕ) → take i [] ++ take j (drop i []) ≡ take (i + j) (let xs : List ℕ = [] in xs)
+nothing-more : (i j : ℕ) → take i [] ++ take j (drop i [])
+    ≡ take (i + j) (let xs : List ℕ = [] in xs)
 nothing-more i j = grind (arith, common_steps)
 
 take-more : (xs : List ℕ) (i j : ℕ) → take i xs ++ take j (drop i xs) ≡ take (i + j) xs
 take-more xs zero j = let none : 0 + j ≡ j = omega arith in rw none refl
 take-more [] (suc i) j = nothing-more (suc i) j
-take-more (x ∷ xs) (suc i) j = let more : suc i + j ≡ suc (i + j) = omega arith in rw more (ap (λ ys. x ∷ ys) (take-more xs i j))
+take-more (x ∷ xs) (suc i) j = let more : suc i + j ≡ suc (i + j) =
+    omega arith in rw more (ap (λ ys. x ∷ ys) (take-more xs i j))
 
-pub left-on : (old mid new : Talk) (octets : List ℕ) (at used : ℕ) → (at ≡ 0 → mid ≡ old) → (0 < at → mid ≡ left_by old (take at octets)) → new ≡ left_by mid (take used (drop at octets))
+pub left-on : (old mid new : Talk) (octets : List ℕ) (at used : ℕ) → (at ≡ 0 → mid ≡ old)
+    → (0 < at → mid ≡ left_by old (take at octets)) → new ≡ left_by mid (take used (drop at octets))
     → new ≡ left_by old (take (at + used) octets)
 left-on old mid new octets zero used first later is =
     let none : 0 + used ≡ used = omega arith in

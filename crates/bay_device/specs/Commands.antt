@@ -13,21 +13,25 @@ use Rattle.bay_device.specs.declared.fault.StepFault.{StepFault}
 
 -- A switch is operated at a moment while the last scan is fresh, its interlocking value (EnaCls for
 -- on, EnaOpn for off) is TRUE in the tree, and no switch of the bay is operating.
-pub record IsReleased (now : ℕ) (s : State) (command : Command) : Type 0 where
+pub record IsReleasedAt (now : ℕ) (s : State) (command : Command) : Type 0 where
   pub fresh : is_fresh now s ≡ true
   pub enabled : is_truth true (leaf_of (releasing command.switch command.on) s.rows) ≡ true
   pub idle : (control.advanced now s.controls).execution ≡ None
 
 -- The commands of a step are so, and come with replies.
 pub record AreCommanded (now : ℕ) (s : State) (step : Step) : Type 0 where
-  pub released : All (IsReleased now s) step.commands
+  pub released : All (IsReleasedAt now s) step.commands
   pub replied : step.commands ≢ [] → step.sent ≢ []
 
 -- Those of each step of a list of events are.
 abbrev pub AllCommanded : List (Option ℕ) → List (ℕ × Event) → State → Type 0
 AllCommanded choices [] s = Unit {0}
-AllCommanded [] (e ∷ es) s = IfOk (outcome None e.0 e.1 s).answer (AreCommanded e.0 s) × AllCommanded [] es (outcome None e.0 e.1 s).after
-AllCommanded (choice ∷ choices) (e ∷ es) s = IfOk (outcome choice e.0 e.1 s).answer (AreCommanded e.0 s) × AllCommanded choices es (outcome choice e.0 e.1 s).after
+AllCommanded [] (e ∷ es) s =
+    IfOk (outcome None e.0 e.1 s).answer (AreCommanded e.0 s)
+    × AllCommanded [] es (outcome None e.0 e.1 s).after
+AllCommanded (choice ∷ choices) (e ∷ es) s =
+    IfOk (outcome choice e.0 e.1 s).answer (AreCommanded e.0 s)
+    × AllCommanded choices es (outcome choice e.0 e.1 s).after
 
 -- A step has one command at most.
 abbrev pub IsSingle : Result Step StepFault → Type 0

@@ -9,12 +9,14 @@ abbrev pub talk_in : Option Client → Option Talk
 talk_in None = None
 talk_in (Some client) = Some client.talk
 
+-- what the octets of each association have left
 abbrev pub talks : List (Option Client) → List (Option Talk)
 talks clients = map talk_in clients
 
 -- Octets are taken of each association that is open.
 abbrev pub AreGoing : List (Option Talk) → Type 0
-AreGoing connections = (place : ℕ) (t : Talk) → slice_get connections place ≡ Some (Some t) → IsGoing t.stream.left
+AreGoing connections =
+    (place : ℕ) (t : Talk) → slice_get connections place ≡ Some (Some t) → IsGoing t.stream.left
 
 -- There is a place for each of the eight.
 pub record AreEight (connections : List (Option Talk)) : Type 0 where

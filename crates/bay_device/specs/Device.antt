@@ -2,6 +2,7 @@
 -- it that no client asks for (IEC 61850-7-4: XCBR, XSWI, CSWI, CILO and MMXU; IEC 61850-7-3: status
 -- values and measured values).
 use Rattle.std.specs.Prelude.{ℕ, ℤ, ◌-◌, Bool, false, not, ◌&&◌, ◌||◌, nat_le, List, [], length, map, slice_get, slice_set, unwrap_or, Option, None, Some, if◌then◌else◌}
+use Rattle.std.specs.Bool.{beq}
 use Rattle.bay_tree.specs.declared.row.Row.{Row}
 use Rattle.bay_tree.specs.declared.leaf.Dbpos.{Dbpos}
 use Rattle.bay_nodes.specs.declared.switch.Switch.{Switch}
@@ -15,7 +16,7 @@ use Rattle.il_image.specs.declared.value.Value.{Value}
 use Rattle.il_image.specs.declared.value.Value.TheVariants.{Truth, Long}
 use Rattle.il_scan.specs.Scans.{Held, outputs_of, started}
 use Rattle.bay_process.specs.Names.{field_names}
-use Rattle.bay_process.specs.Values.{measure_leaf, number_of_leaf, position_leaf, position_value, rows_after_contact, rows_after_measure, same_truth, tells, tells_measure, with_outputs}
+use Rattle.bay_process.specs.Values.{measure_leaf, number_of_leaf, position_leaf, position_value, rows_after_contact, rows_after_measure, tells, tells_measure, with_outputs}
 use Rattle.bay_control.specs.Decisions as control
 use Rattle.bay_control.specs.Decisions.{contacted, is_done, run_out}
 use Rattle.bay_connection.specs.Talk.{Talk}
@@ -63,6 +64,7 @@ bay_of s = record {
   controls = s.controls;
 }
 
+-- the device with this bay
 abbrev pub with_bay : Bay → State → State
 with_bay b s = record s {
   domain = b.domain;
@@ -80,6 +82,7 @@ abbrev pub is_recent : ℕ → ℕ → Option ℕ → Bool
 is_recent now age None = false
 is_recent now age (Some scan) = nat_le (now - scan) age
 
+-- a scan is recent enough, and no input has changed since
 abbrev pub is_fresh : ℕ → State → Bool
 is_fresh now s = is_recent now s.scan_max_age_ms s.last_scan && not s.is_stale
 
@@ -95,6 +98,7 @@ abbrev pub reached : Option Due → Option Sent
 reached None = None
 reached (Some due) = sent_to due.association due.positive
 
+-- the report of a switch that did not reach its position in time
 abbrev pub missed : Option Due → Option Sent
 missed None = None
 missed (Some due) = sent_to due.association due.negative
@@ -135,14 +139,16 @@ contact_taken now k switch position s =
       due = if is_done k position s.controls.execution then None else s.due;
     }
 
+-- the report of a switch that reaches its position with this contact
 abbrev pub reached_at : ℕ → Dbpos → State → Option Sent
 reached_at k position s = if is_done k position s.controls.execution then reached s.due else None
 
+-- an input has this value, and where that is another the last scan is stale
 abbrev pub input_taken : ℕ → Bool → Bool → State → State
 input_taken k value before s =
     record s {
       input_values = slice_set s.input_values k value;
-      is_stale = s.is_stale || not (same_truth value before);
+      is_stale = s.is_stale || not (beq value before);
     }
 
 -- a measured value of a meter
@@ -158,9 +164,11 @@ measure_taken now k field value s =
 
 -- the value that the contacts, the inputs and the measures give a point
 abbrev pub point_value : State → Source → Value
-point_value s (source.Switch k point) = position_value point (position_leaf s.switches s.rows k (slice_get s.switches k))
+point_value s (source.Switch k point) =
+    position_value point (position_leaf s.switches s.rows k (slice_get s.switches k))
 point_value s (source.Input k) = Truth (unwrap_or (slice_get s.input_values k) false)
-point_value s (source.Meter k field) = Long (number_of_leaf (measure_leaf s.rows k field (slice_get s.meters k)))
+point_value s (source.Meter k field) =
+    Long (number_of_leaf (measure_leaf s.rows k field (slice_get s.meters k)))
 
 -- the values of the points that the program only reads
 abbrev pub inputs_of : State → List Value
@@ -180,8 +188,10 @@ ran_of Unfinished = record { slots = []; timers = []; steps = 0 }
 
 -- the machine's run at a moment, from what the points that are read hold then
 abbrev pub ending_at : ℕ → State → Ending
-ending_at now s = run s.machine.image.code now (length s.machine.image.code) (started s.machine (inputs_of s)) 0
+ending_at now s =
+    run s.machine.image.code now (length s.machine.image.code) (started s.machine (inputs_of s)) 0
 
+-- the program runs once on what stands
 abbrev pub ran_at : ℕ → State → Ran
 ran_at now s = ran_of (ending_at now s)
 
@@ -189,7 +199,8 @@ ran_at now s = ran_of (ending_at now s)
 abbrev pub after_run : ℕ → Ran → State → State
 after_run now ran s = record s {
   machine = record s.machine { slots = ran.slots; timers = ran.timers };
-  rows = with_outputs s.switches s.writes (outputs_of s.machine.image.points ran.slots) now 0 s.switches s.rows;
+  rows = with_outputs s.switches s.writes (outputs_of s.machine.image.points ran.slots) now 0
+      s.switches s.rows;
   last_scan = Some now;
   is_stale = false;
 }

@@ -34,7 +34,9 @@ told now act = record { now = now; act = act; is_accepted = true } ∷ []
 -- one thing that was heard, and then what follows: a PDU that is told asks for something
 abbrev pub entries_on : ℕ → ℕ → Indication → Done → (Done → List Entry) → List Entry
 entries_on now a (answers octets) d later = later (with_sent a octets d)
-entries_on now a (tells terms pdu) d later = entries_in (client_at now a terms d.state) pdu (bay_of d.state) ++ later (said now a terms pdu d)
+entries_on now a (tells terms pdu) d later =
+    entries_in (client_at now a terms d.state) pdu (bay_of d.state)
+    ++ later (said now a terms pdu d)
 entries_on now a (releases octets) d later = []
 entries_on now a ends d later = []
 entries_on now a (fails code) d later = []
@@ -45,7 +47,8 @@ entries_heard None now a [] d = []
 entries_heard None now a (i ∷ is) d = entries_on now a i d (entries_heard None now a is)
 entries_heard (Some zero) now a is d = []
 entries_heard (Some (suc n)) now a [] d = []
-entries_heard (Some (suc n)) now a (i ∷ is) d = entries_on now a i d (entries_heard (Some n) now a is)
+entries_heard (Some (suc n)) now a (i ∷ is) d =
+    entries_on now a i d (entries_heard (Some n) now a is)
 
 -- the device closes the association
 abbrev pub entries_closed : ℕ → ℕ → Option Why → List Entry
@@ -56,7 +59,8 @@ abbrev pub entries_octets : Option ℕ → ℕ → ℕ → State → Talk → Li
 entries_octets choice now a s talk [] = []
 entries_octets choice now a s talk (octet ∷ octets) =
     entries_heard choice now a (indications talk (octet ∷ octets)) (nothing_done (advanced now s))
-    ++ entries_closed now a (heard choice now a (indications talk (octet ∷ octets)) (nothing_done (advanced now s))).why
+    ++ entries_closed now a (heard choice now a (indications talk (octet ∷ octets))
+    (nothing_done (advanced now s))).why
 
 abbrev pub entries_recv : Option ℕ → ℕ → ℕ → List ℕ → State → Option Talk → List Entry
 entries_recv choice now a octets s None = []
@@ -77,8 +81,10 @@ entries_close now a (Some talk) = told now (Closed a)
 
 -- of an event that its moment does not refuse; the process and the program ask for nothing
 abbrev pub entries_of_event : Option ℕ → ℕ → Event → State → List Entry
-entries_of_event choice now (Open a) s = entries_open now a (place_of a) (connection_at (place_of a) s)
-entries_of_event choice now (Recv a octets) s = entries_recv choice now a octets.now s (connection_at (place_of a) s)
+entries_of_event choice now (Open a) s =
+    entries_open now a (place_of a) (connection_at (place_of a) s)
+entries_of_event choice now (Recv a octets) s =
+    entries_recv choice now a octets.now s (connection_at (place_of a) s)
 entries_of_event choice now (Close a) s = entries_close now a (connection_at (place_of a) s)
 entries_of_event choice now (Contact k position) s = []
 entries_of_event choice now (Input k value) s = []
@@ -96,14 +102,19 @@ entries_at choice now event s =
 -- is not refused.
 abbrev pub entries_all : List (Option ℕ) → List (ℕ × Event) → State → List Entry
 entries_all choices [] s = []
-entries_all [] (e ∷ es) s = entries_at None e.0 e.1 s ++ entries_all [] es (outcome None e.0 e.1 s).after
-entries_all (choice ∷ choices) (e ∷ es) s = entries_at choice e.0 e.1 s ++ entries_all choices es (outcome choice e.0 e.1 s).after
+entries_all [] (e ∷ es) s =
+    entries_at None e.0 e.1 s ++ entries_all [] es (outcome None e.0 e.1 s).after
+entries_all (choice ∷ choices) (e ∷ es) s =
+    entries_at choice e.0 e.1 s ++ entries_all choices es (outcome choice e.0 e.1 s).after
 
 -- ---- steps
 
 -- An event is answered so, and leaves this: whatever led to the controls before it, seen as these
 -- entries, leads with what is seen of the event to the controls after it.
-pub record Leading (now : ℕ) (event : Event) (old : State) (answer : Result Step StepFault) (new : State) : Type 0 where
+pub record Leading (now : ℕ) (event : Event) (old : State) (answer : Result Step StepFault)
+    (new : State) : Type 0 where
   pub steps : Steps now event old answer new
-  pub leads : (past : List Entry) (open_before : ℕ → Bool) (before : control.State) → Leads past open_before before (opens old) old.controls
-      → Leads (past ++ entries_at steps.choice now event old) open_before before (opens new) new.controls
+  pub leads : (past : List Entry) (open_before : ℕ → Bool) (before : control.State)
+      → Leads past open_before before (opens old) old.controls
+      → Leads (past ++ entries_at steps.choice now event old) open_before before (opens new)
+      new.controls

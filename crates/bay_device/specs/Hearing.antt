@@ -1,8 +1,8 @@
 -- What the octets of a client make of a device: its PDUs in their order, each answered before the
 -- next is read.
 use Rattle.std.specs.Prelude.{ℕ, zero, suc, List, [], ◌∷◌, ◌++◌, map, Option, None, Some}
-use Rattle.bay_assoc.specs.Hears.{link_of}
-use Rattle.bay_assoc.specs.declared.hearing.Link.{Link}
+use Rattle.bay_assoc.specs.Hears.{association_terms}
+use Rattle.bay_assoc.specs.declared.hearing.AssociationTerms.{AssociationTerms}
 use Rattle.bay_connection.specs.Talk.{Indication, answers, tells, releases, ends, fails, Terms, sending}
 use Rattle.bay_services.specs.Answers.{Answered, answered}
 use Rattle.bay_services.specs.declared.answer.Command.{Command}
@@ -29,20 +29,33 @@ abbrev pub with_sent : ℕ → List ℕ → Done → Done
 with_sent a octets d = record d { sent = d.sent ++ sent_on a octets ∷ [] }
 
 -- the size of a PDU that is agreed where an association is open
-abbrev pub size_of : Option Link → ℕ
+abbrev pub size_of : Option AssociationTerms → ℕ
 size_of None = 0
-size_of (Some link) = link.size
+size_of (Some terms) = terms.size
 
+-- the client of an association, on these terms
 abbrev pub client_at : ℕ → ℕ → Terms → State → Client
-client_at now a terms s = record { association = a; size = size_of (link_of terms.phase); now = now; fresh = is_fresh now s }
+client_at now a terms s =
+    record {
+      association = a;
+      size = size_of (association_terms terms.phase);
+      now = now;
+      fresh = is_fresh now s;
+    }
 
 -- the octets in which the reports of an end are sent, for the association that operates
 abbrev pub sending_if : Terms → Option (List ℕ) → Option (List ℕ)
 sending_if terms None = None
 sending_if terms (Some pdu) = Some (sending terms pdu)
 
+-- what is to be told when a switch ends its operation
 abbrev pub due_of : ℕ → Terms → Ending → Due
-due_of a terms e = record { association = a; positive = sending_if terms e.positive; negative = sending_if terms e.negative }
+due_of a terms e =
+    record {
+      association = a;
+      positive = sending_if terms e.positive;
+      negative = sending_if terms e.negative;
+    }
 
 abbrev pub due_if : ℕ → Terms → Option Ending → Option Due
 due_if a terms None = None
@@ -56,14 +69,16 @@ later_due due (Some new) = Some new
 -- what a PDU has come to: each PDU of its answer is sent
 abbrev pub answered_with : ℕ → Terms → Answered → Done → Done
 answered_with a terms x d = record {
-  state = record (with_bay x.after d.state) { due = later_due d.state.due (due_if a terms x.ending) };
+  state = record (with_bay x.after d.state)
+      { due = later_due d.state.due (due_if a terms x.ending) };
   sent = d.sent ++ map (λ pdu. sent_on a (sending terms pdu)) x.sent;
   commands = d.commands ++ x.commands;
 }
 
 -- a PDU of a client, answered and done
 abbrev pub said : ℕ → ℕ → Terms → List ℕ → Done → Done
-said now a terms pdu d = answered_with a terms (answered (client_at now a terms d.state) pdu (bay_of d.state)) d
+said now a terms pdu d =
+    answered_with a terms (answered (client_at now a terms d.state) pdu (bay_of d.state)) d
 
 -- what octets have come to, and why the association is closed, if it is
 pub record Heard : Type 0 where

@@ -7,10 +7,10 @@ use Rattle.bay_services.specs.Bay.{standing_again}
 use Rattle.bay_device.specs.Device.{State, bay_of, with_bay}
 use Rattle.bay_device.specs.Hearing.{Done, Heard, heard, on_heard}
 use Rattle.bay_device.specs.declared.event.Why.{Why}
-use Rattle.bay_device.specs.declared.message.Output.{Output}
+use Rattle.bay_device.specs.declared.message.Made.{Made}
 
-abbrev pub done_of : State → Output → Done
-done_of s output = record { state = s; sent = output.sent.items; commands = output.commands.items }
+abbrev pub done_of : State → Made → Done
+done_of s made = record { state = s; sent = made.sent.items; commands = made.commands.items }
 
 -- a device with what stood before
 abbrev pub put_back : Standing → State → State
@@ -26,10 +26,14 @@ IsContinuedIf None = Unit {0}
 IsContinuedIf (Some i) = IsContinued i
 
 -- Octets do something, and then the rest of them, wherever memory is refused later.
-pub record Moves (now a : ℕ) (old : Talk) (octets : List ℕ) (d : Done) (new : Talk) (rest : List ℕ) (e : Done) : Type 0 where
-  pub goes : (later : Option ℕ) → (choice : Option ℕ) × (heard choice now a (indications old octets) d ≡ heard later now a (indications new rest) e)
+pub record Moves (now a : ℕ) (old : Talk) (octets : List ℕ) (d : Done) (new : Talk) (rest : List ℕ)
+    (e : Done) : Type 0 where
+  pub goes : (later : Option ℕ)
+      → (choice : Option ℕ) ×
+      (heard choice now a (indications old octets) d ≡ heard later now a (indications new rest) e)
 
 -- There is a choice with which the octets come to this.
-pub record ComesTo (now a : ℕ) (old : Talk) (octets : List ℕ) (d : Done) (why : Option Why) (e : Done) : Type 0 where
+pub record ComesTo (now a : ℕ) (old : Talk) (octets : List ℕ) (d : Done) (why : Option Why)
+    (e : Done) : Type 0 where
   pub choice : Option ℕ
   pub is : heard choice now a (indications old octets) d ≡ record { done = e; why = why }

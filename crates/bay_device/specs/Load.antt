@@ -87,6 +87,7 @@ abbrev pub of_checked : Bay → Result Checked CheckFault → Result State LoadF
 of_checked bay (Ok checked) = of_compiled bay (compiled_of checked)
 of_checked bay (Err fault) = Err (check_refusal fault)
 
+-- the device of a bay and a text that reads so
 abbrev pub of_program : Bay → Result PlainProgram TextFault → Result State LoadFault
 of_program bay (Ok program) = of_checked bay (checked_of bay.points program)
 of_program bay (Err fault) = Err (text_refusal fault)
@@ -99,8 +100,10 @@ of_bay (Ok bay) program = of_program bay program
 of_bay (Err fault) program = Err (bay_refusal fault)
 
 -- the program that a bay file and a text come to, if they are not refused before it is compiled
-abbrev pub checked_in : Result Bay BayFault → Result PlainProgram TextFault → Result Checked LoadFault
-checked_in (Ok bay) (Ok program) = elim (checked_of bay.points program) [ Ok c ↦ Ok c | Err fault ↦ Err (check_refusal fault) ]
+abbrev pub checked_in : Result Bay BayFault → Result PlainProgram TextFault
+    → Result Checked LoadFault
+checked_in (Ok bay) (Ok program) =
+    elim (checked_of bay.points program) [ Ok c ↦ Ok c | Err fault ↦ Err (check_refusal fault) ]
 checked_in (Ok bay) (Err fault) = Err (text_refusal fault)
 checked_in (Err fault) program = Err (bay_refusal fault)
 
@@ -108,7 +111,9 @@ checked_in (Err fault) program = Err (bay_refusal fault)
 -- fault.
 abbrev pub LoadsImage : Bay → Image → Result State LoadFault → Type 0
 LoadsImage bay image (Ok device) = IsVerified bay.points image × (device ≡ initial_device bay image)
-LoadsImage bay image (Err refusal) = (fault : VerifyFault) × (place : ℕ) × IsRefusal bay.points image fault place × (refusal ≡ verify_refusal fault)
+LoadsImage bay image (Err refusal) =
+    (fault : VerifyFault) × (place : ℕ) × IsRefusal bay.points image fault place
+    × (refusal ≡ verify_refusal fault)
 
 abbrev pub LoadsRead : Bay → Result Image ImageFault → Result State LoadFault → Type 0
 LoadsRead bay (Ok image) result = LoadsImage bay image result

@@ -14,6 +14,7 @@ switch_place s id = position (λ switch. same_name switch.id id) s.switches
 abbrev pub input_place : State → List ℕ → Option ℕ
 input_place s name = position (λ n. same_name n name) s.inputs
 
+-- the place of a meter
 abbrev pub meter_place : State → List ℕ → Option ℕ
 meter_place s id = position (λ m. same_name m id) s.meters
 
@@ -25,6 +26,7 @@ enabled s names = is_truth true (leaf_of names.value s.rows)
 abbrev pub may_open : State → ℕ → Bool
 may_open s k = enabled s (opening_of k)
 
+-- the program lets the switch be closed
 abbrev pub may_close : State → ℕ → Bool
 may_close s k = enabled s (closing_of k)
 

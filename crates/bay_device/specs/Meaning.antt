@@ -47,11 +47,15 @@ is_refused now s = nat_lt last_moment now || nat_lt now s.moment
 -- Each scan of a list of events that its moment does not refuse halts so.
 abbrev pub AllHalt : List (Option ℕ) → List (ℕ × Event) → State → Type 0
 AllHalt choices [] s = Unit {0}
-AllHalt [] (e ∷ es) s = (is_refused e.0 s ≡ false → HaltsAt e.0 e.1 s) × AllHalt [] es (outcome None e.0 e.1 s).after
-AllHalt (choice ∷ choices) (e ∷ es) s = (is_refused e.0 s ≡ false → HaltsAt e.0 e.1 s) × AllHalt choices es (outcome choice e.0 e.1 s).after
+AllHalt [] (e ∷ es) s =
+    (is_refused e.0 s ≡ false → HaltsAt e.0 e.1 s) × AllHalt [] es (outcome None e.0 e.1 s).after
+AllHalt (choice ∷ choices) (e ∷ es) s =
+    (is_refused e.0 s ≡ false → HaltsAt e.0 e.1 s)
+    × AllHalt choices es (outcome choice e.0 e.1 s).after
 
 -- A list of events is answered so, leaves this, and each of its scans halts so.
-pub record Halting (events : List (ℕ × Event)) (old : State) (answers : List (Result Step StepFault)) (new : State) : Type 0 where
+pub record Halting (events : List (ℕ × Event)) (old : State)
+    (answers : List (Result Step StepFault)) (new : State) : Type 0 where
   pub steps : AllSteps events old answers new
   pub halts : AllHalt steps.choices events old
 
@@ -59,12 +63,18 @@ pub record Halting (events : List (ℕ × Event)) (old : State) (answers : List 
 
 -- the values of a program's externals, variables and timers, where slots and timers hold them
 abbrev pub memory_of : Checked → List Value → List TimerState → Memory
-memory_of c slots timers = record { externals = take (length c.externals) slots; variables = drop (length c.externals) slots; timers = timers }
+memory_of c slots timers =
+    record {
+      externals = take (length c.externals) slots;
+      variables = drop (length c.externals) slots;
+      timers = timers;
+    }
 
 -- those that a scan begins with: what the device keeps, with the values of the points that are only
 -- read
 abbrev pub memory_before : Checked → State → Memory
-memory_before c s = let start = started s.machine (inputs_of s) in memory_of c start.slots start.timers
+memory_before c s = let start =
+    started s.machine (inputs_of s) in memory_of c start.slots start.timers
 
 -- The scan does what the text means: what the program means on these values is what the device
 -- keeps, and the interlocking values in the tree are those of its externals.
@@ -72,7 +82,9 @@ pub record Means (c : Checked) (now : ℕ) (s : State) : Type 0 where
   pub after : Memory
   pub is : mean now c.items (memory_before c s) ≡ Some after
   pub keeps : memory_of c (scanned now s).machine.slots (scanned now s).machine.timers ≡ after
-  pub rows : (scanned now s).rows ≡ with_outputs s.switches s.writes (outputs_of (map point_of c.externals) after.externals) now 0 s.switches s.rows
+  pub rows : (scanned now s).rows
+      ≡ with_outputs s.switches s.writes (outputs_of (map point_of c.externals) after.externals) now
+      0 s.switches s.rows
 
 -- So it is, if the event is a scan, once what has run out is ended.
 abbrev pub MeansAt : Checked → ℕ → Event → State → Type 0
@@ -88,7 +100,8 @@ MeansAt c now (Measure k field value) s = Unit {0}
 abbrev pub AllMean : Checked → List (Option ℕ) → List (ℕ × Event) → State → Type 0
 AllMean c choices [] s = Unit {0}
 AllMean c [] (e ∷ es) s = MeansAt c e.0 e.1 s × AllMean c [] es (outcome None e.0 e.1 s).after
-AllMean c (choice ∷ choices) (e ∷ es) s = MeansAt c e.0 e.1 s × AllMean c choices es (outcome choice e.0 e.1 s).after
+AllMean c (choice ∷ choices) (e ∷ es) s =
+    MeansAt c e.0 e.1 s × AllMean c choices es (outcome choice e.0 e.1 s).after
 
 -- ---- which device runs a text
 

@@ -30,7 +30,12 @@ refused fault s = record { answer = Err fault; after = s }
 
 -- an event that sends nothing but what tells of an end
 abbrev pub quiet : Option Sent → State → Outcome
-quiet ended s = record { answer = Ok (record { ended = ended; sent = []; commands = []; closed = None; scan = None }); after = s }
+quiet ended s =
+    record {
+      answer = Ok (record
+          { ended = ended; sent = []; commands = []; closed = None; scan = None });
+      after = s;
+    }
 
 -- ---- the process
 
@@ -42,19 +47,29 @@ or_else None later = later
 abbrev pub contact_outcome : ℕ → ℕ → Dbpos → State → Option Switch → Outcome
 contact_outcome now k position s None = refused NoSuchPoint s
 contact_outcome now k position s (Some switch) =
-    quiet (or_else (ended_at now s) (reached_at k position (advanced now s))) (contact_taken now k switch position (advanced now s))
+    quiet (or_else (ended_at now s) (reached_at k position (advanced now s)))
+    (contact_taken now k switch position (advanced now s))
 
 abbrev pub input_outcome : ℕ → ℕ → Bool → State → Option Bool → Outcome
 input_outcome now k value s None = refused NoSuchPoint s
-input_outcome now k value s (Some before) = quiet (ended_at now s) (input_taken k value before (advanced now s))
+input_outcome now k value s (Some before) =
+    quiet (ended_at now s) (input_taken k value before (advanced now s))
 
 abbrev pub measure_outcome : ℕ → ℕ → MeterField → ℤ → State → Option (List ℕ) → Outcome
 measure_outcome now k field value s None = refused NoSuchPoint s
-measure_outcome now k field value s (Some id) = quiet (ended_at now s) (measure_taken now k field value (advanced now s))
+measure_outcome now k field value s (Some id) =
+    quiet (ended_at now s) (measure_taken now k field value (advanced now s))
 
 abbrev pub scan_outcome : ℕ → State → Outcome
 scan_outcome now s = record {
-  answer = Ok (record { ended = ended_at now s; sent = []; commands = []; closed = None; scan = Some (ran_at now (advanced now s)).steps });
+  answer =
+      Ok (record {
+        ended = ended_at now s;
+        sent = [];
+        commands = [];
+        closed = None;
+        scan = Some (ran_at now (advanced now s)).steps;
+      });
   after = scanned now (advanced now s);
 }
 
@@ -69,6 +84,7 @@ abbrev pub connection_at : Option ℕ → State → Option Talk
 connection_at None s = None
 connection_at (Some place) s = unwrap_or (slice_get s.connections place) None
 
+-- the octets of an association have left this
 abbrev pub with_connection : Option ℕ → Option Talk → State → State
 with_connection None talk s = s
 with_connection (Some place) talk s = record s { connections = slice_set s.connections place talk }
@@ -84,16 +100,22 @@ due_without a (Some due) = if due.association == a then None else Some due
 
 -- an association is closed, which ends its selection
 abbrev pub without_owner : ℕ → State → State
-without_owner a s = record (with_bay (with_controls (dropped a s.controls) (bay_of s)) s) { due = due_without a s.due }
+without_owner a s =
+    record (with_bay (with_controls (dropped a s.controls) (bay_of s)) s)
+    { due = due_without a s.due }
 
+-- it is open no more
 abbrev pub closed : ℕ → State → State
 closed a s = with_connection (place_of a) None (without_owner a s)
 
+-- an association is opened that is not open
 abbrev pub open_outcome : ℕ → ℕ → State → Option ℕ → Option Talk → Outcome
 open_outcome now a s None talk = refused NoSuchAssociation s
 open_outcome now a s (Some place) (Some talk) = refused AlreadyOpen s
-open_outcome now a s (Some place) None = quiet (ended_at now s) (with_connection (place_of a) (Some (first_talk a)) (advanced now s))
+open_outcome now a s (Some place) None =
+    quiet (ended_at now s) (with_connection (place_of a) (Some (first_talk a)) (advanced now s))
 
+-- an association is closed that is open
 abbrev pub close_outcome : ℕ → ℕ → State → Option Talk → Outcome
 close_outcome now a s None = refused NoSuchAssociation s
 close_outcome now a s (Some talk) = quiet (ended_at now s) (closed a (advanced now s))
@@ -103,13 +125,22 @@ abbrev pub recv_after : ℕ → Talk → State → Option Why → State
 recv_after a left s None = with_connection (place_of a) (Some left) s
 recv_after a left s (Some why) = closed a s
 
+-- that the device closed it, and why
 abbrev pub closed_by : ℕ → Option Why → Option (ℕ × Why)
 closed_by a None = None
 closed_by a (Some why) = Some (a, why)
 
+-- the answer to octets that were heard
 abbrev pub recv_done : ℕ → Talk → Option Sent → Heard → Outcome
 recv_done a left ended h = record {
-  answer = Ok (record { ended = ended; sent = h.done.sent; commands = h.done.commands; closed = closed_by a h.why; scan = None });
+  answer =
+      Ok (record {
+        ended = ended;
+        sent = h.done.sent;
+        commands = h.done.commands;
+        closed = closed_by a h.why;
+        scan = None;
+      });
   after = recv_after a left h.done.state h.why;
 }
 
@@ -121,8 +152,10 @@ nothing_done s = record { state = s; sent = []; commands = [] }
 abbrev pub octets_outcome : Option ℕ → ℕ → ℕ → State → Talk → List ℕ → Outcome
 octets_outcome choice now a s talk [] = quiet (ended_at now s) (advanced now s)
 octets_outcome choice now a s talk (octet ∷ octets) =
-    recv_done a (left_by talk (octet ∷ octets)) (ended_at now s) (heard choice now a (indications talk (octet ∷ octets)) (nothing_done (advanced now s)))
+    recv_done a (left_by talk (octet ∷ octets)) (ended_at now s)
+    (heard choice now a (indications talk (octet ∷ octets)) (nothing_done (advanced now s)))
 
+-- octets of an association, which are refused where it is not open
 abbrev pub recv_outcome : Option ℕ → ℕ → ℕ → List ℕ → State → Option Talk → Outcome
 recv_outcome choice now a octets s None = refused NoSuchAssociation s
 recv_outcome choice now a octets s (Some talk) = octets_outcome choice now a s talk octets
@@ -131,12 +164,17 @@ recv_outcome choice now a octets s (Some talk) = octets_outcome choice now a s t
 
 -- of an event that its moment does not refuse
 abbrev pub event_outcome : Option ℕ → ℕ → Event → State → Outcome
-event_outcome choice now (Open a) s = open_outcome now a s (place_of a) (connection_at (place_of a) s)
-event_outcome choice now (Recv a octets) s = recv_outcome choice now a octets.now s (connection_at (place_of a) s)
+event_outcome choice now (Open a) s =
+    open_outcome now a s (place_of a) (connection_at (place_of a) s)
+event_outcome choice now (Recv a octets) s =
+    recv_outcome choice now a octets.now s (connection_at (place_of a) s)
 event_outcome choice now (Close a) s = close_outcome now a s (connection_at (place_of a) s)
-event_outcome choice now (Contact k position) s = contact_outcome now k position s (slice_get s.switches k)
-event_outcome choice now (Input k value) s = input_outcome now k value s (slice_get s.input_values k)
-event_outcome choice now (Measure k field value) s = measure_outcome now k field value s (slice_get s.meters k)
+event_outcome choice now (Contact k position) s =
+    contact_outcome now k position s (slice_get s.switches k)
+event_outcome choice now (Input k value) s =
+    input_outcome now k value s (slice_get s.input_values k)
+event_outcome choice now (Measure k field value) s =
+    measure_outcome now k field value s (slice_get s.meters k)
 event_outcome choice now Scan s = scan_outcome now s
 
 -- the last moment that a time stamp can tell
@@ -161,7 +199,11 @@ pub record Outcomes : Type 0 where
 abbrev pub with_first : Result Step StepFault → Outcomes → Outcomes
 with_first answer rest = record { answers = answer ∷ rest.answers; after = rest.after }
 
+-- one event after the other
 abbrev pub outcomes : List (Option ℕ) → List (ℕ × Event) → State → Outcomes
 outcomes choices [] s = record { answers = []; after = s }
-outcomes [] (e ∷ es) s = with_first (outcome None e.0 e.1 s).answer (outcomes [] es (outcome None e.0 e.1 s).after)
-outcomes (choice ∷ choices) (e ∷ es) s = with_first (outcome choice e.0 e.1 s).answer (outcomes choices es (outcome choice e.0 e.1 s).after)
+outcomes [] (e ∷ es) s =
+    with_first (outcome None e.0 e.1 s).answer (outcomes [] es (outcome None e.0 e.1 s).after)
+outcomes (choice ∷ choices) (e ∷ es) s =
+    with_first (outcome choice e.0 e.1 s).answer
+    (outcomes choices es (outcome choice e.0 e.1 s).after)

@@ -5,6 +5,7 @@ use Rattle.bay_device.specs.Device.{State}
 use Rattle.bay_process.specs.Layout.{switches_of, meters_of}
 use Rattle.bay_device.specs.declared.state.DeviceState.{DeviceState}
 
+-- a device's state, with what the octets of each association have left
 abbrev pub state_view : List (Option Talk) → DeviceState → State
 state_view connections d = record {
   domain = d.bay.domain;

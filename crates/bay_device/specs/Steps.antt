@@ -17,34 +17,45 @@ pub record IsOutcome (o : Outcome) (answer : Result Step StepFault) (new : State
 
 -- what tells of an end is the answer of an event that sends nothing else
 abbrev pub quiet_answer : Result (Option Sent) StepFault → Result Step StepFault
-quiet_answer (Ok ended) = Ok (record { ended = ended; sent = []; commands = []; closed = None; scan = None })
+quiet_answer (Ok ended) =
+    Ok (record { ended = ended; sent = []; commands = []; closed = None; scan = None })
 quiet_answer (Err fault) = Err fault
 
-pub record IsQuiet (answer : Result (Option Sent) StepFault) (new : State) (o : Outcome) : Type 0 where
+-- an answer that sends nothing but what tells of an end
+pub record IsQuiet (answer : Result (Option Sent) StepFault) (new : State) (o : Outcome)
+    : Type 0 where
   pub answered : quiet_answer answer ≡ o.answer
   pub left : new ≡ o.after
 
 -- An event at a moment is answered so, and leaves this: there is a choice with which that is its
 -- outcome.
-pub record Steps (now : ℕ) (event : Event) (old : State) (answer : Result Step StepFault) (new : State) : Type 0 where
+pub record Steps (now : ℕ) (event : Event) (old : State) (answer : Result Step StepFault)
+    (new : State) : Type 0 where
   pub choice : Option ℕ
   pub answered : answer ≡ (outcome choice now event old).answer
   pub left : new ≡ (outcome choice now event old).after
 
 -- the same of octets of an association, at a moment that refuses nothing
-pub record Receives (now a : ℕ) (octets : List ℕ) (old : State) (answer : Result Step StepFault) (new : State) : Type 0 where
+pub record Receives (now a : ℕ) (octets : List ℕ) (old : State) (answer : Result Step StepFault)
+    (new : State) : Type 0 where
   pub choice : Option ℕ
-  pub answered : answer ≡ (recv_outcome choice now a octets old (connection_at (place_of a) old)).answer
+  pub answered : answer ≡ (recv_outcome choice now a octets old
+      (connection_at (place_of a) old)).answer
   pub left : new ≡ (recv_outcome choice now a octets old (connection_at (place_of a) old)).after
 
 -- octets of an association that is open, once what has run out is ended, of which this tells
-pub record HearsFrom (now a : ℕ) (octets : List ℕ) (ended : Option Sent) (s : State) (talk : Talk) (step : Step) (new : State) : Type 0 where
+pub record HearsFrom (now a : ℕ) (octets : List ℕ) (ended : Option Sent) (s : State) (talk : Talk)
+    (step : Step) (new : State) : Type 0 where
   pub choice : Option ℕ
-  pub answered : (let answer : Result Step StepFault = Ok step in answer) ≡ (recv_done a (left_by talk octets) ended (heard choice now a (indications talk octets) (nothing_done s))).answer
-  pub left : new ≡ (recv_done a (left_by talk octets) ended (heard choice now a (indications talk octets) (nothing_done s))).after
+  pub answered : (let answer : Result Step StepFault = Ok step in answer)
+      ≡ (recv_done a (left_by talk octets) ended
+      (heard choice now a (indications talk octets) (nothing_done s))).answer
+  pub left : new ≡ (recv_done a (left_by talk octets) ended
+      (heard choice now a (indications talk octets) (nothing_done s))).after
 
 abbrev pub Hears : ℕ → ℕ → List ℕ → Option Sent → State → Step → State → Type 0
-Hears now a octets ended s step new = (talk : Talk) → connection_at (place_of a) s ≡ Some talk → HearsFrom now a octets ended s talk step new
+Hears now a octets ended s step new = (talk : Talk) → connection_at (place_of a) s ≡ Some talk
+    → HearsFrom now a octets ended s talk step new
 
 -- an event that brings no octets takes no memory
 abbrev pub IsWithoutOctets : Event → Type 0
@@ -58,7 +69,8 @@ IsWithoutOctets Scan = Unit {0}
 
 -- A list of events is answered so, and leaves this: there are choices, one for each event, with
 -- which that is their outcome.
-pub record AllSteps (events : List (ℕ × Event)) (old : State) (answers : List (Result Step StepFault)) (new : State) : Type 0 where
+pub record AllSteps (events : List (ℕ × Event)) (old : State)
+    (answers : List (Result Step StepFault)) (new : State) : Type 0 where
   pub choices : List (Option ℕ)
   pub each : length choices ≡ length events
   pub answered : answers ≡ (outcomes choices events old).answers

@@ -14,15 +14,18 @@ key_of name = fold key_after 0 name
 
 -- the places with one more name
 abbrev pub noted : ℕ → ℕ → List ℕ → List ℕ
-noted key place firsts = if nat_lt place (get_or firsts key 0) then slice_set firsts key place else firsts
+noted key place firsts =
+    if nat_lt place (get_or firsts key 0) then slice_set firsts key place else firsts
 
 -- no name stands before the place of its key, and no place is past the names
 pub record IsTable (names : List (List ℕ)) (firsts : List ℕ) : Type 0 where
   pub within : (key : ℕ) → key < 64 → get_or firsts key 0 ≤ length names
-  pub first : (place : ℕ) (name : List ℕ) → slice_get names place ≡ Some name → get_or firsts (key_of name) 0 ≤ place
+  pub first : (place : ℕ) (name : List ℕ) → slice_get names place ≡ Some name
+      → get_or firsts (key_of name) 0 ≤ place
 
 -- the tables of the ids of switches, of the names of inputs and of the ids of meters
-pub record AreTables (switches : List BoundSwitch) (inputs : List (List ℕ)) (meters : List BoundMeter) (tables : NameTables) : Type 0 where
+pub record AreTables (switches : List BoundSwitch) (inputs : List (List ℕ))
+    (meters : List BoundMeter) (tables : NameTables) : Type 0 where
   pub of_switches : IsTable (map (λ b. b.switch.id) switches) tables.switches.firsts
   pub of_inputs : IsTable inputs tables.inputs.firsts
   pub of_meters : IsTable (map (λ m. m.id) meters) tables.meters.firsts

@@ -25,7 +25,7 @@ use crate::connections::Connections;
 use crate::due::forget;
 use crate::event::{Event, LAST_MOMENT, Sent, Step, Why, place_of};
 use crate::fault::StepFault;
-use crate::message::Output;
+use crate::message::Made;
 use crate::octets::drain;
 use crate::report::{Report, report_of};
 use crate::state::DeviceState;
@@ -98,7 +98,8 @@ impl Device {
 
     // The answer to an event that sends nothing but what tells of an end.
     fn quiet(&self, ended: Option<Sent>) -> Step
-        ensures { result ≡ record { ended = ended; sent = []; commands = []; closed = None; scan = None } }
+        ensures { result ≡ record
+            { ended = ended; sent = []; commands = []; closed = None; scan = None } }
     {
         Step {
             ended,
@@ -181,7 +182,7 @@ impl Device {
             Some(connection) => connection,
             None => unreachable!(),
         };
-        let mut output = Output::new(self.alloc);
+        let mut made = Made::new(self.alloc);
         let why = drain(
             self.alloc,
             now,
@@ -189,14 +190,14 @@ impl Device {
             &mut self.state,
             &mut connection,
             octets,
-            &mut output,
+            &mut made,
         )
         .err();
         self.finish(association, place, connection, why);
         Step {
             ended,
-            sent: Listing::new(output.sent),
-            commands: Listing::new(output.commands),
+            sent: Listing::new(made.sent),
+            commands: Listing::new(made.commands),
             closed: closed_by(association, why),
             scan: None,
         }
@@ -222,7 +223,8 @@ impl Device {
 
     // The switch at a place reports a position.
     fn contact(&mut self, now: u64, switch: usize, position: Dbpos) -> Result<Step, StepFault>
-        ensures { IsOutcome (event_outcome None now (Contact switch position) self.old) result self.new }
+        ensures { IsOutcome (event_outcome None now (Contact switch position) self.old) result
+            self.new }
     {
         let ended = self.state.contact(now, switch, position)?;
         Ok(self.quiet(ended))
@@ -244,7 +246,8 @@ impl Device {
         field: MeterField,
         value: i32,
     ) -> Result<Step, StepFault>
-        ensures { IsOutcome (event_outcome None now (Measure meter field value) self.old) result self.new }
+        ensures { IsOutcome (event_outcome None now (Measure meter field value) self.old) result
+            self.new }
     {
         let ended = self.state.measure(now, meter, field, value)?;
         Ok(self.quiet(ended))
@@ -313,7 +316,8 @@ impl Device {
         // There is a choice with which the answer and the device are the outcome;
         ensures steps { Steps now event.entry self.old result self.new }
         // an event without octets has none, and takes no memory.
-        ensures sure { IsWithoutOctets event.entry → IsOutcome (outcome None now event.entry self.old) result self.new }
+        ensures sure { IsWithoutOctets event.entry
+            → IsOutcome (outcome None now event.entry self.old) result self.new }
         // Each command is one that the interlocking releases, on a fresh scan, while no switch is
         // operating, and comes with its reply.
         ensures commanded { IfOk result (AreCommanded now self.old) }
@@ -324,11 +328,14 @@ impl Device {
         // What is seen of the event leads its controls on, with such a choice.
         ensures leads { Leading now event.entry self.old result self.new }
         // So does what the octets of the event and of its answer tell.
-        ensures tells { (names : Bay) → AreNamedAlike names (bay_of self.old) → AreTalks self.old.connections → Telling names now event.entry self.old result self.new }
+        ensures tells { (names : Bay) → AreNamedAlike names (bay_of self.old)
+            → AreTalks self.old.connections
+            → Telling names now event.entry self.old result self.new }
         // A scan halts without a trap within the budget,
         ensures halts { is_refused now self.old ≡ false → HaltsAt now event.entry self.old }
         // and on a device that runs a text it does what the text means.
-        ensures means { (c : Checked) → Runs c self.old → MeansAt c now event.entry self.old × Runs c self.new }
+        ensures means { (c : Checked) → Runs c self.old
+            → MeansAt c now event.entry self.old × Runs c self.new }
     {
         self.has_places();
         self.do_event(now, event)
@@ -349,17 +356,23 @@ impl Device {
         ensures commanded { (choices : List (Option ℕ)) → AllCommanded choices events.now self.old }
         // there is one at most for each event, on a device whose switches take some time, as load
         // makes it;
-        ensures single { IfOk result (λ answers. AreTimed self.old.controls.controls → All IsSingle answers.items) }
+        ensures single { IfOk result
+            (λ answers. AreTimed self.old.controls.controls → All IsSingle answers.items) }
         ensures timed { AreTimed self.old.controls.controls → AreTimed self.new.controls.controls }
         // and on a device that runs a text the tree then holds what the text means, whatever the
         // choices.
-        ensures means { (c : Checked) → Runs c self.old → (choices : List (Option ℕ)) → AllMean c choices events.now self.old }
+        ensures means { (c : Checked) → Runs c self.old → (choices : List (Option ℕ))
+            → AllMean c choices events.now self.old }
         ensures runs { (c : Checked) → Runs c self.old → Runs c self.new }
         // From no selection on each accepted operate of an SBO switch is backed by a select,
         // whatever the choices.
-        ensures backed { self.old.controls.selection ≡ None → (choices : List (Option ℕ)) → AreBacked self.old.controls.controls (entries_all choices events.now self.old) }
+        ensures backed { self.old.controls.selection ≡ None → (choices : List (Option ℕ))
+            → AreBacked self.old.controls.controls (entries_all choices events.now self.old) }
         // On a device as load made it the octets of the events and of the answers tell so.
-        ensures told { IfOk result (λ answers. IsIdle self.old → AreBacked self.old.controls.controls (told_all (bay_of self.old) self.old.connections events.now answers.items)) }
+        ensures told { IfOk result
+            (λ answers. IsIdle self.old
+            → AreBacked self.old.controls.controls
+            (told_all (bay_of self.old) self.old.connections events.now answers.items)) }
     {
         self.has_places();
         let mut answers = Vec::with_capacity(self.alloc, events.len())?;
@@ -389,7 +402,8 @@ impl Device {
 
     /// The lowest number of an association that is not open.
     pub fn free_association(&self) -> Option<u16>
-        ensures lowest { result ≡ option_map (λ place. place + 1) (position is_none self.now.connections) }
+        ensures lowest { result
+            ≡ option_map (λ place. place + 1) (position is_none self.now.connections) }
         ensures within { IfSome result (λ a. (0 < a) × (a ≤ 8)) }
     {
         let place = self.connections.free_place()?;
@@ -440,7 +454,8 @@ impl Device {
 
     /// The id of the switch at a place, as the bay file spells it.
     pub fn id(&self, switch: usize) -> Option<&str>
-        ensures { option_map (λ id. id.now) result ≡ option_map (λ s. s.id) (slice_get self.now.switches switch) }
+        ensures { option_map (λ id. id.now) result
+            ≡ option_map (λ s. s.id) (slice_get self.now.switches switch) }
     {
         self.state.id(switch)
     }

@@ -72,7 +72,8 @@ fn shown_rows(
 fn state_of(alloc: Global, bay: Bay, verified: Verified) -> Result<DeviceState, AllocError>
     requires bay { IsBay bay }
     requires verified { IsVerified bay.points verified }
-    ensures { IfOk result (λ state. state_view (replicate 8 None) state ≡ initial_device bay verified) }
+    ensures { IfOk result (λ state. state_view (replicate 8 None) state
+        ≡ initial_device bay verified) }
 {
     let wired = wired_machine(alloc, bay.points.as_slice(), verified)?;
     let nodes = node_names(alloc, &bay)?;
@@ -145,7 +146,9 @@ fn device_of(alloc: Global, bay: Bay, verified: Verified) -> Result<Device, Allo
 fn verified_for(alloc: Global, image: Image, points: &[Point]) -> Result<Verified, LoadFault>
     ensures same { IfOk result (λ verified. verified ≡ image) }
     ensures accepted { IfOk result (λ verified. IsVerified points.now image) }
-    ensures refused { IfErr result (λ e. e ≢ OutOfMemory → (fault : VerifyFault) × (place : ℕ) × IsRefusal points.now image fault place × (e ≡ verify_refusal fault)) }
+    ensures refused { IfErr result
+        (λ e. e ≢ OutOfMemory → (fault : VerifyFault) × (place : ℕ)
+        × IsRefusal points.now image fault place × (e ≡ verify_refusal fault)) }
     ensures exact { IfErr result (λ e. e ≢ OutOfMemory → IsVerified points.now image → ⊥) }
 {
     match verify(alloc, image, points) {
@@ -157,8 +160,10 @@ fn verified_for(alloc: Global, image: Image, points: &[Point]) -> Result<Verifie
 /// The device of a bay and a checked program.
 fn load_checked(alloc: Global, bay: Bay, typed: Typed) -> Result<Device, LoadFault>
     requires bay { IsBay bay }
-    requires checked { (program : PlainProgram) × (checked_of bay.points program ≡ Ok (checked_view typed)) }
-    ensures device { Gives OutOfMemory (λ device. device) result (of_compiled bay (compiled_of (checked_view typed))) }
+    requires checked { (program : PlainProgram)
+        × (checked_of bay.points program ≡ Ok (checked_view typed)) }
+    ensures device { Gives OutOfMemory (λ device. device) result
+        (of_compiled bay (compiled_of (checked_view typed))) }
     ensures runs { IfOk result (Runs (checked_view typed)) }
 {
     let image = compile(alloc, &typed)?;
@@ -170,8 +175,11 @@ fn load_checked(alloc: Global, bay: Bay, typed: Typed) -> Result<Device, LoadFau
 /// The device of a bay and a program.
 fn load_program(alloc: Global, bay: Bay, program: &Program<'_>) -> Result<Device, LoadFault>
     requires { IsBay bay }
-    ensures device { Gives OutOfMemory (λ device. device) result (of_checked bay (checked_of bay.points (plain_program program.now))) }
-    ensures runs { IfOk result (λ device. (c : Checked) × (checked_of bay.points (plain_program program.now) ≡ Ok c) × Runs c device) }
+    ensures device { Gives OutOfMemory (λ device. device) result
+        (of_checked bay (checked_of bay.points (plain_program program.now))) }
+    ensures runs { IfOk result
+        (λ device. (c : Checked) × (checked_of bay.points (plain_program program.now) ≡ Ok c)
+        × Runs c device) }
 {
     let typed = check(alloc, program, bay.points.as_slice())?;
     load_checked(alloc, bay, typed)
@@ -180,7 +188,8 @@ fn load_program(alloc: Global, bay: Bay, program: &Program<'_>) -> Result<Device
 /// The program of a text; what a text reads as is one program, or one fault.
 fn program_in<'a>(alloc: Global, logic: &'a str) -> Result<Program<'a>, TextFault>
     ensures ok { IfOk result (λ program. program_of logic.now ≡ Ok (plain_program program)) }
-    ensures refused { IfErr result (λ fault. fault ≢ text_fault.OutOfMemory → program_of logic.now ≡ Err fault) }
+    ensures refused { IfErr result
+        (λ fault. fault ≢ text_fault.OutOfMemory → program_of logic.now ≡ Err fault) }
 {
     let program = read_program(alloc, logic)?;
     Ok(program)
@@ -189,8 +198,11 @@ fn program_in<'a>(alloc: Global, logic: &'a str) -> Result<Program<'a>, TextFaul
 /// The device of a bay and the text of a program.
 fn load_text(alloc: Global, bay: Bay, logic: &str) -> Result<Device, LoadFault>
     requires { IsBay bay }
-    ensures device { Gives OutOfMemory (λ device. device) result (of_program bay (program_of logic.now)) }
-    ensures runs { IfOk result (λ device. (c : Checked) × (checked_in (Ok bay) (program_of logic.now) ≡ Ok c) × Runs c device) }
+    ensures device { Gives OutOfMemory (λ device. device) result
+        (of_program bay (program_of logic.now)) }
+    ensures runs { IfOk result
+        (λ device. (c : Checked) × (checked_in (Ok bay) (program_of logic.now) ≡ Ok c)
+        × Runs c device) }
 {
     let program = program_in(alloc, logic)?;
     load_program(alloc, bay, &program)
@@ -198,8 +210,11 @@ fn load_text(alloc: Global, bay: Bay, logic: &str) -> Result<Device, LoadFault>
 
 /// The device of the texts of a bay file and a program, stage by stage.
 fn load_texts(alloc: Global, bay: &str, logic: &str) -> Result<Device, LoadFault>
-    ensures device { Gives OutOfMemory (λ device. device) result (of_bay (bay_of bay.now) (program_of logic.now)) }
-    ensures runs { IfOk result (λ device. (c : Checked) × (checked_in (bay_of bay.now) (program_of logic.now) ≡ Ok c) × Runs c device) }
+    ensures device { Gives OutOfMemory (λ device. device) result
+        (of_bay (bay_of bay.now) (program_of logic.now)) }
+    ensures runs { IfOk result
+        (λ device. (c : Checked) × (checked_in (bay_of bay.now) (program_of logic.now) ≡ Ok c)
+        × Runs c device) }
 {
     let bay = read_bay(alloc, bay)?;
     load_text(alloc, bay, logic)
@@ -209,13 +224,17 @@ fn load_texts(alloc: Global, bay: &str, logic: &str) -> Result<Device, LoadFault
 /// 55) comes before one of the program's text (60 to 64), that before one of its checks (70 to 79),
 /// and that before 85, where the program's image would be too long.
 pub fn load(alloc: Global, bay: &str, logic: &str) -> Result<Device, LoadFault>
-    ensures device { Gives OutOfMemory (λ device. device) result (of_bay (bay_of bay.now) (program_of logic.now)) }
+    ensures device { Gives OutOfMemory (λ device. device) result
+        (of_bay (bay_of bay.now) (program_of logic.now)) }
     // Accepted is exactly what is right: a bay file, and a text that reads as a program which is
     // right with its points; but for memory, and for an image that would be too long.
     ensures accepted { IfOk result (λ _. IsRight bay.now logic.now) }
-    ensures refused { IfErr result (λ e. e ≢ OutOfMemory → IsRight bay.now logic.now → e ≡ Refused 85 0) }
+    ensures refused { IfErr result
+        (λ e. e ≢ OutOfMemory → IsRight bay.now logic.now → e ≡ Refused 85 0) }
     // The device runs the program that the text comes to.
-    ensures runs { IfOk result (λ device. (c : Checked) × (checked_in (bay_of bay.now) (program_of logic.now) ≡ Ok c) × Runs c device) }
+    ensures runs { IfOk result
+        (λ device. (c : Checked) × (checked_in (bay_of bay.now) (program_of logic.now) ≡ Ok c)
+        × Runs c device) }
     // Nothing is selected, and no association is open; each switch that can be operated takes some
     // time.
     ensures idle { IfOk result IsIdle }
@@ -239,7 +258,8 @@ fn load_decoded(alloc: Global, bay: Bay, image: Image) -> Result<Device, LoadFau
 fn load_octets(alloc: Global, bay: Bay, image: &[u8]) -> Result<Device, LoadFault>
     requires { IsBay bay }
     ensures ok { IfOk result (λ device. LoadsRead bay (decoded image.now) (Ok device)) }
-    ensures refused { IfErr result (λ e. e ≢ OutOfMemory → LoadsRead bay (decoded image.now) (Err e)) }
+    ensures refused { IfErr result
+        (λ e. e ≢ OutOfMemory → LoadsRead bay (decoded image.now) (Err e)) }
 {
     let image = decode(alloc, image)?;
     load_decoded(alloc, bay, image)
@@ -250,7 +270,8 @@ fn load_octets(alloc: Global, bay: Bay, image: &[u8]) -> Result<Device, LoadFaul
 /// to 100).
 pub fn load_image(alloc: Global, bay: &str, image: &[u8]) -> Result<Device, LoadFault>
     ensures ok { IfOk result (λ device. Loads (bay_of bay.now) (decoded image.now) (Ok device)) }
-    ensures refused { IfErr result (λ e. e ≢ OutOfMemory → Loads (bay_of bay.now) (decoded image.now) (Err e)) }
+    ensures refused { IfErr result
+        (λ e. e ≢ OutOfMemory → Loads (bay_of bay.now) (decoded image.now) (Err e)) }
     // Nothing is selected, and no association is open; each switch that can be operated takes some
     // time.
     ensures idle { IfOk result IsIdle }

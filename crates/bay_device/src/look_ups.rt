@@ -16,8 +16,10 @@ use bay_tree::tree::Tree;
 /// The interlocking values that stand in the tree.
 fn enabled_at(tree: &Tree, rows: &SwitchRows) -> Enabled
     requires { AreSwitchRows (layout_of tree.now) rows.now }
-    ensures may_open { result.may_open ≡ is_truth true (leaf_of (status_in (layout_of tree.now) rows.now.ena_opn).value tree.now) }
-    ensures may_close { result.may_close ≡ is_truth true (leaf_of (status_in (layout_of tree.now) rows.now.ena_cls).value tree.now) }
+    ensures may_open { result.may_open
+        ≡ is_truth true (leaf_of (status_in (layout_of tree.now) rows.now.ena_opn).value tree.now) }
+    ensures may_close { result.may_close
+        ≡ is_truth true (leaf_of (status_in (layout_of tree.now) rows.now.ena_cls).value tree.now) }
 {
     Enabled {
         may_open: is_truth(tree, rows.ena_opn.value, true),
@@ -28,21 +30,24 @@ fn enabled_at(tree: &Tree, rows: &SwitchRows) -> Enabled
 impl DeviceState {
     /// The place of the input with this name, whatever the case of its letters.
     pub fn input_place(&self, name: &str) -> Option<usize>
-        ensures { (connections : List (Option Talk)) → result ≡ spec.input_place (state_view connections self.now) name.now }
+        ensures { (connections : List (Option Talk))
+            → result ≡ spec.input_place (state_view connections self.now) name.now }
     {
         self.tables.inputs.place_of(self.inputs.as_slice(), name)
     }
 
     /// The place of the meter with this id, whatever the case of its letters.
     pub fn meter_place(&self, id: &str) -> Option<usize>
-        ensures { (connections : List (Option Talk)) → result ≡ spec.meter_place (state_view connections self.now) id.now }
+        ensures { (connections : List (Option Talk))
+            → result ≡ spec.meter_place (state_view connections self.now) id.now }
     {
         self.tables.meters.place_of(self.meters.as_slice(), id)
     }
 
     /// The place of the switch with this id, whatever the case of its letters.
     pub fn switch(&self, id: &str) -> Option<usize>
-        ensures { (connections : List (Option Talk)) → result ≡ switch_place (state_view connections self.now) id.now }
+        ensures { (connections : List (Option Talk))
+            → result ≡ switch_place (state_view connections self.now) id.now }
     {
         self.tables
             .switches
@@ -51,7 +56,8 @@ impl DeviceState {
 
     /// The id of the switch at a place, as the bay file spells it.
     pub fn id(&self, switch: usize) -> Option<&str>
-        ensures { option_map (λ id. id.now) result ≡ option_map (λ s. s.id) (slice_get (switches_of self.now.bay.switches) switch) }
+        ensures { option_map (λ id. id.now) result
+            ≡ option_map (λ s. s.id) (slice_get (switches_of self.now.bay.switches) switch) }
     {
         match self.bay.switches.as_slice().get(switch) {
             Some(bound) => Some(bound.switch.id.as_str()),
@@ -61,7 +67,8 @@ impl DeviceState {
 
     /// Whether the switch at a place may be opened, and whether it may be closed.
     pub fn ena(&self, switch: usize) -> Option<(bool, bool)>
-        ensures { (connections : List (Option Talk)) → result ≡ enabled_of (state_view connections self.now) switch }
+        ensures { (connections : List (Option Talk))
+            → result ≡ enabled_of (state_view connections self.now) switch }
     {
         let bound = self.bay.switches.as_slice().get(switch)?;
         let enabled = match self.told.get(switch) {

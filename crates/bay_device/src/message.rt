@@ -1,6 +1,6 @@
 // A PDU of a client: its answer is made, and then what it asks for stands.
 ghost use Rattle.std.specs.Prelude.{◌≡◌, ◌≤◌, ◌++◌, List, Option, [], All, IfOk, IfSome, IsSome, OnErr, OnOk, length, map, take};
-ghost use Rattle.bay_assoc.specs.Hears.{link_of};
+ghost use Rattle.bay_assoc.specs.Hears.{association_terms};
 ghost use Rattle.bay_connection.specs.Talk.{Talk, sending, terms_of};
 ghost use Rattle.bay_control.specs.declared.selection.Standing.{Standing};
 ghost use Rattle.bay_services.specs.Answers.{answered};
@@ -22,18 +22,18 @@ use std::alloc::{AllocError, Global};
 
 /// What an event has made so far: octets that are to be sent, and switches that are to be operated.
 #[derive(Drop)]
-pub struct Output {
+pub struct Made {
     pub sent: Vec<Sent>,
     pub commands: Vec<Command>,
 }
 
-impl Output {
+impl Made {
     /// Nothing is made yet.
-    pub fn new(alloc: Global) -> Output
+    pub fn new(alloc: Global) -> Made
         ensures sent { result.sent.items ≡ [] }
         ensures commands { result.commands.items ≡ [] }
     {
-        Output {
+        Made {
             sent: Vec::new(alloc),
             commands: Vec::new(alloc),
         }
@@ -42,7 +42,7 @@ impl Output {
 
 /// The octets in which a PDU is sent.
 fn framed(connection: &Connection, pdu: &[u8]) -> Result<Listing<u8>, AllocError>
-    requires open { IsSome (link_of connection.now.talk.phase) }
+    requires open { IsSome (association_terms connection.now.talk.phase) }
     requires short { length pdu.now ≤ 65_000 }
     ensures { IfOk result (λ octets. octets ≡ sending (terms_of connection.now.talk) pdu.now) }
 {
@@ -55,7 +55,7 @@ fn framed_report(
     connection: &Connection,
     report: &Option<Listing<u8>>,
 ) -> Result<Option<Listing<u8>>, AllocError>
-    requires open { IsSome (link_of connection.now.talk.phase) }
+    requires open { IsSome (association_terms connection.now.talk.phase) }
     requires short { IfSome report.now (λ pdu. length pdu ≤ 65_000) }
     ensures { IfOk result (λ octets. octets ≡ sending_if (terms_of connection.now.talk) report.now) }
 {
@@ -70,9 +70,10 @@ fn framed_report(
 
 /// What will tell an association of the end of what it operates.
 fn due_of(connection: &Connection, association: u16, ending: &Ending) -> Result<Due, AllocError>
-    requires open { IsSome (link_of connection.now.talk.phase) }
+    requires open { IsSome (association_terms connection.now.talk.phase) }
     requires short { AreShort ending.now }
-    ensures { IfOk result (λ due. due ≡ spec.due_of association (terms_of connection.now.talk) ending.now) }
+    ensures { IfOk result (λ due. due
+        ≡ spec.due_of association (terms_of connection.now.talk) ending.now) }
 {
     let positive = framed_report(connection, &ending.positive)?;
     let negative = framed_report(connection, &ending.negative)?;
@@ -89,9 +90,10 @@ fn due_if(
     association: u16,
     ending: &Option<Ending>,
 ) -> Result<Option<Due>, AllocError>
-    requires open { IsSome (link_of connection.now.talk.phase) }
+    requires open { IsSome (association_terms connection.now.talk.phase) }
     requires short { IsShort ending.now }
-    ensures { IfOk result (λ due. due ≡ spec.due_if association (terms_of connection.now.talk) ending.now) }
+    ensures { IfOk result (λ due. due
+        ≡ spec.due_if association (terms_of connection.now.talk) ending.now) }
 {
     match ending {
         Some(ending) => {
@@ -118,9 +120,11 @@ fn send_all(
     pdus: &[Listing<u8>],
     sent: &mut Vec<Sent>,
 ) -> Result<(), AllocError>
-    requires open { IsSome (link_of connection.now.talk.phase) }
+    requires open { IsSome (association_terms connection.now.talk.phase) }
     requires short { All (λ pdu. length pdu ≤ 65_000) pdus.now }
-    ensures ok { OnOk result (sent.new.items ≡ sent.old.items ++ map (λ pdu. sent_on association (sending (terms_of connection.now.talk) pdu)) pdus.now) }
+    ensures ok { OnOk result
+        (sent.new.items ≡ sent.old.items
+        ++ map (λ pdu. sent_on association (sending (terms_of connection.now.talk) pdu)) pdus.now) }
     ensures kept { take (length sent.old.items) sent.new.items ≡ sent.old.items }
 {
     for pdu in pdus {
@@ -139,27 +143,32 @@ fn reply(
     connection: &Connection,
     association: u16,
     answer: &Answer,
-    output: &mut Output,
+    made: &mut Made,
 ) -> Result<Option<Due>, AllocError>
-    requires open { IsSome (link_of connection.now.talk.phase) }
+    requires open { IsSome (association_terms connection.now.talk.phase) }
     requires short { All (λ pdu. length pdu ≤ 65_000) answer.now.sent.items }
     requires ending { IsShort answer.now.ending }
-    ensures due { IfOk result (λ due. due ≡ spec.due_if association (terms_of connection.now.talk) answer.now.ending) }
-    ensures sent { OnOk result (output.new.sent.items ≡ output.old.sent.items ++ map (λ pdu. sent_on association (sending (terms_of connection.now.talk) pdu)) answer.now.sent.items) }
-    ensures commands { OnOk result (output.new.commands.items ≡ output.old.commands.items ++ answer.now.commands.items) }
-    ensures sent_before { take (length output.old.sent.items) output.new.sent.items ≡ output.old.sent.items }
-    ensures commands_before { take (length output.old.commands.items) output.new.commands.items ≡ output.old.commands.items }
+    ensures due { IfOk result
+        (λ due. due ≡ spec.due_if association (terms_of connection.now.talk) answer.now.ending) }
+    ensures sent { OnOk result
+        (made.new.sent.items ≡ made.old.sent.items
+        ++ map (λ pdu. sent_on association (sending (terms_of connection.now.talk) pdu))
+        answer.now.sent.items) }
+    ensures commands { OnOk result
+        (made.new.commands.items ≡ made.old.commands.items ++ answer.now.commands.items) }
+    ensures sent_before { take (length made.old.sent.items) made.new.sent.items
+        ≡ made.old.sent.items }
+    ensures commands_before { take (length made.old.commands.items) made.new.commands.items
+        ≡ made.old.commands.items }
 {
     let due = due_if(connection, association, &answer.ending)?;
     send_all(
         connection,
         association,
         answer.sent.as_slice(),
-        &mut output.sent,
+        &mut made.sent,
     )?;
-    output
-        .commands
-        .extend_from_slice(answer.commands.as_slice())?;
+    made.commands.extend_from_slice(answer.commands.as_slice())?;
     Ok(due)
 }
 
@@ -170,22 +179,25 @@ fn answer(
     state: &mut DeviceState,
     client: Client,
     connection: &Connection,
-    output: &mut Output,
+    made: &mut Made,
 ) -> Result<(), AllocError>
-    requires open { IsSome (link_of connection.now.talk.phase) }
+    requires open { IsSome (association_terms connection.now.talk.phase) }
     requires least { 256 ≤ client.size }
     requires most { client.size ≤ 65_000 }
-    ensures ok { OnOk result ((connections : List (Option Talk)) → done_of (state_view connections state.new) output.new
-        ≡ answered_with client.association (terms_of connection.now.talk) (answered client connection.now.pdu (bay_of (state_view connections state.old)))
-        (done_of (state_view connections state.old) output.old)) }
+    ensures ok { OnOk result
+        ((connections : List (Option Talk)) → done_of (state_view connections state.new) made.new
+        ≡ answered_with client.association (terms_of connection.now.talk)
+        (answered client connection.now.pdu (bay_of (state_view connections state.old)))
+        (done_of (state_view connections state.old) made.old)) }
     ensures back { OnErr result ((connections : List (Option Talk)) (standing : Standing)
         → put_back standing (state_view connections state.new)
         ≡ put_back standing (state_view connections state.old)) }
-    ensures sent { take (length output.old.sent.items) output.new.sent.items ≡ output.old.sent.items }
-    ensures commands { take (length output.old.commands.items) output.new.commands.items ≡ output.old.commands.items }
+    ensures sent { take (length made.old.sent.items) made.new.sent.items ≡ made.old.sent.items }
+    ensures commands { take (length made.old.commands.items) made.new.commands.items
+        ≡ made.old.commands.items }
 {
     let answer = state.bay.answer(alloc, client, connection.pdu())?;
-    let due = reply(connection, client.association, &answer, output)?;
+    let due = reply(connection, client.association, &answer, made)?;
     replace_due(&mut state.due, due);
     Ok(())
 }
@@ -198,12 +210,17 @@ pub fn message(
     association: u16,
     state: &mut DeviceState,
     connection: &Connection,
-    output: &mut Output,
+    made: &mut Made,
 ) -> Result<(), AllocError>
-    requires { IsSome (link_of connection.now.talk.phase) }
-    ensures ok { OnOk result ((connections : List (Option Talk)) → done_of (state_view connections state.new) output.new
-        ≡ said now association (terms_of connection.now.talk) connection.now.pdu (done_of (state_view connections state.old) output.old)) }
-    ensures err { OnErr result ((connections : List (Option Talk)) → done_of (state_view connections state.new) output.new ≡ done_of (state_view connections state.old) output.old) }
+    requires { IsSome (association_terms connection.now.talk.phase) }
+    ensures ok { OnOk result
+        ((connections : List (Option Talk)) → done_of (state_view connections state.new) made.new
+        ≡ said now association (terms_of connection.now.talk) connection.now.pdu
+        (done_of (state_view connections state.old) made.old)) }
+    ensures err { OnErr result
+        ((connections : List (Option Talk))
+        → done_of (state_view connections state.new) made.new
+        ≡ done_of (state_view connections state.old) made.old) }
 {
     let client = Client {
         association,
@@ -212,13 +229,13 @@ pub fn message(
         fresh: state.is_fresh(now),
     };
     let before = state.bay.standing();
-    let sent = output.sent.len();
-    let commands = output.commands.len();
-    let answered = answer(alloc, state, client, connection, output);
+    let sent = made.sent.len();
+    let commands = made.commands.len();
+    let answered = answer(alloc, state, client, connection, made);
     if answered.is_err() {
         state.bay.restore(before);
-        output.sent.truncate(sent);
-        output.commands.truncate(commands);
+        made.sent.truncate(sent);
+        made.commands.truncate(commands);
     }
     answered
 }

@@ -9,7 +9,7 @@ ghost use Rattle.bay_device.specs.StateView.{state_view};
 ghost use Rattle.bay_device.specs.declared.event.Why.TheVariants.{Memory};
 
 use crate::event::{Sent, Why};
-use crate::message::{Output, message};
+use crate::message::{Made, message};
 use crate::state::DeviceState;
 use bay_base::listing::Listing;
 use bay_connection::connection::Connection;
@@ -25,13 +25,14 @@ impl From<AllocError> for Why {
 }
 
 /// Sends octets on an association.
-fn send(association: u16, octets: Vec<u8>, output: &mut Output) -> Result<(), AllocError>
-    ensures ok { OnOk result (output.new.sent.items ≡ output.old.sent.items ++ sent_on association octets.items ∷ []) }
-    ensures err { OnErr result (output.new.sent.items ≡ output.old.sent.items) }
-    ensures commands { output.new.commands.items ≡ output.old.commands.items }
+fn send(association: u16, octets: Vec<u8>, made: &mut Made) -> Result<(), AllocError>
+    ensures ok { OnOk result
+        (made.new.sent.items ≡ made.old.sent.items ++ sent_on association octets.items ∷ []) }
+    ensures err { OnErr result (made.new.sent.items ≡ made.old.sent.items) }
+    ensures commands { made.new.commands.items ≡ made.old.commands.items }
 {
     let octets = Listing::new(octets);
-    output.sent.push(Sent {
+    made.sent.push(Sent {
         association,
         octets,
     })?;
@@ -46,35 +47,35 @@ fn hear(
     state: &mut DeviceState,
     connection: &Connection,
     heard: Heard,
-    output: &mut Output,
+    made: &mut Made,
 ) -> Result<(), Why>
     requires { IsOpenFor heard connection.now.talk.phase }
     ensures ok { OnOk result ((connections : List (Option Talk)) (later : Done → HeardSo)
         → on_heard_if now association (indication_of heard connection.now)
-        (done_of (state_view connections state.old) output.old) later
-        ≡ later (done_of (state_view connections state.new) output.new)) }
+        (done_of (state_view connections state.old) made.old) later
+        ≡ later (done_of (state_view connections state.new) made.new)) }
     ensures goes { OnOk result (IsContinuedIf (indication_of heard connection.now)) }
     ensures memory { IfErr result (λ why. why ≡ Memory → (connections : List (Option Talk))
-        → done_of (state_view connections state.new) output.new
-        ≡ done_of (state_view connections state.old) output.old) }
+        → done_of (state_view connections state.new) made.new
+        ≡ done_of (state_view connections state.old) made.old) }
     ensures stops { IfErr result (λ why. why ≢ Memory
         → (connections : List (Option Talk)) (later : Done → HeardSo)
         → on_heard_if now association (indication_of heard connection.now)
-        (done_of (state_view connections state.old) output.old) later
-        ≡ record { done = done_of (state_view connections state.new) output.new; why = Some why }) }
+        (done_of (state_view connections state.old) made.old) later
+        ≡ record { done = done_of (state_view connections state.new) made.new; why = Some why }) }
 {
     match heard {
         Heard::Nothing => Ok(()),
         Heard::Answer(octets) => {
-            send(association, octets, output)?;
+            send(association, octets, made)?;
             Ok(())
         }
         Heard::Mms => {
-            message(alloc, now, association, state, connection, output)?;
+            message(alloc, now, association, state, connection, made)?;
             Ok(())
         }
         Heard::Released(octets) => {
-            send(association, octets, output)?;
+            send(association, octets, made)?;
             Err(Why::Ended)
         }
         Heard::Ended => Err(Why::Ended),
@@ -91,33 +92,26 @@ fn turn(
     state: &mut DeviceState,
     connection: &mut Connection,
     rest: &[u8],
-    output: &mut Output,
+    made: &mut Made,
 ) -> Result<usize, Why>
     requires going { IsGoing connection.old.talk.stream.left }
     requires some { 0 < length rest.now }
     ensures within { IfOk result (λ used. used ≤ length rest.now) }
     ensures moves { IfOk result (λ used. 0 < used) }
-    ensures left { IfOk result (λ used. connection.new.talk ≡ left_by connection.old.talk (take used rest.now)) }
+    ensures left { IfOk result
+        (λ used. connection.new.talk ≡ left_by connection.old.talk (take used rest.now)) }
     ensures going { OnOk result (IsGoing connection.new.talk.stream.left) }
     ensures ok { IfOk result (λ used. (connections : List (Option Talk))
         → Moves now association connection.old.talk rest.now
-        (done_of (state_view connections state.old) output.old) connection.new.talk
-        (drop used rest.now) (done_of (state_view connections state.new) output.new)) }
+        (done_of (state_view connections state.old) made.old) connection.new.talk
+        (drop used rest.now) (done_of (state_view connections state.new) made.new)) }
     ensures err { IfErr result (λ why. (connections : List (Option Talk))
         → ComesTo now association connection.old.talk rest.now
-        (done_of (state_view connections state.old) output.old) (Some why)
-        (done_of (state_view connections state.new) output.new)) }
+        (done_of (state_view connections state.old) made.old) (Some why)
+        (done_of (state_view connections state.new) made.new)) }
 {
     let fed = connection.feed(rest)?;
-    hear(
-        alloc,
-        now,
-        association,
-        state,
-        connection,
-        fed.heard,
-        output,
-    )?;
+    hear(alloc, now, association, state, connection, fed.heard, made)?;
     Ok(fed.used)
 }
 
@@ -129,7 +123,7 @@ pub fn drain(
     state: &mut DeviceState,
     connection: &mut Connection,
     octets: &[u8],
-    output: &mut Output,
+    made: &mut Made,
 ) -> Result<(), Why>
     requires going { IsGoing connection.old.talk.stream.left }
     requires some { 0 < length octets.now }
@@ -137,12 +131,12 @@ pub fn drain(
     ensures going { OnOk result (IsGoing connection.new.talk.stream.left) }
     ensures ok { OnOk result ((connections : List (Option Talk))
         → ComesTo now association connection.old.talk octets.now
-        (done_of (state_view connections state.old) output.old) None
-        (done_of (state_view connections state.new) output.new)) }
+        (done_of (state_view connections state.old) made.old) None
+        (done_of (state_view connections state.new) made.new)) }
     ensures err { IfErr result (λ why. (connections : List (Option Talk))
         → ComesTo now association connection.old.talk octets.now
-        (done_of (state_view connections state.old) output.old) (Some why)
-        (done_of (state_view connections state.new) output.new)) }
+        (done_of (state_view connections state.old) made.old) (Some why)
+        (done_of (state_view connections state.new) made.new)) }
 {
     let mut at = 0;
     while at < octets.len() {
@@ -153,7 +147,7 @@ pub fn drain(
             state,
             connection,
             &octets[at..],
-            output,
+            made,
         )?;
     }
     Ok(())

@@ -43,7 +43,8 @@ pub fn contact(bay: &mut ServedBay, now: u64, switch: usize, position: Dbpos) ->
 /// execution.
 pub fn reach(bay: &mut ServedBay, switch: usize, position: Dbpos) -> bool
     ensures done { result ≡ is_done switch position bay.old.controls.execution }
-    ensures after { bay_view bay.new ≡ record (bay_view bay.old) { controls = contacted switch position bay.old.controls } }
+    ensures after { bay_view bay.new
+        ≡ record (bay_view bay.old) { controls = contacted switch position bay.old.controls } }
     ensures switches { bay.new.switches ≡ bay.old.switches }
     ensures tree { bay.new.tree ≡ bay.old.tree }
 {
@@ -61,8 +62,13 @@ pub fn measure(
     value: i32,
 ) -> bool
     requires { IsMeterBound (layout_of bay.old.tree) _meter rows }
-    ensures changed { result ≡ not (tells_measure (field_names field (meter_names _meter)) value bay.old.tree) }
-    ensures after { bay_view bay.new ≡ record (bay_view bay.old) { rows = rows_after_measure (field_names field (meter_names _meter)) value now bay.old.tree } }
+    ensures changed { result
+        ≡ not (tells_measure (field_names field (meter_names _meter)) value bay.old.tree) }
+    ensures after { bay_view bay.new
+        ≡ record (bay_view bay.old) {
+          rows = rows_after_measure (field_names field (meter_names _meter)) value now
+              bay.old.tree;
+        } }
     ensures switches { bay.new.switches ≡ bay.old.switches }
     ensures layout { layout_of bay.new.tree ≡ layout_of bay.old.tree }
 {
@@ -74,7 +80,11 @@ pub fn write_scan(bay: &mut ServedBay, told: &mut ToldValues, outputs: &Outputs<
     requires interlocked { AreInterlocked (layout_of bay.old.tree) bay.old.switches }
     requires told { AreTold bay.old.tree told.old }
     requires sized { length told.old ≡ length bay.old.switches }
-    ensures after { bay_view bay.new ≡ record (bay_view bay.old) { rows = outputs_put (layout_of bay.old.tree) bay.old.switches outputs.now now bay.old.tree } }
+    ensures after { bay_view bay.new
+        ≡ record (bay_view bay.old) {
+          rows = outputs_put (layout_of bay.old.tree) bay.old.switches outputs.now now
+              bay.old.tree;
+        } }
     ensures switches { bay.new.switches ≡ bay.old.switches }
     ensures layout { layout_of bay.new.tree ≡ layout_of bay.old.tree }
     ensures told { AreTold bay.new.tree told.new }

@@ -4,7 +4,7 @@ ghost use Rattle.std.specs.Prelude.{◌≡◌, ◌<◌, List, Option, Some, None
 ghost use Rattle.il_scan.specs.Scans.{Scans, outputs_of, read_only, type_of_point};
 ghost use Rattle.bay_connection.specs.Talk.{Talk};
 ghost use Rattle.bay_nodes.specs.declared.switch.Switch.{Switch};
-ghost use Rattle.bay_process.specs.Layout.{AreKinded, AreMeterKinded, layout_of, switches_of};
+ghost use Rattle.bay_process.specs.Layout.{AreLeafTyped, AreMetersLeafTyped, layout_of, switches_of};
 ghost use Rattle.bay_process.specs.Scans.{bound_value};
 ghost use Rattle.bay_process.specs.Sources.{type_of_source};
 ghost use Rattle.bay_device.specs.Device.{advanced, contact_taken, ended_at, ran_at, reached_at, scanned};
@@ -24,7 +24,7 @@ use crate::state::DeviceState;
 use bay_config::bay::{MeterField, Source};
 use bay_process::meter::BoundMeter;
 use bay_process::scan::ReadPoints;
-use bay_process::values::{Truths, same_truth};
+use bay_process::values::Truths;
 use bay_services::bay::ServedBay;
 use bay_tree::leaf::Dbpos;
 use il_scan::machine::Machine;
@@ -49,10 +49,13 @@ fn run_program(
     reads: &[Source],
     now: u64,
 ) -> u32
-    requires kinded { AreKinded (layout_of bay.now.tree) bay.now.switches }
-    requires metered { AreMeterKinded (layout_of bay.now.tree) meters.now }
-    requires typed { map type_of_source reads.now ≡ map type_of_point (read_only machine.old.image.points) }
-    ensures { Scans machine.old (map (bound_value bay.now.tree bay.now.switches inputs.now meters.now) reads.now) now machine.new result (outputs_of machine.new.image.points machine.new.slots) }
+    requires leaf_typed { AreLeafTyped (layout_of bay.now.tree) bay.now.switches }
+    requires metered { AreMetersLeafTyped (layout_of bay.now.tree) meters.now }
+    requires typed { map type_of_source reads.now
+        ≡ map type_of_point (read_only machine.old.image.points) }
+    ensures { Scans machine.old
+        (map (bound_value bay.now.tree bay.now.switches inputs.now meters.now) reads.now) now
+        machine.new result (outputs_of machine.new.image.points machine.new.slots) }
 {
     let points = ReadPoints {
         tree: &bay.tree,
@@ -68,7 +71,8 @@ impl DeviceState {
     /// Whether the last scan is fresh at a moment: nothing that it read has changed since, and it
     /// is not too old.
     pub fn is_fresh(&self, now: u64) -> bool
-        ensures { (connections : List (Option Talk)) → result ≡ spec.is_fresh now (state_view connections self.now) }
+        ensures { (connections : List (Option Talk))
+            → result ≡ spec.is_fresh now (state_view connections self.now) }
     {
         let is_recent = match self.last_scan {
             Some(scan) => now.saturating_sub(scan) <= u64::from(self.scan_max_age_ms),
@@ -79,8 +83,10 @@ impl DeviceState {
 
     /// Ends what has run out at a moment, and tells of an execution that has.
     pub fn advance(&mut self, now: u64) -> Option<Sent>
-        ensures sent { (connections : List (Option Talk)) → result ≡ ended_at now (state_view connections self.old) }
-        ensures after { (connections : List (Option Talk)) → state_view connections self.new ≡ advanced now (state_view connections self.old) }
+        ensures sent { (connections : List (Option Talk))
+            → result ≡ ended_at now (state_view connections self.old) }
+        ensures after { (connections : List (Option Talk))
+            → state_view connections self.new ≡ advanced now (state_view connections self.old) }
         ensures meters { self.new.meters ≡ self.old.meters }
         ensures layout { layout_of self.new.bay.tree ≡ layout_of self.old.bay.tree }
     {
@@ -95,14 +101,15 @@ impl DeviceState {
     /// Takes the position of the switch at a place, and tells of the execution that it ends.
     fn take_contact(&mut self, now: u64, switch: usize, position: Dbpos) -> Option<Sent>
         requires { switch < length self.old.bay.switches }
-        ensures sent { (connections : List (Option Talk)) → result ≡ reached_at switch position (state_view connections self.old) }
+        ensures sent { (connections : List (Option Talk))
+            → result ≡ reached_at switch position (state_view connections self.old) }
         ensures after { (connections : List (Option Talk)) (s : Switch)
             → slice_get (switches_of self.old.bay.switches) switch ≡ Some s
             → state_view connections self.new
             ≡ contact_taken now switch s position (state_view connections self.old) }
     {
         let changed = process::contact(&mut self.bay, now, switch, position);
-        self.is_stale |= changed;
+        self.is_stale |= value != before;
         if process::reach(&mut self.bay, switch, position) {
             reached(&mut self.due)
         } else {
@@ -117,7 +124,9 @@ impl DeviceState {
         switch: usize,
         position: Dbpos,
     ) -> Result<Option<Sent>, StepFault>
-        ensures { (connections : List (Option Talk)) → IsQuiet result (state_view connections self.new) (event_outcome None now (Contact switch position) (state_view connections self.old)) }
+        ensures { (connections : List (Option Talk))
+            → IsQuiet result (state_view connections self.new)
+            (event_outcome None now (Contact switch position) (state_view connections self.old)) }
     {
         if switch >= self.bay.switches.as_slice().len() {
             return Err(StepFault::NoSuchPoint);
@@ -129,16 +138,17 @@ impl DeviceState {
 
     /// The input at a place has a value.
     pub fn input(&mut self, now: u64, input: usize, value: bool) -> Result<Option<Sent>, StepFault>
-        ensures { (connections : List (Option Talk)) → IsQuiet result (state_view connections self.new) (event_outcome None now (Input input value) (state_view connections self.old)) }
+        ensures { (connections : List (Option Talk))
+            → IsQuiet result (state_view connections self.new)
+            (event_outcome None now (Input input value) (state_view connections self.old)) }
     {
         let before = match self.input_values.get(input) {
             Some(before) => before,
             None => return Err(StepFault::NoSuchPoint),
         };
         let over = self.advance(now);
-        let changed = !same_truth(value, before);
         self.input_values.set(input, value);
-        self.is_stale |= changed;
+        self.is_stale |= value != before;
         Ok(over)
     }
 
@@ -150,7 +160,9 @@ impl DeviceState {
         field: MeterField,
         value: i32,
     ) -> Result<Option<Sent>, StepFault>
-        ensures { (connections : List (Option Talk)) → IsQuiet result (state_view connections self.new) (event_outcome None now (Measure meter field value) (state_view connections self.old)) }
+        ensures { (connections : List (Option Talk))
+            → IsQuiet result (state_view connections self.new)
+            (event_outcome None now (Measure meter field value) (state_view connections self.old)) }
     {
         let rows = match self.meters.as_slice().get(meter) {
             Some(bound) => bound.rows,
@@ -158,16 +170,19 @@ impl DeviceState {
         };
         let over = self.advance(now);
         let changed = process::measure(&mut self.bay, now, meter, rows, field, value);
-        self.is_stale |= changed;
+        self.is_stale |= value != before;
         Ok(over)
     }
 
     /// Runs the program once on the positions, the inputs and the measures as they stand, and
     /// counts its steps.
     pub fn scan(&mut self, now: u64) -> u32
-        ensures after { (connections : List (Option Talk)) → state_view connections self.new ≡ scanned now (state_view connections self.old) }
-        ensures steps { (connections : List (Option Talk)) → result ≡ (ran_at now (state_view connections self.old)).steps }
-        ensures halts { (connections : List (Option Talk)) → Halts now (state_view connections self.old) }
+        ensures after { (connections : List (Option Talk))
+            → state_view connections self.new ≡ scanned now (state_view connections self.old) }
+        ensures steps { (connections : List (Option Talk))
+            → result ≡ (ran_at now (state_view connections self.old)).steps }
+        ensures halts { (connections : List (Option Talk))
+            → Halts now (state_view connections self.old) }
     {
         let steps = run_program(
             &mut self.machine,
@@ -185,7 +200,9 @@ impl DeviceState {
 
     /// Ends the selection of an association, which is closed, and forgets what is due to it.
     pub fn drop_owner(&mut self, association: u16)
-        ensures { (connections : List (Option Talk)) → state_view connections self.new ≡ without_owner association (state_view connections self.old) }
+        ensures { (connections : List (Option Talk))
+            → state_view connections self.new
+            ≡ without_owner association (state_view connections self.old) }
     {
         self.bay.drop_owner(association);
         forget(&mut self.due, association);

@@ -16,6 +16,10 @@ pub record SendsPart (old new : Option (List ℕ)) (given : List ℕ) : Type 0 w
 
 -- a text was added to what was pending before a writer: the writer took a front of both, and the
 -- rest is pending; or a write failed, and the writer took a front of both
-abbrev pub Puts : {W X E : Type 0} → (W → Option (List ℕ)) → List ℕ → Writing W → List ℕ → List ℕ → Writing W → Result X E → Type 0
-Puts contents pending old text left new (Ok x) = Sends (contents old.inner) (contents new.inner) (pending ++ text) left × (new.has_failed ≡ false)
-Puts contents pending old text left new (Err e) = SendsPart (contents old.inner) (contents new.inner) (pending ++ text) × (new.has_failed ≡ true)
+abbrev pub Puts : {W X E : Type 0} → (W → Option (List ℕ)) → List ℕ → Writing W → List ℕ → List ℕ
+    → Writing W → Result X E → Type 0
+Puts contents pending old text left new (Ok x) =
+    Sends (contents old.inner) (contents new.inner) (pending ++ text) left
+    × (new.has_failed ≡ false)
+Puts contents pending old text left new (Err e) =
+    SendsPart (contents old.inner) (contents new.inner) (pending ++ text) × (new.has_failed ≡ true)

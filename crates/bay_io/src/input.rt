@@ -33,7 +33,8 @@ pub fn read_all<R: Source>(
     requires { limit < 2 ^ 64 - 1 }
     ensures ok { IfOk result (λ v. IfSome (R.remaining reader.old.inner) (λ xs. v.items ≡ xs)) }
     ensures within { IfOk result (λ v. vec_len v ≤ limit) }
-    ensures too_long { result ≡ Err ReadFault.TooLong → IfSome (R.remaining reader.old.inner) (λ xs. limit < length xs) }
+    ensures too_long { result ≡ Err ReadFault.TooLong
+        → IfSome (R.remaining reader.old.inner) (λ xs. limit < length xs) }
     ensures failed { reader.new.has_failed ≡ failed_of result }
     ensures reads { reader.new.reads ≤ reader.old.reads + limit + 1 }
 {

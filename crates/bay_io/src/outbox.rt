@@ -25,8 +25,10 @@ pub struct WriteFault;
 /// Writes all of the text, or a front of it. A writer of which a write has failed is not written to
 /// again.
 fn write_out<W: Sink>(writer: &mut WatchedWriter<W>, text: &[u8]) -> Result<(), WriteFault>
-    ensures ok { OnOk result (Appends (W.contents writer.old.inner) (W.contents writer.new.inner) text.now) }
-    ensures err { OnErr result (SendsPart (W.contents writer.old.inner) (W.contents writer.new.inner) text.now) }
+    ensures ok { OnOk result
+        (Appends (W.contents writer.old.inner) (W.contents writer.new.inner) text.now) }
+    ensures err { OnErr result
+        (SendsPart (W.contents writer.old.inner) (W.contents writer.new.inner) text.now) }
     ensures fault { is_err result ≡ writer.new.has_failed }
 {
     if writer.has_failed() {
@@ -60,8 +62,10 @@ fn flush_out<W: Sink>(writer: &mut WatchedWriter<W>) -> Result<(), WriteFault>
 
 /// Writes all of the text, or a front of it, and flushes the writer.
 pub fn write_last<W: Sink>(writer: &mut WatchedWriter<W>, text: &[u8]) -> Result<(), WriteFault>
-    ensures ok { OnOk result (Appends (W.contents writer.old.inner) (W.contents writer.new.inner) text.now) }
-    ensures err { OnErr result (SendsPart (W.contents writer.old.inner) (W.contents writer.new.inner) text.now) }
+    ensures ok { OnOk result
+        (Appends (W.contents writer.old.inner) (W.contents writer.new.inner) text.now) }
+    ensures err { OnErr result
+        (SendsPart (W.contents writer.old.inner) (W.contents writer.new.inner) text.now) }
     ensures flushed { OnOk result (writer.new.is_flushed ≡ true) }
     ensures fault { is_err result ≡ writer.new.has_failed }
 {
@@ -83,7 +87,8 @@ fn keep_octets(pending: &mut ArrayVec<u8, ROOM>, text: &[u8])
 #[inline(always)]
 fn keep_short(pending: &mut ArrayVec<u8, ROOM>, text: &[u8]) -> bool
     requires { length pending.old.items ≤ 65536 }
-    ensures items { pending.new.items ≡ (if result then pending.old.items ++ text.now else pending.old.items) }
+    ensures items { pending.new.items
+        ≡ (if result then pending.old.items ++ text.now else pending.old.items) }
     ensures room { length pending.new.items ≤ 65536 }
 {
     if text.len() > SHORT {
@@ -238,8 +243,11 @@ impl Outbox {
         writer: &mut WatchedWriter<W>,
         text: &[u8],
     ) -> Result<(), WriteFault>
-        ensures ok { OnOk result (Appends (W.contents writer.old.inner) (W.contents writer.new.inner) (self ++ text.now)) }
-        ensures err { OnErr result (SendsPart (W.contents writer.old.inner) (W.contents writer.new.inner) (self ++ text.now)) }
+        ensures ok { OnOk result
+            (Appends (W.contents writer.old.inner) (W.contents writer.new.inner) (self ++ text.now)) }
+        ensures err { OnErr result
+            (SendsPart (W.contents writer.old.inner) (W.contents writer.new.inner)
+            (self ++ text.now)) }
         ensures flushed { OnOk result (writer.new.is_flushed ≡ true) }
         ensures fault { is_err result ≡ writer.new.has_failed }
     {

@@ -55,9 +55,11 @@ impl<R: Source> WatchedReader<R> {
     /// Reads once, at most as many octets as there is room for; 0 are the end.
     pub fn read(&mut self, room: &mut [u8]) -> io::Result<usize>
         ensures bound { ReadsAtMost result room.new }
-        ensures bytes { ReadConsumes (R.remaining self.old.inner) (R.remaining self.new.inner) result room.new }
+        ensures bytes { ReadConsumes (R.remaining self.old.inner) (R.remaining self.new.inner)
+            result room.new }
         // The source was read once, with this room, and gave this.
-        ensures call { R.does self.old.inner (read_call (length room.old) result room.new) self.new.inner }
+        ensures call { R.does self.old.inner (read_call (length room.old) result room.new)
+            self.new.inner }
         ensures at_most_one { self.new.reads ≤ self.old.reads + 1 }
         ensures counted { self.old.reads < 2 ^ 64 - 1 → self.new.reads ≡ self.old.reads + 1 }
         ensures failed { self.new.has_failed ≡ (self.old.has_failed || is_err result) }

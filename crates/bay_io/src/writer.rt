@@ -67,10 +67,12 @@ impl<W: Sink> WatchedWriter<W> {
     /// Writes a front of the octets at once, and answers how many.
     pub fn write(&mut self, octets: &[u8]) -> io::Result<usize>
         ensures bound { WritesAtMost result octets.now }
-        ensures bytes { WriteAppends (W.contents self.old.inner) (W.contents self.new.inner) result octets.now }
+        ensures bytes { WriteAppends (W.contents self.old.inner) (W.contents self.new.inner) result
+            octets.now }
         // The sink was offered these octets once, and took so many.
         ensures call { W.does self.old.inner (writes octets.now result) self.new.inner }
-        ensures failed { self.new.has_failed ≡ (self.old.has_failed || spec.write_fails octets.now result) }
+        ensures failed { self.new.has_failed
+            ≡ (self.old.has_failed || spec.write_fails octets.now result) }
         ensures flushed { self.new.is_flushed ≡ false }
     {
         let outcome = self.inner.write_octets(octets);
@@ -86,7 +88,8 @@ impl<W: Sink> WatchedWriter<W> {
         ensures bytes { Keeps (W.contents self.old.inner) (W.contents self.new.inner) }
         ensures call { W.does self.old.inner (flushes result) self.new.inner }
         ensures failed { self.new.has_failed ≡ (self.old.has_failed || is_err result) }
-        ensures flushed { self.new.is_flushed ≡ (if is_ok result then true else self.old.is_flushed) }
+        ensures flushed { self.new.is_flushed
+            ≡ (if is_ok result then true else self.old.is_flushed) }
     {
         let outcome = self.inner.flush_octets();
         if outcome.is_ok() {

@@ -17,7 +17,8 @@ use Rattle.bay_main.specs.declared.words.WordsFault.{WordsFault}
 use Rattle.bay_main.specs.declared.words.WordsFault.TheVariants.{OutOfMemory as ran_out}
 
 -- words with a fault ask for no job
-pub faultless_job-refused : (kinds : Kinds) (kind : ErrorKind) (job : Option JobData) → IsAmong kind kinds → faultless_job kinds job ≡ None
+pub faultless_job-refused : (kinds : Kinds) (kind : ErrorKind) (job : Option JobData)
+    → IsAmong kind kinds → faultless_job kinds job ≡ None
 faultless_job-refused [] kind job h = absurd h
 faultless_job-refused (first ∷ others) kind job h = refl
 
@@ -25,10 +26,13 @@ pub faultless_job-none : (kinds : Kinds) → faultless_job kinds None ≡ None
 faultless_job-none [] = refl
 faultless_job-none (first ∷ others) = refl
 
-refused_by_kind : (words : List Text) (error : Error) (fault : WordsFault) → (kind_of error ≡ OutOfMemory → fault ≡ ran_out)
+refused_by_kind : (words : List Text) (error : Error) (fault : WordsFault)
+    → (kind_of error ≡ OutOfMemory → fault ≡ ran_out)
     → HasKind (fault_of job_app words) error → (fault ≡ ran_out) ⊎ (job_in words ≡ None)
 refused_by_kind words error fault told (inl memory) = inl (told memory)
-refused_by_kind words error fault told (inr among) = inr (faultless_job-refused (fault_of job_app words) (kind_of error) (entered_job (subcommand_of job_app words)) among)
+refused_by_kind words error fault told (inr among) =
+    inr (faultless_job-refused (fault_of job_app words) (kind_of error)
+    (entered_job (subcommand_of job_app words)) among)
 
 is_job_app_free : is_simple_and_free job_app ≡ true
 is_job_app_free = refl
@@ -37,44 +41,67 @@ is_job_app_simple : is_simple job_app ≡ true
 is_job_app_simple = refl
 
 -- what is told of words that `clap` refuses: want of memory, or that they ask for no job
-pub refused_words : (app : App) (words : List Text) (error : Error) (fault : WordsFault) → (kind_of error ≡ OutOfMemory → fault ≡ ran_out)
-    → app ≡ job_app → (is_simple_and_free app ≡ true → HasKind (fault_of app words) error) → (fault ≡ ran_out) ⊎ (job_in words ≡ None)
+pub refused_words : (app : App) (words : List Text) (error : Error) (fault : WordsFault)
+    → (kind_of error ≡ OutOfMemory → fault ≡ ran_out)
+    → app ≡ job_app → (is_simple_and_free app ≡ true → HasKind (fault_of app words) error)
+    → (fault ≡ ran_out) ⊎ (job_in words ≡ None)
 refused_words app words error fault told is kinds =
-    let known = subst (λ (a : App). is_simple_and_free a ≡ true → HasKind (fault_of a words) error) is kinds in
+    let known =
+    subst (λ (a : App). is_simple_and_free a ≡ true → HasKind (fault_of a words) error) is kinds
+    in
     refused_by_kind words error fault told (known is_job_app_free)
 
 -- what is found of words that `clap` takes is the job that they ask for
-pub taken_words : (app : App) (words : List Text) (matches : ArgMatches) (job : Option JobData) → app ≡ job_app → HasMatchesOf app words matches
-    → (is_simple_and_free app ≡ true → fault_of app words ≡ []) → job ≡ entered_job (subcommand_rows_of matches) → job_in words ≡ job
+pub taken_words : (app : App) (words : List Text) (matches : ArgMatches) (job : Option JobData)
+    → app ≡ job_app → HasMatchesOf app words matches
+    → (is_simple_and_free app ≡ true → fault_of app words ≡ [])
+    → job ≡ entered_job (subcommand_rows_of matches) → job_in words ≡ job
 taken_words app words matches job is found faultless e =
     let known = subst (λ (a : App). HasMatchesOf a words matches) is found in
-    let none = subst (λ (a : App). is_simple_and_free a ≡ true → fault_of a words ≡ []) is faultless in
-    ap (λ kinds. faultless_job kinds (entered_job (subcommand_of job_app words))) (none is_job_app_free) ∙ ap entered_job (sym (known is_job_app_simple).1) ∙ sym e
+    let none =
+    subst (λ (a : App). is_simple_and_free a ≡ true → fault_of a words ≡ []) is faultless in
+    ap (λ kinds. faultless_job kinds (entered_job (subcommand_of job_app words)))
+    (none is_job_app_free) ∙ ap entered_job (sym (known is_job_app_simple).1) ∙ sym e
 
 -- ---- numbers
 
 -- what digits write is the number of an option where it is one from the least to the greatest
-pub number-some : (least greatest : ℕ) (text : Text) → IsNumeral 10 (without_leading_plus text) → digits_value 10 (without_leading_plus text) < 2 ^ 64
-    → least ≤ digits_value 10 (without_leading_plus text) → digits_value 10 (without_leading_plus text) ≤ greatest → number_of least greatest text ≡ Some (digits_value 10 (without_leading_plus text))
-number-some least greatest text digits fits low high = rw (Accepts-accepts false (vp.Unsigned least greatest) text (digits, fits, low, high)) refl
+pub number-some : (least greatest : ℕ) (text : Text) → IsNumeral 10 (without_leading_plus text)
+    → digits_value 10 (without_leading_plus text) < 2 ^ 64
+    → least ≤ digits_value 10 (without_leading_plus text)
+    → digits_value 10 (without_leading_plus text) ≤ greatest
+    → number_of least greatest text ≡ Some (digits_value 10 (without_leading_plus text))
+number-some least greatest text digits fits low high =
+    rw (Accepts-accepts false (vp.Unsigned least greatest) text (digits, fits, low, high)) refl
 
 -- and else there is none
-pub number-none : (least greatest : ℕ) (text : Text) → ¬ (IsNumeral 10 (without_leading_plus text) × (least ≤ digits_value 10 (without_leading_plus text)) × (digits_value 10 (without_leading_plus text) ≤ greatest))
+pub number-none : (least greatest : ℕ) (text : Text)
+    → ¬ (IsNumeral 10 (without_leading_plus text)
+    × (least ≤ digits_value 10 (without_leading_plus text))
+    × (digits_value 10 (without_leading_plus text) ≤ greatest))
     → number_of least greatest text ≡ None
 number-none least greatest text none = by_test (is_unsigned_in least greatest text) refl
   where
-    by_test : (v : Bool) → is_unsigned_in least greatest text ≡ v → number_of least greatest text ≡ None
-    by_test true e = let is = accepts-Accepts false (vp.Unsigned least greatest) text e in absurd (none (is.0, is.2, is.3))
+    by_test : (v : Bool) → is_unsigned_in least greatest text ≡ v
+        → number_of least greatest text ≡ None
+    by_test true e = let is = accepts-Accepts false (vp.Unsigned least greatest) text e in
+        absurd (none (is.0, is.2, is.3))
     by_test false e = rw e refl
 
 -- the number that is read of a text, by what std's `parse` answers at a type of so many bits
-pub parsed-number : (bits least greatest : ℕ) (text : Text) (r : Result ℕ ParseIntError) → ParsesUnsigned bits 10 text r → greatest + 1 ≡ 2 ^ bits → 2 ^ bits ≤ 2 ^ 64
+pub parsed-number : (bits least greatest : ℕ) (text : Text) (r : Result ℕ ParseIntError)
+    → ParsesUnsigned bits 10 text r → greatest + 1 ≡ 2 ^ bits → 2 ^ bits ≤ 2 ^ 64
     → (n : ℕ) → result_ok r ≡ Some n → least ≤ n → number_of least greatest text ≡ Some n
 parsed-number bits least greatest text (Ok m) parsed top within n e low =
     let same : m ≡ n = cc in
-    number-some least greatest text parsed.0.0 (omega (arith, parsed.0.1, within)) (omega (arith, low, same, parsed.1)) (omega (arith, parsed.0.1, top)) ∙ ap Some (sym parsed.1 ∙ same)
+    number-some least greatest text parsed.0.0 (omega (arith, parsed.0.1, within))
+    (omega (arith, low, same, parsed.1)) (omega (arith, parsed.0.1, top))
+    ∙ ap Some (sym parsed.1 ∙ same)
 parsed-number bits least greatest text (Err fault) parsed top within n e low = absurd cc
 
-pub unparsed-number : (bits least greatest : ℕ) (text : Text) (r : Result ℕ ParseIntError) → ParsesUnsigned bits 10 text r → greatest + 1 ≡ 2 ^ bits → result_ok r ≡ None → number_of least greatest text ≡ None
+pub unparsed-number : (bits least greatest : ℕ) (text : Text) (r : Result ℕ ParseIntError)
+    → ParsesUnsigned bits 10 text r → greatest + 1 ≡ 2 ^ bits → result_ok r ≡ None
+    → number_of least greatest text ≡ None
 unparsed-number bits least greatest text (Ok m) parsed top e = absurd cc
-unparsed-number bits least greatest text (Err fault) parsed top e = number-none least greatest text (λ is. parsed (is.0, omega (arith, is.2, top)))
+unparsed-number bits least greatest text (Err fault) parsed top e =
+    number-none least greatest text (λ is. parsed (is.0, omega (arith, is.2, top)))

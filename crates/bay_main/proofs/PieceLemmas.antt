@@ -10,7 +10,8 @@ use Rattle.bay_main.specs.Scenario.{is_line_feed, pieces, ends_with, without_end
 feed_first : (b : ℕ) (bs : List ℕ) → is_line_feed b ≡ true → pieces (b ∷ bs) ≡ (b ∷ []) ∷ pieces bs
 feed_first b bs e = ap (λ v. cond v ((b ∷ []) ∷ pieces bs) (onto_first b (pieces bs))) e
 
-other_first : (b : ℕ) (bs : List ℕ) → is_line_feed b ≡ false → pieces (b ∷ bs) ≡ onto_first b (pieces bs)
+other_first : (b : ℕ) (bs : List ℕ) → is_line_feed b ≡ false
+    → pieces (b ∷ bs) ≡ onto_first b (pieces bs)
 other_first b bs e = ap (λ v. cond v ((b ∷ []) ∷ pieces bs) (onto_first b (pieces bs))) e
 
 last_alone : (b : ℕ) (v : Bool) → cond v ((b ∷ []) ∷ []) (onto_first b []) ≡ (b ∷ []) ∷ []
@@ -28,7 +29,8 @@ pieces_at (b ∷ c ∷ cs) zero w f t = feed_first b (c ∷ cs) (t (omega arith)
 pieces_at (b ∷ []) (suc n) w f t = absurd (omega arith)
 pieces_at (b ∷ c ∷ cs) (suc n) w f t =
     other_first b (c ∷ cs) (f 0 (omega arith))
-    ∙ ap (onto_first b) (pieces_at (c ∷ cs) n (omega arith) (λ k h. f (suc k) (omega arith)) (λ h. t (omega arith)))
+    ∙ ap (onto_first b) (pieces_at (c ∷ cs) n (omega arith) (λ k h. f (suc k) (omega arith))
+    (λ h. t (omega arith)))
 
 pub cuts_line : (xs line : List ℕ) (n : ℕ) → 0 < n → n ≤ length xs
     → ((k : ℕ) → k + 1 < n → is_line_feed (get_or xs k 0) ≡ false)
@@ -39,57 +41,77 @@ cuts_line xs line (suc n) some w f t e =
     record {
       piece = take (suc n) xs;
       whole = sym (take-append-drop (suc n) xs);
-      first = pieces_at xs n w (λ k h. f k (omega arith)) (λ h. let same : suc n - 1 ≡ n = omega arith in ap (λ m. is_line_feed (get_or xs m 0)) (sym same) ∙ t h);
+      first = pieces_at xs n w (λ k h. f k (omega arith))
+          (λ h. let same : suc n - 1 ≡ n = omega arith in
+          ap (λ m. is_line_feed (get_or xs m 0)) (sym same) ∙ t h);
       line_is = e;
     }
 
 -- a line feed at the end of a line is taken off, and then a carriage return
 fed-end : (zs : List ℕ) → drop (length (zs ++ 10 ∷ []) - 1) (zs ++ 10 ∷ []) ≡ 10 ∷ []
-fed-end zs = let n : length (zs ++ 10 ∷ []) - 1 ≡ length zs = omega (arith, length-append zs (10 ∷ [])) in ap (λ k. drop k (zs ++ 10 ∷ [])) n ∙ drop-append_seam zs (10 ∷ [])
+fed-end zs = let n : length (zs ++ 10 ∷ []) - 1 ≡ length zs =
+    omega (arith, length-append zs (10 ∷ [])) in
+    ap (λ k. drop k (zs ++ 10 ∷ [])) n ∙ drop-append_seam zs (10 ∷ [])
 
 fed-front : (zs : List ℕ) → take (length (zs ++ 10 ∷ []) - 1) (zs ++ 10 ∷ []) ≡ zs
-fed-front zs = let n : length (zs ++ 10 ∷ []) - 1 ≡ length zs = omega (arith, length-append zs (10 ∷ [])) in ap (λ k. take k (zs ++ 10 ∷ [])) n ∙ take-append_seam zs (10 ∷ [])
+fed-front zs = let n : length (zs ++ 10 ∷ []) - 1 ≡ length zs =
+    omega (arith, length-append zs (10 ∷ [])) in
+    ap (λ k. take k (zs ++ 10 ∷ [])) n ∙ take-append_seam zs (10 ∷ [])
 
-pub content-fed : (zs : List ℕ) (b : ℕ) → is_line_feed b ≡ true → content (zs ++ b ∷ []) ≡ without_end (13 ∷ []) zs
+pub content-fed : (zs : List ℕ) (b : ℕ) → is_line_feed b ≡ true
+    → content (zs ++ b ∷ []) ≡ without_end (13 ∷ []) zs
 content-fed zs b is =
     let feed : b ≡ 10 = grind (arith, nat_tests) in
     rw (feed, fed-end zs, fed-front zs) refl
 
 -- a line without one is all of it
-pub content-unfed : (xs : List ℕ) → 0 < length xs → is_line_feed (get_or xs (length xs - 1) 0) ≡ false → content xs ≡ xs
+pub content-unfed : (xs : List ℕ) → 0 < length xs
+    → is_line_feed (get_or xs (length xs - 1) 0) ≡ false → content xs ≡ xs
 content-unfed xs some none = by_test (ends_with (10 ∷ []) xs) refl
   where
     by_test : (v : Bool) → ends_with (10 ∷ []) xs ≡ v → content xs ≡ xs
     by_test true e =
-        let end : drop (length xs - 1) xs ≡ 10 ∷ [] = (bytes_eq-Decides (drop (length xs - 1) xs) (10 ∷ [])).0 e in
+        let end : drop (length xs - 1) xs ≡ 10 ∷ [] =
+        (bytes_eq-Decides (drop (length xs - 1) xs) (10 ∷ [])).0 e in
         let same : length xs - 1 ≡ length xs - 1 + 0 = omega arith in
-        let last : get_or xs (length xs - 1) 0 ≡ 10 = ap (λ k. get_or xs k 0) same ∙ sym (get_or-drop (length xs - 1) xs 0 0) ∙ ap (λ l. get_or l 0 0) end in
+        let last : get_or xs (length xs - 1) 0 ≡ 10 =
+        ap (λ k. get_or xs k 0) same ∙ sym (get_or-drop (length xs - 1) xs 0 0)
+        ∙ ap (λ l. get_or l 0 0) end in
         let is : is_line_feed (get_or xs (length xs - 1) 0) ≡ true = ap is_line_feed last in
         absurd cc
     by_test false e = rw e refl
 
 -- what stands before the first line feed is the first line, and what follows it the rest
-pub cuts_fed : (xs line : List ℕ) (at : ℕ) → at < length xs → ((k : ℕ) → k < at → is_line_feed (get_or xs k 0) ≡ false) → is_line_feed (get_or xs at 0) ≡ true
+pub cuts_fed : (xs line : List ℕ) (at : ℕ) → at < length xs
+    → ((k : ℕ) → k < at → is_line_feed (get_or xs k 0) ≡ false)
+    → is_line_feed (get_or xs at 0) ≡ true
     → line ≡ without_end (13 ∷ []) (take at xs) → CutsLine xs line (drop (at + 1) xs)
 cuts_fed xs line at lt before is e =
     let next : at + 1 ≡ suc at = omega arith in
-    let front : take (at + 1) xs ≡ take at xs ++ (get_or xs at 0 ∷ []) = ap (λ n. take n xs) next ∙ take-suc xs at 0 lt in
+    let front : take (at + 1) xs ≡ take at xs ++ (get_or xs at 0 ∷ []) =
+    ap (λ n. take n xs) next ∙ take-suc xs at 0 lt in
     let same : at + 1 - 1 ≡ at = omega arith in
-    cuts_line xs line (at + 1) (omega arith) (omega (arith, lt)) (λ k h. before k (omega (arith, h))) (λ h. ap (λ m. is_line_feed (get_or xs m 0)) same ∙ is)
+    cuts_line xs line (at + 1) (omega arith) (omega (arith, lt))
+    (λ k h. before k (omega (arith, h))) (λ h. ap (λ m. is_line_feed (get_or xs m 0)) same ∙ is)
     (e ∙ sym (ap content front ∙ content-fed (take at xs) (get_or xs at 0) is))
 
 -- without a line feed there is one line
-pub cuts_unfed : (xs : List ℕ) → 0 < length xs → ((k : ℕ) → k < length xs → is_line_feed (get_or xs k 0) ≡ false) → CutsLine xs xs (drop (length xs) xs)
+pub cuts_unfed : (xs : List ℕ) → 0 < length xs
+    → ((k : ℕ) → k < length xs → is_line_feed (get_or xs k 0) ≡ false)
+    → CutsLine xs xs (drop (length xs) xs)
 cuts_unfed xs some none =
     let whole : take (length xs) xs ≡ xs = take_all (length xs) xs (omega arith) in
-    let last : is_line_feed (get_or xs (length xs - 1) 0) ≡ false = none (length xs - 1) (omega (arith, some)) in
-    cuts_line xs xs (length xs) some (omega arith) (λ k h. none k (omega (arith, h))) (λ h. absurd (omega (arith, h))) (sym (ap content whole ∙ content-unfed xs some last))
+    let last : is_line_feed (get_or xs (length xs - 1) 0) ≡ false =
+    none (length xs - 1) (omega (arith, some)) in
+    cuts_line xs xs (length xs) some (omega arith) (λ k h. none k (omega (arith, h)))
+    (λ h. absurd (omega (arith, h))) (sym (ap content whole ∙ content-unfed xs some last))
 
 concat-onto_first : (b : ℕ) (ps : List (List ℕ)) → concat (onto_first b ps) ≡ b ∷ concat ps
 concat-onto_first b [] = refl
 concat-onto_first b (p ∷ ps) = refl
 
-concat_step : (b : ℕ) (bs : List ℕ) (v : Bool) → concat (pieces bs) ≡ bs → concat (cond v ((b ∷ []) ∷ pieces bs) (onto_first b (pieces bs))) ≡ b ∷ bs
+concat_step : (b : ℕ) (bs : List ℕ) (v : Bool) → concat (pieces bs) ≡ bs
+    → concat (cond v ((b ∷ []) ∷ pieces bs) (onto_first b (pieces bs))) ≡ b ∷ bs
 concat_step b bs true h = ap (λ l. b ∷ l) h
 concat_step b bs false h = concat-onto_first b (pieces bs) ∙ ap (λ l. b ∷ l) h
 
@@ -98,7 +120,8 @@ pub concat-pieces : (bs : List ℕ) → concat (pieces bs) ≡ bs
 concat-pieces [] = refl
 concat-pieces (b ∷ bs) = concat_step b bs (is_line_feed b) (concat-pieces bs)
 
-pub lines_of-cut : (xs line rest : List ℕ) → CutsLine xs line rest → lines_of xs ≡ line ∷ lines_of rest
+pub lines_of-cut : (xs line rest : List ℕ) → CutsLine xs line rest
+    → lines_of xs ≡ line ∷ lines_of rest
 lines_of-cut xs line rest c = ap (map content) c.first ∙ ap (λ l. l ∷ lines_of rest) (sym c.line_is)
 
 -- a part goes on with what was taken before it
@@ -109,19 +132,24 @@ pub after-nil : (parts : Option (List ℕ × List ℕ)) → parts ≡ after [] p
 after-nil None = refl
 after-nil (Some p) = refl
 
-after-after : (xs ys : List ℕ) (parts : Option (List ℕ × List ℕ)) → after xs (after ys parts) ≡ after (xs ++ ys) parts
+after-after : (xs ys : List ℕ) (parts : Option (List ℕ × List ℕ))
+    → after xs (after ys parts) ≡ after (xs ++ ys) parts
 after-after xs ys None = refl
 after-after xs ys (Some p) = ap (λ l. Some (l, p.1)) (sym (append_assoc xs ys p.0))
 
-separator_first : (before piece rest : List ℕ) → is_separator (content piece) ≡ true → after before (part_of (piece ∷ pieces rest)) ≡ Some (before, rest)
+separator_first : (before piece rest : List ℕ) → is_separator (content piece) ≡ true
+    → after before (part_of (piece ∷ pieces rest)) ≡ Some (before, rest)
 separator_first before piece rest e =
-    ap (λ w. after before (cond w (Some ([], concat (pieces rest))) (after piece (part_of (pieces rest))))) e
-    ∙ ap (λ l. Some (before ++ [], l)) (concat-pieces rest) ∙ ap (λ l. Some (l, rest)) (append-nil before)
+    ap (λ w. after before (cond w (Some ([], concat (pieces rest)))
+    (after piece (part_of (pieces rest))))) e
+    ∙ ap (λ l. Some (before ++ [], l)) (concat-pieces rest)
+    ∙ ap (λ l. Some (l, rest)) (append-nil before)
 
 other_line_first : (before piece rest : List ℕ) → is_separator (content piece) ≡ false
     → after before (part_of (piece ∷ pieces rest)) ≡ after (before ++ piece) (part_of (pieces rest))
 other_line_first before piece rest e =
-    ap (λ w. after before (cond w (Some ([], concat (pieces rest))) (after piece (part_of (pieces rest))))) e
+    ap (λ w. after before (cond w (Some ([], concat (pieces rest)))
+    (after piece (part_of (pieces rest))))) e
     ∙ after-after before piece (part_of (pieces rest))
 
 -- the lines before the rest are no separators
@@ -132,31 +160,49 @@ pub record PartSoFar (text rest : List ℕ) (taken : ℕ) : Type 0 where
   pub parts : part_of (pieces text) ≡ after before (part_of (pieces rest))
 
 pub PartSoFar-start : (text : List ℕ) → PartSoFar text text 0
-PartSoFar-start text = record { before = []; whole = refl; counted = refl; parts = after-nil (part_of (pieces text)) }
+PartSoFar-start text =
+    record { before = []; whole = refl; counted = refl; parts = after-nil (part_of (pieces text)) }
 
-pub PartSoFar-step : (text rest line next : List ℕ) (taken : ℕ) → PartSoFar text rest taken → CutsLine rest line next → is_separator line ≡ false
+pub PartSoFar-step : (text rest line next : List ℕ) (taken : ℕ) → PartSoFar text rest taken
+    → CutsLine rest line next → is_separator line ≡ false
     → PartSoFar text next (taken + (length rest - length next))
 PartSoFar-step text rest line next taken p c e =
     record {
       before = p.before ++ c.piece;
       whole = p.whole ∙ ap (λ l. p.before ++ l) c.whole ∙ sym (append_assoc p.before c.piece next);
-      counted = omega (arith, p.counted, length-append p.before c.piece, ap length c.whole, length-append c.piece next);
-      parts = p.parts ∙ ap (λ ps. after p.before (part_of ps)) c.first ∙ other_line_first p.before c.piece next (ap is_separator (sym c.line_is) ∙ e);
+      counted =
+          omega (
+            arith,
+            p.counted,
+            length-append p.before c.piece,
+            ap length c.whole,
+            length-append c.piece next,
+          );
+      parts = p.parts ∙ ap (λ ps. after p.before (part_of ps)) c.first
+          ∙ other_line_first p.before c.piece next (ap is_separator (sym c.line_is) ∙ e);
     }
 
-pub PartSoFar-end : (text rest line next : List ℕ) (taken : ℕ) → PartSoFar text rest taken → CutsLine rest line next → is_separator line ≡ true
+pub PartSoFar-end : (text rest line next : List ℕ) (taken : ℕ) → PartSoFar text rest taken
+    → CutsLine rest line next → is_separator line ≡ true
     → part_of (pieces text) ≡ Some (take taken text, next)
 PartSoFar-end text rest line next taken p c e =
-    let front : take taken text ≡ p.before = ap (λ n. take n text) (sym p.counted) ∙ ap (take (length p.before)) p.whole ∙ take-append_seam p.before rest in
-    p.parts ∙ ap (λ ps. after p.before (part_of ps)) c.first ∙ separator_first p.before c.piece next (ap is_separator (sym c.line_is) ∙ e)
+    let front : take taken text ≡ p.before =
+    ap (λ n. take n text) (sym p.counted) ∙ ap (take (length p.before)) p.whole
+    ∙ take-append_seam p.before rest in
+    p.parts ∙ ap (λ ps. after p.before (part_of ps)) c.first
+    ∙ separator_first p.before c.piece next (ap is_separator (sym c.line_is) ∙ e)
     ∙ ap (λ l. Some (l, next)) (sym front)
 
-pub PartSoFar-none : (text rest : List ℕ) (taken : ℕ) → PartSoFar text rest taken → length rest ≡ 0 → part_of (pieces text) ≡ None
+pub PartSoFar-none : (text rest : List ℕ) (taken : ℕ) → PartSoFar text rest taken → length rest ≡ 0
+    → part_of (pieces text) ≡ None
 PartSoFar-none text [] taken p e = p.parts
 PartSoFar-none text (b ∷ rest) taken p e = absurd (omega arith)
 
-pub PartSoFar-length : (text rest : List ℕ) (taken : ℕ) → PartSoFar text rest taken → taken + length rest ≡ length text
-PartSoFar-length text rest taken p = omega (arith, p.counted, ap length p.whole, length-append p.before rest)
+pub PartSoFar-length : (text rest : List ℕ) (taken : ℕ) → PartSoFar text rest taken
+    → taken + length rest ≡ length text
+PartSoFar-length text rest taken p =
+    omega (arith, p.counted, ap length p.whole, length-append p.before rest)
 
-pub CutsLine-length : (text line rest : List ℕ) → CutsLine text line rest → length rest ≤ length text
+pub CutsLine-length : (text line rest : List ℕ) → CutsLine text line rest
+    → length rest ≤ length text
 CutsLine-length text line rest c = omega (arith, ap length c.whole, length-append c.piece rest)

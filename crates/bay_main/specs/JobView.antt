@@ -3,6 +3,7 @@ use Rattle.std.specs.Prelude.{string_bytes, option_map}
 use Rattle.bay_main.specs.declared.words.Job.{Job}
 use Rattle.bay_main.specs.Jobs.{JobData}
 
+-- a job, as definitions see it
 abbrev pub job_view : Job → JobData
 job_view job = record {
   verb = job.verb;

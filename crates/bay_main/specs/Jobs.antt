@@ -20,7 +20,8 @@ needed_rule name = record (file_rule name) { required = true }
 
 -- `--NAME N`, a number from the least to the greatest, which has to be there
 abbrev pub number_rule : Text → ℕ → ℕ → Rule
-number_rule name least greatest = record (needed_rule name) { parser = Some (vp.Unsigned least greatest) }
+number_rule name least greatest =
+    record (needed_rule name) { parser = Some (vp.Unsigned least greatest) }
 
 -- `[--logic F] [--image F]`
 abbrev pub with_program : App → App
@@ -35,23 +36,34 @@ check_app = with_program (with_rule (new_app (codes "check")) (needed_rule (code
 abbrev pub serve_app : App
 serve_app =
     let named = with_program (with_rule (new_app (codes "serve")) (needed_rule (codes "bay"))) in
-    with_rule (with_rule (with_rule named (number_rule (codes "port") 1 65535)) (number_rule (codes "turns") 0 4294967295)) (file_rule (codes "trace"))
+    with_rule (with_rule (with_rule named (number_rule (codes "port") 1 65535))
+    (number_rule (codes "turns") 0 4294967295)) (file_rule (codes "trace"))
 
+-- the words of `replay`
 abbrev pub replay_app : App
 replay_app = new_app (codes "replay")
 
 -- `compile --bay F --logic F --out F`
 abbrev pub compile_app : App
-compile_app = with_rule (with_rule (with_rule (new_app (codes "compile")) (needed_rule (codes "bay"))) (needed_rule (codes "logic"))) (needed_rule (codes "out"))
+compile_app =
+    with_rule (with_rule (with_rule (new_app (codes "compile")) (needed_rule (codes "bay")))
+    (needed_rule (codes "logic"))) (needed_rule (codes "out"))
 
 -- a verb has to be there; with no word at all the answer is the help
 abbrev pub program_app : App
 program_app =
     let named = new_app (codes "bayctl") in
-    record named { top = record named.top { no_binary_name = true; subcommand_required = true; arg_required_else_help = true } }
+    record named {
+      top = record named.top
+          { no_binary_name = true; subcommand_required = true; arg_required_else_help = true };
+    }
 
+-- the program with all its commands
 abbrev pub job_app : App
-job_app = with_subcommand (with_subcommand (with_subcommand (with_subcommand program_app check_app.top) replay_app.top) serve_app.top) compile_app.top
+job_app =
+    with_subcommand (with_subcommand
+    (with_subcommand (with_subcommand program_app check_app.top) replay_app.top) serve_app.top)
+    compile_app.top
 
 -- what is to be done, the files that were named, and the numbers that were given
 pub record JobData : Type 0 where
@@ -80,6 +92,7 @@ has_files Replay job = true
 has_files Serve job = has_program job && (is_some job.port && is_some job.turns)
 has_files Compile job = is_some job.bay && (is_some job.logic && is_some job.out)
 
+-- the job has the files that its command wants
 abbrev pub is_whole : JobData → Bool
 is_whole job = has_files job.verb job
 
@@ -98,7 +111,9 @@ verb_of name =
 -- the number that decimal digits write, before which a plus may stand, from the least to the
 -- greatest
 abbrev pub number_of : ℕ → ℕ → Text → Option ℕ
-number_of least greatest text = if is_unsigned_in least greatest text then Some (digits_value 10 (without_leading_plus text)) else None
+number_of least greatest text =
+    if is_unsigned_in least greatest text then Some (digits_value 10 (without_leading_plus text))
+    else None
 
 -- a verb with the values of its options
 abbrev pub with_options : List Row → Verb → JobData

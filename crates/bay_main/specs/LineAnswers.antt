@@ -37,7 +37,8 @@ switch_part s k (Some switch) = switch_text switch.id (may_open s k) (may_close 
 -- the parts on switches, from place k on
 abbrev pub switches_text : State → ℕ → List Switch → List ℕ
 switches_text s k [] = []
-switches_text s k (switch ∷ switches) = switch_part s k (Some switch) ++ switches_text s (k + 1) switches
+switches_text s k (switch ∷ switches) =
+    switch_part s k (Some switch) ++ switches_text s (k + 1) switches
 
 -- how the line of a scan begins: the moment, and the number of instructions that were executed
 abbrev pub steps_text : ℕ → ℕ → List ℕ
@@ -56,12 +57,14 @@ ran_text now (Some steps) s = scan_text now steps s
 
 -- the association that octets are sent to, and the octets
 abbrev pub octets_text : Sent → List ℕ
-octets_text sent = (decimal sent.association ++ codes " ") ++ (encode_lower sent.octets ++ codes "\n")
+octets_text sent =
+    (decimal sent.association ++ codes " ") ++ (encode_lower sent.octets ++ codes "\n")
 
 -- the line of octets that are sent
 abbrev pub send_text : ℕ → Sent → List ℕ
 send_text now sent = (decimal now ++ codes " send ") ++ octets_text sent
 
+-- a line for each PDU that is sent
 abbrev pub sends_text : ℕ → List Sent → List ℕ
 sends_text now [] = []
 sends_text now (sent ∷ more) = send_text now sent ++ sends_text now more
@@ -71,6 +74,7 @@ abbrev pub ended_text : ℕ → Option Sent → List ℕ
 ended_text now None = []
 ended_text now (Some sent) = send_text now sent
 
+-- the position that is commanded
 abbrev pub order_text : Bool → List ℕ
 order_text on = if on then codes " on\n" else codes " off\n"
 
@@ -85,6 +89,7 @@ command_part now on (Some switch) = command_line now switch.id on
 abbrev pub command_text : ℕ → State → Command → List ℕ
 command_text now s command = command_part now command.on (slice_get s.switches command.switch)
 
+-- a line for each command
 abbrev pub commands_text : ℕ → State → List Command → List ℕ
 commands_text now s [] = []
 commands_text now s (command ∷ more) = command_text now s command ++ commands_text now s more
@@ -97,8 +102,10 @@ why_text Memory = codes "memory\n"
 
 -- the line of an association that the device has closed
 abbrev pub closing_text : ℕ → ℕ → Why → List ℕ
-closing_text now a why = (decimal now ++ codes " closed ") ++ ((decimal a ++ codes " ") ++ why_text why)
+closing_text now a why =
+    (decimal now ++ codes " closed ") ++ ((decimal a ++ codes " ") ++ why_text why)
 
+-- the line of an association that was closed
 abbrev pub closed_text : ℕ → Option (ℕ × Why) → List ℕ
 closed_text now None = []
 closed_text now (Some closed) = closing_text now closed.0 closed.1
@@ -114,7 +121,9 @@ refusal_line now code = (decimal now ++ codes " refused ") ++ (decimal code ++ c
 abbrev pub done_text : ℕ → Step → State → List ℕ
 done_text now step s =
     ended_text now step.ended
-    ++ (sends_text now step.sent ++ (commands_text now s step.commands ++ (ran_text now step.scan s ++ closed_text now step.closed)))
+    ++ (sends_text now step.sent
+    ++ (commands_text now s step.commands
+    ++ (ran_text now step.scan s ++ closed_text now step.closed)))
 
 -- what is printed for an event
 abbrev pub step_text : ℕ → Result Step StepFault → State → List ℕ
@@ -144,7 +153,11 @@ pub data Choice : Type 0 where
 abbrev pub event_answer : Option ℕ → ℕ → Event → ℕ → Replaying → LineAnswer
 event_answer choice now event count r =
     let done = outcome choice now event r.device in
-    record { text = step_text now done.answer done.after; is_last = false; after = record { device = done.after; room = max r.room count } }
+    record {
+      text = step_text now done.answer done.after;
+      is_last = false;
+      after = record { device = done.after; room = max r.room count };
+    }
 
 -- There is no memory for a line's octets, of which there are more than in any line before.
 abbrev pub memory_answer : Replaying → LineAnswer
@@ -154,9 +167,13 @@ memory_answer r = record { text = codes "fault memory\n"; is_last = true; after 
 -- for
 abbrev pub named_answer : Choice → ℕ → NamedData → Replaying → LineAnswer
 named_answer unread now event r =
-    if nat_lt r.room (count_of event) then memory_answer r else event_answer None now (placed_event r.device event) (count_of event) r
-named_answer (heard choice) now event r = event_answer choice now (placed_event r.device event) (count_of event) r
+    if nat_lt r.room (count_of event)
+    then memory_answer r
+    else event_answer None now (placed_event r.device event) (count_of event) r
+named_answer (heard choice) now event r =
+    event_answer choice now (placed_event r.device event) (count_of event) r
 
+-- the line of an event that is not understood
 abbrev pub unreadable_text : ℕ → List ℕ
 unreadable_text k = codes "fault 120 line " ++ (decimal k ++ codes "\n")
 

@@ -32,7 +32,10 @@ refusal_of (Refused code line) = numbered_refusal code line
 -- most, and how many instructions a scan executes at most
 abbrev pub report_text : Report → List ℕ
 report_text report =
-    codes "instructions=" ++ (decimal report.instructions ++ (codes " depth=" ++ (decimal report.depth ++ (codes " budget=" ++ (decimal report.budget ++ codes "\n")))))
+    codes "instructions=" ++
+    (decimal report.instructions
+    ++ (codes " depth=" ++ (decimal report.depth
+    ++ (codes " budget=" ++ (decimal report.budget ++ codes "\n")))))
 
 abbrev pub ran_out : List ℕ → ℕ → Type 0
 ran_out text status = (text ≡ codes "fault memory\n") × (status ≡ 3)
@@ -44,17 +47,22 @@ abbrev pub TraceReport : Replaying → ℕ → List (List ℕ) → List ℕ → 
 TraceReport r k [] text status = (text ≡ []) × (status ≡ 0)
 TraceReport r k (line ∷ lines) text status =
     (choice : Choice) × (let answer = line_answer choice k (trace_line_of line) r in
-    MatchBool answer.is_last ((text ≡ answer.text) × (status ≡ 3)) ((rest : List ℕ) × (text ≡ answer.text ++ rest) × TraceReport answer.after (k + 1) lines rest status))
+    MatchBool answer.is_last ((text ≡ answer.text) × (status ≡ 3))
+    ((rest : List ℕ) × (text ≡ answer.text ++ rest)
+    × TraceReport answer.after (k + 1) lines rest status))
 
 -- a line, and behind it the text and the status of a device's trace; there is no room for octets at
 -- first
 abbrev pub HeadReport : List ℕ → State → List (List ℕ) → List ℕ → ℕ → Type 0
 HeadReport head s lines text status =
-    (rest : List ℕ) × (text ≡ head ++ rest) × TraceReport (record { device = s; room = 0 }) 1 lines rest status
+    (rest : List ℕ) × (text ≡ head ++ rest)
+    × TraceReport (record { device = s; room = 0 }) 1 lines rest status
 
 -- the text and the status of a device and its trace
 abbrev pub DeviceReport : State → List (List ℕ) → List ℕ → ℕ → Type 0
-DeviceReport s lines text status = (report : Report) × IsReportOf s.machine.image report × HeadReport (report_text report) s lines text status
+DeviceReport s lines text status =
+    (report : Report) × IsReportOf s.machine.image report
+    × HeadReport (report_text report) s lines text status
 
 -- the text and the status of a refused load
 abbrev pub Refuses : LoadFault → List ℕ → ℕ → Type 0
@@ -75,15 +83,19 @@ LoadReport (Ok device) trace text status = DeviceReport device (lines_of trace) 
 
 -- the text and the status of a bay file, a program and a trace; their load may want memory
 abbrev pub LoadsReport : ScenarioParts → List ℕ → ℕ → Type 0
-LoadsReport parts text status = LoadReport (load_of parts.bay parts.logic) parts.trace text status ⊎ Refuses OutOfMemory text status
+LoadsReport parts text status = LoadReport (load_of parts.bay parts.logic) parts.trace text status
+    ⊎ Refuses OutOfMemory text status
 
 -- the text and the status of a report; its line may want memory
 abbrev pub MayTell : Report → List ℕ → ℕ → Type 0
-MayTell report text status = ((text ≡ report_text report) × (status ≡ 0)) ⊎ Refuses OutOfMemory text status
+MayTell report text status =
+    ((text ≡ report_text report) × (status ≡ 0)) ⊎ Refuses OutOfMemory text status
 
 -- the text and the status of a device alone
 abbrev pub Accepts : State → List ℕ → ℕ → Type 0
-Accepts s text status = (report : Report) × IsReportOf s.machine.image report × (text ≡ report_text report) × (status ≡ 0)
+Accepts s text status =
+    (report : Report) × IsReportOf s.machine.image report × (text ≡ report_text report)
+    × (status ≡ 0)
 
 -- the text and the status of a load alone
 abbrev pub LoadedReport : Result State LoadFault → List ℕ → ℕ → Type 0
@@ -93,7 +105,8 @@ LoadedReport (Ok device) text status = Accepts device text status
 -- the text and the status of a bay file and a program or an image; their load may want memory
 abbrev pub CheckReport : List ℕ → Form → List ℕ → List ℕ → ℕ → Type 0
 CheckReport bay form program text status =
-    ((loaded : Result State LoadFault) × LoadsTo bay form program loaded × LoadedReport loaded text status) ⊎ Refuses OutOfMemory text status
+    ((loaded : Result State LoadFault) × LoadsTo bay form program loaded
+    × LoadedReport loaded text status) ⊎ Refuses OutOfMemory text status
 
 -- the text and the status of a scenario's parts
 abbrev pub PartsReport : Option ScenarioParts → List ℕ → ℕ → Type 0
@@ -108,16 +121,21 @@ IsReport scenario text status = PartsReport (scenario_of scenario) text status
 -- where there was too much; or that memory ran out
 abbrev pub ReadReport : Option (List ℕ) → List ℕ → ℕ → Type 0
 ReadReport input text status =
-    ((scenario : List ℕ) × IfSome input (λ octets. scenario ≡ octets) × (length scenario ≤ scenario_limit) × IsReport scenario text status)
-    ⊎ (((text ≡ codes "fault 121\n") × (status ≡ 3) × IfSome input (λ octets. scenario_limit < length octets))
+    ((scenario : List ℕ) × IfSome input (λ octets. scenario ≡ octets)
+    × (length scenario ≤ scenario_limit) × IsReport scenario text status)
+    ⊎ (((text ≡ codes "fault 121\n") × (status ≡ 3)
+    × IfSome input (λ octets. scenario_limit < length octets))
     ⊎ ran_out text status)
 
 -- the text and the status for what a reader had; a fault exactly where a read failed
 abbrev pub IsReplay : Option (List ℕ) → Bool → List ℕ → ℕ → Type 0
-IsReplay input has_failed text status = MatchBool has_failed ((text ≡ codes "fault 121\n") × (status ≡ 3)) (ReadReport input text status)
+IsReplay input has_failed text status =
+    MatchBool has_failed ((text ≡ codes "fault 121\n") × (status ≡ 3))
+    (ReadReport input text status)
 
 -- the writer took a whole text of those that may be printed
-pub record Reports (May : List ℕ → ℕ → Type 0) (old new : Option (List ℕ)) (status : ℕ) : Type 0 where
+pub record Reports (May : List ℕ → ℕ → Type 0) (old new : Option (List ℕ)) (status : ℕ)
+    : Type 0 where
   pub text : List ℕ
   pub told : May text status
   pub appended : Appends old new text
@@ -135,15 +153,20 @@ IsLast last answered text status = (text ≡ last) × (status ≡ answered)
 
 -- a replay answers the status of a text that may be printed, after all of it reached the writer and
 -- was flushed; or a write or a flush failed, and the writer took a front of such a text
-abbrev pub Prints : {W : Type 0} → (W → Option (List ℕ)) → (List ℕ → ℕ → Type 0) → Writing W → Writing W → Result ℕ WriteFault → Type 0
+abbrev pub Prints : {W : Type 0} → (W → Option (List ℕ)) → (List ℕ → ℕ → Type 0) → Writing W
+    → Writing W → Result ℕ WriteFault → Type 0
 Prints contents May old new (Ok status) =
-    Reports May (contents old.inner) (contents new.inner) status × ((new.has_failed ≡ false) × (new.is_flushed ≡ true))
-Prints contents May old new (Err fault) = ReportsPart May (contents old.inner) (contents new.inner) × (new.has_failed ≡ true)
+    Reports May (contents old.inner) (contents new.inner) status
+    × ((new.has_failed ≡ false) × (new.is_flushed ≡ true))
+Prints contents May old new (Err fault) =
+    ReportsPart May (contents old.inner) (contents new.inner) × (new.has_failed ≡ true)
 
 -- a scenario was replayed from a reader to a writer, of which nobody is told whether they failed:
 -- there is a last state of the writer in which it has taken a whole text that may be printed, or
 -- where it failed a front of one
-pub record Replays {R W : Type 0} (remaining : R → Option (List ℕ)) (contents : W → Option (List ℕ)) (reader : R) (writer : W) (result : Result ℕ WriteFault) : Type 0 where
+pub record Replays {R W : Type 0} (remaining : R → Option (List ℕ)) (contents : W → Option (List ℕ))
+    (reader : R) (writer : W) (result : Result ℕ WriteFault) : Type 0 where
   pub has_read_failed : Bool
   pub last : Writing W
-  pub printed : Prints contents (IsReplay (remaining reader) has_read_failed) (record { inner = writer; has_failed = false; is_flushed = false }) last result
+  pub printed : Prints contents (IsReplay (remaining reader) has_read_failed)
+      (record { inner = writer; has_failed = false; is_flushed = false }) last result

@@ -25,7 +25,8 @@ without_end end xs = if ends_with end xs then take (length xs - length end) xs e
 
 -- a line without its end, which is LF or CR LF
 abbrev pub content : List ℕ → List ℕ
-content piece = if ends_with (10 ∷ []) piece then without_end (13 ∷ []) (without_end (10 ∷ []) piece) else piece
+content piece =
+    if ends_with (10 ∷ []) piece then without_end (13 ∷ []) (without_end (10 ∷ []) piece) else piece
 
 -- the lines of a text, without their ends
 abbrev pub lines_of : List ℕ → List (List ℕ)
@@ -38,13 +39,16 @@ pub record CutsLine (text line rest : List ℕ) : Type 0 where
   pub first : pieces text ≡ piece ∷ pieces rest
   pub line_is : line ≡ content piece
 
+-- the line between the bay file and what happens
 abbrev pub is_separator : List ℕ → Bool
 is_separator line = bytes_eq line (codes "%%")
 
 -- what stands before the first separator, and what follows it
 abbrev pub part_of : List (List ℕ) → Option (List ℕ × List ℕ)
 part_of [] = None
-part_of (piece ∷ rest) = if is_separator (content piece) then Some ([], concat rest) else option_map (λ parts. (piece ++ parts.0, parts.1)) (part_of rest)
+part_of (piece ∷ rest) =
+    if is_separator (content piece) then Some ([], concat rest)
+    else option_map (λ parts. (piece ++ parts.0, parts.1)) (part_of rest)
 
 -- the bay file, the program and the trace
 pub record ScenarioParts : Type 0 where
@@ -52,6 +56,9 @@ pub record ScenarioParts : Type 0 where
   pub logic : List ℕ
   pub trace : List ℕ
 
+-- the parts of a scenario
 abbrev pub scenario_of : List ℕ → Option ScenarioParts
 scenario_of text =
-    option_and_then (λ first. option_map (λ second. record { bay = first.0; logic = second.0; trace = second.1 }) (part_of (pieces first.1))) (part_of (pieces text))
+    option_and_then (λ first. option_map
+    (λ second. record { bay = first.0; logic = second.0; trace = second.1 })
+    (part_of (pieces first.1))) (part_of (pieces text))

@@ -37,8 +37,11 @@ abbrev pub Stays : {W : Type 0} → Writing W → Writing W → Result ℕ Write
 Stays old new answer = (new ≡ old) × (answer ≡ Ok 0)
 
 -- what a turn tells is printed and flushed; where it tells nothing the writer is left alone
-abbrev pub TellsTurn : {W : Type 0} → (W → Option (List ℕ)) → ℕ → Turn → State → Writing W → Writing W → Result ℕ WriteFault → Type 0
-TellsTurn contents now turn s old new answer = MatchBool (is_quiet turn) (Stays old new answer) (Prints contents (IsLast (turn_text now turn s) 0) old new answer)
+abbrev pub TellsTurn : {W : Type 0} → (W → Option (List ℕ)) → ℕ → Turn → State → Writing W
+    → Writing W → Result ℕ WriteFault → Type 0
+TellsTurn contents now turn s old new answer =
+    MatchBool (is_quiet turn) (Stays old new answer)
+    (Prints contents (IsLast (turn_text now turn s) 0) old new answer)
 
 -- what follows a turn whose lines could not be written, and another
 abbrev pub AfterTurn : Result ℕ WriteFault → Type 0 → Type 0 → Type 0
@@ -52,32 +55,44 @@ pub record Serving (L H : Type 0) : Type 0 where
   pub host : H
 
 -- a pause was made, or none
-abbrev pub MayPause : {L H : Type 0} → (H → HostCall L → H → Type 0) → Serving L H → Serving L H → Type 0
-MayPause acts before after = (after ≡ before) ⊎ (acts before.host Pauses after.host × (after.link ≡ before.link) × (after.held ≡ before.held))
+abbrev pub MayPause : {L H : Type 0} → (H → HostCall L → H → Type 0) → Serving L H → Serving L H
+    → Type 0
+MayPause acts before after = (after ≡ before)
+    ⊎ (acts before.host Pauses after.host × (after.link ≡ before.link) × (after.held ≡ before.held))
 
-module _ {L H W : Type 0} (step : L → Call → L → Type 0) (acts : H → HostCall L → H → Type 0) (contents : W → Option (List ℕ)) where
+module _ {L H W : Type 0} (step : L → Call → L → Type 0) (acts : H → HostCall L → H → Type 0)
+    (contents : W → Option (List ℕ)) where
   -- the clock was asked for the moment of a turn, which was not done: why not is printed, and
   -- nothing has changed
-  pub record TurnFails (line : Option (ℕ × List ℕ)) (before : Serving L H) (old : Writing W) (host : H) (new : Writing W) (answer : Result ℕ WriteFault) : Type 0 where
+  pub record TurnFails (line : Option (ℕ × List ℕ)) (before : Serving L H) (old : Writing W)
+      (host : H) (new : Writing W) (answer : Result ℕ WriteFault) : Type 0 where
     pub clock : ℕ
     pub told : acts before.host (Tells clock) host
     pub fault : ServeFault
     pub is : IsRefused fault (turn_refusal clock (text_of_next line) before.held)
-    pub printed : Prints contents (IsLast (unserved_text fault (number_of_next line)) 3) old new answer
+    pub printed : Prints contents (IsLast (unserved_text fault (number_of_next line)) 3) old new
+        answer
 
   -- the clock was asked, the turn was done, and what it tells was printed
-  pub record TurnGoes (line : Option (ℕ × List ℕ)) (before : Serving L H) (old : Writing W) (after : Serving L H) (new : Writing W) (answer : Result ℕ WriteFault) : Type 0 where
+  pub record TurnGoes (line : Option (ℕ × List ℕ)) (before : Serving L H) (old : Writing W)
+      (after : Serving L H) (new : Writing W) (answer : Result ℕ WriteFault) : Type 0 where
     pub clock : ℕ
     pub told : acts before.host (Tells clock) after.host
     pub turn : Turn
-    pub serves : Serves step before.link after.link (moment_at clock before.held) (line_in (text_of_next line)) before.held after.held turn
-    pub printed : TellsTurn contents (moment_at clock before.held) turn after.held.device old new answer
+    pub serves : Serves step before.link after.link (moment_at clock before.held)
+        (line_in (text_of_next line)) before.held after.held turn
+    pub printed : TellsTurn contents (moment_at clock before.held) turn after.held.device old new
+        answer
 
   -- So many turns are served, with the next line for each: all of them; up to one that is not done;
   -- or up to one whose lines could not be written.
-  abbrev pub ServesTurns : ℕ → List (ℕ × List ℕ) → Serving L H → Writing W → H → Writing W → Result ℕ WriteFault → Type 0
+  abbrev pub ServesTurns : ℕ → List (ℕ × List ℕ) → Serving L H → Writing W → H → Writing W
+      → Result ℕ WriteFault → Type 0
   ServesTurns zero lines before old host new answer = (host ≡ before.host) × Stays old new answer
   ServesTurns (suc turns) lines before old host new answer =
       TurnFails (slice_get lines 0) before old host new answer
-      ⊎ ((after : Serving L H) × (mid : Writing W) × (told : Result ℕ WriteFault) × TurnGoes (slice_get lines 0) before old after mid told
-      × AfterTurn told ((host ≡ after.host) × (new ≡ mid) × (answer ≡ told)) ((next : Serving L H) × MayPause acts after next × ServesTurns turns (drop 1 lines) next mid host new answer))
+      ⊎ ((after : Serving L H) × (mid : Writing W) × (told : Result ℕ WriteFault)
+      × TurnGoes (slice_get lines 0) before old after mid told
+      × AfterTurn told ((host ≡ after.host) × (new ≡ mid) × (answer ≡ told))
+      ((next : Serving L H) × MayPause acts after next
+      × ServesTurns turns (drop 1 lines) next mid host new answer))

@@ -17,7 +17,8 @@ refusal_text now (Some code) = refusal_line now code
 -- the lines of the associations that were closed, each with its number
 abbrev pub closings_text : ℕ → List (ℕ × Closing) → List ℕ
 closings_text now [] = []
-closings_text now (closed ∷ more) = closing_text now closed.0 (Fault (code_of closed.1)) ++ closings_text now more
+closings_text now (closed ∷ more) =
+    closing_text now closed.0 (Fault (code_of closed.1)) ++ closings_text now more
 
 -- the lines of those that were closed for want of memory
 abbrev pub memories_text : ℕ → List ℕ → List ℕ
@@ -31,11 +32,14 @@ closed_lines now turn = closings_text now turn.closed ++ memories_text now turn.
 -- what is printed for a turn at this moment, by the device after it: a refusal, the commands, and
 -- the closings
 abbrev pub turn_text : ℕ → Turn → State → List ℕ
-turn_text now turn s = refusal_text now turn.refused ++ (commands_text now s turn.commands ++ closed_lines now turn)
+turn_text now turn s =
+    refusal_text now turn.refused ++ (commands_text now s turn.commands ++ closed_lines now turn)
 
 -- the turn tells nothing
 abbrev pub is_quiet : Turn → Bool
-is_quiet turn = is_none turn.refused && (length turn.commands == 0 && (length turn.closed == 0 && length turn.memory == 0))
+is_quiet turn =
+    is_none turn.refused && (length turn.commands == 0
+    && (length turn.closed == 0 && length turn.memory == 0))
 
 -- what is printed where a turn is not done, by the number of its line of the trace
 abbrev pub unserved_text : ServeFault → ℕ → List ℕ

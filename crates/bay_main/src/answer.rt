@@ -24,7 +24,8 @@ pub fn put_unreadable<W: Write>(
     number: usize,
 ) -> Result<(), WriteFault>
     requires { writer.old.has_failed ≡ false }
-    ensures { Puts W.contents outbox.old writer.old (unreadable_text number) outbox.new writer.new result }
+    ensures { Puts W.contents outbox.old writer.old (unreadable_text number) outbox.new writer.new
+        result }
 {
     outbox.put(writer, b"fault 120 line ")?;
     put_last_number(outbox, writer, number as u64)
@@ -39,7 +40,8 @@ fn answer_event<W: Write>(
     event: Event<'_>,
 ) -> Result<(), WriteFault>
     requires { writer.old.has_failed ≡ false }
-    ensures { Does W.contents outbox.old writer.old moment event.entry device.old outbox.new writer.new device.new result }
+    ensures { Does W.contents outbox.old writer.old moment event.entry device.old outbox.new
+        writer.new device.new result }
 {
     let answer = device.step(moment, event);
     put_step(outbox, writer, device, moment, &answer)

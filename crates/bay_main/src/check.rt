@@ -17,7 +17,8 @@ pub fn check_run<W: Write>(
     program: &[u8],
     writer: &mut WatchedWriter<W>,
 ) -> Result<u8, WriteFault>
-    ensures { Prints W.contents (CheckReport bay.now form program.now) writer.old writer.new result }
+    ensures { Prints W.contents (CheckReport bay.now form program.now) writer.old writer.new
+        result }
 {
     match load_program(alloc, bay, form, program) {
         Ok(device) => write_report(alloc, device.report(), writer),

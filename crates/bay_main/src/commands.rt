@@ -34,7 +34,8 @@ fn check<F: FileSystem, W: Write>(
     files: &F,
     writer: &mut WatchedWriter<W>,
 ) -> Result<u8, WriteFault>
-    ensures { Checks F.reads W.contents form bay.now program.now files.now writer.old writer.new result }
+    ensures { Checks F.reads W.contents form bay.now program.now files.now writer.old writer.new
+        result }
 {
     match read_both(alloc, files, bay, program) {
         Ok(both) => check_run(
@@ -56,7 +57,8 @@ fn write_image<F: FileSystem, W: Write>(
     files: &mut F,
     writer: &mut WatchedWriter<W>,
 ) -> Result<u8, WriteFault>
-    ensures { WritesImage F.writes W.contents out.now device.now files.old files.new writer.old writer.new result }
+    ensures { WritesImage F.writes W.contents out.now device.now files.old files.new writer.old
+        writer.new result }
 {
     let Ok(image) = device.image() else {
         return write_text(writer, NO_MEMORY, FAULT);
@@ -76,7 +78,8 @@ fn compile_device<F: FileSystem, W: Write>(
     files: &mut F,
     writer: &mut WatchedWriter<W>,
 ) -> Result<u8, WriteFault>
-    ensures { CompilesDevice F.writes W.contents out.now device.now files.old files.new writer.old writer.new result }
+    ensures { CompilesDevice F.writes W.contents out.now device.now files.old files.new writer.old
+        writer.new result }
 {
     let status = write_report(alloc, device.report(), writer)?;
     if status != CLEAN {
@@ -93,7 +96,9 @@ fn compile_files<F: FileSystem, W: Write>(
     files: &mut F,
     writer: &mut WatchedWriter<W>,
 ) -> Result<u8, WriteFault>
-    ensures { CompilesRead F.writes W.contents out.now (Ok (record { bay = both.now.bay.items; program = both.now.program.items })) files.old files.new writer.old writer.new result }
+    ensures { CompilesRead F.writes W.contents out.now
+        (Ok (record { bay = both.now.bay.items; program = both.now.program.items })) files.old
+        files.new writer.old writer.new result }
 {
     match load_octets(alloc, both.bay.as_slice(), both.program.as_slice()) {
         Ok(device) => compile_device(alloc, &device, out, files, writer),
@@ -110,7 +115,8 @@ fn compile<F: FileSystem, W: Write>(
     files: &mut F,
     writer: &mut WatchedWriter<W>,
 ) -> Result<u8, WriteFault>
-    ensures { Compiles F.reads F.writes F.same W.contents bay.now logic.now out.now files.old files.new writer.old writer.new result }
+    ensures { Compiles F.reads F.writes F.same W.contents bay.now logic.now out.now files.old
+        files.new writer.old writer.new result }
 {
     if files.is_same(alloc, out, bay) || files.is_same(alloc, out, logic) {
         return Err(WriteFault);
@@ -129,7 +135,9 @@ fn check_job<F: FileSystem, W: Write>(
     writer: &mut WatchedWriter<W>,
 ) -> Result<u8, WriteFault>
     requires { has_files Check (job_view job.now) ≡ true }
-    ensures { Given (job_view job.now).bay (λ bay. ChecksNamed F.reads W.contents bay (job_view job.now).logic (job_view job.now).image files.now writer.old writer.new result) }
+    ensures { Given (job_view job.now).bay
+        (λ bay. ChecksNamed F.reads W.contents bay (job_view job.now).logic (job_view job.now).image
+        files.now writer.old writer.new result) }
 {
     let Some(bay) = &job.bay else { unreachable!() };
     match (&job.logic, &job.image) {
@@ -183,7 +191,8 @@ fn compile_job<F: FileSystem, W: Write>(
 /// The program or the image of a job, and which of the two it is.
 fn program_of(job: &Job) -> Option<(Form, &str)>
     ensures form { IfSome result (λ p. p.0 ≡ form_of (job_view job.now).logic) }
-    ensures name { option_map (λ p. p.1.now) result ≡ spec.program_of (job_view job.now).logic (job_view job.now).image }
+    ensures name { option_map (λ p. p.1.now) result
+        ≡ spec.program_of (job_view job.now).logic (job_view job.now).image }
 {
     match (&job.logic, &job.image) {
         (Some(logic), _) => Some((Form::Logic, logic.as_str())),
@@ -201,7 +210,8 @@ fn serve_job<F: FileSystem, L: Link + Drop, H: Host<L>, W: Write>(
     writer: &mut WatchedWriter<W>,
 ) -> Result<u8, WriteFault>
     requires { has_files Serve (job_view job.now) ≡ true }
-    ensures { ServesNamed F.reads (Called L.does L.failures) H.does W.contents (job_view job.now) files.now host.old host.new writer.old writer.new result }
+    ensures { ServesNamed F.reads (Called L.does L.failures) H.does W.contents (job_view job.now)
+        files.now host.old host.new writer.old writer.new result }
 {
     let (Some(bay), Some((form, program))) = (&job.bay, program_of(job)) else {
         unreachable!()
@@ -229,9 +239,11 @@ fn do_job<F: FileSystem, L: Link + Drop, H: Host<L>, R: Read, W: Write>(
     writer: &mut WatchedWriter<W>,
 ) -> Result<u8, WriteFault>
     requires { is_whole (job_view job.now) ≡ true }
-    ensures { DoesVerb F.reads F.writes F.same (Called L.does L.failures) H.does R.remaining W.contents job.now.verb (job_view job.now)
+    ensures { DoesVerb F.reads F.writes F.same (Called L.does L.failures) H.does R.remaining
+        W.contents job.now.verb (job_view job.now)
         (record { files = files.old; host = host.old; reader = reader.old; writer = writer.old })
-        (record { files = files.new; host = host.new; reader = reader.new; writer = writer.new }) result }
+        (record { files = files.new; host = host.new; reader = reader.new; writer = writer.new })
+        result }
 {
     match job.verb {
         Verb::Check => check_job(alloc, job, files, writer),
@@ -252,9 +264,11 @@ pub fn obey<F: FileSystem, L: Link + Drop, H: Host<L>, R: Read, W: Write>(
     reader: &mut WatchedReader<R>,
     writer: &mut WatchedWriter<W>,
 ) -> Ended
-    ensures { Obeys F.reads F.writes F.same (Called L.does L.failures) H.does R.remaining W.contents (map (λ w. w.now) words.now)
+    ensures { Obeys F.reads F.writes F.same (Called L.does L.failures) H.does R.remaining W.contents
+        (map (λ w. w.now) words.now)
         (record { files = files.old; host = host.old; reader = reader.old; writer = writer.old })
-        (record { files = files.new; host = host.new; reader = reader.new; writer = writer.new }) result }
+        (record { files = files.new; host = host.new; reader = reader.new; writer = writer.new })
+        result }
 {
     match job_of(alloc, words) {
         Ok(job) => Ended::of(do_job(alloc, &job, files, host, reader, writer)),

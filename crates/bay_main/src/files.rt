@@ -48,7 +48,8 @@ pub trait FileSystem {
     /// none.
     fn write(&mut self, alloc: Global, name: &str, octets: &[u8]) -> Result<(), FileFault>
         ensures ok { OnOk result (writes self.old name.now octets.now None self.new) }
-        ensures err { IfErr result (λ fault. writes self.old name.now octets.now (Some fault) self.new) };
+        ensures err { IfErr result
+            (λ fault. writes self.old name.now octets.now (Some fault) self.new) };
 
     /// Whether two names are known to be of one file.
     fn is_same(&self, alloc: Global, name: &str, other: &str) -> bool
@@ -69,8 +70,11 @@ pub fn read_both<F: FileSystem>(
     bay: &str,
     program: &str,
 ) -> Result<BothFiles, ReadFault>
-    ensures ok { IfOk result (λ both. ReadsBoth F.reads files.now bay.now program.now (Ok (record { bay = both.bay.items; program = both.program.items }))) }
-    ensures err { IfErr result (λ fault. ReadsBoth F.reads files.now bay.now program.now (Err fault)) }
+    ensures ok { IfOk result
+        (λ both. ReadsBoth F.reads files.now bay.now program.now
+        (Ok (record { bay = both.bay.items; program = both.program.items }))) }
+    ensures err { IfErr result
+        (λ fault. ReadsBoth F.reads files.now bay.now program.now (Err fault)) }
 {
     let bay = files.read(alloc, bay)?;
     let program = files.read(alloc, program)?;

@@ -37,7 +37,8 @@ fn put_id<W: Write>(
     id: &str,
 ) -> Result<(), WriteFault>
     requires { writer.old.has_failed ≡ false }
-    ensures { Puts W.contents outbox.old writer.old (codes " " ++ id.now) outbox.new writer.new result }
+    ensures { Puts W.contents outbox.old writer.old (codes " " ++ id.now) outbox.new writer.new
+        result }
 {
     outbox.put(writer, b" ")?;
     outbox.put_short(writer, id.as_bytes())
@@ -51,7 +52,8 @@ fn put_enabled<W: Write>(
     closes: bool,
 ) -> Result<(), WriteFault>
     requires { writer.old.has_failed ≡ false }
-    ensures { Puts W.contents outbox.old writer.old (enabled_text opens closes) outbox.new writer.new result }
+    ensures { Puts W.contents outbox.old writer.old (enabled_text opens closes) outbox.new
+        writer.new result }
 {
     outbox.put(writer, b"=")?;
     outbox.put(writer, digits(opens, closes).as_slice())
@@ -66,7 +68,8 @@ fn put_switch<W: Write>(
     closes: bool,
 ) -> Result<(), WriteFault>
     requires { writer.old.has_failed ≡ false }
-    ensures { Puts W.contents outbox.old writer.old (switch_text id.now opens closes) outbox.new writer.new result }
+    ensures { Puts W.contents outbox.old writer.old (switch_text id.now opens closes) outbox.new
+        writer.new result }
 {
     put_id(outbox, writer, id)?;
     put_enabled(outbox, writer, opens, closes)
@@ -80,7 +83,9 @@ fn put_place<W: Write>(
     place: usize,
 ) -> Result<(), WriteFault>
     requires { writer.old.has_failed ≡ false }
-    ensures { Puts W.contents outbox.old writer.old (switch_part device.now place (slice_get device.now.switches place)) outbox.new writer.new result }
+    ensures { Puts W.contents outbox.old writer.old
+        (switch_part device.now place (slice_get device.now.switches place)) outbox.new writer.new
+        result }
 {
     let Some(id) = device.id(place) else {
         return Ok(());
@@ -98,7 +103,8 @@ fn put_switches<W: Write>(
     device: &Device,
 ) -> Result<(), WriteFault>
     requires { writer.old.has_failed ≡ false }
-    ensures { Puts W.contents outbox.old writer.old (switches_text device.now 0 device.now.switches) outbox.new writer.new result }
+    ensures { Puts W.contents outbox.old writer.old (switches_text device.now 0 device.now.switches)
+        outbox.new writer.new result }
 {
     for place in 0..device.switch_count() {
         put_place(outbox, writer, device, place)?;
@@ -115,7 +121,8 @@ fn put_numbered<W: Write>(
     text: &[u8],
 ) -> Result<(), WriteFault>
     requires { writer.old.has_failed ≡ false }
-    ensures { Puts W.contents outbox.old writer.old (decimal number ++ text.now) outbox.new writer.new result }
+    ensures { Puts W.contents outbox.old writer.old (decimal number ++ text.now) outbox.new
+        writer.new result }
 {
     outbox.put_number(writer, number)?;
     outbox.put(writer, text)
@@ -129,7 +136,8 @@ fn put_steps<W: Write>(
     steps: u32,
 ) -> Result<(), WriteFault>
     requires { writer.old.has_failed ≡ false }
-    ensures { Puts W.contents outbox.old writer.old (steps_text moment steps) outbox.new writer.new result }
+    ensures { Puts W.contents outbox.old writer.old (steps_text moment steps) outbox.new writer.new
+        result }
 {
     put_numbered(outbox, writer, moment, b" scan steps=")?;
     outbox.put_number(writer, u64::from(steps))
@@ -142,7 +150,9 @@ fn put_end<W: Write>(
     device: &Device,
 ) -> Result<(), WriteFault>
     requires { writer.old.has_failed ≡ false }
-    ensures { Puts W.contents outbox.old writer.old (switches_text device.now 0 device.now.switches ++ codes "\n") outbox.new writer.new result }
+    ensures { Puts W.contents outbox.old writer.old
+        (switches_text device.now 0 device.now.switches ++ codes "\n") outbox.new writer.new
+        result }
 {
     put_switches(outbox, writer, device)?;
     outbox.put(writer, b"\n")
@@ -157,7 +167,8 @@ fn put_scan<W: Write>(
     steps: u32,
 ) -> Result<(), WriteFault>
     requires { writer.old.has_failed ≡ false }
-    ensures { Puts W.contents outbox.old writer.old (scan_text moment steps device.now) outbox.new writer.new result }
+    ensures { Puts W.contents outbox.old writer.old (scan_text moment steps device.now) outbox.new
+        writer.new result }
 {
     put_steps(outbox, writer, moment, steps)?;
     put_end(outbox, writer, device)
@@ -170,7 +181,8 @@ pub fn put_last_number<W: Write>(
     number: u64,
 ) -> Result<(), WriteFault>
     requires { writer.old.has_failed ≡ false }
-    ensures { Puts W.contents outbox.old writer.old (decimal number ++ codes "\n") outbox.new writer.new result }
+    ensures { Puts W.contents outbox.old writer.old (decimal number ++ codes "\n") outbox.new
+        writer.new result }
 {
     outbox.put_number(writer, number)?;
     outbox.put(writer, b"\n")
@@ -185,7 +197,8 @@ pub fn put_refusal<W: Write>(
     code: u8,
 ) -> Result<(), WriteFault>
     requires { writer.old.has_failed ≡ false }
-    ensures { Puts W.contents outbox.old writer.old (refusal_line moment code) outbox.new writer.new result }
+    ensures { Puts W.contents outbox.old writer.old (refusal_line moment code) outbox.new writer.new
+        result }
 {
     put_numbered(outbox, writer, moment, b" refused ")?;
     put_last_number(outbox, writer, u64::from(code))
@@ -200,7 +213,8 @@ fn put_ran<W: Write>(
     scan: Option<u32>,
 ) -> Result<(), WriteFault>
     requires { writer.old.has_failed ≡ false }
-    ensures { Puts W.contents outbox.old writer.old (ran_text moment scan device.now) outbox.new writer.new result }
+    ensures { Puts W.contents outbox.old writer.old (ran_text moment scan device.now) outbox.new
+        writer.new result }
 {
     match scan {
         Some(steps) => put_scan(outbox, writer, device, moment, steps),
@@ -217,7 +231,8 @@ fn put_chunk<W: Write>(
 ) -> Result<(), WriteFault>
     requires well { writer.old.has_failed ≡ false }
     requires fits { 2 * length chunk.now ≤ length room.old }
-    ensures { Puts W.contents outbox.old writer.old (encode_lower chunk.now) outbox.new writer.new result }
+    ensures { Puts W.contents outbox.old writer.old (encode_lower chunk.now) outbox.new writer.new
+        result }
 {
     let digits = &mut room[..2 * chunk.len()];
     let _ = hex::encode_to_slice(chunk, digits);
@@ -231,7 +246,8 @@ fn put_digits<W: Write>(
     octets: &[u8],
 ) -> Result<(), WriteFault>
     requires { writer.old.has_failed ≡ false }
-    ensures { Puts W.contents outbox.old writer.old (encode_lower octets.now) outbox.new writer.new result }
+    ensures { Puts W.contents outbox.old writer.old (encode_lower octets.now) outbox.new writer.new
+        result }
 {
     let mut room = [0u8; 2 * CHUNK];
     let mut rest = octets;
@@ -250,7 +266,8 @@ fn put_octets<W: Write>(
     octets: &[u8],
 ) -> Result<(), WriteFault>
     requires { writer.old.has_failed ≡ false }
-    ensures { Puts W.contents outbox.old writer.old (encode_lower octets.now ++ codes "\n") outbox.new writer.new result }
+    ensures { Puts W.contents outbox.old writer.old (encode_lower octets.now ++ codes "\n")
+        outbox.new writer.new result }
 {
     put_digits(outbox, writer, octets)?;
     outbox.put(writer, b"\n")
@@ -263,7 +280,8 @@ fn put_sent<W: Write>(
     sent: &Sent,
 ) -> Result<(), WriteFault>
     requires { writer.old.has_failed ≡ false }
-    ensures { Puts W.contents outbox.old writer.old (octets_text sent.now) outbox.new writer.new result }
+    ensures { Puts W.contents outbox.old writer.old (octets_text sent.now) outbox.new writer.new
+        result }
 {
     put_numbered(outbox, writer, u64::from(sent.association), b" ")?;
     put_octets(outbox, writer, sent.octets.as_slice())
@@ -278,7 +296,8 @@ fn put_send<W: Write>(
     sent: &Sent,
 ) -> Result<(), WriteFault>
     requires { writer.old.has_failed ≡ false }
-    ensures { Puts W.contents outbox.old writer.old (send_text moment sent.now) outbox.new writer.new result }
+    ensures { Puts W.contents outbox.old writer.old (send_text moment sent.now) outbox.new
+        writer.new result }
 {
     put_numbered(outbox, writer, moment, b" send ")?;
     put_sent(outbox, writer, sent)
@@ -292,7 +311,8 @@ fn put_sends<W: Write>(
     sends: &[Sent],
 ) -> Result<(), WriteFault>
     requires { writer.old.has_failed ≡ false }
-    ensures { Puts W.contents outbox.old writer.old (sends_text moment sends.now) outbox.new writer.new result }
+    ensures { Puts W.contents outbox.old writer.old (sends_text moment sends.now) outbox.new
+        writer.new result }
 {
     for sent in sends {
         put_send(outbox, writer, moment, sent)?;
@@ -308,7 +328,8 @@ fn put_ended<W: Write>(
     ended: &Option<Sent>,
 ) -> Result<(), WriteFault>
     requires { writer.old.has_failed ≡ false }
-    ensures { Puts W.contents outbox.old writer.old (ended_text moment ended.now) outbox.new writer.new result }
+    ensures { Puts W.contents outbox.old writer.old (ended_text moment ended.now) outbox.new
+        writer.new result }
 {
     match ended {
         Some(sent) => put_send(outbox, writer, moment, sent),
@@ -331,7 +352,8 @@ fn put_order<W: Write>(
     on: bool,
 ) -> Result<(), WriteFault>
     requires { writer.old.has_failed ≡ false }
-    ensures { Puts W.contents outbox.old writer.old ((codes " " ++ id.now) ++ order_text on) outbox.new writer.new result }
+    ensures { Puts W.contents outbox.old writer.old ((codes " " ++ id.now) ++ order_text on)
+        outbox.new writer.new result }
 {
     put_id(outbox, writer, id)?;
     outbox.put(writer, order(on))
@@ -347,7 +369,8 @@ fn put_command_line<W: Write>(
     on: bool,
 ) -> Result<(), WriteFault>
     requires { writer.old.has_failed ≡ false }
-    ensures { Puts W.contents outbox.old writer.old (command_line moment id.now on) outbox.new writer.new result }
+    ensures { Puts W.contents outbox.old writer.old (command_line moment id.now on) outbox.new
+        writer.new result }
 {
     put_numbered(outbox, writer, moment, b" command")?;
     put_order(outbox, writer, id, on)
@@ -362,7 +385,8 @@ fn put_command<W: Write>(
     command: Command,
 ) -> Result<(), WriteFault>
     requires { writer.old.has_failed ≡ false }
-    ensures { Puts W.contents outbox.old writer.old (command_text moment device.now command) outbox.new writer.new result }
+    ensures { Puts W.contents outbox.old writer.old (command_text moment device.now command)
+        outbox.new writer.new result }
 {
     match device.id(command.switch) {
         Some(id) => put_command_line(outbox, writer, moment, id, command.on),
@@ -379,7 +403,8 @@ pub fn put_commands<W: Write>(
     commands: &[Command],
 ) -> Result<(), WriteFault>
     requires { writer.old.has_failed ≡ false }
-    ensures { Puts W.contents outbox.old writer.old (commands_text moment device.now commands.now) outbox.new writer.new result }
+    ensures { Puts W.contents outbox.old writer.old (commands_text moment device.now commands.now)
+        outbox.new writer.new result }
 {
     for command in commands {
         put_command(outbox, writer, device, moment, *command)?;
@@ -411,7 +436,8 @@ fn put_closing<W: Write>(
     why: Why,
 ) -> Result<(), WriteFault>
     requires { writer.old.has_failed ≡ false }
-    ensures { Puts W.contents outbox.old writer.old ((decimal association ++ codes " ") ++ why_text why) outbox.new writer.new result }
+    ensures { Puts W.contents outbox.old writer.old
+        ((decimal association ++ codes " ") ++ why_text why) outbox.new writer.new result }
 {
     put_numbered(outbox, writer, u64::from(association), b" ")?;
     put_why(outbox, writer, why)
@@ -427,7 +453,8 @@ pub fn put_closing_line<W: Write>(
     why: Why,
 ) -> Result<(), WriteFault>
     requires { writer.old.has_failed ≡ false }
-    ensures { Puts W.contents outbox.old writer.old (closing_text moment association why) outbox.new writer.new result }
+    ensures { Puts W.contents outbox.old writer.old (closing_text moment association why) outbox.new
+        writer.new result }
 {
     put_numbered(outbox, writer, moment, b" closed ")?;
     put_closing(outbox, writer, association, why)
@@ -441,7 +468,8 @@ fn put_closed<W: Write>(
     closed: Option<(u16, Why)>,
 ) -> Result<(), WriteFault>
     requires { writer.old.has_failed ≡ false }
-    ensures { Puts W.contents outbox.old writer.old (closed_text moment closed) outbox.new writer.new result }
+    ensures { Puts W.contents outbox.old writer.old (closed_text moment closed) outbox.new
+        writer.new result }
 {
     match closed {
         Some((association, why)) => put_closing_line(outbox, writer, moment, association, why),
@@ -458,7 +486,9 @@ fn put_ran_and_closed<W: Write>(
     step: &Step,
 ) -> Result<(), WriteFault>
     requires { writer.old.has_failed ≡ false }
-    ensures { Puts W.contents outbox.old writer.old (ran_text moment step.now.scan device.now ++ closed_text moment step.now.closed) outbox.new writer.new result }
+    ensures { Puts W.contents outbox.old writer.old
+        (ran_text moment step.now.scan device.now ++ closed_text moment step.now.closed) outbox.new
+        writer.new result }
 {
     put_ran(outbox, writer, device, moment, step.scan)?;
     put_closed(outbox, writer, moment, step.closed)
@@ -510,7 +540,8 @@ fn put_done<W: Write>(
     step: &Step,
 ) -> Result<(), WriteFault>
     requires { writer.old.has_failed ≡ false }
-    ensures { Puts W.contents outbox.old writer.old (done_text moment step.now device.now) outbox.new writer.new result }
+    ensures { Puts W.contents outbox.old writer.old (done_text moment step.now device.now)
+        outbox.new writer.new result }
 {
     put_ended(outbox, writer, moment, &step.ended)?;
     put_sends_on(outbox, writer, device, moment, step)
@@ -525,7 +556,8 @@ pub fn put_step<W: Write>(
     answer: &Result<Step, StepFault>,
 ) -> Result<(), WriteFault>
     requires { writer.old.has_failed ≡ false }
-    ensures { Puts W.contents outbox.old writer.old (step_text moment answer.now device.now) outbox.new writer.new result }
+    ensures { Puts W.contents outbox.old writer.old (step_text moment answer.now device.now)
+        outbox.new writer.new result }
 {
     match answer {
         Err(fault) => put_refusal(outbox, writer, moment, fault.code()),

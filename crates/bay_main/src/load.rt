@@ -30,7 +30,8 @@ pub enum Form {
 /// The refusal of a bay file, or else of a program that is not in UTF-8: a bad token at its first
 /// line.
 fn refuse_logic(alloc: Global, bay: &str) -> Result<Device, LoadFault>
-    ensures device { Gives LoadFault.OutOfMemory (λ device. device) result (of_bay (bay_of bay.now) (Err (BadToken 1))) }
+    ensures device { Gives LoadFault.OutOfMemory (λ device. device) result
+        (of_bay (bay_of bay.now) (Err (BadToken 1))) }
     // Nothing is selected, and no association is open; each switch that can be operated takes some
     // time.
     ensures idle { IfOk result IsIdle }
@@ -42,7 +43,8 @@ fn refuse_logic(alloc: Global, bay: &str) -> Result<Device, LoadFault>
 
 /// The device of the text of a bay file and the octets of a program.
 fn load_logic(alloc: Global, bay: &str, logic: &[u8]) -> Result<Device, LoadFault>
-    ensures device { Gives LoadFault.OutOfMemory (λ device. device) result (of_bay (bay_of bay.now) (text_of logic.now)) }
+    ensures device { Gives LoadFault.OutOfMemory (λ device. device) result
+        (of_bay (bay_of bay.now) (text_of logic.now)) }
     // Nothing is selected, and no association is open; each switch that can be operated takes some
     // time.
     ensures idle { IfOk result IsIdle }
@@ -57,7 +59,8 @@ fn load_logic(alloc: Global, bay: &str, logic: &[u8]) -> Result<Device, LoadFaul
 /// The device of the octets of a bay file and of a program. A bay file that is not in UTF-8 is no
 /// TOML.
 pub fn load_octets(alloc: Global, bay: &[u8], logic: &[u8]) -> Result<Device, LoadFault>
-    ensures device { Gives LoadFault.OutOfMemory (λ device. device) result (load_of bay.now logic.now) }
+    ensures device { Gives LoadFault.OutOfMemory (λ device. device) result
+        (load_of bay.now logic.now) }
     // Nothing is selected, and no association is open; each switch that can be operated takes some
     // time.
     ensures idle { IfOk result IsIdle }
@@ -72,7 +75,8 @@ pub fn load_octets(alloc: Global, bay: &[u8], logic: &[u8]) -> Result<Device, Lo
 /// The device of the octets of a bay file and of an image.
 fn load_image_octets(alloc: Global, bay: &[u8], image: &[u8]) -> Result<Device, LoadFault>
     ensures ok { IfOk result (λ device. Loads (file_of bay.now) (decoded image.now) (Ok device)) }
-    ensures refused { IfErr result (λ e. e ≢ OutOfMemory → Loads (file_of bay.now) (decoded image.now) (Err e)) }
+    ensures refused { IfErr result
+        (λ e. e ≢ OutOfMemory → Loads (file_of bay.now) (decoded image.now) (Err e)) }
     // Nothing is selected, and no association is open; each switch that can be operated takes some
     // time.
     ensures idle { IfOk result IsIdle }
@@ -92,7 +96,8 @@ pub fn load_program(
     program: &[u8],
 ) -> Result<Device, LoadFault>
     ensures ok { IfOk result (λ device. LoadsTo bay.now form program.now (Ok device)) }
-    ensures refused { IfErr result (λ e. e ≢ OutOfMemory → LoadsTo bay.now form program.now (Err e)) }
+    ensures refused { IfErr result
+        (λ e. e ≢ OutOfMemory → LoadsTo bay.now form program.now (Err e)) }
     // Nothing is selected, and no association is open; each switch that can be operated takes some
     // time.
     ensures idle { IfOk result IsIdle }

@@ -31,7 +31,8 @@ fn replay_trace<W: Write>(
     writer: &mut WatchedWriter<W>,
 ) -> Result<u8, WriteFault>
     requires { length trace.now ≤ scenario_limit }
-    ensures { Prints W.contents (HeadReport head.now device.old (lines_of trace.now)) writer.old writer.new result }
+    ensures { Prints W.contents (HeadReport head.now device.old (lines_of trace.now)) writer.old
+        writer.new result }
 {
     if writer.has_failed() {
         return Err(WriteFault);
@@ -62,7 +63,8 @@ fn replay_device<W: Write>(
     writer: &mut WatchedWriter<W>,
 ) -> Result<u8, WriteFault>
     requires { length trace.now ≤ scenario_limit }
-    ensures { Prints W.contents (MayReport device.old (lines_of trace.now)) writer.old writer.new result }
+    ensures { Prints W.contents (MayReport device.old (lines_of trace.now)) writer.old writer.new
+        result }
 {
     match report_text(alloc, device.report()) {
         Ok(head) => replay_trace(alloc, device, head.as_bytes(), trace, writer),
@@ -77,7 +79,8 @@ fn replay_parts<W: Write>(
     writer: &mut WatchedWriter<W>,
 ) -> Result<u8, WriteFault>
     requires { length scenario.trace.now ≤ scenario_limit }
-    ensures { Prints W.contents (LoadsReport (scenario_view scenario.entry)) writer.old writer.new result }
+    ensures { Prints W.contents (LoadsReport (scenario_view scenario.entry)) writer.old writer.new
+        result }
 {
     match load_octets(alloc, scenario.bay, scenario.logic) {
         Ok(mut device) => replay_device(alloc, &mut device, scenario.trace, writer),
@@ -112,7 +115,9 @@ pub fn replay_watched<R: Read, W: Write>(
 ) -> Result<u8, WriteFault>
     // What was written and flushed is a whole text of the report, and the status is the report's;
     // or a write or a flush has failed, and a front of such a text was written.
-    ensures printed { Prints W.contents (IsReplay (R.remaining reader.old.inner) reader.new.has_failed) writer.old writer.new result }
+    ensures printed { Prints W.contents
+        (IsReplay (R.remaining reader.old.inner) reader.new.has_failed) writer.old writer.new
+        result }
     ensures reads { reader.new.reads ≤ reader.old.reads + scenario_limit + 1 }
 {
     match read_all(alloc, reader, SCENARIO_LIMIT) {

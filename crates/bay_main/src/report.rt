@@ -10,14 +10,17 @@ use std::alloc::{AllocError, Global};
 
 /// The line of a refusal that has no line of the program.
 fn plain_refusal(alloc: Global, code: u8) -> Result<String, AllocError>
-    ensures { IfOk result (λ text. string_bytes text ≡ codes "load refused " ++ decimal code ++ codes "\n") }
+    ensures { IfOk result (λ text. string_bytes text
+        ≡ codes "load refused " ++ decimal code ++ codes "\n") }
 {
     format!(in alloc; "load refused {code}\n")
 }
 
 /// The line of a refusal at a line of the program.
 fn line_refusal(alloc: Global, code: u8, line: usize) -> Result<String, AllocError>
-    ensures { IfOk result (λ text. string_bytes text ≡ codes "load refused " ++ (decimal code ++ (codes " line " ++ (decimal line ++ codes "\n")))) }
+    ensures { IfOk result (λ text. string_bytes text
+        ≡ codes "load refused "
+        ++ (decimal code ++ (codes " line " ++ (decimal line ++ codes "\n")))) }
 {
     format!(in alloc; "load refused {code} line {line}\n")
 }

@@ -65,7 +65,8 @@ fn serve_link<L: Link + Drop, H: Host<L>, W: Write>(
     requires well { writer.old.has_failed ≡ false }
     requires closed { device.connections ≡ replicate 8 None }
     requires timed { AreTimed device.controls.controls }
-    ensures { ServesBound (Called L.does L.failures) H.does W.contents numbers trace.now device link host.old host.new writer.old writer.new result }
+    ensures { ServesBound (Called L.does L.failures) H.does W.contents numbers trace.now device link
+        host.old host.new writer.old writer.new result }
 {
     let Some(link) = link else {
         return write_text(writer, b"fault 121\n", FAULT);
@@ -88,7 +89,8 @@ fn serve_port<L: Link + Drop, H: Host<L>, W: Write>(
     requires well { writer.old.has_failed ≡ false }
     requires closed { device.connections ≡ replicate 8 None }
     requires timed { AreTimed device.controls.controls }
-    ensures { BindsPort (Called L.does L.failures) H.does W.contents numbers trace.now device host.old host.new writer.old writer.new result }
+    ensures { BindsPort (Called L.does L.failures) H.does W.contents numbers trace.now device
+        host.old host.new writer.old writer.new result }
 {
     let link = host.bind(numbers.port);
     serve_link(alloc, device, link, host, trace, numbers, writer)
@@ -105,7 +107,8 @@ fn serve_device<L: Link + Drop, H: Host<L>, W: Write>(
 ) -> Result<u8, WriteFault>
     requires closed { device.connections ≡ replicate 8 None }
     requires timed { AreTimed device.controls.controls }
-    ensures { ServesDevice (Called L.does L.failures) H.does W.contents numbers trace.now device host.old host.new writer.old writer.new result }
+    ensures { ServesDevice (Called L.does L.failures) H.does W.contents numbers trace.now device
+        host.old host.new writer.old writer.new result }
 {
     let status = write_report(alloc, device.report(), writer)?;
     if status != CLEAN {
@@ -140,8 +143,10 @@ fn read_named<F: FileSystem>(
     files: &F,
     name: Option<&str>,
 ) -> Result<Vec<u8>, ReadFault>
-    ensures ok { IfOk result (λ octets. ReadsNamed F.reads files.now (text_in name.entry) (Ok octets.items)) }
-    ensures err { IfErr result (λ fault. ReadsNamed F.reads files.now (text_in name.entry) (Err fault)) }
+    ensures ok { IfOk result
+        (λ octets. ReadsNamed F.reads files.now (text_in name.entry) (Ok octets.items)) }
+    ensures err { IfErr result
+        (λ fault. ReadsNamed F.reads files.now (text_in name.entry) (Err fault)) }
 {
     match name {
         Some(name) => files.read(alloc, name),
@@ -190,7 +195,13 @@ pub fn serve<F: FileSystem, L: Link + Drop, H: Host<L>, W: Write>(
     writer: &mut WatchedWriter<W>,
 ) -> Result<u8, WriteFault>
     ensures { ServesFiles (Called L.does L.failures) H.does W.contents F.reads files.now
-        (record { bay = named.entry.bay.now; form = named.entry.form; program = named.entry.program.now; trace = text_in named.entry.trace }) numbers host.old host.new writer.old writer.new result }
+        (record {
+          bay = named.entry.bay.now;
+          form = named.entry.form;
+          program = named.entry.program.now;
+          trace = text_in named.entry.trace;
+        }) numbers host.old
+        host.new writer.old writer.new result }
 {
     match read_both(alloc, files, named.bay, named.program) {
         Ok(both) => serve_read(alloc, named, &both, files, host, numbers, writer),

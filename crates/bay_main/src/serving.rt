@@ -108,8 +108,11 @@ fn serve_line<L: Link>(
     clock: u64,
     line: Option<&[u8]>,
 ) -> Result<Turn, ServeFault>
-    ensures ok { IfOk result (λ turn. Serves (Called L.does L.failures) link.old link.new (moment_at clock server.old) (line_in (text_in line.entry)) server.old server.new turn) }
-    ensures refused { IfErr result (λ fault. IsRefused fault (turn_refusal clock (text_in line.entry) server.old)) }
+    ensures ok { IfOk result
+        (λ turn. Serves (Called L.does L.failures) link.old link.new (moment_at clock server.old)
+        (line_in (text_in line.entry)) server.old server.new turn) }
+    ensures refused { IfErr result
+        (λ fault. IsRefused fault (turn_refusal clock (text_in line.entry) server.old)) }
     ensures server_kept { OnErr result (server.new ≡ server.old) }
     ensures link_kept { OnErr result (link.new ≡ link.old) }
 {
@@ -174,7 +177,8 @@ fn serve_lines<L: Link, H: Host<L>, W: Write>(
 ) -> Result<u8, WriteFault>
     requires { writer.old.has_failed ≡ false }
     ensures { ServesTurns (Called L.does L.failures) H.does W.contents turns lines.old
-        (record { link = link.old.link; held = server.old; host = host.old }) writer.old host.new writer.new result }
+        (record { link = link.old.link; held = server.old; host = host.old }) writer.old host.new
+        writer.new result }
 {
     for turn in 0..turns {
         let line = lines.next_line();
@@ -197,8 +201,10 @@ pub fn serve_turns<L: Link + Drop, H: Host<L>, W: Write>(
     writer: &mut WatchedWriter<W>,
 ) -> Result<u8, WriteFault>
     requires { writer.old.has_failed ≡ false }
-    ensures { ServesTurns (Called L.does L.failures) H.does W.contents turns (told_lines 1 (lines_of trace.now))
-        (record { link = link; held = server; host = host.old }) writer.old host.new writer.new result }
+    ensures { ServesTurns (Called L.does L.failures) H.does W.contents turns
+        (told_lines 1 (lines_of trace.now))
+        (record { link = link; held = server; host = host.old }) writer.old host.new writer.new
+        result }
 {
     let mut server = server;
     let mut link = BusyLink::new(link);

@@ -28,7 +28,8 @@ fn put_refused<W: Write>(
     refused: Option<u8>,
 ) -> Result<(), WriteFault>
     requires { writer.old.has_failed ≡ false }
-    ensures { Puts W.contents outbox.old writer.old (refusal_text moment refused) outbox.new writer.new result }
+    ensures { Puts W.contents outbox.old writer.old (refusal_text moment refused) outbox.new
+        writer.new result }
 {
     match refused {
         Some(code) => put_refusal(outbox, writer, moment, code),
@@ -44,7 +45,8 @@ fn put_entry<W: Write>(
     entry: (u16, Closing),
 ) -> Result<(), WriteFault>
     requires { writer.old.has_failed ≡ false }
-    ensures { Puts W.contents outbox.old writer.old (closing_text moment entry.0 (Fault (code_of entry.1))) outbox.new writer.new result }
+    ensures { Puts W.contents outbox.old writer.old
+        (closing_text moment entry.0 (Fault (code_of entry.1))) outbox.new writer.new result }
 {
     let (association, closing) = entry;
     let why = Why::Fault(closing.code());
@@ -59,7 +61,8 @@ fn put_closings<W: Write>(
     closed: &[(u16, Closing)],
 ) -> Result<(), WriteFault>
     requires { writer.old.has_failed ≡ false }
-    ensures { Puts W.contents outbox.old writer.old (closings_text moment closed.now) outbox.new writer.new result }
+    ensures { Puts W.contents outbox.old writer.old (closings_text moment closed.now) outbox.new
+        writer.new result }
 {
     for entry in closed {
         put_entry(outbox, writer, moment, *entry)?;
@@ -75,7 +78,8 @@ fn put_memories<W: Write>(
     memory: &[u16],
 ) -> Result<(), WriteFault>
     requires { writer.old.has_failed ≡ false }
-    ensures { Puts W.contents outbox.old writer.old (memories_text moment memory.now) outbox.new writer.new result }
+    ensures { Puts W.contents outbox.old writer.old (memories_text moment memory.now) outbox.new
+        writer.new result }
 {
     for association in memory {
         put_closing_line(outbox, writer, moment, *association, Why::Memory)?;
@@ -91,7 +95,8 @@ fn put_all_closed<W: Write>(
     turn: &Turn,
 ) -> Result<(), WriteFault>
     requires { writer.old.has_failed ≡ false }
-    ensures { Puts W.contents outbox.old writer.old (closed_lines moment turn.now) outbox.new writer.new result }
+    ensures { Puts W.contents outbox.old writer.old (closed_lines moment turn.now) outbox.new
+        writer.new result }
 {
     put_closings(outbox, writer, moment, turn.closed.as_slice())?;
     put_memories(outbox, writer, moment, turn.memory.as_slice())
@@ -106,7 +111,9 @@ fn put_commands_on<W: Write>(
     turn: &Turn,
 ) -> Result<(), WriteFault>
     requires { writer.old.has_failed ≡ false }
-    ensures { Puts W.contents outbox.old writer.old (commands_text moment device.now turn.now.commands ++ closed_lines moment turn.now) outbox.new writer.new result }
+    ensures { Puts W.contents outbox.old writer.old
+        (commands_text moment device.now turn.now.commands ++ closed_lines moment turn.now)
+        outbox.new writer.new result }
 {
     put_commands(outbox, writer, device, moment, turn.commands.as_slice())?;
     put_all_closed(outbox, writer, moment, turn)
@@ -121,7 +128,8 @@ fn put_turn<W: Write>(
     turn: &Turn,
 ) -> Result<(), WriteFault>
     requires { writer.old.has_failed ≡ false }
-    ensures { Puts W.contents outbox.old writer.old (turn_text moment turn.now device.now) outbox.new writer.new result }
+    ensures { Puts W.contents outbox.old writer.old (turn_text moment turn.now device.now)
+        outbox.new writer.new result }
 {
     put_refused(outbox, writer, moment, turn.refused)?;
     put_commands_on(outbox, writer, device, moment, turn)
@@ -145,7 +153,8 @@ fn write_turn<W: Write>(
     turn: &Turn,
 ) -> Result<u8, WriteFault>
     requires { writer.old.has_failed ≡ false }
-    ensures { Prints W.contents (IsLast (turn_text moment turn.now device.now) 0) writer.old writer.new result }
+    ensures { Prints W.contents (IsLast (turn_text moment turn.now device.now) 0) writer.old
+        writer.new result }
 {
     let mut outbox = Outbox::new();
     put_turn(&mut outbox, writer, device, moment, turn)?;
@@ -173,7 +182,8 @@ pub fn tell_turn<W: Write>(
 /// Writes which line of the trace can't be read.
 fn write_bad_line<W: Write>(writer: &mut WatchedWriter<W>, number: usize) -> Result<u8, WriteFault>
     requires { writer.old.has_failed ≡ false }
-    ensures { Prints W.contents (IsLast (unserved_text ServeFault.BadLine number) 3) writer.old writer.new result }
+    ensures { Prints W.contents (IsLast (unserved_text ServeFault.BadLine number) 3) writer.old
+        writer.new result }
 {
     let mut outbox = Outbox::new();
     put_unreadable(&mut outbox, writer, number)?;
@@ -188,7 +198,8 @@ pub fn write_unserved<W: Write>(
     number: usize,
 ) -> Result<u8, WriteFault>
     requires { writer.old.has_failed ≡ false }
-    ensures { Prints W.contents (IsLast (unserved_text fault number) 3) writer.old writer.new result }
+    ensures { Prints W.contents (IsLast (unserved_text fault number) 3) writer.old writer.new
+        result }
 {
     match fault {
         ServeFault::BadLine => write_bad_line(writer, number),

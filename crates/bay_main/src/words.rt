@@ -63,8 +63,10 @@ fn with_file<'a>(
     id: &'a str,
     help: &'a str,
 ) -> Result<Command<'a>, AllocError>
-    ensures app { IfOk result (λ c. app_of c ≡ with_rule (app_of command.entry) (file_rule id.entry.now)) }
-    ensures globals { IfOk result (λ c. (fields_of c).has_globals ≡ (fields_of command.entry).has_globals) }
+    ensures app { IfOk result
+        (λ c. app_of c ≡ with_rule (app_of command.entry) (file_rule id.entry.now)) }
+    ensures globals { IfOk result
+        (λ c. (fields_of c).has_globals ≡ (fields_of command.entry).has_globals) }
 {
     let file = Arg::new(alloc, id)
         .long(id)
@@ -82,8 +84,10 @@ fn with_needed_file<'a>(
     id: &'a str,
     help: &'a str,
 ) -> Result<Command<'a>, AllocError>
-    ensures app { IfOk result (λ c. app_of c ≡ with_rule (app_of command.entry) (needed_rule id.entry.now)) }
-    ensures globals { IfOk result (λ c. (fields_of c).has_globals ≡ (fields_of command.entry).has_globals) }
+    ensures app { IfOk result
+        (λ c. app_of c ≡ with_rule (app_of command.entry) (needed_rule id.entry.now)) }
+    ensures globals { IfOk result
+        (λ c. (fields_of c).has_globals ≡ (fields_of command.entry).has_globals) }
 {
     let file = Arg::new(alloc, id)
         .long(id)
@@ -105,8 +109,10 @@ fn with_number<'a>(
     greatest: u64,
     help: &'a str,
 ) -> Result<Command<'a>, AllocError>
-    ensures app { IfOk result (λ c. app_of c ≡ with_rule (app_of command.entry) (number_rule id.entry.now least greatest)) }
-    ensures globals { IfOk result (λ c. (fields_of c).has_globals ≡ (fields_of command.entry).has_globals) }
+    ensures app { IfOk result
+        (λ c. app_of c ≡ with_rule (app_of command.entry) (number_rule id.entry.now least greatest)) }
+    ensures globals { IfOk result
+        (λ c. (fields_of c).has_globals ≡ (fields_of command.entry).has_globals) }
 {
     let number = Arg::new(alloc, id)
         .long(id)
@@ -122,7 +128,8 @@ fn with_number<'a>(
 /// The command with the options of a program, of which one has to be there, and not both.
 fn with_program<'a>(alloc: Global, command: Command<'a>) -> Result<Command<'a>, AllocError>
     ensures app { IfOk result (λ c. app_of c ≡ spec.with_program (app_of command.entry)) }
-    ensures globals { IfOk result (λ c. (fields_of c).has_globals ≡ (fields_of command.entry).has_globals) }
+    ensures globals { IfOk result
+        (λ c. (fields_of c).has_globals ≡ (fields_of command.entry).has_globals) }
 {
     let command = command.after_help("Exactly one of --logic and --image is wanted.");
     let command = with_file(alloc, command, "logic", "The program in Instruction List")?;
@@ -131,6 +138,7 @@ fn with_program<'a>(alloc: Global, command: Command<'a>) -> Result<Command<'a>, 
     Ok(command)
 }
 
+/// `check`, with its options.
 fn check_command<'a>(alloc: Global) -> Result<Command<'a>, AllocError>
     ensures app { IfOk result (λ c. app_of c ≡ check_app) }
     ensures local { IfOk result (λ c. (fields_of c).has_globals ≡ false) }
@@ -142,6 +150,7 @@ fn check_command<'a>(alloc: Global) -> Result<Command<'a>, AllocError>
     Ok(command)
 }
 
+/// `serve`, with its options.
 fn serve_command<'a>(alloc: Global) -> Result<Command<'a>, AllocError>
     ensures app { IfOk result (λ c. app_of c ≡ serve_app) }
     ensures local { IfOk result (λ c. (fields_of c).has_globals ≡ false) }
@@ -159,6 +168,7 @@ fn serve_command<'a>(alloc: Global) -> Result<Command<'a>, AllocError>
     Ok(command)
 }
 
+/// `compile`, with its options.
 fn compile_command<'a>(alloc: Global) -> Result<Command<'a>, AllocError>
     ensures app { IfOk result (λ c. app_of c ≡ compile_app) }
     ensures local { IfOk result (λ c. (fields_of c).has_globals ≡ false) }
@@ -171,6 +181,7 @@ fn compile_command<'a>(alloc: Global) -> Result<Command<'a>, AllocError>
     Ok(command)
 }
 
+/// `replay`, which has none.
 fn replay_command<'a>(alloc: Global) -> Command<'a>
     ensures app { app_of result ≡ replay_app }
     ensures local { (fields_of result).has_globals ≡ false }
@@ -178,6 +189,7 @@ fn replay_command<'a>(alloc: Global) -> Command<'a>
     Command::new(alloc, "replay").about("Replays the scenario on standard input")
 }
 
+/// The program, before its commands.
 fn program_command<'a>(alloc: Global) -> Result<Command<'a>, AllocError>
     ensures { IfOk result (λ c. app_of c ≡ program_app) }
 {
@@ -190,6 +202,7 @@ fn program_command<'a>(alloc: Global) -> Result<Command<'a>, AllocError>
     Ok(command)
 }
 
+/// The program with all that it can be asked for.
 fn job_command<'a>(alloc: Global) -> Result<Command<'a>, AllocError>
     ensures { IfOk result (λ c. app_of c ≡ job_app) }
 {
@@ -226,7 +239,8 @@ fn value_of<'a>(found: &ArgMatches<'a>, id: &str) -> Option<&'a str>
 
 /// A copy of an option's value.
 fn option_of(alloc: Global, found: &ArgMatches<'_>, id: &str) -> Result<Option<String>, AllocError>
-    ensures { IfOk result (λ o. option_map string_bytes o ≡ first_of id.now (rows_of (found_of found.now))) }
+    ensures { IfOk result (λ o. option_map string_bytes o
+        ≡ first_of id.now (rows_of (found_of found.now))) }
 {
     match value_of(found, id) {
         Some(value) => {
@@ -296,7 +310,8 @@ fn is_whole(job: &Job) -> bool
 
 /// The job of a subcommand and its options.
 fn named_job(alloc: Global, name: &str, found: &ArgMatches<'_>) -> Result<Option<Job>, AllocError>
-    ensures job { IfOk result (λ j. option_map job_view j ≡ spec.named_job name.now (rows_of (found_of found.now))) }
+    ensures job { IfOk result
+        (λ j. option_map job_view j ≡ spec.named_job name.now (rows_of (found_of found.now))) }
     ensures whole { IfOk result (λ j. IfSome j (λ job. spec.is_whole (job_view job) ≡ true)) }
 {
     let Some(verb) = verb_of(name) else {
@@ -312,7 +327,8 @@ fn named_job(alloc: Global, name: &str, found: &ArgMatches<'_>) -> Result<Option
 
 /// The job that a parse found.
 fn job_from(alloc: Global, matches: &ArgMatches<'_>) -> Result<Option<Job>, AllocError>
-    ensures job { IfOk result (λ j. option_map job_view j ≡ entered_job (subcommand_rows_of matches.now)) }
+    ensures job { IfOk result
+        (λ j. option_map job_view j ≡ entered_job (subcommand_rows_of matches.now)) }
     ensures whole { IfOk result (λ j. IfSome j (λ job. spec.is_whole (job_view job) ≡ true)) }
 {
     match matches.subcommand() {
@@ -362,7 +378,8 @@ fn refused_by(alloc: Global, error: &Error) -> WordsFault
 pub fn job_of<'a>(alloc: Global, words: &'a [&'a str]) -> Result<Job, WordsFault>
     ensures ok { IfOk result (λ j. job_in (map (λ w. w.now) words.entry.now) ≡ Some (job_view j)) }
     ensures whole { IfOk result (λ j. spec.is_whole (job_view j) ≡ true) }
-    ensures refused { IfErr result (λ e. (e ≡ WordsFault.OutOfMemory) ⊎ (job_in (map (λ w. w.now) words.entry.now) ≡ None)) }
+    ensures refused { IfErr result
+        (λ e. (e ≡ WordsFault.OutOfMemory) ⊎ (job_in (map (λ w. w.now) words.entry.now) ≡ None)) }
 {
     let command = match job_command(alloc) {
         Ok(command) => command,

@@ -4,45 +4,50 @@ use Rattle.std.specs.List.{list_any}
 use Rattle.std.proofs.lemmas.Bool.{lt-ltb, le-ltb, ltb-true, ltb-false}
 use Rattle.std.proofs.lemmas.List.{length-map}
 use Rattle.bay_ber.specs.declared.tag.Tag.{Tag}
-use Rattle.bay_ber.specs.Options.{◌>>=◌}
+use Rattle.bay_base.specs.Options.{◌>>=◌}
 use Rattle.bay_ber.specs.Tags.{same_tag}
 use Rattle.bay_ber.specs.Values.{Part, value, SpellAll, value_in, few_in, all_of, each_in, under}
 use Rattle.bay_ber.proofs.ReadLemmas.{IsBytes}
 use Rattle.bay_ber.proofs.ListingLemmas.{values_again}
-use Rattle.bay_ber.proofs.BackLemmas.{bind_some, AllBytes, tag_is, under_is, one_back, few_back, each_back, one_read, few_read}
+use Rattle.bay_ber.proofs.BackLemmas.{bind_some, some_is, AllBytes, tag_is, under_is, one_back, few_back, each_back, one_read, few_read}
 use Rattle.bay_mms.specs.Tags.{context, constructed, sequence, visible_tag}
-use Rattle.bay_mms.specs.Spelled.{◌>>◌, spelled}
-use Rattle.bay_mms.specs.Requests.{Naming, vmd, domain, association, Variable, Access, variables, named_list}
+use Rattle.bay_base.specs.Results.{◌>>=◌ as ◌>>◌}
+use Rattle.bay_mms.specs.Spelled.{AreEach, spelled}
+use Rattle.bay_mms.specs.Requests.{Naming, vmd, domain, association, VariableSpecification, Access, variables, named_list}
 use Rattle.bay_mms.specs.Grammar.{domain_name, name_as, name_in, variable_of, variable_as, access_as, any_alternate, judged}
-use Rattle.bay_mms.specs.SpelledNames.{IsName, IsPartial, IsVariable, AreVariables, IsAccess, as_whole, AreServed, AreUnserved, AreMany}
+use Rattle.bay_mms.specs.SpelledNames.{IsName, IsPartial, IsVariable, IsAccess, as_whole, AreServed, AreUnserved, AreMany}
+use Rattle.bay_mms.proofs.EachLemmas.{each_read, each_listed}
 use Rattle.bay_mms.specs.declared.fault.Refusal.{Refusal}
 use Rattle.bay_mms.specs.declared.fault.Refusal.TheVariants.{Bad, Unknown, Many, OutOfMemory}
 
 -- ---- one thing after another
 
-pub some_is : {A : Type 0} (x y : A) → Some x ≡ Some y → x ≡ y
-some_is x y e = cc
-
-pub right_is : {A E : Type 0} (x y : A) → let a : Result A E = Ok x in let b : Result A E = Ok y in a ≡ b → x ≡ y
+pub right_is : {A E : Type 0} (x y : A) → let a : Result A E = Ok x in let b : Result A E =
+    Ok y in a ≡ b → x ≡ y
 right_is x y e = cc
 
 -- an answer that is not for bad spelling
 abbrev pub IsFair : {A : Type 0} → Result A Refusal → Type 0
 IsFair r = r ≡ Err Bad → ⊥
 
-pub spelled_then : {A B : Type 0} (o : Option A) (f : A → Result B Refusal) (r : Result B Refusal) → IsFair r → (spelled o >> f) ≡ r → (x : A) × (o ≡ Some x) × (f x ≡ r)
+pub spelled_then : {A B : Type 0} (o : Option A) (f : A → Result B Refusal) (r : Result B Refusal)
+    → IsFair r → (spelled o >> f) ≡ r → (x : A) × (o ≡ Some x) × (f x ≡ r)
 spelled_then None f r fair e = absurd (fair (sym e))
 spelled_then (Some x) f r fair e = (x, refl, e)
 
 -- which of two a tag chooses
-pub by_tag : {A : Type 0} (tag : Tag) (part : Part) (x y z : A) → cond (same_tag part.tag tag) x y ≡ z → ((part ≡ value tag part.content) × (x ≡ z)) ⊎ ((same_tag part.tag tag ≡ false) × (y ≡ z))
+pub by_tag : {A : Type 0} (tag : Tag) (part : Part) (x y z : A)
+    → cond (same_tag part.tag tag) x y ≡ z
+    → ((part ≡ value tag part.content) × (x ≡ z)) ⊎ ((same_tag part.tag tag ≡ false) × (y ≡ z))
 by_tag {A = A} tag part x y z e = pick (same_tag part.tag tag) refl e
   where
-    pick : (b : Bool) → same_tag part.tag tag ≡ b → cond b x y ≡ z → ((part ≡ value tag part.content) × (x ≡ z)) ⊎ ((same_tag part.tag tag ≡ false) × (y ≡ z))
+    pick : (b : Bool) → same_tag part.tag tag ≡ b → cond b x y ≡ z
+        → ((part ≡ value tag part.content) × (x ≡ z)) ⊎ ((same_tag part.tag tag ≡ false) × (y ≡ z))
     pick true s f = inl (ap (λ (t : Tag). value t part.content) (tag_is part.tag tag s), f)
     pick false s f = inr (s, f)
 
-pub spelled_under : (octets : List ℕ) (p q : Part) → p ≡ q → SpellAll octets (p ∷ []) → SpellAll octets (q ∷ [])
+pub spelled_under : (octets : List ℕ) (p q : Part) → p ≡ q → SpellAll octets (p ∷ [])
+    → SpellAll octets (q ∷ [])
 spelled_under octets p q e s = subst (λ (x : Part). SpellAll octets (x ∷ [])) e s
 
 -- ---- names
@@ -50,7 +55,11 @@ spelled_under octets p q e s = subst (λ (x : Part). SpellAll octets (x ∷ []))
 pub name_read : (octets : List ℕ) (n : Naming) → IsName octets n → name_in octets ≡ Some n
 unfolding name_in name_as
 name_read octets (vmd text) is = rw (one_read octets (value (context 0) text) is) refl
-name_read octets (domain d item) is = rw (one_read octets (value (constructed 1) is.0) is.1, few_read is.0 (value visible_tag d ∷ value visible_tag item ∷ []) is.2) refl
+name_read octets (domain d item) is =
+    rw (
+      one_read octets (value (constructed 1) is.0) is.1,
+      few_read is.0 (value visible_tag d ∷ value visible_tag item ∷ []) is.2,
+    ) refl
 name_read octets (association text) is = rw (one_read octets (value (context 2) text) is) refl
 
 record Both (parts : List Part) (n : Naming) : Type 0 where
@@ -68,35 +77,48 @@ domain_back (p ∷ q ∷ []) n e =
     record {
       first = x.0;
       second = y.0;
-      are = ap (λ (r : Part). r ∷ q ∷ []) (under_is visible_tag p x.0 x.1) ∙ ap (λ (r : Part). value visible_tag x.0 ∷ r ∷ []) (under_is visible_tag q y.0 y.1);
+      are = ap (λ (r : Part). r ∷ q ∷ []) (under_is visible_tag p x.0 x.1)
+          ∙ ap (λ (r : Part). value visible_tag x.0 ∷ r ∷ []) (under_is visible_tag q y.0 y.1);
       is = some_is (domain x.0 y.0) n y.2;
     }
 domain_back (p ∷ q ∷ r ∷ parts) n e = absurd cc
 
-domain_named : (octets : List ℕ) (part : Part) (n : Naming) → SpellAll octets (value (constructed 1) part.content ∷ []) → IsBytes part.content → (few_in part.content >>= domain_name) ≡ Some n → IsName octets n
+domain_named : (octets : List ℕ) (part : Part) (n : Naming)
+    → SpellAll octets (value (constructed 1) part.content ∷ []) → IsBytes part.content
+    → (few_in part.content >>= domain_name) ≡ Some n → IsName octets n
 domain_named octets part n s b e =
     let x = bind_some (few_in part.content) domain_name n e in
     let f = few_back part.content x.0 b x.1 in
     let d = domain_back x.0 n x.2 in
     subst (IsName octets) d.is (part.content, s, subst (SpellAll part.content) d.are f.0)
 
-named : (octets : List ℕ) (part : Part) (n : Naming) → SpellAll octets (part ∷ []) → IsBytes part.content → name_as part ≡ Some n → IsName octets n
+named : (octets : List ℕ) (part : Part) (n : Naming) → SpellAll octets (part ∷ [])
+    → IsBytes part.content → name_as part ≡ Some n → IsName octets n
 unfolding name_as
 named octets part n s b e =
-    let last : Option Naming = cond (same_tag part.tag (context 2)) (Some (association part.content)) None in
-    let later : Option Naming = cond (same_tag part.tag (constructed 1)) (few_in part.content >>= domain_name) last in
+    let last : Option Naming =
+    cond (same_tag part.tag (context 2)) (Some (association part.content)) None in
+    let later : Option Naming =
+    cond (same_tag part.tag (constructed 1)) (few_in part.content >>= domain_name) last in
     elim (by_tag (context 0) part (Some (vmd part.content)) later (Some n) e) [
-      | inl here ↦ subst (IsName octets) (some_is (vmd part.content) n here.1) (spelled_under octets part (value (context 0) part.content) here.0 s)
-      | inr next ↦ elim (by_tag (constructed 1) part (few_in part.content >>= domain_name) last (Some n) next.1) [
-        | inl here ↦ domain_named octets part n (spelled_under octets part (value (constructed 1) part.content) here.0 s) b here.1
-        | inr more ↦ elim (by_tag (context 2) part (Some (association part.content)) None (Some n) more.1) [
-          | inl here ↦ subst (IsName octets) (some_is (association part.content) n here.1) (spelled_under octets part (value (context 2) part.content) here.0 s)
-          | inr none ↦ absurd (let no : None ≡ Some n = none.1 in cc)
-        ]
-      ]
+      | inl here ↦ subst (IsName octets) (some_is (vmd part.content) n here.1)
+          (spelled_under octets part (value (context 0) part.content) here.0 s)
+      | inr next ↦ elim (by_tag (constructed 1) part (few_in part.content >>= domain_name) last
+          (Some n) next.1) [
+            | inl here ↦ domain_named octets part n
+                (spelled_under octets part (value (constructed 1) part.content) here.0 s) b here.1
+            | inr more ↦ elim (by_tag (context 2) part (Some (association part.content)) None
+                (Some n)
+                more.1) [
+                  | inl here ↦ subst (IsName octets) (some_is (association part.content) n here.1)
+                      (spelled_under octets part (value (context 2) part.content) here.0 s)
+                  | inr none ↦ absurd (let no : None ≡ Some n = none.1 in cc)
+                ]
+          ]
     ]
 
-pub name_back : (octets : List ℕ) (n : Naming) → IsBytes octets → name_in octets ≡ Some n → IsName octets n
+pub name_back : (octets : List ℕ) (n : Naming) → IsBytes octets → name_in octets ≡ Some n
+    → IsName octets n
 unfolding name_in
 name_back octets n b e =
     let x = bind_some (value_in octets) name_as n e in
@@ -105,47 +127,61 @@ name_back octets n b e =
 
 -- ---- variables
 
-variable_with : (octets name : List ℕ) (behind : List Part) (n : Naming) (alternate : Bool) → SpellAll octets (value (constructed 0) name ∷ behind) → IsName name n → IsPartial behind alternate
+variable_with : (octets name : List ℕ) (behind : List Part) (n : Naming) (alternate : Bool)
+    → SpellAll octets (value (constructed 0) name ∷ behind) → IsName name n
+    → IsPartial behind alternate
     → (few_in octets >>= variable_of) ≡ Some (record { name = n; is_alternate = alternate })
-variable_with octets name [] n false s is partial = rw (few_read octets (value (constructed 0) name ∷ []) s, name_read name n is) refl
+variable_with octets name [] n false s is partial =
+    rw (few_read octets (value (constructed 0) name ∷ []) s, name_read name n is) refl
 variable_with octets name [] n true s is partial = absurd partial
 variable_with octets name (part ∷ []) n false s is partial = absurd partial
-variable_with octets name (part ∷ []) n true s is partial = rw (few_read octets (value (constructed 0) name ∷ part ∷ []) s, name_read name n is, partial) refl
+variable_with octets name (part ∷ []) n true s is partial =
+    rw (few_read octets (value (constructed 0) name ∷ part ∷ []) s, name_read name n is, partial)
+    refl
 variable_with octets name (part ∷ next ∷ parts) n alternate s is partial = absurd partial
 
-variable_read : (octets : List ℕ) (v : Variable) → IsVariable octets v → variable_as (value sequence octets) ≡ Some v
+variable_read : (octets : List ℕ) (v : VariableSpecification) → IsVariable octets v
+    → variable_as (value sequence octets) ≡ Some v
 unfolding variable_as
-variable_read octets v is = variable_with octets is.name is.behind v.name v.is_alternate is.parts is.is_name is.alternate
-
-variables_read : (lists : List (List ℕ)) (vs : List Variable) → AreVariables lists vs → all_of variable_as (map (value sequence) lists) ≡ Some vs
-variables_read [] [] are = refl
-variables_read [] (v ∷ vs) are = absurd are
-variables_read (octets ∷ lists) [] are = absurd are
-variables_read (octets ∷ lists) (v ∷ vs) are = rw (variable_read octets v are.0, variables_read lists vs are.1) refl
+variable_read octets v is =
+    variable_with octets is.name is.behind v.name v.is_alternate is.parts is.is_name is.alternate
 
 record Named (p : Part) (n : Naming) : Type 0 where
   name : List ℕ
   part : p ≡ value (constructed 0) name
   is : IsName name n
 
-under_named : (p : Part) (name : List ℕ) (n : Naming) → IsBytes p.content → under (constructed 0) p ≡ Some name → name_in name ≡ Some n → Named p n
+under_named : (p : Part) (name : List ℕ) (n : Naming) → IsBytes p.content
+    → under (constructed 0) p ≡ Some name → name_in name ≡ Some n → Named p n
 under_named p name n b e f =
     let same = under_is (constructed 0) p name e in
-    record { name = name; part = same; is = name_back name n (subst IsBytes (ap (λ (q : Part). q.content) same) b) f }
+    record {
+      name = name;
+      part = same;
+      is = name_back name n (subst IsBytes (ap (λ (q : Part). q.content) same) b) f;
+    }
 
-variable_parts : (octets : List ℕ) (parts : List Part) (v : Variable) → SpellAll octets parts → AllBytes parts → variable_of parts ≡ Some v → IsVariable octets v
+variable_parts : (octets : List ℕ) (parts : List Part) (v : VariableSpecification)
+    → SpellAll octets parts → AllBytes parts → variable_of parts ≡ Some v → IsVariable octets v
 variable_parts octets [] v s b e = absurd cc
 variable_parts octets (p ∷ []) v s b e =
     let x = bind_some (under (constructed 0) p) _ v e in
     let y = bind_some (name_in x.0) _ v x.2 in
-    let made : Variable = record { name = y.0; is_alternate = false } in
+    let made : VariableSpecification = record { name = y.0; is_alternate = false } in
     let n = under_named p x.0 y.0 b.0 x.1 y.1 in
-    subst (IsVariable octets) (some_is made v y.2) (record { name = n.name; behind = []; parts = spelled_under octets p (value (constructed 0) n.name) n.part s; is_name = n.is; alternate = tt })
+    subst (IsVariable octets) (some_is made v y.2)
+    (record {
+      name = n.name;
+      behind = [];
+      parts = spelled_under octets p (value (constructed 0) n.name) n.part s;
+      is_name = n.is;
+      alternate = tt;
+    })
 variable_parts octets (p ∷ q ∷ []) v s b e =
     let x = bind_some (under (constructed 0) p) _ v e in
     let y = bind_some (name_in x.0) _ v x.2 in
     let z = bind_some (under (constructed 5) q) _ v y.2 in
-    let made : Variable = record { name = y.0; is_alternate = true } in
+    let made : VariableSpecification = record { name = y.0; is_alternate = true } in
     let n = under_named p x.0 y.0 b.0 x.1 y.1 in
     subst (IsVariable octets) (some_is made v z.2) (record {
       name = n.name;
@@ -156,7 +192,8 @@ variable_parts octets (p ∷ q ∷ []) v s b e =
     })
 variable_parts octets (p ∷ q ∷ r ∷ parts) v s b e = absurd cc
 
-variable_back : (p : Part) (v : Variable) → IsBytes p.content → variable_as p ≡ Some v → (octets : List ℕ) × (p ≡ value sequence octets) × IsVariable octets v
+variable_back : (p : Part) (v : VariableSpecification) → IsBytes p.content → variable_as p ≡ Some v
+    → (octets : List ℕ) × (p ≡ value sequence octets) × IsVariable octets v
 unfolding variable_as
 variable_back p v b e =
     let x = bind_some (under sequence p >>= few_in) variable_of v e in
@@ -165,49 +202,53 @@ variable_back p v b e =
     let f = few_back y.0 x.0 (subst IsBytes (ap (λ (q : Part). q.content) same) b) y.2 in
     (y.0, same, variable_parts y.0 x.0 v f.0 f.1 x.2)
 
-record Listed (parts : List Part) (vs : List Variable) : Type 0 where
-  lists : List (List ℕ)
-  are : parts ≡ map (value sequence) lists
-  each : AreVariables lists vs
-
-variables_back : (parts : List Part) (vs : List Variable) → AllBytes parts → all_of variable_as parts ≡ Some vs → Listed parts vs
-variables_back [] vs b e = record { lists = []; are = refl; each = subst (AreVariables []) (some_is [] vs e) tt }
-variables_back (p ∷ parts) vs b e =
-    let x = bind_some (variable_as p) (λ v. all_of variable_as parts >>= λ more. Some (v ∷ more)) vs e in
-    let y = bind_some (all_of variable_as parts) (λ more. Some (x.0 ∷ more)) vs x.2 in
-    let first = variable_back p x.0 b.0 x.1 in
-    let more = variables_back parts y.0 b.1 y.1 in
-    record {
-      lists = first.0 ∷ more.lists;
-      are = ap (λ (q : Part). q ∷ parts) first.1 ∙ ap (λ (ps : List Part). value sequence first.0 ∷ ps) more.are;
-      each = subst (AreVariables (first.0 ∷ more.lists)) (some_is (x.0 ∷ y.0) vs y.2) (first.2, more.each);
-    }
-
 -- ---- the variables of a read or a write
 
 pub access_read : (part : Part) (a : Access) → IsAccess part a → access_as part ≡ Ok a
 unfolding access_as
-access_read part (variables vs) is = rw (is.2, values_again is.0 (map (value sequence) is.1) is.3, variables_read is.1 vs is.4) refl
+access_read part (variables vs) is =
+    rw (
+      is.2,
+      values_again is.0 (map (value sequence) is.1) is.3,
+      each_read variable_as (value sequence) IsVariable variable_read is.1 vs is.4,
+    ) refl
 access_read part named_list is = rw (is.2, name_read is.0 is.1 is.3) refl
 
-listed_back : (part : Part) (a : Access) → part ≡ value (constructed 0) part.content → IsBytes part.content → (spelled (each_in variable_as part.content) >> (λ vs. let made : Result Access Refusal = Ok (variables vs) in made)) ≡ Ok a → IsAccess part a
+listed_back : (part : Part) (a : Access) → part ≡ value (constructed 0) part.content
+    → IsBytes part.content →
+    (spelled (each_in variable_as part.content) >>
+    (λ vs. let made : Result Access Refusal = Ok (variables vs) in made)) ≡ Ok a → IsAccess part a
 listed_back part a is b e =
-    let x = spelled_then (each_in variable_as part.content) (λ vs. Ok (variables vs)) (Ok a) (λ no. cc) e in
+    let x = spelled_then (each_in variable_as part.content) (λ vs. Ok (variables vs)) (Ok a)
+    (λ no. cc) e in
     let each = each_back variable_as part.content x.0 b x.1 in
-    let l = variables_back each.parts x.0 each.bytes each.all in
-    subst (IsAccess part) (right_is {E = Refusal} (variables x.0) a x.2) (part.content, l.lists, is, subst (SpellAll part.content) {y = map (value sequence) l.lists} l.are each.spelled, l.each)
+    let l = each_listed variable_as (value sequence) IsVariable variable_back each.parts x.0
+    each.bytes each.all in
+    subst (IsAccess part) (right_is {E = Refusal} (variables x.0) a x.2) (
+      part.content,
+      l.lists,
+      is,
+      subst (SpellAll part.content) {y = map (value sequence) l.lists} l.are each.spelled,
+      l.each,
+    )
 
-list_back : (part : Part) (a : Access) → part ≡ value (constructed 1) part.content → IsBytes part.content → (spelled (name_in part.content) >> (λ n. let made : Result Access Refusal = Ok named_list in made)) ≡ Ok a → IsAccess part a
+list_back : (part : Part) (a : Access) → part ≡ value (constructed 1) part.content
+    → IsBytes part.content →
+    (spelled (name_in part.content) >>
+    (λ n. let made : Result Access Refusal = Ok named_list in made)) ≡ Ok a → IsAccess part a
 list_back part a is b e =
     let x = spelled_then (name_in part.content) (λ n. Ok named_list) (Ok a) (λ no. cc) e in
-    subst (IsAccess part) (right_is {E = Refusal} named_list a x.2) (part.content, x.0, is, name_back part.content x.0 b x.1)
+    subst (IsAccess part) (right_is {E = Refusal} named_list a x.2)
+    (part.content, x.0, is, name_back part.content x.0 b x.1)
 
-pub access_back : (part : Part) (a : Access) → IsBytes part.content → access_as part ≡ Ok a → IsAccess part a
+pub access_back : (part : Part) (a : Access) → IsBytes part.content → access_as part ≡ Ok a
+    → IsAccess part a
 unfolding access_as
 access_back part a b e =
     let list : Result Access Refusal = spelled (name_in part.content) >> (λ n. Ok named_list) in
     let last : Result Access Refusal = cond (same_tag part.tag (constructed 1)) list (Err Bad) in
-    elim (by_tag (constructed 0) part (spelled (each_in variable_as part.content) >> (λ vs. Ok (variables vs))) last (Ok a) e) [
+    elim (by_tag (constructed 0) part
+    (spelled (each_in variable_as part.content) >> (λ vs. Ok (variables vs))) last (Ok a) e) [
       | inl here ↦ listed_back part a here.0 b here.1
       | inr next ↦ elim (by_tag (constructed 1) part list (Err Bad) (Ok a) next.1) [
         | inl here ↦ list_back part a here.0 b here.1
@@ -217,7 +258,7 @@ access_back part a b e =
 
 -- ---- which of them are served
 
-any_same : (vs : List Variable) → list_any (λ v. v.is_alternate) vs ≡ any_alternate vs
+any_same : (vs : List VariableSpecification) → list_any (λ v. v.is_alternate) vs ≡ any_alternate vs
 any_same [] = refl
 any_same (v ∷ vs) = rw (any_same vs) refl
 
@@ -233,28 +274,34 @@ pub either_false : (a b : Bool) → (a || b) ≡ false → (a ≡ false) × (b �
 either_false true b e = absurd cc
 either_false false b e = (refl, e)
 
-are_whole : (vs : List Variable) → any_alternate vs ≡ false → vs ≡ map as_whole (map (λ v. v.name) vs)
+are_whole : (vs : List VariableSpecification) → any_alternate vs ≡ false
+    → vs ≡ map as_whole (map (λ v. v.name) vs)
 are_whole [] e = refl
 are_whole (v ∷ vs) e =
     let x = either_false v.is_alternate (any_alternate vs) e in
-    ap (λ (b : Bool). let made : Variable = record { name = v.name; is_alternate = b } in made ∷ vs) x.0 ∙ ap (λ (ws : List Variable). as_whole v.name ∷ ws) (are_whole vs x.1)
+    ap (λ (b : Bool). let made : VariableSpecification =
+    record { name = v.name; is_alternate = b } in made ∷ vs) x.0
+    ∙ ap (λ (ws : List VariableSpecification). as_whole v.name ∷ ws) (are_whole vs x.1)
 
 pub judged_served : (a : Access) (names : List Naming) → AreServed a names → judged a ≡ Ok names
 unfolding judged
 judged_served (variables vs) names are =
-    let few : ltb 32 (length (map as_whole names)) ≡ false = le-ltb _ _ (let n = are.1 in omega (arith, length-map names as_whole)) in
+    let few : ltb 32 (length (map as_whole names)) ≡ false =
+    le-ltb _ _ (let n = are.1 in omega (arith, length-map names as_whole)) in
     rw (are.0, none_partial names, few, names_of_whole names) refl
 judged_served named_list names are = absurd are
 
 pub judged_unserved : (a : Access) → AreUnserved a → judged a ≡ Err Unknown
 unfolding judged
-judged_unserved (variables vs) some = let e : any_alternate vs ≡ true = sym (any_same vs) ∙ some in rw e refl
+judged_unserved (variables vs) some = let e : any_alternate vs ≡ true =
+    sym (any_same vs) ∙ some in rw e refl
 judged_unserved named_list some = refl
 
 pub judged_many : (a : Access) → AreMany a → judged a ≡ Err Many
 unfolding judged
 judged_many (variables vs) are =
-    let many : ltb 32 (length (map as_whole are.0)) ≡ true = lt-ltb _ _ (let n = are.2 in omega (arith, length-map are.0 as_whole)) in
+    let many : ltb 32 (length (map as_whole are.0)) ≡ true =
+    lt-ltb _ _ (let n = are.2 in omega (arith, length-map are.0 as_whole)) in
     rw (are.1, none_partial are.0, many) refl
 judged_many named_list are = absurd are
 
@@ -266,10 +313,22 @@ Judged a (Err Unknown) = AreUnserved a
 Judged a (Err Many) = AreMany a
 Judged a (Err OutOfMemory) = ⊥
 
-judged_by : (vs : List Variable) (some many : Bool) → any_alternate vs ≡ some → ltb 32 (length vs) ≡ many → Judged (variables vs) (cond some (Err Unknown) (cond many (Err Many) (Ok (map (λ v. v.name) vs))))
+judged_by : (vs : List VariableSpecification) (some many : Bool) → any_alternate vs ≡ some
+    → ltb 32 (length vs) ≡ many
+    → Judged (variables vs) (cond some (Err Unknown)
+    (cond many (Err Many) (Ok (map (λ v. v.name) vs))))
 judged_by vs true many e f = any_same vs ∙ e
-judged_by vs false true e f = (map (λ v. v.name) vs, are_whole vs e, let n = ltb-true 32 (length vs) f in omega (arith, length-map vs (λ v. v.name)))
-judged_by vs false false e f = (are_whole vs e, let n = ltb-false 32 (length vs) f in omega (arith, length-map vs (λ v. v.name)))
+judged_by vs false true e f = (
+  map (λ v. v.name) vs,
+  are_whole vs e,
+  let n = ltb-true 32 (length vs) f in
+      omega (arith, length-map vs (λ v. v.name)),
+)
+judged_by vs false false e f = (
+  are_whole vs e,
+  let n = ltb-false 32 (length vs) f in
+      omega (arith, length-map vs (λ v. v.name)),
+)
 
 judged_back : (a : Access) → Judged a (judged a)
 unfolding judged

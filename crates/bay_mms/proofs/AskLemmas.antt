@@ -5,14 +5,14 @@ use Rattle.std.proofs.lemmas.Bool.{ltb-true}
 use Rattle.bay_ber.specs.declared.fault.BerFault.{BerFault}
 use Rattle.bay_ber.specs.declared.tag.Tag.{Tag}
 use Rattle.bay_ber.specs.Content.{IsInteger, integer_in}
-use Rattle.bay_ber.specs.Options.{◌>>=◌}
+use Rattle.bay_base.specs.Options.{◌>>=◌}
 use Rattle.bay_ber.specs.Reading.{Reading, Begins, tlv_at}
 use Rattle.bay_ber.specs.Tags.{same_tag}
 use Rattle.bay_ber.specs.Values.{Part, value, SpellAll, part_in, value_in, few_in, under}
 use Rattle.bay_ber.proofs.ReadLemmas.{IsBytes, tlv_takes, tlv_again}
-use Rattle.bay_ber.proofs.BackLemmas.{bind_some, bytes_before, content_bytes, AllBytes, guard_true, under_is, integer_back, one_back, few_back, one_read}
+use Rattle.bay_ber.proofs.BackLemmas.{bind_some, some_is, bytes_before, content_bytes, AllBytes, guard_true, under_is, integer_back, one_back, few_back, one_read}
 use Rattle.bay_mms.specs.Tags.{context, constructed, int_tag}
-use Rattle.bay_mms.specs.Spelled.{◌>>◌}
+use Rattle.bay_base.specs.Results.{◌>>=◌ as ◌>>◌}
 use Rattle.bay_mms.specs.Requests.{Asking, Message, initiate, conclude, confirmed}
 use Rattle.bay_mms.specs.Grammar.{nothing, service_as, proposal_in, id_of, id_as, with_id, or_bad, confirmed_of, message_as, front_of, id_in, answer_to}
 use Rattle.bay_mms.specs.Asks.{IsConfirmed, Asks, AsksUnknown, AsksMany, HasId, IsIdOf, AsksNothing}
@@ -20,7 +20,7 @@ use Rattle.bay_mms.specs.declared.fault.Refusal.{Refusal}
 use Rattle.bay_mms.specs.declared.fault.Refusal.TheVariants.{Bad, Unknown, Many, OutOfMemory}
 use Rattle.bay_mms.specs.declared.fault.MmsFault.{MmsFault}
 use Rattle.bay_mms.specs.declared.fault.MmsFault.TheVariants as fault
-use Rattle.bay_mms.proofs.AccessLemmas.{some_is, by_tag, spelled_under}
+use Rattle.bay_mms.proofs.AccessLemmas.{by_tag, spelled_under}
 use Rattle.bay_mms.proofs.ConfirmedLemmas.{id_read, known, confirmed_read}
 use Rattle.bay_mms.proofs.InitiateLemmas.{proposal_in_read, initiate_with}
 use Rattle.bay_mms.proofs.ServiceLemmas.{Serves, service_read, unserved_read, overfull_read, service_back}
@@ -29,32 +29,44 @@ use Rattle.bay_mms.proofs.ServiceLemmas.{Serves, service_read, unserved_read, ov
 
 pub asked_read : (octets : List ℕ) (m : Message) → Asks m octets → answer_to octets ≡ Ok m
 unfolding answer_to message_as
-asked_read octets (initiate p) is = rw (one_read octets (value (constructed 8) is.content) is.whole, proposal_in_read octets p is) refl
+asked_read octets (initiate p) is =
+    rw (one_read octets (value (constructed 8) is.content) is.whole, proposal_in_read octets p is)
+    refl
 asked_read octets conclude is = rw (one_read octets (value (context 11) []) is) refl
-asked_read octets (confirmed id asking) is = confirmed_read octets id is.0 is.1 ∙ ap (with_id (Some id) id) (service_read is.0 asking is.2)
+asked_read octets (confirmed id asking) is =
+    confirmed_read octets id is.0 is.1 ∙ ap (with_id (Some id) id) (service_read is.0 asking is.2)
 
-unknown_read : (octets : List ℕ) (id : ℕ) → AsksUnknown id octets → answer_to octets ≡ Err (fault.UnknownService id)
-unknown_read octets id is = confirmed_read octets id is.0 is.1 ∙ ap (with_id (Some id) id) (unserved_read is.0 is.2)
+unknown_read : (octets : List ℕ) (id : ℕ) → AsksUnknown id octets
+    → answer_to octets ≡ Err (fault.UnknownService id)
+unknown_read octets id is =
+    confirmed_read octets id is.0 is.1 ∙ ap (with_id (Some id) id) (unserved_read is.0 is.2)
 
-many_read : (octets : List ℕ) (id : ℕ) → AsksMany id octets → answer_to octets ≡ Err (fault.TooMany id)
-many_read octets id is = confirmed_read octets id is.0 is.1 ∙ ap (with_id (Some id) id) (overfull_read is.0 is.2)
+many_read : (octets : List ℕ) (id : ℕ) → AsksMany id octets
+    → answer_to octets ≡ Err (fault.TooMany id)
+many_read octets id is =
+    confirmed_read octets id is.0 is.1 ∙ ap (with_id (Some id) id) (overfull_read is.0 is.2)
 
 id_again : (octets : List ℕ) (id : ℕ) → HasId octets id → id_in octets ≡ Some id
 id_again octets id h =
     let first : Reading = record { tag = constructed 0; content = h.content; rest = h.behind } in
     let second : Reading = record { tag = int_tag; content = h.number; rest = h.later } in
-    known octets h.content h.number h.behind h.later id (tlv_again octets first h.first) (tlv_again h.content second h.second) (id_read h.number id h.is h.below)
+    known octets h.content h.number h.behind h.later id (tlv_again octets first h.first)
+    (tlv_again h.content second h.second) (id_read h.number id h.is h.below)
 
 -- ---- the invoke id
 
-number_is : (number : List ℕ) (z : ℤ) (id : ℕ) → IsInteger number z → id_of z ≡ Some id → IsInteger number (pos id) × (id < 2 ^ 32)
+number_is : (number : List ℕ) (z : ℤ) (id : ℕ) → IsInteger number z → id_of z ≡ Some id
+    → IsInteger number (pos id) × (id < 2 ^ 32)
 number_is number (pos n) id is e =
     let g = guard_true (ltb n 4294967296) n id e in
-    let low : n < 4294967296 = ltb-true n 4294967296 g.0 in
-    (subst (λ (k : ℕ). IsInteger number (pos k)) g.1 is, subst (λ (k : ℕ). k < 2 ^ 32) g.1 (omega arith))
+    let low : n < 4294967296 = ltb-true n 4294967296 g.0 in (
+      subst (λ (k : ℕ). IsInteger number (pos k)) g.1 is,
+      subst (λ (k : ℕ). k < 2 ^ 32) g.1 (omega arith),
+    )
 number_is number (negsuc n) id is e = absurd cc
 
-id_back : (p : Part) (id : ℕ) → id_as p ≡ Some id → (number : List ℕ) × (p ≡ value int_tag number) × IsInteger number (pos id) × (id < 2 ^ 32)
+id_back : (p : Part) (id : ℕ) → id_as p ≡ Some id
+    → (number : List ℕ) × (p ≡ value int_tag number) × IsInteger number (pos id) × (id < 2 ^ 32)
 unfolding id_as
 id_back p id e =
     let x = bind_some (under int_tag p >>= integer_in) id_of id e in
@@ -62,26 +74,42 @@ id_back p id e =
     let n = number_is y.0 x.0 id (integer_back y.0 x.0 y.2) x.2 in
     (y.0, under_is int_tag p y.0 y.1, n.0, n.1)
 
-front_back : (octets : List ℕ) (t : Result Reading BerFault) (p : Part) → IsBytes octets → tlv_at octets ≡ t → front_of t ≡ Some p → (rest : List ℕ) × Begins octets (record { tag = p.tag; content = p.content; rest = rest })
+front_back : (octets : List ℕ) (t : Result Reading BerFault) (p : Part) → IsBytes octets
+    → tlv_at octets ≡ t → front_of t ≡ Some p
+    → (rest : List ℕ) × Begins octets (record { tag = p.tag; content = p.content; rest = rest })
 front_back octets (Ok r) p b e f =
-    let same : part_in r ≡ p = some_is (part_in r) p f in
-    (r.rest, subst (λ (q : Part). let made : Reading = record { tag = q.tag; content = q.content; rest = r.rest } in Begins octets made) same (tlv_takes octets r b e))
+    let same : part_in r ≡ p = some_is (part_in r) p f in (
+      r.rest,
+      subst (λ (q : Part). let made : Reading =
+          record { tag = q.tag; content = q.content; rest = r.rest } in Begins octets made) same
+          (tlv_takes octets r b e),
+    )
 front_back octets (Err fault) p b e f = absurd cc
 
-begun : (octets : List ℕ) (tag : Tag) (content rest : List ℕ) (p : Part) → p ≡ value tag content → (let r : Reading = record { tag = p.tag; content = p.content; rest = rest } in Begins octets r) → (let r : Reading = record { tag = tag; content = content; rest = rest } in Begins octets r)
-begun octets tag content rest p same s = subst (λ (q : Part). let r : Reading = record { tag = q.tag; content = q.content; rest = rest } in Begins octets r) same s
+begun : (octets : List ℕ) (tag : Tag) (content rest : List ℕ) (p : Part) → p ≡ value tag content
+    → (let r : Reading = record { tag = p.tag; content = p.content; rest = rest } in
+    Begins octets r) → (let r : Reading = record { tag = tag; content = content; rest = rest } in
+    Begins octets r)
+begun octets tag content rest p same s =
+    subst (λ (q : Part). let r : Reading =
+    record { tag = q.tag; content = q.content; rest = rest } in Begins octets r) same s
 
 begun_bytes : (octets : List ℕ) (r : Reading) → IsBytes octets → Begins octets r → IsBytes r.content
-begun_bytes octets r b s = content_bytes s.front r.tag r.content s.spelled (bytes_before s.front r.rest (subst IsBytes s.parts b))
+begun_bytes octets r b s =
+    content_bytes s.front r.tag r.content s.spelled
+    (bytes_before s.front r.rest (subst IsBytes s.parts b))
 
 has_id : (octets : List ℕ) (id : ℕ) → IsBytes octets → id_in octets ≡ Some id → HasId octets id
 unfolding id_in
 has_id octets id b e =
-    let x = bind_some (front_of (tlv_at octets) >>= under (constructed 0)) (λ content. front_of (tlv_at content) >>= id_as) id e in
+    let x = bind_some (front_of (tlv_at octets) >>= under (constructed 0))
+    (λ content. front_of (tlv_at content) >>= id_as) id e in
     let y = bind_some (front_of (tlv_at octets)) (under (constructed 0)) x.0 x.1 in
     let one = front_back octets (tlv_at octets) y.0 b refl y.1 in
-    let first = begun octets (constructed 0) x.0 one.0 y.0 (under_is (constructed 0) y.0 x.0 y.2) one.1 in
-    let c = begun_bytes octets (record { tag = constructed 0; content = x.0; rest = one.0 }) b first in
+    let first =
+    begun octets (constructed 0) x.0 one.0 y.0 (under_is (constructed 0) y.0 x.0 y.2) one.1 in
+    let c = begun_bytes octets (record { tag = constructed 0; content = x.0; rest = one.0 }) b first
+    in
     let z = bind_some (front_of (tlv_at x.0)) id_as id x.2 in
     let two = front_back x.0 (tlv_at x.0) z.0 c refl z.1 in
     let n = id_back z.0 id z.2 in
@@ -121,93 +149,147 @@ Says octets (Err (fault.UnknownService id)) = AsksUnknown id octets
 Says octets (Err (fault.TooMany id)) = AsksMany id octets
 Says octets (Err fault.OutOfMemory) = ⊥
 
-bad_then : {A : Type 0} (octets : List ℕ) (o : Option A) (f : A → Result Message MmsFault) (r : Result Message MmsFault) → (or_bad (id_in octets) o >> f) ≡ r → ((x : A) → o ≡ Some x → f x ≡ r → Says octets r) → Says octets r
+bad_then : {A : Type 0} (octets : List ℕ) (o : Option A) (f : A → Result Message MmsFault)
+    (r : Result Message MmsFault) → (or_bad (id_in octets) o >> f) ≡ r
+    → ((x : A) → o ≡ Some x → f x ≡ r → Says octets r) → Says octets r
 bad_then octets None f r e g = subst (Says octets) e refl
 bad_then octets (Some x) f r e g = g x refl e
 
-with_says : (octets : List ℕ) (id : ℕ) (service : Part) (s : Result Asking Refusal) → IsConfirmed octets id service → Serves service s → Says octets (with_id (id_in octets) id s)
+with_says : (octets : List ℕ) (id : ℕ) (service : Part) (s : Result Asking Refusal)
+    → IsConfirmed octets id service → Serves service s → Says octets (with_id (id_in octets) id s)
 with_says octets id service (Ok asking) c is = (service, c, is)
 with_says octets id service (Err Bad) c is = refl
 with_says octets id service (Err Unknown) c is = (service, c, is)
 with_says octets id service (Err Many) c is = (service, c, is)
 with_says octets id service (Err OutOfMemory) c is = is
 
-confirmed_with : (octets content : List ℕ) (p service : Part) (id : ℕ) → SpellAll octets (value (constructed 0) content ∷ []) → SpellAll content (p ∷ service ∷ []) → id_as p ≡ Some id → IsConfirmed octets id service
+confirmed_with : (octets content : List ℕ) (p service : Part) (id : ℕ)
+    → SpellAll octets (value (constructed 0) content ∷ []) → SpellAll content (p ∷ service ∷ [])
+    → id_as p ≡ Some id → IsConfirmed octets id service
 confirmed_with octets content p service id whole s e =
     let n = id_back p id e in
-    record { content = content; number = n.0; whole = whole; parts = subst (λ (q : Part). SpellAll content (q ∷ service ∷ [])) n.1 s; is = n.2; below = n.3 }
+    record {
+      content = content;
+      number = n.0;
+      whole = whole;
+      parts = subst (λ (q : Part). SpellAll content (q ∷ service ∷ [])) n.1 s;
+      is = n.2;
+      below = n.3;
+    }
 
-confirmed_says : (octets content : List ℕ) (parts : List Part) (r : Result Message MmsFault) → SpellAll octets (value (constructed 0) content ∷ []) → SpellAll content parts → AllBytes parts → confirmed_of (id_in octets) parts ≡ r → Says octets r
+confirmed_says : (octets content : List ℕ) (parts : List Part) (r : Result Message MmsFault)
+    → SpellAll octets (value (constructed 0) content ∷ []) → SpellAll content parts → AllBytes parts
+    → confirmed_of (id_in octets) parts ≡ r → Says octets r
 confirmed_says octets content [] r whole s b e = subst (Says octets) e refl
 confirmed_says octets content (p ∷ []) r whole s b e = subst (Says octets) e refl
 confirmed_says octets content (p ∷ service ∷ []) r whole s b e =
     bad_then octets (id_as p) (λ id. with_id (id_in octets) id (service_as service)) r e
-    (λ id is f. subst (Says octets) f (with_says octets id service (service_as service) (confirmed_with octets content p service id whole s is) (service_back service (service_as service) b.1.0 refl)))
+    (λ id is f. subst (Says octets) f
+    (with_says octets id service (service_as service)
+    (confirmed_with octets content p service id whole s is)
+    (service_back service (service_as service) b.1.0 refl)))
 confirmed_says octets content (p ∷ q ∷ t ∷ parts) r whole s b e = subst (Says octets) e refl
 
-conclude_says : (octets : List ℕ) (p : Part) (r : Result Message MmsFault) → p ≡ value (context 11) p.content → SpellAll octets (p ∷ []) → or_bad (id_in octets) (nothing p.content conclude) ≡ r → Says octets r
+conclude_says : (octets : List ℕ) (p : Part) (r : Result Message MmsFault)
+    → p ≡ value (context 11) p.content → SpellAll octets (p ∷ [])
+    → or_bad (id_in octets) (nothing p.content conclude) ≡ r → Says octets r
 conclude_says octets p r is s e = pick p.content refl e
   where
-    pick : (content : List ℕ) → p.content ≡ content → or_bad (id_in octets) (nothing content conclude) ≡ r → Says octets r
-    pick [] none f = subst (Says octets) f (spelled_under octets p (value (context 11) []) (is ∙ ap (value (context 11)) none) s)
+    pick : (content : List ℕ) → p.content ≡ content
+        → or_bad (id_in octets) (nothing content conclude) ≡ r → Says octets r
+    pick [] none f =
+        subst (Says octets) f (spelled_under octets p (value (context 11) [])
+        (is ∙ ap (value (context 11)) none) s)
     pick (octet ∷ content) some f = subst (Says octets) f refl
 
-message_says : (octets : List ℕ) (p : Part) (r : Result Message MmsFault) → SpellAll octets (p ∷ []) → IsBytes p.content → message_as (id_in octets) p ≡ r → Says octets r
+message_says : (octets : List ℕ) (p : Part) (r : Result Message MmsFault) → SpellAll octets (p ∷ [])
+    → IsBytes p.content → message_as (id_in octets) p ≡ r → Says octets r
 unfolding message_as
 message_says octets p r s b e =
     let last : Result Message MmsFault = Err (fault.BadPdu (id_in octets)) in
-    let from11 : Result Message MmsFault = cond (same_tag p.tag (context 11)) (or_bad (id_in octets) (nothing p.content conclude)) last in
-    let from8 : Result Message MmsFault = cond (same_tag p.tag (constructed 8)) (or_bad (id_in octets) (proposal_in p.content) >> (λ x. Ok (initiate x))) from11 in
-    elim (by_tag (constructed 0) p (or_bad (id_in octets) (few_in p.content) >> confirmed_of (id_in octets)) from8 r e) [
+    let from11 : Result Message MmsFault =
+    cond (same_tag p.tag (context 11)) (or_bad (id_in octets) (nothing p.content conclude)) last
+    in
+    let from8 : Result Message MmsFault =
+    cond (same_tag p.tag (constructed 8))
+    (or_bad (id_in octets) (proposal_in p.content) >> (λ x. Ok (initiate x))) from11 in
+    elim (by_tag (constructed 0) p
+    (or_bad (id_in octets) (few_in p.content) >> confirmed_of (id_in octets)) from8 r e) [
       | inl here ↦
           bad_then octets (few_in p.content) (confirmed_of (id_in octets)) r here.1
-          (λ parts few f. let x = few_back p.content parts b few in confirmed_says octets p.content parts r (spelled_under octets p (value (constructed 0) p.content) here.0 s) x.0 x.1 f)
-      | inr f8 ↦ elim (by_tag (constructed 8) p (or_bad (id_in octets) (proposal_in p.content) >> (λ x. Ok (initiate x))) from11 r f8.1) [
-        | inl here ↦
-            bad_then octets (proposal_in p.content) (λ x. Ok (initiate x)) r here.1
-            (λ x is f. subst (Says octets) f (initiate_with octets p.content x (spelled_under octets p (value (constructed 8) p.content) here.0 s) b is))
-        | inr f11 ↦ elim (by_tag (context 11) p (or_bad (id_in octets) (nothing p.content conclude)) last r f11.1) [
-          | inl here ↦ conclude_says octets p r here.0 s here.1
-          | inr none ↦ subst (Says octets) none.1 refl
-        ]
-      ]
+          (λ parts few f. let x = few_back p.content parts b few in
+          confirmed_says octets p.content parts r
+          (spelled_under octets p (value (constructed 0) p.content) here.0 s) x.0 x.1 f)
+      | inr f8 ↦ elim (by_tag (constructed 8) p
+          (or_bad (id_in octets) (proposal_in p.content) >> (λ x. Ok (initiate x))) from11 r f8.1) [
+            | inl here ↦
+                bad_then octets (proposal_in p.content) (λ x. Ok (initiate x)) r here.1
+                (λ x is f. subst (Says octets) f
+                (initiate_with octets p.content x
+                (spelled_under octets p (value (constructed 8) p.content) here.0 s) b is))
+            | inr f11 ↦ elim (by_tag (context 11) p
+                (or_bad (id_in octets) (nothing p.content conclude))
+                last r f11.1) [
+                  | inl here ↦ conclude_says octets p r here.0 s here.1
+                  | inr none ↦ subst (Says octets) none.1 refl
+                ]
+          ]
     ]
 
 answer_says : (octets : List ℕ) → IsBytes octets → Says octets (answer_to octets)
 unfolding answer_to
 answer_says octets b =
-    bad_then octets (value_in octets) (message_as (id_in octets)) (answer_to octets) refl (λ p is f. let one = one_back octets p b is in message_says octets p (answer_to octets) one.0 one.1 f)
+    bad_then octets (value_in octets) (message_as (id_in octets)) (answer_to octets) refl
+    (λ p is f. let one = one_back octets p b is in
+    message_says octets p (answer_to octets) one.0 one.1 f)
 
 -- ---- the laws
 
-pub asked_back : (octets : List ℕ) (m : Message) → IsBytes octets → answer_to octets ≡ Ok m → Asks m octets
+pub asked_back : (octets : List ℕ) (m : Message) → IsBytes octets → answer_to octets ≡ Ok m
+    → Asks m octets
 asked_back octets m b e = subst (Says octets) e (answer_says octets b)
 
 pub one_asked : (octets : List ℕ) (m n : Message) → Asks m octets → Asks n octets → m ≡ n
-one_asked octets m n a c = let same : (let made : Result Message MmsFault = Ok m in made) ≡ Ok n = sym (asked_read octets m a) ∙ asked_read octets n c in cc
+one_asked octets m n a c = let same : (let made : Result Message MmsFault = Ok m in made) ≡ Ok n =
+    sym (asked_read octets m a) ∙ asked_read octets n c in cc
 
-pub unknown_is : (octets : List ℕ) (id : ℕ) → IsBytes octets → (answer_to octets ≡ Err (fault.UnknownService id)) ↔ AsksUnknown id octets
+pub unknown_is : (octets : List ℕ) (id : ℕ) → IsBytes octets
+    → (answer_to octets ≡ Err (fault.UnknownService id)) ↔ AsksUnknown id octets
 unknown_is octets id b = (λ e. subst (Says octets) e (answer_says octets b), unknown_read octets id)
 
-pub many_is : (octets : List ℕ) (id : ℕ) → IsBytes octets → (answer_to octets ≡ Err (fault.TooMany id)) ↔ AsksMany id octets
+pub many_is : (octets : List ℕ) (id : ℕ) → IsBytes octets
+    → (answer_to octets ≡ Err (fault.TooMany id)) ↔ AsksMany id octets
 many_is octets id b = (λ e. subst (Says octets) e (answer_says octets b), many_read octets id)
 
-nothing_asked : (octets : List ℕ) (k : Option ℕ) → IsBytes octets → answer_to octets ≡ Err (fault.BadPdu k) → AsksNothing octets k
+nothing_asked : (octets : List ℕ) (k : Option ℕ) → IsBytes octets
+    → answer_to octets ≡ Err (fault.BadPdu k) → AsksNothing octets k
 nothing_asked octets k b e =
     let same : k ≡ id_in octets = subst (Says octets) e (answer_says octets b) in
     record {
-      no_request = λ m a. let no : Err (fault.BadPdu k) ≡ Ok m = sym e ∙ asked_read octets m a in cc;
-      not_unknown = λ id a. let no : (let made : Result Message MmsFault = Err (fault.BadPdu k) in made) ≡ Err (fault.UnknownService id) = sym e ∙ unknown_read octets id a in cc;
-      not_many = λ id a. let no : (let made : Result Message MmsFault = Err (fault.BadPdu k) in made) ≡ Err (fault.TooMany id) = sym e ∙ many_read octets id a in cc;
+      no_request = λ m a. let no : Err (fault.BadPdu k) ≡ Ok m =
+          sym e ∙ asked_read octets m a in cc;
+      not_unknown =
+          λ id a. let no : (let made : Result Message MmsFault = Err (fault.BadPdu k) in made)
+          ≡ Err (fault.UnknownService id) = sym e ∙ unknown_read octets id a in cc;
+      not_many =
+          λ id a. let no : (let made : Result Message MmsFault = Err (fault.BadPdu k) in made)
+          ≡ Err (fault.TooMany id) = sym e ∙ many_read octets id a in cc;
       id = subst (IsIdOf octets) (sym same) (id_is octets b);
     }
 
-left_over : (octets : List ℕ) (k : Option ℕ) (r : Result Message MmsFault) → IsBytes octets → AsksNothing octets k → Says octets r → r ≡ Err (fault.BadPdu k)
+left_over : (octets : List ℕ) (k : Option ℕ) (r : Result Message MmsFault) → IsBytes octets
+    → AsksNothing octets k → Says octets r → r ≡ Err (fault.BadPdu k)
 left_over octets k (Ok m) b left is = absurd (left.no_request m is)
-left_over octets k (Err (fault.BadPdu j)) b left is = ap (λ (o : Option ℕ). let made : Result Message MmsFault = Err (fault.BadPdu o) in made) (is ∙ one_id octets k b left.id)
+left_over octets k (Err (fault.BadPdu j)) b left is =
+    ap (λ (o : Option ℕ). let made : Result Message MmsFault = Err (fault.BadPdu o) in made)
+    (is ∙ one_id octets k b left.id)
 left_over octets k (Err (fault.UnknownService id)) b left is = absurd (left.not_unknown id is)
 left_over octets k (Err (fault.TooMany id)) b left is = absurd (left.not_many id is)
 left_over octets k (Err fault.OutOfMemory) b left is = absurd is
 
-pub bad_is : (octets : List ℕ) (k : Option ℕ) → IsBytes octets → (answer_to octets ≡ Err (fault.BadPdu k)) ↔ AsksNothing octets k
-bad_is octets k b = (nothing_asked octets k b, λ left. left_over octets k (answer_to octets) b left (answer_says octets b))
+pub bad_is : (octets : List ℕ) (k : Option ℕ) → IsBytes octets
+    → (answer_to octets ≡ Err (fault.BadPdu k)) ↔ AsksNothing octets k
+bad_is octets k b = (
+  nothing_asked octets k b,
+  λ left. left_over octets k (answer_to octets) b left (answer_says octets b),
+)

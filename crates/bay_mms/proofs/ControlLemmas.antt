@@ -84,8 +84,11 @@ before_list : (ds : Data) → data_before (list_of ds) no_data ≡ ds
 before_list no_data = refl
 before_list (datum d ds) = ap (λ (xs : Data). datum d xs) (before_list ds)
 
-parts_are : (d : Datum) (ps : List Datum) → parts_as d ≡ Some ps → d ≡ structure (data_before ps no_data)
-parts_are (structure ds) ps e = ap structure (sym (before_list ds) ∙ ap (λ (xs : List Datum). data_before xs no_data) (same (list_of ds) ps e))
+parts_are : (d : Datum) (ps : List Datum) → parts_as d ≡ Some ps
+    → d ≡ structure (data_before ps no_data)
+parts_are (structure ds) ps e =
+    ap structure (sym (before_list ds)
+    ∙ ap (λ (xs : List Datum). data_before xs no_data) (same (list_of ds) ps e))
 parts_are (truth value) ps e = absurd cc
 parts_are (bits held count) ps e = absurd cc
 parts_are (integer value) ps e = absurd cc
@@ -120,9 +123,11 @@ position_again two Bad high = let n : two ≡ 3 = omega arith in rw n refl
 
 first_is : (held : List ℕ) (p : Dbpos) → first_position held ≡ Some p → AreChecks held p
 first_is [] p e = absurd cc
-first_is (first ∷ later) p e = record { first = first; later = later; is = refl; high = position_is (first / 64) p e }
+first_is (first ∷ later) p e =
+    record { first = first; later = later; is = refl; high = position_is (first / 64) p e }
 
-check_is : (d : Datum) (p : Dbpos) → check_as d ≡ Some p → (held : List ℕ) × AreChecks held p × (d ≡ bits held 2)
+check_is : (d : Datum) (p : Dbpos) → check_as d ≡ Some p
+    → (held : List ℕ) × AreChecks held p × (d ≡ bits held 2)
 check_is (bits held count) p e =
     elim (chosen (eqb count 2) (first_position held) None (Some p) e) [
       | inl h ↦ (held, first_is held p h.1, ap (λ (n : ℕ). bits held n) (eqb-true count 2 h.0))
@@ -141,10 +146,13 @@ check_is (other tag value) p e = absurd cc
 two : (a b x y : Datum) → a ≡ x → b ≡ y → a ∷ b ∷ [] ≡ x ∷ y ∷ []
 two a b x y p q = rw (p, q) refl
 
-five : (a b c d e v w x y z : Datum) (later : Data) → a ≡ v → b ≡ w → c ≡ x → d ≡ y → e ≡ z → datum a (datum b (datum c (datum d (datum e later)))) ≡ datum v (datum w (datum x (datum y (datum z later))))
+five : (a b c d e v w x y z : Datum) (later : Data) → a ≡ v → b ≡ w → c ≡ x → d ≡ y → e ≡ z
+    → datum a (datum b (datum c (datum d (datum e later))))
+    ≡ datum v (datum w (datum x (datum y (datum z later))))
 five a b c d e v w x y z later p q r s t = rw (p, q, r, s, t) refl
 
-origin_parts_are : (ps : List Datum) (o : Origin) → origin_of ps ≡ Some o → ps ≡ integer o.or_cat ∷ octets o.or_ident ∷ []
+origin_parts_are : (ps : List Datum) (o : Origin) → origin_of ps ≡ Some o
+    → ps ≡ integer o.or_cat ∷ octets o.or_ident ∷ []
 origin_parts_are [] o e = absurd cc
 origin_parts_are (a ∷ []) o e = absurd cc
 origin_parts_are (a ∷ b ∷ c ∷ ps) o e = absurd cc
@@ -153,15 +161,18 @@ origin_parts_are (a ∷ b ∷ []) o e =
     let g = bind_some (octets_as b) _ o f.2 in
     let made : Origin = record { or_cat = f.0; or_ident = g.0 } in
     let is : made ≡ o = same made o g.2 in
-    two a b _ _ (integer_is a f.0 f.1) (octets_is b g.0 g.1) ∙ ap (λ (x : Origin). integer x.or_cat ∷ octets x.or_ident ∷ []) is
+    two a b _ _ (integer_is a f.0 f.1) (octets_is b g.0 g.1)
+    ∙ ap (λ (x : Origin). integer x.or_cat ∷ octets x.or_ident ∷ []) is
 
 origin_is : (d : Datum) (o : Origin) → origin_as d ≡ Some o → d ≡ origin_datum o
 unfolding origin_as
 origin_is d o e =
     let f = bind_some (parts_as d) origin_of o e in
-    parts_are d f.0 f.1 ∙ ap (λ (ps : List Datum). structure (data_before ps no_data)) (origin_parts_are f.0 o f.2)
+    parts_are d f.0 f.1 ∙ ap (λ (ps : List Datum). structure (data_before ps no_data))
+    (origin_parts_are f.0 o f.2)
 
-control_is : (a b c d e : Datum) (o : Control) → control_of a b c d e ≡ Some o → (later : Data) → datum a (datum b (datum c (datum d (datum e later)))) ≡ control_before o later
+control_is : (a b c d e : Datum) (o : Control) → control_of a b c d e ≡ Some o → (later : Data)
+    → datum a (datum b (datum c (datum d (datum e later)))) ≡ control_before o later
 unfolding control_of
 control_is a b c d e o is later =
     let f = bind_some (truth_as a) _ o is in
@@ -169,11 +180,15 @@ control_is a b c d e o is later =
     let h = bind_some (unsigned_as c) _ o g.2 in
     let i = bind_some (moment_as d) _ o h.2 in
     let j = bind_some (truth_as e) _ o i.2 in
-    let made : Control = record { ctl_val = f.0; origin = g.0; ctl_num = h.0; t = i.0; test = j.0 } in
+    let made : Control =
+    record { ctl_val = f.0; origin = g.0; ctl_num = h.0; t = i.0; test = j.0 } in
     let same_one : made ≡ o = same made o j.2 in
-    five a b c d e _ _ _ _ _ later (truth_is a f.0 f.1) (origin_is b g.0 g.1) (unsigned_is c h.0 h.1) (moment_is d i.0 i.1) (truth_is e j.0 j.1) ∙ ap (λ (x : Control). control_before x later) same_one
+    five a b c d e _ _ _ _ _ later (truth_is a f.0 f.1) (origin_is b g.0 g.1)
+    (unsigned_is c h.0 h.1) (moment_is d i.0 i.1) (truth_is e j.0 j.1)
+    ∙ ap (λ (x : Control). control_before x later) same_one
 
-cancel_parts : (ps : List Datum) (c : Control) → cancel_of ps ≡ Some c → data_before ps no_data ≡ control_before c no_data
+cancel_parts : (ps : List Datum) (c : Control) → cancel_of ps ≡ Some c
+    → data_before ps no_data ≡ control_before c no_data
 cancel_parts [] c e = absurd cc
 cancel_parts (p ∷ []) c e = absurd cc
 cancel_parts (p ∷ q ∷ []) c e = absurd cc
@@ -209,7 +224,9 @@ operate_parts (p ∷ q ∷ r ∷ s ∷ t ∷ u ∷ []) o e =
     record {
       held = h.0;
       checks = subst (λ (x : Operate). AreChecks h.0 x.check) same_one h.1;
-      is = ap (λ (x : Datum). datum p (datum q (datum r (datum s (datum t (datum x no_data)))))) h.2 ∙ control_is p q r s t f.0 f.1 (datum (bits h.0 2) no_data) ∙ ap (λ (x : Operate). control_before x.control (datum (bits h.0 2) no_data)) same_one;
+      is = ap (λ (x : Datum). datum p (datum q (datum r (datum s (datum t (datum x no_data)))))) h.2
+          ∙ control_is p q r s t f.0 f.1 (datum (bits h.0 2) no_data)
+          ∙ ap (λ (x : Operate). control_before x.control (datum (bits h.0 2) no_data)) same_one;
     }
 operate_parts (p ∷ q ∷ r ∷ s ∷ t ∷ u ∷ v ∷ ps) o e = absurd cc
 
@@ -226,14 +243,16 @@ pub cancel_again : (d : Datum) (c : Control) → d ≡ cancel_datum c → cancel
 unfolding cancel_as control_of origin_as
 cancel_again d c is = rw is refl
 
-operate_again_at : (held : List ℕ) (o : Operate) → first_position held ≡ Some o.check → operate_as (structure (control_before o.control (datum (bits held 2) no_data))) ≡ Some o
+operate_again_at : (held : List ℕ) (o : Operate) → first_position held ≡ Some o.check
+    → operate_as (structure (control_before o.control (datum (bits held 2) no_data))) ≡ Some o
 unfolding operate_as control_of origin_as
 operate_again_at held o e = rw e refl
 
 pub operate_again : (d : Datum) (o : Operate) → IsOperate d o → operate_as d ≡ Some o
 operate_again d o i =
     let k = i.checks in
-    let e : first_position i.held ≡ Some o.check = ap first_position k.is ∙ position_again (k.first / 64) o.check k.high in
+    let e : first_position i.held ≡ Some o.check =
+    ap first_position k.is ∙ position_again (k.first / 64) o.check k.high in
     ap operate_as i.is ∙ operate_again_at i.held o e
 
 -- ---- the text is that of the data
@@ -244,15 +263,20 @@ high_octet Off = refl
 high_octet On = refl
 high_octet Bad = refl
 
-check_octets : (held : List ℕ) (p : Dbpos) → AreChecks held p → bit_string_octets held 2 ≡ bit_string_octets (position_octet p ∷ []) 2
+check_octets : (held : List ℕ) (p : Dbpos) → AreChecks held p
+    → bit_string_octets held 2 ≡ bit_string_octets (position_octet p ∷ []) 2
 check_octets held p k =
     let a : bit_string_octets (k.first ∷ k.later) 2 ≡ 6 ∷ k.first / 64 * 64 ∷ [] = refl in
-    ap (λ (xs : List ℕ). bit_string_octets xs 2) k.is ∙ a ∙ ap (λ (n : ℕ). 6 ∷ n ∷ []) k.high ∙ sym (high_octet p)
+    ap (λ (xs : List ℕ). bit_string_octets xs 2) k.is ∙ a ∙ ap (λ (n : ℕ). 6 ∷ n ∷ []) k.high
+    ∙ sym (high_octet p)
 
-text_at : (held : List ℕ) (o : Operate) → AreChecks held o.check → datum_text (structure (control_before o.control (datum (bits held 2) no_data))) ≡ datum_text (operate_datum o)
+text_at : (held : List ℕ) (o : Operate) → AreChecks held o.check
+    → datum_text (structure (control_before o.control (datum (bits held 2) no_data)))
+    ≡ datum_text (operate_datum o)
 text_at held o k = rw (check_octets held o.check k) refl
 
-pub operate_text_is : (d : Datum) (o : Operate) → operate_as d ≡ Some o → datum_text d ≡ datum_text (operate_datum o)
+pub operate_text_is : (d : Datum) (o : Operate) → operate_as d ≡ Some o
+    → datum_text d ≡ datum_text (operate_datum o)
 operate_text_is d o e = let i = operate_is d o e in ap datum_text i.is ∙ text_at i.held o i.checks
 
 -- ---- an operate in range reads back from its data
@@ -263,9 +287,11 @@ own Off = record { first = _; later = []; is = refl; high = refl }
 own On = record { first = _; later = []; is = refl; high = refl }
 own Bad = record { first = _; later = []; is = refl; high = refl }
 
-pub operate_back : (o : Operate) → is_in_range o.control ≡ true → operate_in (operate_datum o) ≡ Ok o
+pub operate_back : (o : Operate) → is_in_range o.control ≡ true
+    → operate_in (operate_datum o) ≡ Ok o
 operate_back o fits =
-    let e : operate_as (operate_datum o) ≡ Some o = operate_again (operate_datum o) o (record { held = _; checks = own o.check; is = refl }) in
+    let e : operate_as (operate_datum o) ≡ Some o =
+    operate_again (operate_datum o) o (record { held = _; checks = own o.check; is = refl }) in
     rw (e, fits) refl
 
 pub cancel_back : (c : Control) → is_in_range c ≡ true → cancel_in (cancel_datum c) ≡ Ok c
@@ -289,8 +315,14 @@ check_held Off = record { enough = omega arith; short = lit< tt; whole = refl }
 check_held On = record { enough = omega arith; short = lit< tt; whole = refl }
 check_held Bad = record { enough = omega arith; short = lit< tt; whole = refl }
 
-pub operate_plain : (o : Operate) → is_in_range o.control ≡ true → length o.control.t ≡ 8 → IsPlain (operate_datum o)
+pub operate_plain : (o : Operate) → is_in_range o.control ≡ true → length o.control.t ≡ 8
+    → IsPlain (operate_datum o)
 operate_plain o fits eight =
     let a = both _ _ fits in
-    let b = both _ _ a.1 in
-    (tt, ((category_fits o.control.origin.or_cat b.0, (tt, tt)), (number_fits o.control.ctl_num a.0, (eight, (tt, (check_held o.check, tt))))))
+    let b = both _ _ a.1 in (
+      tt,
+      (
+        (category_fits o.control.origin.or_cat b.0, (tt, tt)),
+        (number_fits o.control.ctl_num a.0, (eight, (tt, (check_held o.check, tt)))),
+      ),
+    )

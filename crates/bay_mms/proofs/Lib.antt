@@ -5,6 +5,7 @@ pub mod AskLemmas
 pub mod ConfirmedLemmas
 pub mod ControlLemmas
 pub mod DataLemmas
+pub mod EachLemmas
 pub mod InitiateLemmas
 pub mod LawLemmas
 pub mod NodeLemmas

@@ -16,9 +16,11 @@ use Rattle.bay_mms.specs.Nodes.{Nodes, no_nodes, node, node_of, nodes_in, node_a
 -- the first row found, its node, and those behind it
 abbrev pub nodes_since : List Row → List ℕ → Option ℕ → Nodes
 nodes_since rows parent None = no_nodes
-nodes_since rows parent (Some k) = node (word_of (name_at rows k)) (node_at rows k) (nodes_in parent (drop (k + 1) rows))
+nodes_since rows parent (Some k) =
+    node (word_of (name_at rows k)) (node_at rows k) (nodes_in parent (drop (k + 1) rows))
 
-some_left : (rows xs : List Row) (start : ℕ) (row : Row) → drop start rows ≡ row ∷ xs → start < length rows
+some_left : (rows xs : List Row) (start : ℕ) (row : Row) → drop start rows ≡ row ∷ xs
+    → start < length rows
 some_left rows xs start row is =
     let n : length (drop start rows) ≡ suc (length xs) = ap length is in
     omega (arith, length-drop start rows)
@@ -27,28 +29,38 @@ head_or : Row → List Row → Row
 head_or d [] = d
 head_or d (x ∷ xs) = x
 
-next_drop : (rows : List Row) (start : ℕ) (row : Row) (xs : List Row) → drop start rows ≡ row ∷ xs → (row_at rows start ≡ row) × (drop (start + 1) rows ≡ xs)
+next_drop : (rows : List Row) (start : ℕ) (row : Row) (xs : List Row) → drop start rows ≡ row ∷ xs
+    → (row_at rows start ≡ row) × (drop (start + 1) rows ≡ xs)
 unfolding head_or
 next_drop rows start row xs is =
     let h : start < length rows = some_left rows xs start row is in
-    let e : row_at rows start ∷ drop (start + 1) rows ≡ row ∷ xs = sym (drop_more rows start (record { name = []; leaf = None }) h) ∙ is in
+    let e : row_at rows start ∷ drop (start + 1) rows ≡ row ∷ xs =
+    sym (drop_more rows start (record { name = []; leaf = None }) h) ∙ is in
     (ap (head_or row) e, ap (λ (l : List Row). drop 1 l) e)
 
-here_is : (parent : List ℕ) (rows : List Row) (start : ℕ) (row : Row) (xs : List Row) → row_at rows start ≡ row → drop (start + 1) rows ≡ xs
-    → node (word_of row.name) (node_of row.leaf (nodes_in row.name xs)) (nodes_in parent xs) ≡ nodes_since rows parent (Some start)
+here_is : (parent : List ℕ) (rows : List Row) (start : ℕ) (row : Row) (xs : List Row)
+    → row_at rows start ≡ row → drop (start + 1) rows ≡ xs
+    → node (word_of row.name) (node_of row.leaf (nodes_in row.name xs)) (nodes_in parent xs)
+    ≡ nodes_since rows parent (Some start)
 here_is parent rows start row xs at behind = rw (← at, ← behind) refl
 
-found : (parent : List ℕ) (rows : List Row) (start : ℕ) (row : Row) (xs : List Row) (here : Bool) → row_at rows start ≡ row → drop (start + 1) rows ≡ xs
+found : (parent : List ℕ) (rows : List Row) (start : ℕ) (row : Row) (xs : List Row) (here : Bool)
+    → row_at rows start ≡ row → drop (start + 1) rows ≡ xs
     → nodes_in parent xs ≡ nodes_since rows parent (first_below_from (start + 1) xs parent)
-    → cond here (node (word_of row.name) (node_of row.leaf (nodes_in row.name xs)) (nodes_in parent xs)) (nodes_in parent xs) ≡ nodes_since rows parent (cond here (Some start) (first_below_from (start + 1) xs parent))
+    → cond here (node (word_of row.name) (node_of row.leaf (nodes_in row.name xs))
+    (nodes_in parent xs)) (nodes_in parent xs)
+    ≡ nodes_since rows parent (cond here (Some start) (first_below_from (start + 1) xs parent))
 found parent rows start row xs true at behind later = here_is parent rows start row xs at behind
 found parent rows start row xs false at behind later = later
 
-pub nodes_first : (parent : List ℕ) (rows : List Row) (start : ℕ) (xs : List Row) → drop start rows ≡ xs → nodes_in parent xs ≡ nodes_since rows parent (first_below_from start xs parent)
+pub nodes_first : (parent : List ℕ) (rows : List Row) (start : ℕ) (xs : List Row)
+    → drop start rows ≡ xs → nodes_in parent xs
+    ≡ nodes_since rows parent (first_below_from start xs parent)
 nodes_first parent rows start [] is = refl
 nodes_first parent rows start (row ∷ xs) is =
     let n = next_drop rows start row xs is in
-    found parent rows start row xs (is_below parent row.name) n.0 n.1 (nodes_first parent rows (start + 1) xs n.1)
+    found parent rows start row xs (is_below parent row.name) n.0 n.1
+    (nodes_first parent rows (start + 1) xs n.1)
 
 -- ---- what a search finds
 
@@ -56,33 +68,49 @@ own_is : (parent : List ℕ) (own : Option (List ℕ)) → is_parent parent own 
 own_is parent None h = absurd cc
 own_is parent (Some own) h = ap Some ((bytes_eq-Decides own parent).0 h)
 
-found_either : (parent : List ℕ) (rows : List Row) (start k : ℕ) (row : Row) (xs : List Row) (here : Bool) → is_below parent row.name ≡ here → row_at rows start ≡ row → start < length rows
-    → (first_below_from (start + 1) xs parent ≡ Some k → (parent_of (name_at rows k) ≡ Some parent) × (k < length rows))
-    → cond here (Some start) (first_below_from (start + 1) xs parent) ≡ Some k → (parent_of (name_at rows k) ≡ Some parent) × (k < length rows)
+found_either : (parent : List ℕ) (rows : List Row) (start k : ℕ) (row : Row) (xs : List Row)
+    (here : Bool) → is_below parent row.name ≡ here → row_at rows start ≡ row → start < length rows
+    → (first_below_from (start + 1) xs parent ≡ Some k
+    → (parent_of (name_at rows k) ≡ Some parent) × (k < length rows))
+    → cond here (Some start) (first_below_from (start + 1) xs parent) ≡ Some k
+    → (parent_of (name_at rows k) ≡ Some parent) × (k < length rows)
 found_either parent rows start k row xs true test at within later e =
     let same : start ≡ k = cc in
-    let p : parent_of (name_at rows start) ≡ Some parent = subst (λ (r : Row). parent_of r.name ≡ Some parent) (sym at) (own_is parent (parent_of row.name) test) in
+    let p : parent_of (name_at rows start) ≡ Some parent =
+    subst (λ (r : Row). parent_of r.name ≡ Some parent) (sym at)
+    (own_is parent (parent_of row.name) test) in
     (subst (λ (j : ℕ). parent_of (name_at rows j) ≡ Some parent) same p, omega (arith, same))
 found_either parent rows start k row xs false test at within later e = later e
 
 -- a row that is found has the parent's name before its last word
-pub found_below : (parent : List ℕ) (rows : List Row) (start k : ℕ) (xs : List Row) → drop start rows ≡ xs → first_below_from start xs parent ≡ Some k → (parent_of (name_at rows k) ≡ Some parent) × (k < length rows)
+pub found_below : (parent : List ℕ) (rows : List Row) (start k : ℕ) (xs : List Row)
+    → drop start rows ≡ xs → first_below_from start xs parent ≡ Some k
+    → (parent_of (name_at rows k) ≡ Some parent) × (k < length rows)
 found_below parent rows start k [] is e = absurd cc
 found_below parent rows start k (row ∷ xs) is e =
     let n = next_drop rows start row xs is in
-    found_either parent rows start k row xs (is_below parent row.name) refl n.0 (some_left rows xs start row is) (λ f. found_below parent rows (start + 1) k xs n.1 f) e
+    found_either parent rows start k row xs (is_below parent row.name) refl n.0
+    (some_left rows xs start row is) (λ f. found_below parent rows (start + 1) k xs n.1 f) e
 
-skip_either : (parent : List ℕ) (row : Row) (xs : List Row) (start past : ℕ) (o : Option ℕ) (here : Bool) → start < past → IfSome o (λ k. past ≤ k) → cond here (Some start) (first_below_from (start + 1) xs parent) ≡ o → first_below_from (start + 1) xs parent ≡ o
+skip_either : (parent : List ℕ) (row : Row) (xs : List Row) (start past : ℕ) (o : Option ℕ)
+    (here : Bool) → start < past → IfSome o (λ k. past ≤ k)
+    → cond here (Some start) (first_below_from (start + 1) xs parent) ≡ o
+    → first_below_from (start + 1) xs parent ≡ o
 skip_either parent row xs start past None true less behind e = absurd cc
-skip_either parent row xs start past (Some k) true less behind e = let same : start ≡ k = cc in absurd (omega arith)
+skip_either parent row xs start past (Some k) true less behind e = let same : start ≡ k =
+    cc in absurd (omega arith)
 skip_either parent row xs start past o false less behind e = e
 
 -- a search that finds nothing before a place may begin there
-pub search_behind : (parent : List ℕ) (xs : List Row) (n start past : ℕ) (o : Option ℕ) → past ≡ start + n → IfSome o (λ k. past ≤ k) → first_below_from start xs parent ≡ o → first_below_from past (drop n xs) parent ≡ o
-search_behind parent xs zero start past o is behind e = let same : past ≡ start = omega arith in rw same e
+pub search_behind : (parent : List ℕ) (xs : List Row) (n start past : ℕ) (o : Option ℕ)
+    → past ≡ start + n → IfSome o (λ k. past ≤ k) → first_below_from start xs parent ≡ o
+    → first_below_from past (drop n xs) parent ≡ o
+search_behind parent xs zero start past o is behind e = let same : past ≡ start =
+    omega arith in rw same e
 search_behind parent [] (suc n) start past o is behind e = e
 search_behind parent (row ∷ xs) (suc n) start past o is behind e =
-    search_behind parent xs n (start + 1) past o (omega arith) behind (skip_either parent row xs start past o (is_below parent row.name) (omega arith) behind e)
+    search_behind parent xs n (start + 1) past o (omega arith) behind
+    (skip_either parent row xs start past o (is_below parent row.name) (omega arith) behind e)
 
 -- ---- the loop over them
 
@@ -93,13 +121,19 @@ left_of rows (Some k) = length rows - k
 
 -- a row below the row of a name, which stands before it
 abbrev pub Below : List Row → ℕ → ℕ → Type 0
-Below rows handle k = (handle < k) × (k < length rows) × (parent_of (name_at rows k) ≡ Some (name_at rows handle))
+Below rows handle k =
+    (handle < k) × (k < length rows) × (parent_of (name_at rows k) ≡ Some (name_at rows handle))
 
-below_of : (rows : List Row) (handle start : ℕ) (o : Option ℕ) → handle < start → IfSome o (λ k. (handle < k) × (k < length rows)) → first_below_from start (drop start rows) (name_at rows handle) ≡ o → IfSome o (Below rows handle)
+below_of : (rows : List Row) (handle start : ℕ) (o : Option ℕ) → handle < start
+    → IfSome o (λ k. (handle < k) × (k < length rows))
+    → first_below_from start (drop start rows) (name_at rows handle) ≡ o
+    → IfSome o (Below rows handle)
 below_of rows handle start None less after e = tt
-below_of rows handle start (Some k) less after e = (after.0, after.1, (found_below (name_at rows handle) rows start k (drop start rows) refl e).0)
+below_of rows handle start (Some k) less after e =
+    (after.0, after.1, (found_below (name_at rows handle) rows start k (drop start rows) refl e).0)
 
-weaker : (rows : List Row) (handle : ℕ) (o : Option ℕ) → IfSome o (λ k. (handle < k) × (k < length rows)) → IfSome o (λ k. handle + 1 ≤ k)
+weaker : (rows : List Row) (handle : ℕ) (o : Option ℕ)
+    → IfSome o (λ k. (handle < k) × (k < length rows)) → IfSome o (λ k. handle + 1 ≤ k)
 weaker rows handle None h = tt
 weaker rows handle (Some k) h = omega (arith, h.0)
 
@@ -107,69 +141,116 @@ abbrev pub parts_at : List Row → ℕ → Nodes
 parts_at rows handle = nodes_in (name_at rows handle) (drop (handle + 1) rows)
 
 -- the first part of a structure
-pub first_part : (rows : List Row) (handle : ℕ) (next : Option ℕ) → next ≡ first_below rows handle → IfSome next (λ k. (handle < k) × (k < length rows)) → (parts_at rows handle ≡ nodes_since rows (name_at rows handle) next) × IfSome next (Below rows handle)
+pub first_part : (rows : List Row) (handle : ℕ) (next : Option ℕ) → next ≡ first_below rows handle
+    → IfSome next (λ k. (handle < k) × (k < length rows))
+    → (parts_at rows handle ≡ nodes_since rows (name_at rows handle) next)
+    × IfSome next (Below rows handle)
 first_part rows handle next is after =
-    let e : first_below_from (handle + 1) (drop (handle + 1) rows) (name_at rows handle) ≡ next = search_behind (name_at rows handle) rows (handle + 1) 0 (handle + 1) next (omega arith) (weaker rows handle next after) (sym is) in
-    (nodes_first (name_at rows handle) rows (handle + 1) (drop (handle + 1) rows) refl ∙ rw e refl, below_of rows handle (handle + 1) next (omega arith) after e)
+    let e : first_below_from (handle + 1) (drop (handle + 1) rows) (name_at rows handle) ≡ next =
+    search_behind (name_at rows handle) rows (handle + 1) 0 (handle + 1) next (omega arith)
+    (weaker rows handle next after) (sym is) in (
+      nodes_first (name_at rows handle) rows (handle + 1) (drop (handle + 1) rows) refl ∙ rw e refl,
+      below_of rows handle (handle + 1) next (omega arith) after e,
+    )
 
-after_part : (rows : List Row) (handle part : ℕ) (o : Option ℕ) → handle < part → IfSome o (λ k. (part < k) × (k < length rows)) → IfSome o (λ k. (handle < k) × (k < length rows))
+after_part : (rows : List Row) (handle part : ℕ) (o : Option ℕ) → handle < part
+    → IfSome o (λ k. (part < k) × (k < length rows))
+    → IfSome o (λ k. (handle < k) × (k < length rows))
 after_part rows handle part None less h = tt
 after_part rows handle part (Some k) less h = (omega (arith, h.0), h.1)
 
 -- the part after a part
-pub next_part : (rows : List Row) (handle part : ℕ) (next : Option ℕ) → Below rows handle part → next ≡ next_beside rows part → IfSome next (λ k. (part < k) × (k < length rows))
-    → (nodes_in (name_at rows handle) (drop (part + 1) rows) ≡ nodes_since rows (name_at rows handle) next) × IfSome next (Below rows handle)
+pub next_part : (rows : List Row) (handle part : ℕ) (next : Option ℕ) → Below rows handle part
+    → next ≡ next_beside rows part → IfSome next (λ k. (part < k) × (k < length rows))
+    → (nodes_in (name_at rows handle) (drop (part + 1) rows)
+    ≡ nodes_since rows (name_at rows handle) next) × IfSome next (Below rows handle)
 next_part rows handle part next below is after =
-    let e : next ≡ first_below_from (part + 1) (drop (part + 1) rows) (name_at rows handle) = is ∙ ap (next_below rows part) below.2 in
-    (nodes_first (name_at rows handle) rows (part + 1) (drop (part + 1) rows) refl ∙ rw (← e) refl, below_of rows handle (part + 1) next (omega (arith, below.0)) (after_part rows handle part next below.0 after) (sym e))
+    let e : next ≡ first_below_from (part + 1) (drop (part + 1) rows) (name_at rows handle) =
+    is ∙ ap (next_below rows part) below.2 in (
+      nodes_first (name_at rows handle) rows (part + 1) (drop (part + 1) rows) refl ∙ rw (← e) refl,
+      below_of rows handle (part + 1) next (omega (arith, below.0))
+          (after_part rows handle part next below.0 after) (sym e),
+    )
 
 -- ---- what was written of them
 
 -- What was written since a front, and the text of the parts that are left, are the text of all
 -- parts.
-pub record Written (rows : List Row) (handle : ℕ) (text : Nodes → List ℕ) (front writer : List ℕ) (next : Option ℕ) : Type 0 where
-  pub is : writer ++ text (nodes_since rows (name_at rows handle) next) ≡ front ++ text (parts_at rows handle)
+pub record Written (rows : List Row) (handle : ℕ) (text : Nodes → List ℕ) (front writer : List ℕ)
+    (next : Option ℕ) : Type 0 where
+  pub is : writer ++ text (nodes_since rows (name_at rows handle) next)
+      ≡ front ++ text (parts_at rows handle)
   pub grown : length front ≤ length writer
   pub below : IfSome next (Below rows handle)
 
-pub written_first : (rows : List Row) (handle : ℕ) (text : Nodes → List ℕ) (front : List ℕ) (next : Option ℕ) → next ≡ first_below rows handle → IfSome next (λ k. (handle < k) × (k < length rows)) → Written rows handle text front front next
+pub written_first : (rows : List Row) (handle : ℕ) (text : Nodes → List ℕ) (front : List ℕ)
+    (next : Option ℕ) → next ≡ first_below rows handle
+    → IfSome next (λ k. (handle < k) × (k < length rows))
+    → Written rows handle text front front next
 written_first rows handle text front next is after =
     let p = first_part rows handle next is after in
-    record { is = ap (λ (ps : Nodes). front ++ text ps) (sym p.0); grown = omega arith; below = p.1 }
+    record {
+      is = ap (λ (ps : Nodes). front ++ text ps) (sym p.0);
+      grown = omega arith;
+      below = p.1;
+    }
 
-pub written_more : (rows : List Row) (handle part : ℕ) (text : Nodes → List ℕ) (front writer new one : List ℕ) (next : Option ℕ)
-    → text (nodes_since rows (name_at rows handle) (Some part)) ≡ one ++ text (nodes_in (name_at rows handle) (drop (part + 1) rows)) → Written rows handle text front writer (Some part)
-    → new ≡ writer ++ one → next ≡ next_beside rows part → IfSome next (λ k. (part < k) × (k < length rows)) → Written rows handle text front new next
+pub written_more : (rows : List Row) (handle part : ℕ) (text : Nodes → List ℕ)
+    (front writer new one : List ℕ) (next : Option ℕ)
+    → text (nodes_since rows (name_at rows handle) (Some part))
+    ≡ one ++ text (nodes_in (name_at rows handle) (drop (part + 1) rows))
+    → Written rows handle text front writer (Some part)
+    → new ≡ writer ++ one → next ≡ next_beside rows part
+    → IfSome next (λ k. (part < k) × (k < length rows))
+    → Written rows handle text front new next
 written_more rows handle part text front writer new one next split w added is after =
     let p = next_part rows handle part next w.below is after in
     let g = w.grown in
     record {
-      is = ap (λ (ys : List ℕ). ys ++ text (nodes_since rows (name_at rows handle) next)) added ∙ append_assoc writer one (text (nodes_since rows (name_at rows handle) next)) ∙ ap (λ (ps : Nodes). writer ++ (one ++ text ps)) (sym p.0) ∙ ap (λ (ys : List ℕ). writer ++ ys) (sym split) ∙ w.is;
+      is = ap (λ (ys : List ℕ). ys ++ text (nodes_since rows (name_at rows handle) next)) added
+          ∙ append_assoc writer one (text (nodes_since rows (name_at rows handle) next))
+          ∙ ap (λ (ps : Nodes). writer ++ (one ++ text ps)) (sym p.0)
+          ∙ ap (λ (ys : List ℕ). writer ++ ys) (sym split) ∙ w.is;
       grown = rw added (omega (arith, length-append writer one));
       below = p.1;
     }
 
-pub written_end : (rows : List Row) (handle : ℕ) (text : Nodes → List ℕ) (front writer : List ℕ) → text no_nodes ≡ [] → Written rows handle text front writer None → writer ≡ front ++ text (parts_at rows handle)
-written_end rows handle text front writer none w = sym (append-nil writer) ∙ ap (λ (ys : List ℕ). writer ++ ys) (sym none) ∙ w.is
+pub written_end : (rows : List Row) (handle : ℕ) (text : Nodes → List ℕ) (front writer : List ℕ)
+    → text no_nodes ≡ [] → Written rows handle text front writer None
+    → writer ≡ front ++ text (parts_at rows handle)
+written_end rows handle text front writer none w =
+    sym (append-nil writer) ∙ ap (λ (ys : List ℕ). writer ++ ys) (sym none) ∙ w.is
 
 -- a part that is too long makes all too long
-pub written_over : (rows : List Row) (handle part limit : ℕ) (text : Nodes → List ℕ) (front writer one : List ℕ) → text (nodes_since rows (name_at rows handle) (Some part)) ≡ one ++ text (nodes_in (name_at rows handle) (drop (part + 1) rows))
-    → Written rows handle text front writer (Some part) → limit ≤ length one → limit ≤ length (text (parts_at rows handle))
+pub written_over : (rows : List Row) (handle part limit : ℕ) (text : Nodes → List ℕ)
+    (front writer one : List ℕ)
+    → text (nodes_since rows (name_at rows handle) (Some part))
+    ≡ one ++ text (nodes_in (name_at rows handle) (drop (part + 1) rows))
+    → Written rows handle text front writer (Some part) → limit ≤ length one
+    → limit ≤ length (text (parts_at rows handle))
 written_over rows handle part limit text front writer one split w over =
     let g = w.grown in
-    let a : length (text (nodes_since rows (name_at rows handle) (Some part))) ≡ length one + length (text (nodes_in (name_at rows handle) (drop (part + 1) rows))) = ap length split ∙ length-append one _ in
-    let b : length writer + length (text (nodes_since rows (name_at rows handle) (Some part))) ≡ length front + length (text (parts_at rows handle)) = sym (length-append writer _) ∙ ap length w.is ∙ length-append front _ in
+    let a : length (text (nodes_since rows (name_at rows handle) (Some part)))
+    ≡ length one + length (text (nodes_in (name_at rows handle) (drop (part + 1) rows))) =
+    ap length split ∙ length-append one _ in
+    let b : length writer + length (text (nodes_since rows (name_at rows handle) (Some part)))
+    ≡ length front + length (text (parts_at rows handle)) =
+    sym (length-append writer _) ∙ ap length w.is ∙ length-append front _ in
     omega arith
 
 -- the text of the data of nodes
 abbrev pub nodes_text : Nodes → List ℕ
 nodes_text parts = data_text (nodes_data parts)
 
-pub structure_at : (rows : List Row) (handle : ℕ) → leaf_at rows handle ≡ None → datum_text (data_at rows handle) ≡ element (constructed 2) (nodes_text (parts_at rows handle))
-structure_at rows handle none = ap (λ (o : Option Leaf). datum_text (node_datum (node_of o (parts_at rows handle)))) none
+pub structure_at : (rows : List Row) (handle : ℕ) → leaf_at rows handle ≡ None
+    → datum_text (data_at rows handle) ≡ element (constructed 2) (nodes_text (parts_at rows handle))
+structure_at rows handle none =
+    ap (λ (o : Option Leaf). datum_text (node_datum (node_of o (parts_at rows handle)))) none
 
-pub leaf_data : (rows : List Row) (handle : ℕ) (leaf : Leaf) → leaf_at rows handle ≡ Some leaf → datum_text (data_at rows handle) ≡ datum_text (leaf_datum leaf)
-leaf_data rows handle leaf some = ap (λ (o : Option Leaf). datum_text (node_datum (node_of o (parts_at rows handle)))) some
+pub leaf_data : (rows : List Row) (handle : ℕ) (leaf : Leaf) → leaf_at rows handle ≡ Some leaf
+    → datum_text (data_at rows handle) ≡ datum_text (leaf_datum leaf)
+leaf_data rows handle leaf some =
+    ap (λ (o : Option Leaf). datum_text (node_datum (node_of o (parts_at rows handle)))) some
 
 -- ---- types
 
@@ -179,13 +260,25 @@ nodes_types_text parts = components_text (nodes_types parts)
 
 -- the text of the component that the row at a place makes
 abbrev pub component_text : List Row → ℕ → List ℕ
-component_text rows place = element sequence (element (context 0) (word_of (name_at rows place)) ++ element (constructed 1) (type_text (type_at rows place)))
+component_text rows place =
+    element sequence (element (context 0) (word_of (name_at rows place))
+    ++ element (constructed 1) (type_text (type_at rows place)))
 
-pub structure_type : (rows : List Row) (handle : ℕ) → leaf_at rows handle ≡ None → type_text (type_at rows handle) ≡ element (constructed 2) (element (constructed 1) (nodes_types_text (parts_at rows handle)))
-structure_type rows handle none = ap (λ (o : Option Leaf). type_text (node_type (node_of o (parts_at rows handle)))) none
+pub structure_type : (rows : List Row) (handle : ℕ) → leaf_at rows handle ≡ None
+    → type_text (type_at rows handle)
+    ≡ element (constructed 2) (element (constructed 1) (nodes_types_text (parts_at rows handle)))
+structure_type rows handle none =
+    ap (λ (o : Option Leaf). type_text (node_type (node_of o (parts_at rows handle)))) none
 
 -- a component that is too long makes the whole type too long
-pub type_part_over : (rows : List Row) (handle part : ℕ) (front writer : List ℕ) → leaf_at rows handle ≡ None → Written rows handle nodes_types_text front writer (Some part) → 4294967296 ≤ length (component_text rows part)
+pub type_part_over : (rows : List Row) (handle part : ℕ) (front writer : List ℕ)
+    → leaf_at rows handle ≡ None → Written rows handle nodes_types_text front writer (Some part)
+    → 4294967296 ≤ length (component_text rows part)
     → 4294967296 ≤ length (type_text (type_at rows handle))
 type_part_over rows handle part front writer none w over =
-    rw (structure_type rows handle none) (around_over (constructed 2) (element (constructed 1) (nodes_types_text (parts_at rows handle))) (around_over (constructed 1) (nodes_types_text (parts_at rows handle)) (written_over rows handle part 4294967296 nodes_types_text front writer (component_text rows part) refl w over)))
+    rw (structure_type rows handle none)
+    (around_over (constructed 2)
+    (element (constructed 1) (nodes_types_text (parts_at rows handle)))
+    (around_over (constructed 1) (nodes_types_text (parts_at rows handle))
+    (written_over rows handle part 4294967296 nodes_types_text front writer
+    (component_text rows part) refl w over)))

@@ -24,14 +24,18 @@ tag_low (text o) plain = omega arith
 tag_low (utc o) plain = omega arith
 tag_low (other tag content) plain = absurd plain
 
-held_is : (held : List ℕ) (count : ℕ) → IsHeld held count → IsBits (bit_string_octets held count) held count
+held_is : (held : List ℕ) (count : ℕ) → IsHeld held count
+    → IsBits (bit_string_octets held count) held count
 held_is held count h =
-    subst (λ (xs : List ℕ). IsBits (bit_string_octets held count) xs count) h.whole (bit_string_is held count h.enough h.short)
+    subst (λ (xs : List ℕ). IsBits (bit_string_octets held count) xs count) h.whole
+    (bit_string_is held count h.enough h.short)
 
 mutual
-  pub plain_read : (d : Datum) → IsPlain d → length (datum_text d) < 4294967296 → IsDatum (value (datum_tag d) (datum_content d)) d
+  pub plain_read : (d : Datum) → IsPlain d → length (datum_text d) < 4294967296
+      → IsDatum (value (datum_tag d) (datum_content d)) d
   plain_read (structure parts) plain short =
-      let read = plain_list parts plain (omega (arith, content_less (constructed 2) (data_text parts))) in
+      let read =
+      plain_list parts plain (omega (arith, content_less (constructed 2) (data_text parts))) in
       (data_text parts, read.0, refl, read.1, read.2)
   plain_read (truth v) plain short = (_, refl, truth_is v)
   plain_read (bits held count) plain short = (_, refl, held_is held count plain)
@@ -42,10 +46,14 @@ mutual
   plain_read (utc o) plain short = (refl, plain)
   plain_read (other tag content) plain short = absurd plain
 
-  plain_list : (ds : Data) → ArePlain ds → length (data_text ds) < 4294967296 → (pieces : List Part) × SpellAll (data_text ds) pieces × AreData pieces ds
+  plain_list : (ds : Data) → ArePlain ds → length (data_text ds) < 4294967296
+      → (pieces : List Part) × SpellAll (data_text ds) pieces × AreData pieces ds
   plain_list no_data plain short = ([], refl, tt)
   plain_list (datum d ds) plain short =
       let sum = length-append (datum_text d) (data_text ds) in
       let here : length (datum_text d) < 4294967296 = omega arith in
-      let later = plain_list ds plain.1 (omega arith) in
-      (value (datum_tag d) (datum_content d) ∷ later.0, (datum_text d, data_text ds, refl, datum_spells d (tag_low d plain.0) here, later.1), (plain_read d plain.0 here, later.2))
+      let later = plain_list ds plain.1 (omega arith) in (
+        value (datum_tag d) (datum_content d) ∷ later.0,
+        (datum_text d, data_text ds, refl, datum_spells d (tag_low d plain.0) here, later.1),
+        (plain_read d plain.0 here, later.2),
+      )

@@ -12,7 +12,8 @@ use Rattle.bay_mms.specs.declared.response.RejectReason.{RejectReason}
 use Rattle.bay_mms.specs.declared.response.RejectReason.TheVariants.{UnrecognizedService, InvalidPdu}
 
 number_short : (tag : Tag) (value : ℤ) → length (element tag (integer_octets value)) ≤ 14
-number_short tag value = omega (arith, length-element tag (integer_octets value), length-integer_octets value)
+number_short tag value =
+    omega (arith, length-element tag (integer_octets value), length-integer_octets value)
 
 class_short : (class : ErrorClass) → length (class_text class) ≤ 14
 class_short NoSuchObject = number_short (context 7) (pos 2)
@@ -43,4 +44,10 @@ reason_short InvalidPdu = number_short (context 5) (pos 1)
 
 pub reject_short : (id : Option ℕ) (reason : RejectReason) → length (reject_text id reason) ≤ 60
 reject_short id reason =
-    omega (arith, length-element (constructed 4) (id_text id ++ reason_text reason), length-append (id_text id) (reason_text reason), id_short id, reason_short reason)
+    omega (
+      arith,
+      length-element (constructed 4) (id_text id ++ reason_text reason),
+      length-append (id_text id) (reason_text reason),
+      id_short id,
+      reason_short reason,
+    )

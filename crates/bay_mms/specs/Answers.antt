@@ -34,17 +34,21 @@ IsAnswer octets (Err OutOfMemory) = TakesMemory octets
 
 -- ---- by the values that octets are, which a lemma ties to the above
 
+-- of an invoke id and a service, whether the service is a read or a write
 abbrev pub lists_of : List Part → Bool
 lists_of (id ∷ service ∷ []) = has_list service
 lists_of parts = false
 
+-- the same of parts, where there are any
 abbrev pub lists_in : Option (List Part) → Bool
 lists_in (Some parts) = lists_of parts
 lists_in None = false
 
+-- the same of a value, which is a confirmed request
 abbrev pub lists_as : Part → Bool
 lists_as part = if same_tag part.tag (constructed 0) then lists_in (few_in part.content) else false
 
+-- the same of a value, where there is one
 abbrev pub lists_at : Option Part → Bool
 lists_at (Some part) = lists_as part
 lists_at None = false

@@ -23,7 +23,8 @@ pub record IsConfirmed (octets : List ℕ) (id : ℕ) (service : Part) : Type 0 
 abbrev pub Asks : Message → List ℕ → Type 0
 Asks (initiate proposal) octets = IsInitiate octets proposal
 Asks conclude octets = SpellAll octets (value (context 11) [] ∷ [])
-Asks (confirmed id asking) octets = (service : Part) × IsConfirmed octets id service × IsService service asking
+Asks (confirmed id asking) octets =
+    (service : Part) × IsConfirmed octets id service × IsService service asking
 
 -- They ask, under an invoke id, for what is not served.
 abbrev pub AsksUnknown : ℕ → List ℕ → Type 0

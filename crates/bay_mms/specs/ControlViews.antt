@@ -7,20 +7,45 @@ use Rattle.bay_mms.specs.declared.shape.Shape.{Shape}
 use Rattle.bay_mms.specs.declared.fault.ControlFault.{ControlFault}
 use Rattle.bay_mms.specs.Controls.{Origin, Control, Operate}
 
+-- an originator
 abbrev pub originating : origin.Origin → Origin
 originating o = record { or_cat = o.or_cat; or_ident = o.or_ident.now }
 
+-- a cancel
 abbrev pub cancelling : cancel.Cancel → Control
-cancelling c = record { ctl_val = c.ctl_val; origin = originating c.origin; ctl_num = pos c.ctl_num; t = c.t; test = c.test }
+cancelling c =
+    record {
+      ctl_val = c.ctl_val;
+      origin = originating c.origin;
+      ctl_num = pos c.ctl_num;
+      t = c.t;
+      test = c.test;
+    }
 
+-- an operate, or an enhanced select
 abbrev pub operating : operate.Operate → Operate
 operating o = record {
-  control = record { ctl_val = o.ctl_val; origin = originating o.origin; ctl_num = pos o.ctl_num; t = o.t; test = o.test };
+  control =
+      record {
+        ctl_val = o.ctl_val;
+        origin = originating o.origin;
+        ctl_num = pos o.ctl_num;
+        t = o.t;
+        test = o.test;
+      };
   check = o.check;
 }
 
+-- what was read of a control, in any range
 abbrev pub shaping : Shape → Control
-shaping s = record { ctl_val = s.ctl_val; origin = record { or_cat = s.or_cat; or_ident = s.or_ident.now }; ctl_num = s.ctl_num; t = s.t; test = s.test }
+shaping s =
+    record {
+      ctl_val = s.ctl_val;
+      origin = record { or_cat = s.or_cat; or_ident = s.or_ident.now };
+      ctl_num = s.ctl_num;
+      t = s.t;
+      test = s.test;
+    }
 
 -- a result, seen through a view
 abbrev pub seen : {A B : Type 0} → (A → B) → Result A ControlFault → Result B ControlFault

@@ -1,7 +1,7 @@
 -- What a control is asked for, and the data that this is (IEC 61850-7-2, Select, SelectWithValue,
 -- Operate and Cancel; IEC 61850-8-1, their mapping to SBOw, Oper and Cancel).
 use Rattle.std.specs.Prelude.{ℕ, ℤ, pos, negsuc, ◌≡◌, ◌*◌, ◌/◌, ◌==◌, ◌&&◌, Bool, false, List, [], ◌∷◌, length, Option, Some, None, Result, Ok, Err, nat_lt, if◌then◌else◌}
-use Rattle.bay_ber.specs.Options.{◌>>=◌}
+use Rattle.bay_base.specs.Options.{◌>>=◌}
 use Rattle.bay_tree.specs.declared.leaf.Dbpos.{Dbpos}
 use Rattle.bay_tree.specs.declared.leaf.Dbpos.TheVariants.{Intermediate, Off, On, Bad}
 use Rattle.bay_mms.specs.Data.{Datum, Data, structure, truth, bits, integer, unsigned, octets, utc, no_data, datum, position_octet}
@@ -28,16 +28,22 @@ pub record Operate : Type 0 where
 
 -- ---- their data
 
+-- a structure of orCat and orIdent
 abbrev pub origin_datum : Origin → Datum
 origin_datum o = structure (datum (integer o.or_cat) (datum (octets o.or_ident) no_data))
 
 -- the data of a control in front of others
 abbrev pub control_before : Control → Data → Data
-control_before c later = datum (truth c.ctl_val) (datum (origin_datum c.origin) (datum (unsigned c.ctl_num) (datum (utc c.t) (datum (truth c.test) later))))
+control_before c later =
+    datum (truth c.ctl_val) (datum (origin_datum c.origin)
+    (datum (unsigned c.ctl_num) (datum (utc c.t) (datum (truth c.test) later))))
 
+-- the data of SBOw and Oper
 abbrev pub operate_datum : Operate → Datum
-operate_datum o = structure (control_before o.control (datum (bits (position_octet o.check ∷ []) 2) no_data))
+operate_datum o =
+    structure (control_before o.control (datum (bits (position_octet o.check ∷ []) 2) no_data))
 
+-- the data of Cancel
 abbrev pub cancel_datum : Control → Datum
 cancel_datum c = structure (control_before c no_data)
 
@@ -56,6 +62,7 @@ pub record IsOperate (d : Datum) (o : Operate) : Type 0 where
 
 -- ---- what data are read as
 
+-- the value of each kind, where data are of that kind
 abbrev pub truth_as : Datum → Option Bool
 truth_as (truth value) = Some value
 truth_as d = None
@@ -89,6 +96,7 @@ position_by two =
 abbrev pub position_of : ℕ → Option Dbpos
 position_of octet = position_by (octet / 64)
 
+-- the position that stands in the first octet
 abbrev pub first_position : List ℕ → Option Dbpos
 first_position [] = None
 first_position (first ∷ later) = position_of first
@@ -98,14 +106,17 @@ abbrev pub check_as : Datum → Option Dbpos
 check_as (bits held count) = if count == 2 then first_position held else None
 check_as d = None
 
+-- data one behind another, as a list
 abbrev pub list_of : Data → List Datum
 list_of no_data = []
 list_of (datum first later) = first ∷ list_of later
 
+-- the parts, where data are a structure
 abbrev pub parts_as : Datum → Option (List Datum)
 parts_as (structure parts) = Some (list_of parts)
 parts_as d = None
 
+-- an originator out of its parts
 abbrev pub origin_of : List Datum → Option Origin
 origin_of (category ∷ identity ∷ []) = do
   cat ← integer_as category
@@ -113,9 +124,11 @@ origin_of (category ∷ identity ∷ []) = do
   Some (record { or_cat = cat; or_ident = ident })
 origin_of parts = None
 
+-- the originator that data are
 unfoldable pub origin_as : Datum → Option Origin
 origin_as d = parts_as d >>= origin_of
 
+-- a control out of its parts, without Check
 unfoldable pub control_of : Datum → Datum → Datum → Datum → Datum → Option Control
 control_of value origin number moment test = do
   val ← truth_as value
@@ -125,10 +138,13 @@ control_of value origin number moment test = do
   flag ← truth_as test
   Some (record { ctl_val = val; origin = by; ctl_num = num; t = time; test = flag })
 
+-- five parts are a cancel
 abbrev pub cancel_of : List Datum → Option Control
-cancel_of (value ∷ origin ∷ number ∷ moment ∷ test ∷ []) = control_of value origin number moment test
+cancel_of (value ∷ origin ∷ number ∷ moment ∷ test ∷ []) =
+    control_of value origin number moment test
 cancel_of parts = None
 
+-- six parts are an operate, the last of them Check
 abbrev pub operate_of : List Datum → Option Operate
 operate_of (value ∷ origin ∷ number ∷ moment ∷ test ∷ check ∷ []) = do
   control ← control_of value origin number moment test
@@ -136,9 +152,11 @@ operate_of (value ∷ origin ∷ number ∷ moment ∷ test ∷ check ∷ []) = 
   Some (record { control = control; check = position })
 operate_of parts = None
 
+-- the cancel that data are, in any range
 unfoldable pub cancel_as : Datum → Option Control
 cancel_as d = parts_as d >>= cancel_of
 
+-- the operate that data are, in any range
 unfoldable pub operate_as : Datum → Option Operate
 operate_as d = parts_as d >>= operate_of
 
@@ -156,15 +174,18 @@ is_number (negsuc n) = false
 
 -- whether a control is in range; an identity has at most 64 octets
 abbrev pub is_in_range : Control → Bool
-is_in_range c = is_number c.ctl_num && (is_category c.origin.or_cat && nat_lt (length c.origin.or_ident) 65)
+is_in_range c =
+    is_number c.ctl_num && (is_category c.origin.or_cat && nat_lt (length c.origin.or_ident) 65)
 
 -- A control that is in range; data of another shape are told before one that is not.
 abbrev pub within : {A : Type 0} → (A → Control) → Option A → Result A ControlFault
 within control None = Err WrongShape
 within control (Some x) = if is_in_range (control x) then Ok x else Err OutOfRange
 
+-- the operate that data are, or why they are none
 abbrev pub operate_in : Datum → Result Operate ControlFault
 operate_in d = within (λ o. o.control) (operate_as d)
 
+-- the cancel that data are, or why they are none
 abbrev pub cancel_in : Datum → Result Control ControlFault
 cancel_in d = within (λ c. c) (cancel_as d)

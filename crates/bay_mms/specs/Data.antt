@@ -59,6 +59,7 @@ abbrev pub quality_octet : Quality → ℕ
 quality_octet quality.Good = 0x00
 quality_octet quality.Invalid = 0x40
 
+-- a leaf's value as data
 abbrev pub leaf_datum : Leaf → Datum
 leaf_datum (leaf.Truth value) = truth value
 leaf_datum (leaf.Dbpos value) = bits (position_octet value ∷ []) 2

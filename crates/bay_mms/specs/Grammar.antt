@@ -5,7 +5,7 @@ use Rattle.bay_ber.specs.declared.fault.BerFault.{BerFault}
 use Rattle.bay_ber.specs.declared.tag.Class.TheVariants.{ContextSpecific}
 use Rattle.bay_ber.specs.declared.tag.Tag.{Tag}
 use Rattle.bay_ber.specs.Tags.{same_class, same_tag}
-use Rattle.bay_ber.specs.Options.{◌>>=◌}
+use Rattle.bay_base.specs.Options.{◌>>=◌}
 use Rattle.bay_ber.specs.Content.{BitString, integer_in, bits_in, truth_in}
 use Rattle.bay_ber.specs.Reading.{Reading, tlv_at}
 use Rattle.bay_ber.specs.Values.{Part, part_in, value_in, few_in, known_in, each_in, under}
@@ -13,8 +13,9 @@ use Rattle.bay_mms.specs.Data as mms
 use Rattle.bay_mms.specs.Data.{Datum}
 use Rattle.bay_mms.specs.Views.{data_before}
 use Rattle.bay_mms.specs.Tags.{context, constructed, sequence, int_tag, visible_tag}
-use Rattle.bay_mms.specs.Spelled.{◌>>◌, spelled}
-use Rattle.bay_mms.specs.Requests.{Naming, vmd, domain, association, Place, whole_vmd, in_domain, of_association, Variable, Access, variables, named_list, Asking, identify, names, attributes, read, write, Message, initiate, conclude, confirmed}
+use Rattle.bay_base.specs.Results.{◌>>=◌ as ◌>>◌}
+use Rattle.bay_mms.specs.Spelled.{spelled}
+use Rattle.bay_mms.specs.Requests.{Naming, vmd, domain, association, Place, whole_vmd, in_domain, of_association, VariableSpecification, Access, variables, named_list, Asking, identify, names, attributes, read, write, Message, initiate, conclude, confirmed}
 use Rattle.bay_mms.specs.declared.request.Proposal.{Proposal}
 use Rattle.bay_mms.specs.declared.fault.Refusal.{Refusal}
 use Rattle.bay_mms.specs.declared.fault.Refusal.TheVariants.{Bad, Unknown, Many, OutOfMemory}
@@ -36,6 +37,7 @@ domain_name (first ∷ second ∷ []) = do
   Some (domain d item)
 domain_name parts = None
 
+-- the name of an object that a value is
 unfoldable pub name_as : Part → Option Naming
 name_as part =
     if same_tag part.tag (context 0) then Some (vmd part.content)
@@ -43,12 +45,13 @@ name_as part =
     else (if same_tag part.tag (context 2) then Some (association part.content)
     else None))
 
+-- the name of an object that octets are
 unfoldable pub name_in : List ℕ → Option Naming
 name_in octets = value_in octets >>= name_as
 
 -- a variable: its name, and behind it the part of it that is asked for, whose content is not looked
 -- at
-abbrev pub variable_of : List Part → Option Variable
+abbrev pub variable_of : List Part → Option VariableSpecification
 variable_of (name ∷ []) = do
   octets ← under (constructed 0) name
   n ← name_in octets
@@ -60,32 +63,40 @@ variable_of (name ∷ access ∷ []) = do
   Some (record { name = n; is_alternate = true })
 variable_of parts = None
 
-unfoldable pub variable_as : Part → Option Variable
+-- the variable that a value is
+unfoldable pub variable_as : Part → Option VariableSpecification
 variable_as part = under sequence part >>= few_in >>= variable_of
 
 -- a list of variables, or the name of a list
 unfoldable pub access_as : Part → Result Access Refusal
 access_as part =
-    if same_tag part.tag (constructed 0) then spelled (each_in variable_as part.content) >> (λ vs. Ok (variables vs))
-    else (if same_tag part.tag (constructed 1) then spelled (name_in part.content) >> (λ n. Ok named_list)
+    if same_tag part.tag (constructed 0)
+    then spelled (each_in variable_as part.content) >> (λ vs. Ok (variables vs))
+    else (if same_tag part.tag (constructed 1)
+    then spelled (name_in part.content) >> (λ n. Ok named_list)
     else Err Bad)
 
-abbrev pub any_alternate : List Variable → Bool
+-- whether of one of them only a part is asked for
+abbrev pub any_alternate : List VariableSpecification → Bool
 any_alternate [] = false
 any_alternate (v ∷ vs) = v.is_alternate || any_alternate vs
 
 -- Which names are asked for: at most 32, and none with alternate access.
 unfoldable pub judged : Access → Result (List Naming) Refusal
 judged named_list = Err Unknown
-judged (variables vs) = if any_alternate vs then Err Unknown else (if nat_lt 32 (length vs) then Err Many else Ok (map (λ v. v.name) vs))
+judged (variables vs) =
+    if any_alternate vs then Err Unknown
+    else (if nat_lt 32 (length vs) then Err Many else Ok (map (λ v. v.name) vs))
 
 -- ---- data
 
 -- A listed kind with its content; a kind that is not listed is taken as it is. A moment that has
 -- not eight octets is none.
 unfoldable pub utc_as : Part → Datum
-utc_as part = if length part.content == 8 then mms.utc part.content else mms.other part.tag part.content
+utc_as part =
+    if length part.content == 8 then mms.utc part.content else mms.other part.tag part.content
 
+-- a string of octets or of characters, or a moment, by its tag
 unfoldable pub string_as : Part → Datum
 string_as part =
     if same_tag part.tag (context 9) then mms.octets part.content
@@ -93,19 +104,25 @@ string_as part =
     else (if same_tag part.tag (context 17) then utc_as part
     else mms.other part.tag part.content))
 
+-- data that are no structure, by their tag
 unfoldable pub simple_as : Part → Option Datum
 simple_as part =
     if same_tag part.tag (context 3) then truth_in part.content >>= (λ b. Some (mms.truth b))
-    else (if same_tag part.tag (context 4) then bits_in part.content >>= (λ b. Some (mms.bits b.octets b.count))
-    else (if same_tag part.tag (context 5) then integer_in part.content >>= (λ z. Some (mms.integer z))
-    else (if same_tag part.tag (context 6) then integer_in part.content >>= (λ z. Some (mms.unsigned z))
+    else (if same_tag part.tag (context 4) then bits_in part.content
+    >>= (λ b. Some (mms.bits b.octets b.count))
+    else (if same_tag part.tag (context 5) then integer_in part.content
+    >>= (λ z. Some (mms.integer z))
+    else (if same_tag part.tag (context 6) then integer_in part.content
+    >>= (λ z. Some (mms.unsigned z))
     else Some (string_as part))))
 
 -- data that is at most so deep; the parts of a structure are one deeper
 unfoldable pub datum_as : ℕ → Part → Option Datum
 datum_as zero part = None
 datum_as (suc depth) part =
-    if same_tag part.tag (constructed 2) then each_in (datum_as depth) part.content >>= (λ ds. Some (mms.structure (data_before ds mms.no_data)))
+    if same_tag part.tag (constructed 2)
+    then each_in (datum_as depth) part.content
+    >>= (λ ds. Some (mms.structure (data_before ds mms.no_data)))
     else simple_as part
 
 -- ---- services
@@ -114,6 +131,7 @@ datum_as (suc depth) part =
 abbrev pub inner_value : Tag → Part → Option Part
 inner_value tag part = under tag part >>= value_in
 
+-- the scope that a value is
 unfoldable pub place_as : Part → Option Place
 place_as part =
     if same_tag part.tag (context 0) then nothing part.content whole_vmd
@@ -125,9 +143,11 @@ place_as part =
 unfoldable pub class_as : Part → Option ℤ
 class_as part = under (constructed 0) part >>= value_in >>= under (context 0) >>= integer_in
 
+-- the scope of a listing, under its tag
 unfoldable pub scope_as : Part → Option Place
 scope_as part = under (constructed 1) part >>= value_in >>= place_as
 
+-- the parts of GetNameList: the class, the scope, and behind which name
 abbrev pub names_of : List Part → Option Asking
 names_of (class ∷ scope ∷ []) = do
   z ← class_as class
@@ -140,15 +160,20 @@ names_of (class ∷ scope ∷ after ∷ []) = do
   Some (names z place (Some name))
 names_of parts = None
 
+-- the GetNameList that octets are
 abbrev pub listing_in : List ℕ → Option Asking
 listing_in octets = few_in octets >>= names_of
 
+-- GetVariableAccessAttributes by a name; by the name of a list it is not served
 unfoldable pub attributes_as : Part → Result Asking Refusal
 attributes_as part =
-    if same_tag part.tag (constructed 0) then spelled (name_in part.content) >> (λ n. Ok (attributes n))
-    else (if same_tag part.tag (constructed 1) then spelled (name_in part.content) >> (λ n. Err Unknown)
+    if same_tag part.tag (constructed 0)
+    then spelled (name_in part.content) >> (λ n. Ok (attributes n))
+    else (if same_tag part.tag (constructed 1)
+    then spelled (name_in part.content) >> (λ n. Err Unknown)
     else Err Bad)
 
+-- a read by its specification of access
 unfoldable pub read_as : Part → Result Asking Refusal
 read_as part =
     spelled (under (constructed 1) part) >> λ octets.
@@ -166,7 +191,8 @@ read_of parts = Err Bad
 -- As many data as variables are written.
 unfoldable pub written_with : Access → List Datum → Result Asking Refusal
 written_with named_list ds = Err Unknown
-written_with (variables vs) ds = if length vs == length ds then judged (variables vs) >> (λ ns. Ok (write ns ds)) else Err Bad
+written_with (variables vs) ds =
+    if length vs == length ds then judged (variables vs) >> (λ ns. Ok (write ns ds)) else Err Bad
 
 -- the variables, and the data, at most 10 deep
 abbrev pub write_of : List Part → Result Asking Refusal
@@ -179,11 +205,16 @@ write_of parts = Err Bad
 
 -- the service's tag is context-specific, and its number is of no service that is listed
 abbrev pub is_unlisted : Tag → Bool
-is_unlisted tag = same_class tag.class ContextSpecific && not ((tag.number == 1) || ((tag.number == 2) || ((tag.number == 4) || ((tag.number == 5) || (tag.number == 6)))))
+is_unlisted tag =
+    same_class tag.class ContextSpecific
+    && not ((tag.number == 1)
+    || ((tag.number == 2) || ((tag.number == 4) || ((tag.number == 5) || (tag.number == 6)))))
 
+-- a service that is not listed, and what is no service
 unfoldable pub other_as : Part → Result Asking Refusal
 other_as part = if is_unlisted part.tag then Err Unknown else Err Bad
 
+-- the service that a value is, by its tag
 unfoldable pub service_as : Part → Result Asking Refusal
 service_as part =
     if same_tag part.tag (constructed 1) then spelled (listing_in part.content)
@@ -195,6 +226,7 @@ service_as part =
 
 -- ---- the initiate
 
+-- the integer that stands under a tag
 unfoldable pub integer_under : Tag → Part → Option ℤ
 integer_under tag part = under tag part >>= integer_in
 
@@ -204,6 +236,7 @@ some_of (pos zero) = None
 some_of (pos (suc n)) = Some (pos (suc n))
 some_of (negsuc n) = None
 
+-- how many requests may be outstanding, under a tag
 unfoldable pub outstanding_as : Tag → Part → Option ℤ
 outstanding_as tag part = integer_under tag part >>= some_of
 
@@ -216,9 +249,11 @@ three_bits (first ∷ octets) = Some (first / 32 * 32)
 abbrev pub parameters_of : BitString → Option ℕ
 parameters_of b = if nat_lt b.count 3 then None else three_bits b.octets
 
+-- the first three parameter conformance blocks
 unfoldable pub parameters_as : Part → Option ℕ
 parameters_as part = under (context 1) part >>= bits_in >>= parameters_of
 
+-- the services that the other side supports
 unfoldable pub services_as : Part → Option BitString
 services_as part = under (context 2) part >>= bits_in
 
@@ -235,14 +270,17 @@ detail_of parts = None
 unfoldable pub detail_in : List ℕ → Option ℕ
 detail_in octets = known_in (context 0 ∷ context 1 ∷ context 2 ∷ []) octets >>= detail_of
 
+-- the size of a PDU, where it is proposed
 abbrev pub size_of : Option Part → Option (Option ℤ)
 size_of None = Some None
 size_of (Some part) = integer_under (context 0) part >>= λ z. Some (Some z)
 
+-- how deep data may nest, where it is proposed
 abbrev pub nesting_of : Option Part → Option (Option ℤ)
 nesting_of None = Some None
 nesting_of (Some part) = integer_under (context 3) part >>= λ z. Some (Some z)
 
+-- a proposal out of its fields
 unfoldable pub proposal_of : Option Part → Part → Part → Option Part → Part → Option Proposal
 proposal_of first second third fourth fifth = do
   size ← size_of first
@@ -251,16 +289,26 @@ proposal_of first second third fourth fifth = do
   nesting ← nesting_of fourth
   octets ← under (constructed 4) fifth
   parameters ← detail_in octets
-  Some (record { size = size; calling = calling; called = called; nesting = nesting; parameters = parameters })
+  Some (record {
+    size = size;
+    calling = calling;
+    called = called;
+    nesting = nesting;
+    parameters = parameters;
+  })
 
 -- the size may be left out, and so may the nesting
 abbrev pub initiate_of : List Part → Option Proposal
 initiate_of (calling ∷ called ∷ detail ∷ []) = proposal_of None calling called None detail
 initiate_of (first ∷ second ∷ third ∷ detail ∷ []) =
-    if same_tag first.tag (context 0) then proposal_of (Some first) second third None detail else proposal_of None first second (Some third) detail
-initiate_of (size ∷ calling ∷ called ∷ nesting ∷ detail ∷ []) = proposal_of (Some size) calling called (Some nesting) detail
+    if same_tag first.tag (context 0)
+    then proposal_of (Some first) second third None detail
+    else proposal_of None first second (Some third) detail
+initiate_of (size ∷ calling ∷ called ∷ nesting ∷ detail ∷ []) =
+    proposal_of (Some size) calling called (Some nesting) detail
 initiate_of parts = None
 
+-- the proposal that octets are
 abbrev pub proposal_in : List ℕ → Option Proposal
 proposal_in octets = few_in octets >>= initiate_of
 
@@ -275,6 +323,7 @@ abbrev pub id_of : ℤ → Option ℕ
 id_of (pos n) = if nat_lt n 4294967296 then Some n else None
 id_of (negsuc n) = None
 
+-- the invoke id that a value is
 unfoldable pub id_as : Part → Option ℕ
 id_as part = under int_tag part >>= integer_in >>= id_of
 
@@ -285,22 +334,29 @@ fault_of known id Unknown = fault.UnknownService id
 fault_of known id Many = fault.TooMany id
 fault_of known id OutOfMemory = fault.OutOfMemory
 
+-- the request of a service that was read, or its fault
 abbrev pub with_id : Option ℕ → ℕ → Result Asking Refusal → Result Message MmsFault
 with_id known id (Ok asking) = Ok (confirmed id asking)
 with_id known id (Err refusal) = Err (fault_of known id refusal)
 
+-- what is not there makes a bad PDU
 abbrev pub or_bad : {A : Type 0} → Option ℕ → Option A → Result A MmsFault
 or_bad known (Some x) = Ok x
 or_bad known None = Err (fault.BadPdu known)
 
+-- a confirmed request out of its invoke id and its service
 abbrev pub confirmed_of : Option ℕ → List Part → Result Message MmsFault
-confirmed_of known (first ∷ service ∷ []) = or_bad known (id_as first) >> λ id. with_id known id (service_as service)
+confirmed_of known (first ∷ service ∷ []) =
+    or_bad known (id_as first) >> λ id. with_id known id (service_as service)
 confirmed_of known parts = Err (fault.BadPdu known)
 
+-- the request that a value is, by its tag
 unfoldable pub message_as : Option ℕ → Part → Result Message MmsFault
 message_as known part =
-    if same_tag part.tag (constructed 0) then or_bad known (few_in part.content) >> confirmed_of known
-    else (if same_tag part.tag (constructed 8) then or_bad known (proposal_in part.content) >> (λ p. Ok (initiate p))
+    if same_tag part.tag (constructed 0)
+    then or_bad known (few_in part.content) >> confirmed_of known
+    else (if same_tag part.tag (constructed 8)
+    then or_bad known (proposal_in part.content) >> (λ p. Ok (initiate p))
     else (if same_tag part.tag (context 11) then or_bad known (nothing part.content conclude)
     else Err (fault.BadPdu known)))
 
@@ -312,7 +368,9 @@ front_of (Err e) = None
 -- the invoke id, where a value of a confirmed request stands at the front, and an id at the front
 -- of its content
 unfoldable pub id_in : List ℕ → Option ℕ
-id_in octets = front_of (tlv_at octets) >>= under (constructed 0) >>= λ content. front_of (tlv_at content) >>= id_as
+id_in octets =
+    front_of (tlv_at octets) >>= under (constructed 0) >>= λ content. front_of (tlv_at content)
+    >>= id_as
 
 -- the request that octets are, or why they are none
 unfoldable pub answer_to : List ℕ → Result Message MmsFault

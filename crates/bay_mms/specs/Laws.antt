@@ -9,7 +9,7 @@ use Rattle.bay_mms.specs.declared.response.Response.TheVariants as response
 use Rattle.bay_mms.specs.Tags.{context, constructed}
 use Rattle.bay_mms.specs.Data.{Datum, Data, structure, truth, bits, integer, unsigned, octets, text, utc, other, no_data, datum, data_text}
 
--- the tag of data (ISO 9506-2, Data), and what stands under it
+-- the tag of data (ISO 9506-2, Data)
 abbrev pub datum_tag : Datum → Tag
 datum_tag (structure parts) = constructed 2
 datum_tag (truth value) = context 3
@@ -21,6 +21,7 @@ datum_tag (text value) = context 10
 datum_tag (utc value) = context 17
 datum_tag (other tag value) = tag
 
+-- what stands under the tag
 abbrev pub datum_content : Datum → List ℕ
 datum_content (structure parts) = data_text parts
 datum_content (truth value) = truth_octets value
@@ -41,7 +42,7 @@ response_tag (response.Error id class) = constructed 2
 response_tag (response.Reject id reason) = constructed 4
 
 -- The list is one value under the tag.
-pub record IsRead (list : List ℕ) (tag : Tag) : Type 0 where
+pub record IsOneValue (list : List ℕ) (tag : Tag) : Type 0 where
   pub content : List ℕ
   pub spelled : Spells list tag content
 

@@ -19,6 +19,7 @@ mutual
     no_nodes : Nodes
     node : List ℕ → Node → Nodes → Nodes
 
+-- a row with a leaf is its value, one without a structure
 abbrev pub node_of : Option Leaf → Nodes → Node
 node_of (Some leaf) parts = value leaf
 node_of None parts = structure parts
@@ -28,11 +29,15 @@ node_of None parts = structure parts
 abbrev pub nodes_in : List ℕ → List Row → Nodes
 nodes_in parent [] = no_nodes
 nodes_in parent (row ∷ later) =
-    if is_below parent row.name then node (word_of row.name) (node_of row.leaf (nodes_in row.name later)) (nodes_in parent later) else nodes_in parent later
+    if is_below parent row.name
+    then node (word_of row.name) (node_of row.leaf (nodes_in row.name later))
+    (nodes_in parent later)
+    else nodes_in parent later
 
 -- the node of the row at a place
 abbrev pub node_at : List Row → ℕ → Node
-node_at rows place = node_of (leaf_at rows place) (nodes_in (name_at rows place) (drop (place + 1) rows))
+node_at rows place =
+    node_of (leaf_at rows place) (nodes_in (name_at rows place) (drop (place + 1) rows))
 
 -- ---- its data and its type
 
@@ -54,9 +59,10 @@ abbrev mutual
   nodes_types no_nodes = types.no_components
   nodes_types (node name first later) = types.component name (node_type first) (nodes_types later)
 
--- the data and the type of the row at a place
+-- the data of the row at a place
 abbrev pub data_at : List Row → ℕ → Datum
 data_at rows place = node_datum (node_at rows place)
 
+-- the type of the row at a place
 abbrev pub type_at : List Row → ℕ → TypeSpec
 type_at rows place = node_type (node_at rows place)

@@ -20,7 +20,9 @@ page_count id size names = greatest (λ n. fits id size (take n names)) (min 100
 
 -- the response with this page, which says whether more names follow
 abbrev pub first_page : ℕ → ℕ → List (List ℕ) → List ℕ
-first_page id size names = page_text id (take (page_count id size names) names) (nat_lt (page_count id size names) (length names))
+first_page id size names =
+    page_text id (take (page_count id size names) names)
+    (nat_lt (page_count id size names) (length names))
 
 -- ---- for the code
 
@@ -31,7 +33,8 @@ names_from rows (Some place) = names_of (drop place rows)
 
 -- how many octets a response has whose service has so many
 abbrev pub content_length : ℕ → ℕ → ℕ
-content_length id content = element_length (element_length (length (integer_octets (pos id))) + element_length content)
+content_length id content =
+    element_length (element_length (length (integer_octets (pos id))) + element_length content)
 
 -- how many octets a response has whose list takes so many, with so many behind it
 abbrev pub list_length : ℕ → ℕ → ℕ → ℕ

@@ -14,13 +14,16 @@ use Rattle.bay_mms.specs.Tags.{context, constructed, sequence, visible_tag}
 abbrev pub variable_text : List ℕ → List ℕ
 variable_text name = element sequence (element (constructed 0) name)
 
+-- variables, one behind another
 abbrev pub variables_text : List (List ℕ) → List ℕ
 variables_text [] = []
 variables_text (name ∷ names) = variable_text name ++ variables_text names
 
 -- a report of variables and their data
 abbrev pub report_text : List (List ℕ) → Data → List ℕ
-report_text names values = element (constructed 3) (element (constructed 0) (element (constructed 0) (variables_text names) ++ element (constructed 0) (data_text values)))
+report_text names values =
+    element (constructed 3) (element (constructed 0)
+    (element (constructed 0) (variables_text names) ++ element (constructed 0) (data_text values)))
 
 -- the name that reports of refused controls have
 abbrev pub failure_name : List ℕ
@@ -28,12 +31,16 @@ failure_name = element (context 0) (codes "LastApplError")
 
 -- an item of a domain
 abbrev pub item_name : List ℕ → List ℕ → List ℕ
-item_name domain item = element (constructed 1) (element visible_tag domain ++ element visible_tag item)
+item_name domain item =
+    element (constructed 1) (element visible_tag domain ++ element visible_tag item)
 
 -- CntrlObj, Error, which is 0, Origin, ctlNum and AddCause
 abbrev pub failure_datum : ControlError → Datum
 failure_datum e =
-    structure (datum (text e.object.now) (datum (integer (pos 0)) (datum (origin_datum (originating e.origin)) (datum (unsigned (pos e.ctl_num)) (datum (integer (pos e.add_cause)) no_data)))))
+    structure (datum (text e.object.now)
+    (datum (integer (pos 0))
+    (datum (origin_datum (originating e.origin))
+    (datum (unsigned (pos e.ctl_num)) (datum (integer (pos e.add_cause)) no_data)))))
 
 -- a control was refused
 abbrev pub failure_text : ControlError → List ℕ
@@ -41,11 +48,14 @@ failure_text e = report_text (failure_name ∷ []) (datum (failure_datum e) no_d
 
 -- a control has done what it was asked for, and is told as it was written
 abbrev pub termination_text : List ℕ → List ℕ → Operate → List ℕ
-termination_text domain item o = report_text (item_name domain item ∷ []) (datum (operate_datum (operating o)) no_data)
+termination_text domain item o =
+    report_text (item_name domain item ∷ []) (datum (operate_datum (operating o)) no_data)
 
 -- a control has failed: why, and then what it was asked for
 abbrev pub failed_text : ControlError → List ℕ → List ℕ → Operate → List ℕ
-failed_text e domain item o = report_text (failure_name ∷ item_name domain item ∷ []) (datum (failure_datum e) (datum (operate_datum (operating o)) no_data))
+failed_text e domain item o =
+    report_text (failure_name ∷ item_name domain item ∷ [])
+    (datum (failure_datum e) (datum (operate_datum (operating o)) no_data))
 
 -- ---- the texts of their parts, one behind another
 
@@ -53,16 +63,22 @@ failed_text e domain item o = report_text (failure_name ∷ item_name domain ite
 abbrev pub origin_parts : Origin → List ℕ
 origin_parts o = element (context 5) (integer_octets o.or_cat) ++ element (context 9) o.or_ident.now
 
+-- the originator, a structure of the two
 abbrev pub origin_text : Origin → List ℕ
 origin_text o = element (constructed 2) (origin_parts o)
 
 -- ctlVal, origin and ctlNum
 abbrev pub operate_front : Operate → List ℕ
-operate_front o = element (context 3) (truth_octets o.ctl_val) ++ (origin_text o.origin ++ element (context 6) (integer_octets (pos o.ctl_num)))
+operate_front o =
+    element (context 3) (truth_octets o.ctl_val)
+    ++ (origin_text o.origin ++ element (context 6) (integer_octets (pos o.ctl_num)))
 
 -- T, Test and Check
 abbrev pub operate_back : Operate → List ℕ
-operate_back o = element (context 17) o.t ++ (element (context 3) (truth_octets o.test) ++ element (context 4) (bit_string_octets (position_octet o.check ∷ []) 2))
+operate_back o =
+    element (context 17) o.t
+    ++ (element (context 3) (truth_octets o.test)
+    ++ element (context 4) (bit_string_octets (position_octet o.check ∷ []) 2))
 
 -- CntrlObj and Error
 abbrev pub failure_front : ControlError → List ℕ
@@ -70,10 +86,14 @@ failure_front e = element (context 10) e.object.now ++ element (context 5) (inte
 
 -- Origin, ctlNum and AddCause
 abbrev pub failure_back : ControlError → List ℕ
-failure_back e = origin_text e.origin ++ (element (context 6) (integer_octets (pos e.ctl_num)) ++ element (context 5) (integer_octets (pos e.add_cause)))
+failure_back e =
+    origin_text e.origin ++ (element (context 6) (integer_octets (pos e.ctl_num))
+    ++ element (context 5) (integer_octets (pos e.add_cause)))
 
+-- the data of an operate
 abbrev pub operate_text : Operate → List ℕ
 operate_text o = element (constructed 2) (operate_front o ++ operate_back o)
 
+-- the data of a refused control
 abbrev pub failure_data : ControlError → List ℕ
 failure_data e = element (constructed 2) (failure_front e ++ failure_back e)

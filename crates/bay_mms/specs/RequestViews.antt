@@ -1,36 +1,41 @@
 -- Requests of the code, without where they lie in memory.
 use Rattle.std.specs.Prelude.{option_map, map}
-use Rattle.bay_mms.specs.declared.request.Name.{Name}
-use Rattle.bay_mms.specs.declared.request.Name.TheVariants as name
+use Rattle.bay_mms.specs.declared.request.ObjectName.{ObjectName}
+use Rattle.bay_mms.specs.declared.request.ObjectName.TheVariants as name
 use Rattle.bay_mms.specs.declared.request.Scope.{Scope}
 use Rattle.bay_mms.specs.declared.request.Scope.TheVariants as scope
 use Rattle.bay_mms.specs.declared.request.Call.{Call}
 use Rattle.bay_mms.specs.declared.request.Call.TheVariants as call
 use Rattle.bay_mms.specs.declared.request.Request.{Request}
 use Rattle.bay_mms.specs.declared.request.Request.TheVariants as request
-use Rattle.bay_mms.specs.declared.access.Variable as code
+use Rattle.bay_mms.specs.declared.access.VariableSpecification as code
 use Rattle.bay_mms.specs.declared.access.Access as list
 use Rattle.bay_mms.specs.declared.access.Access.TheVariants as access
 use Rattle.bay_mms.specs.Views.{data_in}
-use Rattle.bay_mms.specs.Requests.{Naming, vmd, domain, association, Place, whole_vmd, in_domain, of_association, Variable, Access, variables, named_list, Asking, identify, names, attributes, read, write, Message, initiate, conclude, confirmed}
+use Rattle.bay_mms.specs.Requests.{Naming, vmd, domain, association, Place, whole_vmd, in_domain, of_association, VariableSpecification, Access, variables, named_list, Asking, identify, names, attributes, read, write, Message, initiate, conclude, confirmed}
 
-abbrev pub naming : Name → Naming
+-- the name of an object
+abbrev pub naming : ObjectName → Naming
 naming (name.Vmd text) = vmd text.now
 naming (name.Domain d item) = domain d.now item.now
 naming (name.Association text) = association text.now
 
+-- where names are asked for
 abbrev pub place : Scope → Place
 place scope.Vmd = whole_vmd
 place (scope.Domain d) = in_domain d.now
 place scope.Association = of_association
 
-abbrev pub variable : code.Variable → Variable
+-- a variable that is named
+abbrev pub variable : code.VariableSpecification → VariableSpecification
 variable v = record { name = naming v.name; is_alternate = v.is_alternate }
 
+-- the variables of a read or a write
 abbrev pub accessed : list.Access → Access
 accessed (access.Variables vs) = variables (map variable vs.items)
 accessed access.NamedList = named_list
 
+-- a service and what it is asked for
 abbrev pub asking : Call → Asking
 asking call.Identify = identify
 asking (call.Names class s after) = names class (place s) (option_map (λ text. text.now) after)
@@ -38,6 +43,7 @@ asking (call.Attributes n) = attributes (naming n)
 asking (call.Read ns) = read (map naming ns.items)
 asking (call.Write ns values) = write (map naming ns.items) (data_in values.items)
 
+-- a request
 abbrev pub message : Request → Message
 message (request.Initiate proposal) = initiate proposal
 message request.Conclude = conclude

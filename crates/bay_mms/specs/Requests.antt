@@ -16,13 +16,13 @@ pub data Place : Type 0 where
   of_association : Place
 
 -- a variable that is named, and whether only a part of it is asked for (alternate access)
-pub record Variable : Type 0 where
+pub record VariableSpecification : Type 0 where
   pub name : Naming
   pub is_alternate : Bool
 
 -- the variables of a read or a write: each by its name, or all by the name of a list
 pub data Access : Type 0 where
-  variables : List Variable → Access
+  variables : List VariableSpecification → Access
   named_list : Access
 
 -- a service that is read here, and what it is asked for

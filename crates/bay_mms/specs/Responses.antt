@@ -17,11 +17,15 @@ use Rattle.bay_mms.specs.Nodes.{type_at}
 
 -- a confirmed response: the invoke id and the service
 abbrev pub confirmed : ℕ → List ℕ → List ℕ
-confirmed id service = element (constructed 1) (element int_tag (integer_octets (pos id)) ++ service)
+confirmed id service =
+    element (constructed 1) (element int_tag (integer_octets (pos id)) ++ service)
 
+-- the vendor, the model and the revision of an identify response
 abbrev pub identity_text : List ℕ → List ℕ → List ℕ → List ℕ
-identity_text vendor model revision = element (context 0) vendor ++ (element (context 1) model ++ element (context 2) revision)
+identity_text vendor model revision =
+    element (context 0) vendor ++ (element (context 1) model ++ element (context 2) revision)
 
+-- names, one behind another
 abbrev pub names_text : List (List ℕ) → List ℕ
 names_text [] = []
 names_text (name ∷ names) = element visible_tag name ++ names_text names
@@ -31,6 +35,7 @@ names_text (name ∷ names) = element visible_tag name ++ names_text names
 abbrev pub text_result : List ℕ → List ℕ
 text_result text = element (context 10) text
 
+-- the number of an error in the place of data
 abbrev pub failure_result : ℕ → List ℕ
 failure_result cause = element (context 0) (integer_octets (pos cause))
 
@@ -38,10 +43,11 @@ failure_result cause = element (context 0) (integer_octets (pos cause))
 abbrev pub success_result : List ℕ
 success_result = element (context 1) []
 
--- the responses to a read and to a write of variables with these results
+-- the response to a read of variables with these results
 abbrev pub read_text : ℕ → List ℕ → List ℕ
 read_text id results = confirmed id (element (constructed 4) (element (constructed 1) results))
 
+-- the response to a write of variables with these results
 abbrev pub write_text : ℕ → List ℕ → List ℕ
 write_text id results = confirmed id (element (constructed 5) results)
 
@@ -50,26 +56,34 @@ abbrev pub class_text : ErrorClass → List ℕ
 class_text error.NoSuchObject = element (context 7) (integer_octets (pos 2))
 class_text error.Resource = element (context 3) (integer_octets (pos 0))
 
+-- an error response: the invoke id and the class
 abbrev pub error_text : ℕ → ErrorClass → List ℕ
-error_text id class = element (constructed 2) (element (context 0) (integer_octets (pos id)) ++ element (constructed 2) (element (constructed 0) (class_text class)))
+error_text id class =
+    element (constructed 2) (element (context 0) (integer_octets (pos id))
+    ++ element (constructed 2) (element (constructed 0) (class_text class)))
 
+-- the invoke id, where one was read
 abbrev pub id_text : Option ℕ → List ℕ
 id_text None = []
 id_text (Some id) = element (context 0) (integer_octets (pos id))
 
+-- an unrecognized service is 1 of confirmed requests, an invalid PDU 1 of errors of a PDU
 abbrev pub reason_text : RejectReason → List ℕ
 reason_text reject.UnrecognizedService = element (context 1) (integer_octets (pos 1))
 reason_text reject.InvalidPdu = element (context 5) (integer_octets (pos 1))
 
+-- a reject: the invoke id, where one was read, and the reason
 abbrev pub reject_text : Option ℕ → RejectReason → List ℕ
 reject_text id reason = element (constructed 4) (id_text id ++ reason_text reason)
 
+-- the answer to a request for the end
 abbrev pub concluded_text : List ℕ
 concluded_text = element (context 12) []
 
 -- names, and whether more follow
 abbrev pub listing_text : List (List ℕ) → Bool → List ℕ
-listing_text names more = element (constructed 0) (names_text names) ++ element (context 1) (truth_octets more)
+listing_text names more =
+    element (constructed 0) (names_text names) ++ element (context 1) (truth_octets more)
 
 -- the response with a page of names
 abbrev pub page_text : ℕ → List (List ℕ) → Bool → List ℕ
@@ -84,30 +98,39 @@ flag_text (Some more) = element (context 1) (truth_octets more)
 
 -- the response of a service whose content is a list under a tag, and what follows it
 abbrev pub list_text : ℕ → ℕ → ℕ → List ℕ → Option Bool → List ℕ
-list_text id service list content flag = confirmed id (element (constructed service) (element (constructed list) content ++ flag_text flag))
+list_text id service list content flag =
+    confirmed id (element (constructed service)
+    (element (constructed list) content ++ flag_text flag))
 
--- ----
+-- ---- services
 
--- the number of a service's tag, and what stands under it
+-- the number of a service's tag
 abbrev pub service_number : Service → ℕ
 service_number (service.Identify vendor model revision) = 2
 service_number (service.Names names more) = 1
 service_number (service.Attributes tree handle) = 6
 
+-- what stands under the tag
 abbrev pub content_text : Service → List ℕ
-content_text (service.Identify vendor model revision) = identity_text vendor.now model.now revision.now
+content_text (service.Identify vendor model revision) =
+    identity_text vendor.now model.now revision.now
 content_text (service.Names names more) = listing_text names.now more
-content_text (service.Attributes tree handle) = element (context 0) (truth_octets false) ++ element (constructed 2) (type_text (type_at tree.now handle))
+content_text (service.Attributes tree handle) =
+    element (context 0) (truth_octets false)
+    ++ element (constructed 2) (type_text (type_at tree.now handle))
 
+-- the service of a confirmed response
 abbrev pub service_text : Service → List ℕ
 service_text s = element (constructed (service_number s)) (content_text s)
 
 -- ---- an initiate's answer
 
+-- how deep data nest, where that was proposed
 abbrev pub nesting_text : Option ℤ → List ℕ
 nesting_text None = []
 nesting_text (Some nesting) = element (context 3) (integer_octets nesting)
 
+-- the size of a PDU, the outstanding requests of both sides, and the nesting
 abbrev pub limits_text : Agreed → List ℕ
 limits_text a =
     element (context 0) (integer_octets (pos a.size))
@@ -116,27 +139,33 @@ limits_text a =
 
 -- the first three parameter conformance blocks, of eleven
 abbrev pub parameters_text : ℕ → List ℕ
-parameters_text parameters = element (context 1) (bit_string_octets (parameters / 32 * 32 ∷ 0 ∷ []) 11)
+parameters_text parameters =
+    element (context 1) (bit_string_octets (parameters / 32 * 32 ∷ 0 ∷ []) 11)
 
 -- of 85 services those that are offered: getNameList, identify, read, write,
 -- getVariableAccessAttributes, informationReport and conclude (ISO 9506-2, ServiceSupportOptions)
 abbrev pub services_text : List ℕ
-services_text = element (context 2) (bit_string_octets (0x6E ∷ 0 ∷ 0 ∷ 0 ∷ 0 ∷ 0 ∷ 0 ∷ 0 ∷ 0 ∷ 0x01 ∷ 0x10 ∷ []) 85)
+services_text =
+    element (context 2) (bit_string_octets (0x6E ∷ 0 ∷ 0 ∷ 0 ∷ 0 ∷ 0 ∷ 0 ∷ 0 ∷ 0 ∷ 0x01 ∷ 0x10 ∷ [])
+    85)
 
 -- the version 1, the parameters and the services
 abbrev pub detail_text : ℕ → List ℕ
-detail_text parameters = element (context 0) (integer_octets (pos 1)) ++ (parameters_text parameters ++ services_text)
+detail_text parameters =
+    element (context 0) (integer_octets (pos 1)) ++ (parameters_text parameters ++ services_text)
 
+-- the answer to an initiate
 abbrev pub agreed_text : Agreed → List ℕ
-agreed_text a = element (constructed 9) (limits_text a ++ element (constructed 4) (detail_text a.parameters))
+agreed_text a =
+    element (constructed 9) (limits_text a ++ element (constructed 4) (detail_text a.parameters))
 
 -- the response
 abbrev pub response_text : Response → List ℕ
 response_text (response.Initiate agreed) = agreed_text agreed
-response_text response.Conclude = element (context 12) []
+response_text response.Conclude = concluded_text
 response_text (response.Confirmed id s) = confirmed id (service_text s)
 response_text (response.Error id class) = error_text id class
-response_text (response.Reject id reason) = element (constructed 4) (id_text id ++ reason_text reason)
+response_text (response.Reject id reason) = reject_text id reason
 
 -- The handles are the tree's.
 abbrev pub IsOfTree : Service → Type 0
@@ -144,6 +173,7 @@ IsOfTree (service.Identify vendor model revision) = Unit {0}
 IsOfTree (service.Names names more) = Unit {0}
 IsOfTree (service.Attributes tree handle) = IsHandle tree.now handle
 
+-- A response can be written: the handles in it are the tree's.
 abbrev pub IsAnswerable : Response → Type 0
 IsAnswerable (response.Initiate agreed) = Unit {0}
 IsAnswerable response.Conclude = Unit {0}

@@ -1,14 +1,16 @@
--- Results that follow one another.
-use Rattle.std.specs.Prelude.{Option, Some, None, Result, Ok, Err}
+-- What is spelled, and what is not.
+use Rattle.std.specs.Prelude.{List, [], ◌∷◌, Option, Some, None, Result, Ok, Err}
 use Rattle.bay_mms.specs.declared.fault.Refusal.{Refusal}
 use Rattle.bay_mms.specs.declared.fault.Refusal.TheVariants.{Bad}
-
-infixl 10 ◌>>◌
-abbrev pub ◌>>◌ : {A B E : Type 0} → Result A E → (A → Result B E) → Result B E
-(Ok x) >> f = f x
-(Err e) >> f = Err e
 
 -- what is not there is badly spelled
 abbrev pub spelled : {A : Type 0} → Option A → Result A Refusal
 spelled (Some x) = Ok x
 spelled None = Err Bad
+
+-- Each of the one list spells what stands at its place in the other.
+abbrev pub AreEach : {A B : Type 0} → (A → B → Type 0) → List A → List B → Type 0
+AreEach Is [] [] = Unit {0}
+AreEach Is [] (y ∷ ys) = ⊥
+AreEach Is (x ∷ xs) [] = ⊥
+AreEach Is (x ∷ xs) (y ∷ ys) = Is x y × AreEach Is xs ys

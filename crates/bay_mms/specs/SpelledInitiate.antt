@@ -37,7 +37,8 @@ pub record IsDetail (octets : List ℕ) (parameters : ℕ) : Type 0 where
   pub held : List ℕ
   pub served : ℕ
   pub spelled : SpellAll octets fields
-  pub known : filter (is_known (context 0 ∷ context 1 ∷ context 2 ∷ [])) fields ≡ value (context 0) version ∷ value (context 1) blocks ∷ value (context 2) services ∷ []
+  pub known : filter (is_known (context 0 ∷ context 1 ∷ context 2 ∷ [])) fields
+      ≡ value (context 0) version ∷ value (context 1) blocks ∷ value (context 2) services ∷ []
   pub is_version : IsInteger version number
   pub are_blocks : IsBits blocks (first ∷ later) count
   pub three : 3 ≤ count
@@ -54,7 +55,10 @@ pub record IsInitiate (octets : List ℕ) (p : Proposal) : Type 0 where
   pub nesting : Option (List ℕ)
   pub detail : List ℕ
   pub whole : SpellAll octets (value (constructed 8) content ∷ [])
-  pub parts : SpellAll content (field (context 0) size ++ (value (context 1) calling ∷ value (context 2) called ∷ (field (context 3) nesting ++ (value (constructed 4) detail ∷ []))))
+  pub parts : SpellAll content
+      (field (context 0) size
+      ++ (value (context 1) calling ∷ value (context 2) called
+      ∷ (field (context 3) nesting ++ (value (constructed 4) detail ∷ []))))
   pub is_size : IsNumber size p.size
   pub is_calling : IsPositive calling p.calling
   pub is_called : IsPositive called p.called

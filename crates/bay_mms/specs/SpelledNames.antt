@@ -3,14 +3,17 @@
 use Rattle.std.specs.Prelude.{ℕ, ◌≡◌, ◌<◌, ◌≤◌, Bool, true, false, List, [], ◌∷◌, length, map}
 use Rattle.std.specs.List.{list_any}
 use Rattle.bay_ber.specs.Values.{Part, value, SpellAll}
+use Rattle.bay_mms.specs.Spelled.{AreEach}
 use Rattle.bay_mms.specs.Tags.{context, constructed, sequence, visible_tag}
-use Rattle.bay_mms.specs.Requests.{Naming, vmd, domain, association, Variable, Access, variables, named_list}
+use Rattle.bay_mms.specs.Requests.{Naming, vmd, domain, association, VariableSpecification, Access, variables, named_list}
 
 -- The octets are a name: of the device's own, a domain and an item of it, or a name of the
 -- association.
 abbrev pub IsName : List ℕ → Naming → Type 0
 IsName octets (vmd text) = SpellAll octets (value (context 0) text ∷ [])
-IsName octets (domain d item) = (content : List ℕ) × SpellAll octets (value (constructed 1) content ∷ []) × SpellAll content (value visible_tag d ∷ value visible_tag item ∷ [])
+IsName octets (domain d item) =
+    (content : List ℕ) × SpellAll octets (value (constructed 1) content ∷ [])
+    × SpellAll content (value visible_tag d ∷ value visible_tag item ∷ [])
 IsName octets (association text) = SpellAll octets (value (context 2) text ∷ [])
 
 -- what may follow a name: nothing, or the part of the variable that is asked for, whose content is
@@ -23,27 +26,24 @@ IsPartial (part ∷ []) true = part.tag ≡ constructed 5
 IsPartial (part ∷ next ∷ parts) alternate = ⊥
 
 -- The octets are a variable: its name, and what may follow it.
-pub record IsVariable (octets : List ℕ) (v : Variable) : Type 0 where
+pub record IsVariable (octets : List ℕ) (v : VariableSpecification) : Type 0 where
   pub name : List ℕ
   pub behind : List Part
   pub parts : SpellAll octets (value (constructed 0) name ∷ behind)
   pub is_name : IsName name v.name
   pub alternate : IsPartial behind v.is_alternate
 
--- Each of the octets is a variable.
-abbrev pub AreVariables : List (List ℕ) → List Variable → Type 0
-AreVariables [] [] = Unit {0}
-AreVariables [] (v ∷ vs) = ⊥
-AreVariables (octets ∷ lists) [] = ⊥
-AreVariables (octets ∷ lists) (v ∷ vs) = IsVariable octets v × AreVariables lists vs
-
 -- The value is a list of variables, or the name of a list.
 abbrev pub IsAccess : Part → Access → Type 0
-IsAccess part (variables vs) = (content : List ℕ) × (lists : List (List ℕ)) × (part ≡ value (constructed 0) content) × SpellAll content (map (value sequence) lists) × AreVariables lists vs
-IsAccess part named_list = (content : List ℕ) × (name : Naming) × (part ≡ value (constructed 1) content) × IsName content name
+IsAccess part (variables vs) =
+    (content : List ℕ) × (lists : List (List ℕ)) × (part ≡ value (constructed 0) content)
+    × SpellAll content (map (value sequence) lists) × AreEach IsVariable lists vs
+IsAccess part named_list =
+    (content : List ℕ) × (name : Naming) × (part ≡ value (constructed 1) content)
+    × IsName content name
 
 -- a variable as a whole
-abbrev pub as_whole : Naming → Variable
+abbrev pub as_whole : Naming → VariableSpecification
 as_whole name = record { name = name; is_alternate = false }
 
 -- The variables are these as a whole, and at most 32 of them.

@@ -19,13 +19,15 @@ IsPlace octets (in_domain domain) = SpellAll octets (value (context 1) domain �
 IsPlace octets of_association = SpellAll octets (value (context 2) [] ∷ [])
 
 -- GetNameList: a class of objects, where, and behind which name, which may be left out.
-pub record IsListing (part : Part) (class : ℤ) (place : Place) (after : Option (List ℕ)) : Type 0 where
+pub record IsListing (part : Part) (class : ℤ) (place : Place) (after : Option (List ℕ))
+    : Type 0 where
   pub content : List ℕ
   pub classes : List ℕ
   pub number : List ℕ
   pub scope : List ℕ
   pub is : part ≡ value (constructed 1) content
-  pub parts : SpellAll content (value (constructed 0) classes ∷ value (constructed 1) scope ∷ field (context 2) after)
+  pub parts : SpellAll content
+      (value (constructed 0) classes ∷ value (constructed 1) scope ∷ field (context 2) after)
   pub one : SpellAll classes (value (context 0) number ∷ [])
   pub is_class : IsInteger number class
   pub is_place : IsPlace scope place
@@ -102,4 +104,5 @@ IsUnserved part =
 
 -- The value is a read or a write of more than 32 variables.
 abbrev pub IsOverfull : Part → Type 0
-IsOverfull part = ((access : Access) × IsReading part access × AreMany access) ⊎ ((access : Access) × (ds : List Datum) × IsWriting part access ds × AreMany access)
+IsOverfull part = ((access : Access) × IsReading part access × AreMany access)
+    ⊎ ((access : Access) × (ds : List Datum) × IsWriting part access ds × AreMany access)

@@ -20,13 +20,16 @@ mutual
 -- components.
 abbrev mutual
   pub type_text : TypeSpec → List ℕ
-  type_text (structure parts) = element (constructed 2) (element (constructed 1) (components_text parts))
+  type_text (structure parts) =
+      element (constructed 2) (element (constructed 1) (components_text parts))
   type_text (plain tag) = element (context tag) []
   type_text (sized tag size) = element (context tag) (integer_octets size)
 
   pub components_text : Components → List ℕ
   components_text no_components = []
-  components_text (component name first later) = element sequence (element (context 0) name ++ element (constructed 1) (type_text first)) ++ components_text later
+  components_text (component name first later) =
+      element sequence (element (context 0) name ++ element (constructed 1) (type_text first))
+      ++ components_text later
 
 -- the type of a leaf: numbers by their bits, bit strings by theirs, octets and texts by the most
 -- that they may have

@@ -5,4 +5,6 @@ use Rattle.std.specs.Int.{bytes_high_first}
 -- Four octets of seconds since 1970 (counted modulo 2 ^ 32), three of the fraction of a second in
 -- units of 2 ^ -24, rounded down, and the quality 2A.
 abbrev pub utc_octets : ℕ → List ℕ
-utc_octets ms = bytes_high_first 4 (ms / 1000 % 2 ^ 32) ++ bytes_high_first 3 (ms % 1000 * 2 ^ 24 / 1000) ++ 0x2A ∷ []
+utc_octets ms =
+    bytes_high_first 4 (ms / 1000 % 2 ^ 32) ++ bytes_high_first 3 (ms % 1000 * 2 ^ 24 / 1000)
+    ++ 0x2A ∷ []

@@ -8,7 +8,7 @@ ghost use Rattle.bay_mms.specs.Grammar as spec;
 ghost use Rattle.bay_mms.specs.RequestViews.{naming, variable, accessed};
 
 use crate::fault::Refusal;
-use crate::request::Name;
+use crate::request::ObjectName;
 use bay_ber::tag::Tag;
 use bay_ber::values::{Value, Values, few_values, whole_value};
 use std::alloc::{AllocError, Global};
@@ -18,8 +18,8 @@ const VARIABLES_MAX: usize = 32;
 
 /// A variable that is named, and whether only a part of it is asked for.
 #[derive(Clone, Copy)]
-pub struct Variable<'a> {
-    pub name: Name<'a>,
+pub struct VariableSpecification<'a> {
+    pub name: ObjectName<'a>,
     pub is_alternate: bool,
 }
 
@@ -27,20 +27,20 @@ pub struct Variable<'a> {
 #[derive(Drop)]
 pub enum Access<'a> {
     /// Each by its name.
-    Variables(Vec<Variable<'a>>),
+    Variables(Vec<VariableSpecification<'a>>),
     /// All by the name of a list.
     NamedList,
 }
 
 // The name of an item in a domain.
-fn domain_name<'a>(parts: &[Value<'a>]) -> Option<Name<'a>>
+fn domain_name<'a>(parts: &[Value<'a>]) -> Option<ObjectName<'a>>
     ensures { option_map naming result ≡ spec.domain_name (map part_of parts.now) }
 {
     match parts {
         [domain, item] => {
             let domain = domain.under(Tag::universal(26))?;
             let item = item.under(Tag::universal(26))?;
-            Some(Name::Domain { domain, item })
+            Some(ObjectName::Domain { domain, item })
         }
         _ => None,
     }
@@ -48,16 +48,16 @@ fn domain_name<'a>(parts: &[Value<'a>]) -> Option<Name<'a>>
 
 // The name that a value is.
 #[tactic(auto, unfolding(crate::specs::Grammar::name_as))]
-fn name_as<'a>(value: &Value<'a>) -> Option<Name<'a>>
+fn name_as<'a>(value: &Value<'a>) -> Option<ObjectName<'a>>
     ensures { option_map naming result ≡ spec.name_as (part_of value.now) }
 {
     if value.tag.is(Tag::context(0)) {
-        Some(Name::Vmd(value.content))
+        Some(ObjectName::Vmd(value.content))
     } else if value.tag.is(Tag::context_constructed(1)) {
         let parts = few_values(value.content)?;
         domain_name(parts.as_slice())
     } else if value.tag.is(Tag::context(2)) {
-        Some(Name::Association(value.content))
+        Some(ObjectName::Association(value.content))
     } else {
         None
     }
@@ -65,7 +65,7 @@ fn name_as<'a>(value: &Value<'a>) -> Option<Name<'a>>
 
 /// The name that octets are.
 #[tactic(auto, unfolding(crate::specs::Grammar::name_in))]
-pub(crate) fn name_in(octets: &[u8]) -> Option<Name<'_>>
+pub(crate) fn name_in(octets: &[u8]) -> Option<ObjectName<'_>>
     ensures { option_map naming result ≡ spec.name_in octets.now }
 {
     let value = whole_value(octets)?;
@@ -73,7 +73,7 @@ pub(crate) fn name_in(octets: &[u8]) -> Option<Name<'_>>
 }
 
 // The variable of a name, and of what may follow it.
-fn variable_of<'a>(parts: &[Value<'a>]) -> Option<Variable<'a>>
+fn variable_of<'a>(parts: &[Value<'a>]) -> Option<VariableSpecification<'a>>
     ensures { option_map variable result ≡ spec.variable_of (map part_of parts.now) }
 {
     let (name, is_alternate) = match parts {
@@ -82,12 +82,12 @@ fn variable_of<'a>(parts: &[Value<'a>]) -> Option<Variable<'a>>
         _ => return None,
     };
     let name = name_in(name.under(Tag::context_constructed(0))?)?;
-    Some(Variable { name, is_alternate })
+    Some(VariableSpecification { name, is_alternate })
 }
 
 // The variable of a list that a value is.
 #[tactic(auto, unfolding(crate::specs::Grammar::variable_as))]
-fn variable_as<'a>(value: &Value<'a>) -> Option<Variable<'a>>
+fn variable_as<'a>(value: &Value<'a>) -> Option<VariableSpecification<'a>>
     ensures { option_map variable result ≡ spec.variable_as (part_of value.now) }
 {
     let parts = few_values(value.under(Tag::sequence())?)?;
@@ -95,16 +95,24 @@ fn variable_as<'a>(value: &Value<'a>) -> Option<Variable<'a>>
 }
 
 // Keeps one variable more.
-fn push_variable<'a>(variables: &mut Vec<Variable<'a>>, one: Variable<'a>) -> Result<(), AllocError>
-    ensures { OnOk result (map variable variables.new.items ≡ map variable variables.old.items ++ variable one.entry ∷ []) }
+fn push_variable<'a>(
+    variables: &mut Vec<VariableSpecification<'a>>,
+    one: VariableSpecification<'a>,
+) -> Result<(), AllocError>
+    ensures { OnOk result (map variable variables.new.items
+        ≡ map variable variables.old.items ++ variable one.entry ∷ []) }
 {
     variables.push(one)?;
     Ok(())
 }
 
 // The variables that octets are, one after another.
-fn read_variables<'a>(alloc: Global, octets: &'a [u8]) -> Result<Vec<Variable<'a>>, Refusal>
-    ensures { Gives Refusal.OutOfMemory (λ v. map variable v.items) result (spelled (each_in spec.variable_as octets.now)) }
+fn read_variables<'a>(
+    alloc: Global,
+    octets: &'a [u8],
+) -> Result<Vec<VariableSpecification<'a>>, Refusal>
+    ensures { Gives Refusal.OutOfMemory (λ v. map variable v.items) result
+        (spelled (each_in spec.variable_as octets.now)) }
 {
     let mut variables = Vec::new(alloc);
     let mut values = Values::new(octets);
@@ -141,14 +149,17 @@ pub(crate) fn access_as<'a>(alloc: Global, value: &Value<'a>) -> Result<Access<'
 }
 
 // Whether a part of a variable is asked for.
-fn any_alternate(variables: &[Variable<'_>]) -> bool
+fn any_alternate(variables: &[VariableSpecification<'_>]) -> bool
     ensures { result ≡ list_any (λ v. v.is_alternate) variables.now }
 {
     variables.iter().any(|one| one.is_alternate)
 }
 
 // The names of variables.
-fn names_of<'a>(alloc: Global, variables: &[Variable<'a>]) -> Result<Vec<Name<'a>>, AllocError>
+fn names_of<'a>(
+    alloc: Global,
+    variables: &[VariableSpecification<'a>],
+) -> Result<Vec<ObjectName<'a>>, AllocError>
     ensures { IfOk result (λ names. names.items ≡ map (λ v. v.name) variables.now) }
 {
     variables.iter().map(|one| one.name).collect(alloc)
@@ -156,8 +167,9 @@ fn names_of<'a>(alloc: Global, variables: &[Variable<'a>]) -> Result<Vec<Name<'a
 
 /// The names that are asked for.
 #[tactic(auto, unfolding(crate::specs::Grammar::judged))]
-pub(crate) fn judged<'a>(alloc: Global, access: Access<'a>) -> Result<Vec<Name<'a>>, Refusal>
-    ensures { Gives Refusal.OutOfMemory (λ v. map naming v.items) result (spec.judged (accessed access.entry)) }
+pub(crate) fn judged<'a>(alloc: Global, access: Access<'a>) -> Result<Vec<ObjectName<'a>>, Refusal>
+    ensures { Gives Refusal.OutOfMemory (λ v. map naming v.items) result
+        (spec.judged (accessed access.entry)) }
 {
     let variables = match access {
         Access::Variables(variables) => variables,

@@ -8,7 +8,7 @@ ghost use Rattle.bay_mms.specs.Responses.{confirmed, flag_text, list_text};
 ghost use Rattle.bay_mms.specs.Tags.{constructed, int_tag};
 ghost use Rattle.bay_mms.specs.Writing.{written};
 
-use crate::fault::WriteFault;
+use crate::fault::EncodeFault;
 use crate::put::CONTENT_MAX;
 use crate::response::put_id;
 use bay_ber::tag::Tag;
@@ -24,24 +24,28 @@ struct Lengths {
 }
 
 // How many octets a value has whose content has so many.
-fn length_around(count: u64) -> Result<u32, WriteFault>
+fn length_around(count: u64) -> Result<u32, EncodeFault>
     ensures ok { IfOk result (λ length. length ≡ element_length count) }
     ensures fits { IfOk result (λ length. length < 2 ^ 32) }
-    ensures err { IfErr result (λ fault. (fault ≡ WriteFault.TooLong) × (2 ^ 32 ≤ element_length count)) }
+    ensures err { IfErr result
+        (λ fault. (fault ≡ EncodeFault.TooLong) × (2 ^ 32 ≤ element_length count)) }
 {
     if count > CONTENT_MAX as u64 {
-        return Err(WriteFault::TooLong);
+        return Err(EncodeFault::TooLong);
     }
     Ok(element_length(count as u32) as u32)
 }
 
 // The lengths of a response whose service has so many octets.
-fn lengths_of(id: u32, service: u64) -> Result<Lengths, WriteFault>
+fn lengths_of(id: u32, service: u64) -> Result<Lengths, EncodeFault>
     ensures service { IfOk result (λ lengths. lengths.service ≡ service) }
-    ensures response { IfOk result (λ lengths. lengths.response ≡ element_length (length (integer_octets (pos id))) + element_length service) }
+    ensures response { IfOk result
+        (λ lengths. lengths.response
+        ≡ element_length (length (integer_octets (pos id))) + element_length service) }
     ensures whole { IfOk result (λ lengths. lengths.whole ≡ content_length id service) }
     ensures fits { IfOk result (λ lengths. lengths.whole < 2 ^ 32) }
-    ensures err { IfErr result (λ fault. (fault ≡ WriteFault.TooLong) × (2 ^ 32 ≤ content_length id service)) }
+    ensures err { IfErr result
+        (λ fault. (fault ≡ EncodeFault.TooLong) × (2 ^ 32 ≤ content_length id service)) }
 {
     let number = element_length(integer_length(i64::from(id)) as u32);
     let response = number + u64::from(length_around(service)?);
@@ -54,12 +58,15 @@ fn lengths_of(id: u32, service: u64) -> Result<Lengths, WriteFault>
 }
 
 // The lengths around a list of so many octets with so many behind it.
-fn lengths_around(id: u32, list: usize, more: u8) -> Result<Lengths, WriteFault>
+fn lengths_around(id: u32, list: usize, more: u8) -> Result<Lengths, EncodeFault>
     ensures service { IfOk result (λ lengths. lengths.service ≡ element_length list + more) }
-    ensures response { IfOk result (λ lengths. lengths.response ≡ element_length (length (integer_octets (pos id))) + element_length lengths.service) }
+    ensures response { IfOk result
+        (λ lengths. lengths.response
+        ≡ element_length (length (integer_octets (pos id))) + element_length lengths.service) }
     ensures whole { IfOk result (λ lengths. lengths.whole ≡ list_length id list more) }
     ensures fits { IfOk result (λ lengths. lengths.whole < 2 ^ 32) }
-    ensures err { IfErr result (λ fault. (fault ≡ WriteFault.TooLong) × (2 ^ 32 ≤ list_length id list more)) }
+    ensures err { IfErr result
+        (λ fault. (fault ≡ EncodeFault.TooLong) × (2 ^ 32 ≤ list_length id list more)) }
 {
     let service = u64::from(length_around(list as u64)?) + u64::from(more);
     lengths_of(id, service)
@@ -68,7 +75,10 @@ fn lengths_around(id: u32, list: usize, more: u8) -> Result<Lengths, WriteFault>
 // Writes the heads of a response and of its service, and between them the invoke id.
 fn put_heads(writer: &mut Writer, id: u32, number: u8, lengths: &Lengths) -> Result<(), AllocError>
     requires { number < 31 }
-    ensures { OnOk result (writer.new ≡ writer.old ++ (header (constructed 1) lengths.now.response ++ (element int_tag (integer_octets (pos id)) ++ header (constructed number) lengths.now.service))) }
+    ensures { OnOk result (writer.new
+        ≡ writer.old ++ (header (constructed 1) lengths.now.response
+        ++ (element int_tag (integer_octets (pos id))
+        ++ header (constructed number) lengths.now.service))) }
 {
     writer.head(Tag::context_constructed(1), lengths.response)?;
     put_id(writer, id)?;
@@ -105,10 +115,11 @@ pub(crate) fn write_list(
     tag: u8,
     list: &[u8],
     flag: Option<bool>,
-) -> Result<Vec<u8>, WriteFault>
+) -> Result<Vec<u8>, EncodeFault>
     requires number { number < 31 }
     requires tag { tag < 31 }
-    ensures { Gives WriteFault.OutOfMemory (λ octets. octets.items) result (written (list_text id number tag list.now flag)) }
+    ensures { Gives EncodeFault.OutOfMemory (λ octets. octets.items) result
+        (written (list_text id number tag list.now flag)) }
 {
     let lengths = lengths_around(id, list.len(), flag_length(flag))?;
     let room = Vec::with_capacity(alloc, lengths.whole as usize)?;
@@ -125,9 +136,10 @@ pub(crate) fn write_content(
     id: u32,
     number: u8,
     content: &[u8],
-) -> Result<Vec<u8>, WriteFault>
+) -> Result<Vec<u8>, EncodeFault>
     requires { number < 31 }
-    ensures { Gives WriteFault.OutOfMemory (λ octets. octets.items) result (written (confirmed id (element (constructed number) content.now))) }
+    ensures { Gives EncodeFault.OutOfMemory (λ octets. octets.items) result
+        (written (confirmed id (element (constructed number) content.now))) }
 {
     let lengths = lengths_of(id, content.len() as u64)?;
     let room = Vec::with_capacity(alloc, lengths.whole as usize)?;

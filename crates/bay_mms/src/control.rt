@@ -50,7 +50,8 @@ pub struct Cancel<'a> {
 
 // The control of this shape, if its numbers and its identity are in range.
 fn in_range<'a>(shape: &Shape<'a>) -> Option<Cancel<'a>>
-    ensures { option_map cancelling result ≡ (if is_in_range (shaping shape.now) then Some (shaping shape.now) else None) }
+    ensures { option_map cancelling result
+        ≡ (if is_in_range (shaping shape.now) then Some (shaping shape.now) else None) }
 {
     let ctl_num = u8::try_from(shape.ctl_num).ok()?;
     let or_cat = i8::try_from(shape.or_cat).ok()?;

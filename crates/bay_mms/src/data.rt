@@ -57,7 +57,8 @@ fn leaf_data(leaf: &Leaf) -> Data<'_>
 
 /// Puts data behind others.
 pub(crate) fn push_data<'a>(parts: &mut Vec<Data<'a>>, part: Data<'a>) -> Result<(), AllocError>
-    ensures { OnOk result (data_in parts.new.items ≡ data_in parts.old.items ++ datum_of part.entry ∷ []) }
+    ensures { OnOk result (data_in parts.new.items
+        ≡ data_in parts.old.items ++ datum_of part.entry ∷ []) }
 {
     parts.push(part)?;
     Ok(())
@@ -121,7 +122,8 @@ fn push_component<'a>(
     name: &'a str,
     part: TypeSpec<'a>,
 ) -> Result<(), AllocError>
-    ensures { OnOk result (components_in parts.new.items ≡ components_in parts.old.items ++ (name.now, type_of part.entry) ∷ []) }
+    ensures { OnOk result (components_in parts.new.items
+        ≡ components_in parts.old.items ++ (name.now, type_of part.entry) ∷ []) }
 {
     parts.push((name, part))?;
     Ok(())

@@ -7,7 +7,7 @@ use thiserror::Error;
 
 /// Why a text is not written.
 #[derive(Clone, Copy, Debug, Error)]
-pub enum WriteFault {
+pub enum EncodeFault {
     /// The text would have 2^32 octets or more.
     #[error("the text is too long")]
     TooLong,
@@ -16,13 +16,13 @@ pub enum WriteFault {
     OutOfMemory,
 }
 
-impl From<AllocError> for WriteFault {
-    ghost use Rattle.bay_mms.specs.declared.fault.WriteFault.TheVariants.{OutOfMemory};
+impl From<AllocError> for EncodeFault {
+    ghost use Rattle.bay_mms.specs.declared.fault.EncodeFault.TheVariants.{OutOfMemory};
 
     ghost from_gives = { λ _ e. e ≡ OutOfMemory };
 
-    fn from(_error: AllocError) -> WriteFault {
-        WriteFault::OutOfMemory
+    fn from(_error: AllocError) -> EncodeFault {
+        EncodeFault::OutOfMemory
     }
 }
 

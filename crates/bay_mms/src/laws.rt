@@ -13,7 +13,7 @@ ghost use Rattle.bay_mms.specs.Asks.{Asks, AsksUnknown, AsksMany, AsksNothing};
 ghost use Rattle.bay_mms.specs.Grammar.{initiate_in, answer_to};
 ghost use Rattle.bay_ber.specs.Values.{value};
 ghost use Rattle.bay_mms.specs.Controls.{Control, Operate, IsOperate, operate_datum, cancel_datum, operate_as, cancel_as, is_in_range, operate_in};
-ghost use Rattle.bay_mms.specs.Laws.{IsPlain, IsRead, datum_tag, datum_content, response_tag};
+ghost use Rattle.bay_mms.specs.Laws.{IsPlain, IsOneValue, datum_tag, datum_content, response_tag};
 ghost use Rattle.bay_mms.specs.SpelledData.{IsDatum};
 ghost use Rattle.bay_mms.specs.Requests.{Message};
 ghost use Rattle.bay_mms.specs.RequestViews.{message};
@@ -28,11 +28,18 @@ ghost use Rattle.bay_mms.specs.declared.response.Response.{Response};
 /// one octet, with their contents, and responses and reports under the tags of their PDUs. The text
 /// of data that stand in it as they are is received as these data.
 pub fn written_is_read()
-    ensures datum { (datum : Datum) → (datum_tag datum).number < 31 → length (datum_text datum) < 4294967296 → Spells (datum_text datum) (datum_tag datum) (datum_content datum) }
-    ensures received { (datum : Datum) → IsPlain datum → length (datum_text datum) < 4294967296 → IsDatum (value (datum_tag datum) (datum_content datum)) datum }
-    ensures response { (response : Response) → length (response_text response) < 4294967296 → IsRead (response_text response) (response_tag response) }
-    ensures confirmed { (id : ℕ) (service : List ℕ) → length (confirmed id service) < 4294967296 → IsRead (confirmed id service) (constructed 1) }
-    ensures report { (names : List (List ℕ)) (values : Data) → length (report_text names values) < 4294967296 → IsRead (report_text names values) (constructed 3) }
+    ensures datum { (datum : Datum) → (datum_tag datum).number < 31
+        → length (datum_text datum) < 4294967296
+        → Spells (datum_text datum) (datum_tag datum) (datum_content datum) }
+    ensures received { (datum : Datum) → IsPlain datum → length (datum_text datum) < 4294967296
+        → IsDatum (value (datum_tag datum) (datum_content datum)) datum }
+    ensures response { (response : Response) → length (response_text response) < 4294967296
+        → IsOneValue (response_text response) (response_tag response) }
+    ensures confirmed { (id : ℕ) (service : List ℕ) → length (confirmed id service) < 4294967296
+        → IsOneValue (confirmed id service) (constructed 1) }
+    ensures report { (names : List (List ℕ)) (values : Data)
+        → length (report_text names values) < 4294967296
+        → IsOneValue (report_text names values) (constructed 3) }
 {}
 
 /// Octets ask at most one request: what is in the relation by whole nested spellings is read as
@@ -40,28 +47,41 @@ pub fn written_is_read()
 /// opened with. What is answered of octets is that request or the fault that they have, want of
 /// memory aside.
 pub fn one_request()
-    ensures asked { (octets : List ℕ) (request : Message) → Asks request octets → answer_to octets ≡ Ok request }
-    ensures spelled { (octets : List ℕ) (request : Message) → AreOctets octets → answer_to octets ≡ Ok request → Asks request octets }
-    ensures one { (octets : List ℕ) (first second : Message) → Asks first octets → Asks second octets → first ≡ second }
-    ensures answer { (octets : List ℕ) (answer : Result Request MmsFault) → AreOctets octets → IsAnswer octets answer → Gives MmsFault.OutOfMemory message answer (answer_to octets) }
-    ensures initiate { (octets : List ℕ) (proposal : Proposal) → AreOctets octets → (initiate_in octets ≡ Some proposal) ↔ IsInitiate octets proposal }
+    ensures asked { (octets : List ℕ) (request : Message) → Asks request octets
+        → answer_to octets ≡ Ok request }
+    ensures spelled { (octets : List ℕ) (request : Message) → AreOctets octets
+        → answer_to octets ≡ Ok request → Asks request octets }
+    ensures one { (octets : List ℕ) (first second : Message) → Asks first octets
+        → Asks second octets → first ≡ second }
+    ensures answer { (octets : List ℕ) (answer : Result Request MmsFault) → AreOctets octets
+        → IsAnswer octets answer → Gives MmsFault.OutOfMemory message answer (answer_to octets) }
+    ensures initiate { (octets : List ℕ) (proposal : Proposal) → AreOctets octets
+        → (initiate_in octets ≡ Some proposal) ↔ IsInitiate octets proposal }
 {}
 
 /// Each fault has its own relation: a service that is not served, too many variables; and a bad PDU
 /// is what is left, with the invoke id that stands at its front.
 pub fn one_fault()
-    ensures unknown { (octets : List ℕ) (id : ℕ) → AreOctets octets → (answer_to octets ≡ Err (MmsFault.UnknownService id)) ↔ AsksUnknown id octets }
-    ensures many { (octets : List ℕ) (id : ℕ) → AreOctets octets → (answer_to octets ≡ Err (MmsFault.TooMany id)) ↔ AsksMany id octets }
-    ensures bad { (octets : List ℕ) (known : Option ℕ) → AreOctets octets → (answer_to octets ≡ Err (MmsFault.BadPdu known)) ↔ AsksNothing octets known }
+    ensures unknown { (octets : List ℕ) (id : ℕ) → AreOctets octets
+        → (answer_to octets ≡ Err (MmsFault.UnknownService id)) ↔ AsksUnknown id octets }
+    ensures many { (octets : List ℕ) (id : ℕ) → AreOctets octets
+        → (answer_to octets ≡ Err (MmsFault.TooMany id)) ↔ AsksMany id octets }
+    ensures bad { (octets : List ℕ) (known : Option ℕ) → AreOctets octets
+        → (answer_to octets ≡ Err (MmsFault.BadPdu known)) ↔ AsksNothing octets known }
 {}
 
 /// Controls and their data: which data are read as an operate or a cancel; the text of an operate,
 /// as reports have it, is that of the data that it was read from; its data stand in their text as
 /// they are, and are read as the operate where it is in range.
 pub fn a_control_is_its_data()
-    ensures operate { (given : Datum) (o : Operate) → (operate_as given ≡ Some o) ↔ IsOperate given o }
-    ensures cancel { (given : Datum) (c : Control) → (cancel_as given ≡ Some c) ↔ (given ≡ cancel_datum c) }
-    ensures written { (given : Datum) (o : Operate) → operate_as given ≡ Some o → datum_text given ≡ datum_text (operate_datum o) }
-    ensures plain { (o : Operate) → IsTrue (is_in_range o.control) → length o.control.t ≡ 8 → IsPlain (operate_datum o) }
-    ensures back { (o : Operate) → IsTrue (is_in_range o.control) → operate_in (operate_datum o) ≡ Ok o }
+    ensures operate { (given : Datum) (o : Operate) → (operate_as given ≡ Some o)
+        ↔ IsOperate given o }
+    ensures cancel { (given : Datum) (c : Control) → (cancel_as given ≡ Some c)
+        ↔ (given ≡ cancel_datum c) }
+    ensures written { (given : Datum) (o : Operate) → operate_as given ≡ Some o
+        → datum_text given ≡ datum_text (operate_datum o) }
+    ensures plain { (o : Operate) → IsTrue (is_in_range o.control) → length o.control.t ≡ 8
+        → IsPlain (operate_datum o) }
+    ensures back { (o : Operate) → IsTrue (is_in_range o.control)
+        → operate_in (operate_datum o) ≡ Ok o }
 {}

@@ -7,7 +7,7 @@ ghost use Rattle.bay_mms.specs.Data.{position_octet, quality_octet, datum_text, 
 ghost use Rattle.bay_mms.specs.Types.{type_text, leaf_type};
 ghost use Rattle.bay_mms.specs.Writing.{Appends};
 
-use crate::fault::WriteFault;
+use crate::fault::EncodeFault;
 use crate::put::{put_bits, put_integer, put_octets, put_truth};
 use bay_ber::content::Bits;
 use bay_ber::tag::Tag;
@@ -50,7 +50,7 @@ pub(crate) fn quality_octets(quality: Quality) -> &'static [u8]
 }
 
 /// Writes the data of a leaf.
-pub(crate) fn put_leaf(writer: &mut Writer, leaf: &Leaf) -> Result<(), WriteFault>
+pub(crate) fn put_leaf(writer: &mut Writer, leaf: &Leaf) -> Result<(), EncodeFault>
     ensures { Appends writer.old result writer.new (datum_text (leaf_datum leaf.now)) }
 {
     match leaf {
@@ -83,7 +83,7 @@ pub(crate) fn put_leaf(writer: &mut Writer, leaf: &Leaf) -> Result<(), WriteFaul
 }
 
 /// Writes the type of a leaf.
-pub(crate) fn put_leaf_type(writer: &mut Writer, leaf: &Leaf) -> Result<(), WriteFault>
+pub(crate) fn put_leaf_type(writer: &mut Writer, leaf: &Leaf) -> Result<(), EncodeFault>
     ensures { Appends writer.old result writer.new (type_text (leaf_type leaf.now)) }
 {
     match leaf {

@@ -12,7 +12,7 @@ ghost use Rattle.bay_mms.specs.Tags.{visible_tag};
 ghost use Rattle.bay_mms.specs.Writing.{written};
 
 use crate::confirmed::write_list;
-use crate::fault::WriteFault;
+use crate::fault::EncodeFault;
 use bay_ber::tag::Tag;
 use bay_ber::writer::{Writer, element_length, integer_length};
 use bay_tree::fault::NamesFault;
@@ -45,7 +45,8 @@ fn page_length(id: u32, names: u32) -> u64
 fn has_room(id: u32, taken: usize, name: &str, size: u32) -> bool
     requires size { size < 2 ^ 31 }
     requires taken { taken ≤ size }
-    ensures { IsTrue result ↔ (spec.page_length id (taken + length (element visible_tag name.now)) ≤ size) }
+    ensures { IsTrue result ↔
+        (spec.page_length id (taken + length (element visible_tag name.now)) ≤ size) }
 {
     if name.len() > size as usize {
         return false;
@@ -67,8 +68,12 @@ fn put_fitting(
 ) -> Result<bool, AllocError>
     requires there { IfSome first (IsHandle tree.now) }
     requires size { size < 2 ^ 31 }
-    ensures names { IfOk result (λ more. let names = names_from tree.now first in writer.new ≡ writer.old ++ names_text (take (page_count id size names) names)) }
-    ensures more { IfOk result (λ more. let names = names_from tree.now first in more ≡ nat_lt (page_count id size names) (length names)) }
+    ensures names { IfOk result
+        (λ more. let names = names_from tree.now first in
+        writer.new ≡ writer.old ++ names_text (take (page_count id size names) names)) }
+    ensures more { IfOk result
+        (λ more. let names = names_from tree.now first in
+        more ≡ nat_lt (page_count id size names) (length names)) }
 {
     let start = writer.len();
     let mut count = 0;
@@ -95,10 +100,11 @@ fn page_from(
     first: Option<Handle>,
     id: u32,
     size: u32,
-) -> Result<Vec<u8>, WriteFault>
+) -> Result<Vec<u8>, EncodeFault>
     requires there { IfSome first (IsHandle tree.now) }
     requires size { size < 2 ^ 31 }
-    ensures { Gives WriteFault.OutOfMemory (λ octets. octets.items) result (written (first_page id size (names_from tree.now first))) }
+    ensures { Gives EncodeFault.OutOfMemory (λ octets. octets.items) result
+        (written (first_page id size (names_from tree.now first))) }
 {
     let mut names = Writer::new(alloc);
     let more = put_fitting(&mut names, tree, first, id, size)?;
@@ -107,9 +113,12 @@ fn page_from(
 
 // The row behind the row of a name, or the first of all.
 fn first_after(tree: &Tree, after: Option<&[u8]>) -> Result<Option<Handle>, NamesFault>
-    ensures names { IfOk result (λ first. names_from tree.now first ≡ names_of (rows_after tree.now (option_copied after.entry))) }
+    ensures names { IfOk result
+        (λ first. names_from tree.now first
+        ≡ names_of (rows_after tree.now (option_copied after.entry))) }
     ensures there { IfOk result (λ first. IfSome first (IsHandle tree.now)) }
-    ensures unknown { (result ≡ Err NamesFault.NoSuchName) ↔ IsUnknown tree.now (option_copied after.entry) }
+    ensures unknown { (result ≡ Err NamesFault.NoSuchName)
+        ↔ IsUnknown tree.now (option_copied after.entry) }
 {
     let name = match after {
         None => return Ok(tree.first()),
@@ -133,14 +142,17 @@ pub fn write_page(
 ) -> Result<Vec<u8>, NamesFault>
     requires some { 256 ≤ size }
     requires size { size < 2 ^ 31 }
-    ensures page { IfOk result (λ octets. octets.items ≡ first_page id size (names_of (rows_after tree.now (option_copied after.entry)))) }
-    ensures unknown { (result ≡ Err NamesFault.NoSuchName) ↔ IsUnknown tree.now (option_copied after.entry) }
+    ensures page { IfOk result
+        (λ octets. octets.items
+        ≡ first_page id size (names_of (rows_after tree.now (option_copied after.entry)))) }
+    ensures unknown { (result ≡ Err NamesFault.NoSuchName)
+        ↔ IsUnknown tree.now (option_copied after.entry) }
     ensures short { IfOk result (λ octets. length octets.items ≤ size) }
 {
     let first = first_after(tree, after)?;
     match page_from(alloc, tree, first, id, size) {
         Ok(octets) => Ok(octets),
-        Err(WriteFault::OutOfMemory) => Err(NamesFault::OutOfMemory),
-        Err(WriteFault::TooLong) => unreachable!(),
+        Err(EncodeFault::OutOfMemory) => Err(NamesFault::OutOfMemory),
+        Err(EncodeFault::TooLong) => unreachable!(),
     }
 }

@@ -79,7 +79,8 @@ fn simple_as<'a>(value: &Value<'a>) -> Option<Data<'a>>
 // Data that is at most so deep.
 #[cycle(received)]
 fn read_datum<'a>(alloc: Global, value: &Value<'a>, depth: u8) -> Result<Data<'a>, Refusal>
-    ensures { Gives Refusal.OutOfMemory datum_of result (spelled (datum_as depth (part_of value.now))) }
+    ensures { Gives Refusal.OutOfMemory datum_of result
+        (spelled (datum_as depth (part_of value.now))) }
 {
     if depth == 0 {
         return Err(Refusal::Bad);
@@ -99,7 +100,8 @@ pub(crate) fn read_data<'a>(
     octets: &'a [u8],
     depth: u8,
 ) -> Result<Vec<Data<'a>>, Refusal>
-    ensures { Gives Refusal.OutOfMemory (λ v. data_in v.items) result (spelled (each_in (datum_as depth) octets.now)) }
+    ensures { Gives Refusal.OutOfMemory (λ v. data_in v.items) result
+        (spelled (each_in (datum_as depth) octets.now)) }
 {
     let mut parts = Vec::new(alloc);
     let mut values = Values::new(octets);

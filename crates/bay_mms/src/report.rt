@@ -7,7 +7,7 @@ ghost use Rattle.bay_mms.specs.Writing.{Adds, Appends, written};
 ghost use Rattle.bay_base.specs.Exact.{Gives};
 
 use crate::control::{Operate, Origin};
-use crate::fault::WriteFault;
+use crate::fault::EncodeFault;
 use crate::leaf::position_octets;
 use crate::put::{put_around, put_bits, put_integer, put_octets, put_truth};
 use bay_ber::content::Bits;
@@ -32,11 +32,12 @@ fn put_both_around(
     start: usize,
     inner: Tag,
     outer: Tag,
-) -> Result<(), WriteFault>
+) -> Result<(), EncodeFault>
     requires start { start ≤ length writer.old }
     requires inner { inner.number < 31 }
     requires outer { outer.number < 31 }
-    ensures { Appends (take start writer.old) result writer.new (element outer (element inner (drop start writer.old))) }
+    ensures { Appends (take start writer.old) result writer.new
+        (element outer (element inner (drop start writer.old))) }
 {
     put_around(writer, start, inner)?;
     put_around(writer, start, outer)
@@ -44,11 +45,14 @@ fn put_both_around(
 
 // Makes a report of the variables that were written since a place, and of the data from the second
 // place on.
-fn put_report_around(writer: &mut Writer, start: usize, inner: usize) -> Result<(), WriteFault>
+fn put_report_around(writer: &mut Writer, start: usize, inner: usize) -> Result<(), EncodeFault>
     requires start { start ≤ inner }
     requires inner { inner ≤ length writer.old }
     ensures { Appends (take start writer.old) result writer.new
-        (element (constructed 3) (element (constructed 0) (drop start (take inner writer.old) ++ element (constructed 0) (drop inner writer.old)))) }
+        (element (constructed 3)
+        (element (constructed 0)
+        (drop start (take inner writer.old)
+        ++ element (constructed 0) (drop inner writer.old)))) }
 {
     put_around(writer, inner, Tag::context_constructed(0))?;
     let list = Tag::context_constructed(0);
@@ -56,22 +60,24 @@ fn put_report_around(writer: &mut Writer, start: usize, inner: usize) -> Result<
 }
 
 // Writes a small number under the context-specific tag of a number.
-fn put_small(writer: &mut Writer, number: u8, value: u8) -> Result<(), WriteFault>
+fn put_small(writer: &mut Writer, number: u8, value: u8) -> Result<(), EncodeFault>
     requires { number < 31 }
-    ensures { Appends writer.old result writer.new (element (context number) (integer_octets (pos value))) }
+    ensures { Appends writer.old result writer.new
+        (element (context number) (integer_octets (pos value))) }
 {
     put_integer(writer, number, i64::from(value))
 }
 
 // Writes the category of an originator.
-fn put_category(writer: &mut Writer, origin: &Origin<'_>) -> Result<(), WriteFault>
-    ensures { Appends writer.old result writer.new (element (context 5) (integer_octets origin.now.or_cat)) }
+fn put_category(writer: &mut Writer, origin: &Origin<'_>) -> Result<(), EncodeFault>
+    ensures { Appends writer.old result writer.new
+        (element (context 5) (integer_octets origin.now.or_cat)) }
 {
     put_integer(writer, 5, i64::from(origin.or_cat))
 }
 
 // Writes the category and the identity of an originator.
-fn put_origin_parts(writer: &mut Writer, origin: &Origin<'_>) -> Result<(), WriteFault>
+fn put_origin_parts(writer: &mut Writer, origin: &Origin<'_>) -> Result<(), EncodeFault>
     ensures { Adds writer.old result writer.new (origin_parts origin.now) }
 {
     put_category(writer, origin)?;
@@ -79,7 +85,7 @@ fn put_origin_parts(writer: &mut Writer, origin: &Origin<'_>) -> Result<(), Writ
 }
 
 // Writes an originator, a structure of the two.
-fn put_origin(writer: &mut Writer, origin: &Origin<'_>) -> Result<(), WriteFault>
+fn put_origin(writer: &mut Writer, origin: &Origin<'_>) -> Result<(), EncodeFault>
     ensures { Adds writer.old result writer.new (origin_text origin.now) }
 {
     let start = writer.len();
@@ -88,7 +94,7 @@ fn put_origin(writer: &mut Writer, origin: &Origin<'_>) -> Result<(), WriteFault
 }
 
 // Writes what is asked for, the originator and the control number.
-fn put_operate_front(writer: &mut Writer, operate: &Operate<'_>) -> Result<(), WriteFault>
+fn put_operate_front(writer: &mut Writer, operate: &Operate<'_>) -> Result<(), EncodeFault>
     ensures { Adds writer.old result writer.new (operate_front operate.now) }
 {
     put_truth(writer, 3, operate.ctl_val)?;
@@ -97,7 +103,7 @@ fn put_operate_front(writer: &mut Writer, operate: &Operate<'_>) -> Result<(), W
 }
 
 // Writes the moment, whether it is a test, and the checks.
-fn put_operate_back(writer: &mut Writer, operate: &Operate<'_>) -> Result<(), WriteFault>
+fn put_operate_back(writer: &mut Writer, operate: &Operate<'_>) -> Result<(), EncodeFault>
     ensures { Adds writer.old result writer.new (operate_back operate.now) }
 {
     let check = Bits {
@@ -110,15 +116,16 @@ fn put_operate_back(writer: &mut Writer, operate: &Operate<'_>) -> Result<(), Wr
 }
 
 // Writes the parts of an operate, one behind the other.
-fn put_operate_parts(writer: &mut Writer, operate: &Operate<'_>) -> Result<(), WriteFault>
-    ensures { Adds writer.old result writer.new (operate_front operate.now ++ operate_back operate.now) }
+fn put_operate_parts(writer: &mut Writer, operate: &Operate<'_>) -> Result<(), EncodeFault>
+    ensures { Adds writer.old result writer.new
+        (operate_front operate.now ++ operate_back operate.now) }
 {
     put_operate_front(writer, operate)?;
     put_operate_back(writer, operate)
 }
 
 // Writes the data of an operate.
-fn put_operate(writer: &mut Writer, operate: &Operate<'_>) -> Result<(), WriteFault>
+fn put_operate(writer: &mut Writer, operate: &Operate<'_>) -> Result<(), EncodeFault>
     ensures { Adds writer.old result writer.new (operate_text operate.now) }
 {
     let start = writer.len();
@@ -127,7 +134,7 @@ fn put_operate(writer: &mut Writer, operate: &Operate<'_>) -> Result<(), WriteFa
 }
 
 // Writes the object that was refused, and the error, which is 0 for none.
-fn put_failure_front(writer: &mut Writer, failure: &ControlError<'_>) -> Result<(), WriteFault>
+fn put_failure_front(writer: &mut Writer, failure: &ControlError<'_>) -> Result<(), EncodeFault>
     ensures { Adds writer.old result writer.new (failure_front failure.now) }
 {
     put_octets(writer, Tag::context(10), failure.object.as_bytes())?;
@@ -135,7 +142,7 @@ fn put_failure_front(writer: &mut Writer, failure: &ControlError<'_>) -> Result<
 }
 
 // Writes the originator, the control number and the cause (IEC 61850-7-2, AddCause).
-fn put_failure_back(writer: &mut Writer, failure: &ControlError<'_>) -> Result<(), WriteFault>
+fn put_failure_back(writer: &mut Writer, failure: &ControlError<'_>) -> Result<(), EncodeFault>
     ensures { Adds writer.old result writer.new (failure_back failure.now) }
 {
     put_origin(writer, &failure.origin)?;
@@ -144,15 +151,16 @@ fn put_failure_back(writer: &mut Writer, failure: &ControlError<'_>) -> Result<(
 }
 
 // Writes the parts of a failure, one behind the other.
-fn put_failure_parts(writer: &mut Writer, failure: &ControlError<'_>) -> Result<(), WriteFault>
-    ensures { Adds writer.old result writer.new (failure_front failure.now ++ failure_back failure.now) }
+fn put_failure_parts(writer: &mut Writer, failure: &ControlError<'_>) -> Result<(), EncodeFault>
+    ensures { Adds writer.old result writer.new
+        (failure_front failure.now ++ failure_back failure.now) }
 {
     put_failure_front(writer, failure)?;
     put_failure_back(writer, failure)
 }
 
 // Writes the data of a failure.
-fn put_failure(writer: &mut Writer, failure: &ControlError<'_>) -> Result<(), WriteFault>
+fn put_failure(writer: &mut Writer, failure: &ControlError<'_>) -> Result<(), EncodeFault>
     ensures { Adds writer.old result writer.new (failure_data failure.now) }
 {
     let start = writer.len();
@@ -168,7 +176,7 @@ fn failure_object() -> &'static str
 }
 
 // Writes the variable of that name, which is in no domain.
-fn put_failure_name(writer: &mut Writer) -> Result<(), WriteFault>
+fn put_failure_name(writer: &mut Writer) -> Result<(), EncodeFault>
     ensures { Adds writer.old result writer.new (variable_text failure_name) }
 {
     let start = writer.len();
@@ -177,15 +185,16 @@ fn put_failure_name(writer: &mut Writer) -> Result<(), WriteFault>
 }
 
 // Writes the two parts of a name in a domain.
-fn put_item_parts(writer: &mut Writer, domain: &str, item: &str) -> Result<(), WriteFault>
-    ensures { Adds writer.old result writer.new (element visible_tag domain.now ++ element visible_tag item.now) }
+fn put_item_parts(writer: &mut Writer, domain: &str, item: &str) -> Result<(), EncodeFault>
+    ensures { Adds writer.old result writer.new
+        (element visible_tag domain.now ++ element visible_tag item.now) }
 {
     put_octets(writer, Tag::universal(26), domain.as_bytes())?;
     put_octets(writer, Tag::universal(26), item.as_bytes())
 }
 
 // Writes a name in a domain.
-fn put_item(writer: &mut Writer, domain: &str, item: &str) -> Result<(), WriteFault>
+fn put_item(writer: &mut Writer, domain: &str, item: &str) -> Result<(), EncodeFault>
     ensures { Adds writer.old result writer.new (item_name domain.now item.now) }
 {
     let start = writer.len();
@@ -194,7 +203,7 @@ fn put_item(writer: &mut Writer, domain: &str, item: &str) -> Result<(), WriteFa
 }
 
 // Writes the variable of a name in a domain.
-fn put_item_name(writer: &mut Writer, domain: &str, item: &str) -> Result<(), WriteFault>
+fn put_item_name(writer: &mut Writer, domain: &str, item: &str) -> Result<(), EncodeFault>
     ensures { Adds writer.old result writer.new (variable_text (item_name domain.now item.now)) }
 {
     let start = writer.len();
@@ -203,8 +212,9 @@ fn put_item_name(writer: &mut Writer, domain: &str, item: &str) -> Result<(), Wr
 }
 
 // Writes the variables of a control that was refused, that ended, and that failed.
-fn put_failure_list(writer: &mut Writer) -> Result<(), WriteFault>
-    ensures { Adds writer.old result writer.new (element (constructed 0) (variable_text failure_name)) }
+fn put_failure_list(writer: &mut Writer) -> Result<(), EncodeFault>
+    ensures { Adds writer.old result writer.new
+        (element (constructed 0) (variable_text failure_name)) }
 {
     let start = writer.len();
     put_failure_name(writer)?;
@@ -212,8 +222,9 @@ fn put_failure_list(writer: &mut Writer) -> Result<(), WriteFault>
 }
 
 // Writes a list of that variable alone.
-fn put_item_list(writer: &mut Writer, domain: &str, item: &str) -> Result<(), WriteFault>
-    ensures { Adds writer.old result writer.new (element (constructed 0) (variable_text (item_name domain.now item.now))) }
+fn put_item_list(writer: &mut Writer, domain: &str, item: &str) -> Result<(), EncodeFault>
+    ensures { Adds writer.old result writer.new
+        (element (constructed 0) (variable_text (item_name domain.now item.now))) }
 {
     let start = writer.len();
     put_item_name(writer, domain, item)?;
@@ -221,16 +232,19 @@ fn put_item_list(writer: &mut Writer, domain: &str, item: &str) -> Result<(), Wr
 }
 
 // Writes the variables of a failure and of what was operated.
-fn put_both_names(writer: &mut Writer, domain: &str, item: &str) -> Result<(), WriteFault>
-    ensures { Adds writer.old result writer.new (variable_text failure_name ++ variable_text (item_name domain.now item.now)) }
+fn put_both_names(writer: &mut Writer, domain: &str, item: &str) -> Result<(), EncodeFault>
+    ensures { Adds writer.old result writer.new
+        (variable_text failure_name ++ variable_text (item_name domain.now item.now)) }
 {
     put_failure_name(writer)?;
     put_item_name(writer, domain, item)
 }
 
 // Writes the list of both.
-fn put_both_list(writer: &mut Writer, domain: &str, item: &str) -> Result<(), WriteFault>
-    ensures { Adds writer.old result writer.new (element (constructed 0) (variable_text failure_name ++ variable_text (item_name domain.now item.now))) }
+fn put_both_list(writer: &mut Writer, domain: &str, item: &str) -> Result<(), EncodeFault>
+    ensures { Adds writer.old result writer.new
+        (element (constructed 0)
+        (variable_text failure_name ++ variable_text (item_name domain.now item.now))) }
 {
     let start = writer.len();
     put_both_names(writer, domain, item)?;
@@ -242,15 +256,16 @@ fn put_both(
     writer: &mut Writer,
     failure: &ControlError<'_>,
     operate: &Operate<'_>,
-) -> Result<(), WriteFault>
-    ensures { Adds writer.old result writer.new (failure_data failure.now ++ operate_text operate.now) }
+) -> Result<(), EncodeFault>
+    ensures { Adds writer.old result writer.new
+        (failure_data failure.now ++ operate_text operate.now) }
 {
     put_failure(writer, failure)?;
     put_operate(writer, operate)
 }
 
 // Writes the report of a control that was refused.
-fn put_refused(writer: &mut Writer, failure: &ControlError<'_>) -> Result<(), WriteFault>
+fn put_refused(writer: &mut Writer, failure: &ControlError<'_>) -> Result<(), EncodeFault>
     ensures { Appends writer.old result writer.new (failure_text failure.now) }
 {
     let start = writer.len();
@@ -266,8 +281,9 @@ fn put_ended(
     domain: &str,
     item: &str,
     operate: &Operate<'_>,
-) -> Result<(), WriteFault>
-    ensures { Appends writer.old result writer.new (termination_text domain.now item.now operate.now) }
+) -> Result<(), EncodeFault>
+    ensures { Appends writer.old result writer.new
+        (termination_text domain.now item.now operate.now) }
 {
     let start = writer.len();
     put_item_list(writer, domain, item)?;
@@ -283,8 +299,9 @@ fn put_failed(
     domain: &str,
     item: &str,
     operate: &Operate<'_>,
-) -> Result<(), WriteFault>
-    ensures { Appends writer.old result writer.new (failed_text failure.now domain.now item.now operate.now) }
+) -> Result<(), EncodeFault>
+    ensures { Appends writer.old result writer.new
+        (failed_text failure.now domain.now item.now operate.now) }
 {
     let start = writer.len();
     put_both_list(writer, domain, item)?;
@@ -295,8 +312,9 @@ fn put_failed(
 
 /// The text of the report that a control was refused (IEC 61850-8-1, LastApplError; ISO 9506-2,
 /// informationReport); TooLong where it would have 2^32 octets or more, which no PDU has.
-pub fn write_failure(alloc: Global, failure: &ControlError<'_>) -> Result<Vec<u8>, WriteFault>
-    ensures { Gives WriteFault.OutOfMemory (λ octets. octets.items) result (written (failure_text failure.now)) }
+pub fn write_failure(alloc: Global, failure: &ControlError<'_>) -> Result<Vec<u8>, EncodeFault>
+    ensures { Gives EncodeFault.OutOfMemory (λ octets. octets.items) result
+        (written (failure_text failure.now)) }
 {
     let mut writer = Writer::new(alloc);
     put_refused(&mut writer, failure)?;
@@ -311,8 +329,9 @@ pub fn write_termination(
     domain: &str,
     item: &str,
     operate: &Operate<'_>,
-) -> Result<Vec<u8>, WriteFault>
-    ensures { Gives WriteFault.OutOfMemory (λ octets. octets.items) result (written (termination_text domain.now item.now operate.now)) }
+) -> Result<Vec<u8>, EncodeFault>
+    ensures { Gives EncodeFault.OutOfMemory (λ octets. octets.items) result
+        (written (termination_text domain.now item.now operate.now)) }
 {
     let mut writer = Writer::new(alloc);
     put_ended(&mut writer, domain, item, operate)?;
@@ -328,8 +347,9 @@ pub fn write_failed_termination(
     domain: &str,
     item: &str,
     operate: &Operate<'_>,
-) -> Result<Vec<u8>, WriteFault>
-    ensures { Gives WriteFault.OutOfMemory (λ octets. octets.items) result (written (failed_text failure.now domain.now item.now operate.now)) }
+) -> Result<Vec<u8>, EncodeFault>
+    ensures { Gives EncodeFault.OutOfMemory (λ octets. octets.items) result
+        (written (failed_text failure.now domain.now item.now operate.now)) }
 {
     let mut writer = Writer::new(alloc);
     put_failed(&mut writer, failure, domain, item, operate)?;

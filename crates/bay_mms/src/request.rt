@@ -21,7 +21,7 @@ use std::alloc::Global;
 
 /// The name of an object (ISO 9506-2, ObjectName), in any octets.
 #[derive(Clone, Copy, Debug)]
-pub enum Name<'a> {
+pub enum ObjectName<'a> {
     /// A name of the device's own.
     Vmd(&'a [u8]),
     /// An item of a domain.
@@ -65,12 +65,12 @@ pub enum Call<'a> {
         after: Option<&'a [u8]>,
     },
     /// The type of a variable.
-    Attributes(Name<'a>),
+    Attributes(ObjectName<'a>),
     /// The values of at most 32 variables.
-    Read(Vec<Name<'a>>),
+    Read(Vec<ObjectName<'a>>),
     /// Values for at most 32 variables, as many as variables.
     Write {
-        names: Vec<Name<'a>>,
+        names: Vec<ObjectName<'a>>,
         values: Vec<Data<'a>>,
     },
 }
@@ -142,7 +142,8 @@ fn with_id<'a>(
     id: u32,
     service: &Value<'a>,
 ) -> Result<Request<'a>, MmsFault>
-    ensures asked { Gives MmsFault.OutOfMemory message result (spec.with_id known id (spec.service_as (part_of service.now))) }
+    ensures asked { Gives MmsFault.OutOfMemory message result
+        (spec.with_id known id (spec.service_as (part_of service.now))) }
     ensures memory { IsErrOf result MmsFault.OutOfMemory → IsTrue (has_list (part_of service.now)) }
 {
     match service_as(alloc, service) {
@@ -157,8 +158,10 @@ fn confirmed_of<'a>(
     known: Option<u32>,
     parts: &[Value<'a>],
 ) -> Result<Request<'a>, MmsFault>
-    ensures asked { Gives MmsFault.OutOfMemory message result (spec.confirmed_of known (map part_of parts.now)) }
-    ensures memory { IsErrOf result MmsFault.OutOfMemory → IsTrue (lists_of (map part_of parts.now)) }
+    ensures asked { Gives MmsFault.OutOfMemory message result
+        (spec.confirmed_of known (map part_of parts.now)) }
+    ensures memory { IsErrOf result MmsFault.OutOfMemory
+        → IsTrue (lists_of (map part_of parts.now)) }
 {
     match parts {
         [id, service] => {
@@ -189,7 +192,8 @@ pub fn read_initiate(octets: &[u8]) -> Option<Proposal>
 
 // A conclude, which has no content.
 fn conclude(known: Option<u32>, content: &[u8]) -> Result<Request<'_>, MmsFault>
-    ensures asked { Gives MmsFault.OutOfMemory message result (or_bad known (nothing content.now asked.conclude)) }
+    ensures asked { Gives MmsFault.OutOfMemory message result
+        (or_bad known (nothing content.now asked.conclude)) }
     ensures memory { IsErrOf result MmsFault.OutOfMemory → ⊥ }
 {
     if content.is_empty() {
@@ -206,7 +210,8 @@ fn message_as<'a>(
     known: Option<u32>,
     value: &Value<'a>,
 ) -> Result<Request<'a>, MmsFault>
-    ensures asked { Gives MmsFault.OutOfMemory message result (spec.message_as known (part_of value.now)) }
+    ensures asked { Gives MmsFault.OutOfMemory message result
+        (spec.message_as known (part_of value.now)) }
     ensures memory { IsErrOf result MmsFault.OutOfMemory → IsTrue (lists_as (part_of value.now)) }
 {
     if value.tag.is(Tag::context_constructed(0)) {

@@ -10,7 +10,7 @@ ghost use Rattle.bay_mms.specs.Responses.{nesting_text, parameters_text, service
 ghost use Rattle.bay_mms.specs.Writing.{Adds, Appends, written};
 
 use crate::confirmed::{write_content, write_list};
-use crate::fault::WriteFault;
+use crate::fault::EncodeFault;
 use crate::put::{put_around, put_octets};
 use crate::value::put_type;
 use bay_base::text::Text;
@@ -105,7 +105,7 @@ fn put_identity(
     vendor: &str,
     model: &str,
     revision: &str,
-) -> Result<(), WriteFault>
+) -> Result<(), EncodeFault>
     ensures { Adds writer.old result writer.new (identity_text vendor.now model.now revision.now) }
 {
     put_octets(writer, Tag::context(0), vendor.as_bytes())?;
@@ -114,7 +114,7 @@ fn put_identity(
 }
 
 // Writes names, one behind the other.
-fn put_names(writer: &mut Writer, names: &[Text]) -> Result<(), WriteFault>
+fn put_names(writer: &mut Writer, names: &[Text]) -> Result<(), EncodeFault>
     ensures { Adds writer.old result writer.new (names_text names.now) }
 {
     for name in names {
@@ -124,9 +124,11 @@ fn put_names(writer: &mut Writer, names: &[Text]) -> Result<(), WriteFault>
 }
 
 // Writes that a variable can't be deleted, and its type.
-fn put_attributes(writer: &mut Writer, tree: &Tree, handle: &Handle) -> Result<(), WriteFault>
+fn put_attributes(writer: &mut Writer, tree: &Tree, handle: &Handle) -> Result<(), EncodeFault>
     requires { IsHandle tree.now handle.now }
-    ensures { Adds writer.old result writer.new (element (context 0) (truth_octets false) ++ element (constructed 2) (type_text (type_at tree.now handle.now))) }
+    ensures { Adds writer.old result writer.new
+        (element (context 0) (truth_octets false)
+        ++ element (constructed 2) (type_text (type_at tree.now handle.now))) }
 {
     writer.boolean(Tag::context(0), false)?;
     let start = writer.len();
@@ -144,7 +146,8 @@ pub(crate) fn put_id(writer: &mut Writer, id: u32) -> Result<(), AllocError>
 // Writes a number under a context-specific tag.
 fn put_number(writer: &mut Writer, number: u8, value: u32) -> Result<(), AllocError>
     requires { number < 31 }
-    ensures { OnOk result (writer.new ≡ writer.old ++ element (context number) (integer_octets (pos value))) }
+    ensures { OnOk result (writer.new
+        ≡ writer.old ++ element (context number) (integer_octets (pos value))) }
 {
     writer.int(Tag::context(number), i64::from(value))
 }
@@ -156,8 +159,11 @@ fn write_identity(
     vendor: &str,
     model: &str,
     revision: &str,
-) -> Result<Vec<u8>, WriteFault>
-    ensures { Gives WriteFault.OutOfMemory (λ octets. octets.items) result (written (confirmed id (element (constructed 2) (identity_text vendor.now model.now revision.now)))) }
+) -> Result<Vec<u8>, EncodeFault>
+    ensures { Gives EncodeFault.OutOfMemory (λ octets. octets.items) result
+        (written
+        (confirmed id
+        (element (constructed 2) (identity_text vendor.now model.now revision.now)))) }
 {
     let mut content = Writer::new(alloc);
     put_identity(&mut content, vendor, model, revision)?;
@@ -165,8 +171,9 @@ fn write_identity(
 }
 
 // The response with these names, and whether more follow.
-fn write_names(alloc: Global, id: u32, names: &[Text], more: bool) -> Result<Vec<u8>, WriteFault>
-    ensures { Gives WriteFault.OutOfMemory (λ octets. octets.items) result (written (page_text id names.now more)) }
+fn write_names(alloc: Global, id: u32, names: &[Text], more: bool) -> Result<Vec<u8>, EncodeFault>
+    ensures { Gives EncodeFault.OutOfMemory (λ octets. octets.items) result
+        (written (page_text id names.now more)) }
 {
     let mut list = Writer::new(alloc);
     put_names(&mut list, names)?;
@@ -179,9 +186,9 @@ fn write_attributes(
     id: u32,
     tree: &Tree,
     handle: &Handle,
-) -> Result<Vec<u8>, WriteFault>
+) -> Result<Vec<u8>, EncodeFault>
     requires { IsHandle tree.now handle.now }
-    ensures { Gives WriteFault.OutOfMemory (λ octets. octets.items) result
+    ensures { Gives EncodeFault.OutOfMemory (λ octets. octets.items) result
         (written (confirmed id (element (constructed 6)
         (element (context 0) (truth_octets false)
         ++ element (constructed 2) (type_text (type_at tree.now handle.now)))))) }
@@ -192,9 +199,10 @@ fn write_attributes(
 }
 
 // The response to a confirmed request.
-fn write_confirmed(alloc: Global, id: u32, service: &Service<'_>) -> Result<Vec<u8>, WriteFault>
+fn write_confirmed(alloc: Global, id: u32, service: &Service<'_>) -> Result<Vec<u8>, EncodeFault>
     requires { IsOfTree service.now }
-    ensures { Gives WriteFault.OutOfMemory (λ octets. octets.items) result (written (confirmed id (service_text service.now))) }
+    ensures { Gives EncodeFault.OutOfMemory (λ octets. octets.items) result
+        (written (confirmed id (service_text service.now))) }
 {
     match service {
         Service::Identify {
@@ -220,7 +228,7 @@ fn error_octets(class: ErrorClass) -> &'static [u8]
 }
 
 // Writes the PDU of an error.
-fn put_error(writer: &mut Writer, id: u32, class: ErrorClass) -> Result<(), WriteFault>
+fn put_error(writer: &mut Writer, id: u32, class: ErrorClass) -> Result<(), EncodeFault>
     ensures { Appends writer.old result writer.new (error_text id class) }
 {
     let start = writer.len();
@@ -230,7 +238,7 @@ fn put_error(writer: &mut Writer, id: u32, class: ErrorClass) -> Result<(), Writ
 }
 
 // Writes the PDU of a reject, with the invoke id where it is known.
-fn put_reject(writer: &mut Writer, id: Option<u32>, reason: RejectReason) -> Result<(), WriteFault>
+fn put_reject(writer: &mut Writer, id: Option<u32>, reason: RejectReason) -> Result<(), EncodeFault>
     ensures { Appends writer.old result writer.new (reject_text id reason) }
 {
     let start = writer.len();
@@ -302,7 +310,7 @@ fn put_detail(writer: &mut Writer, parameters: u8) -> Result<(), AllocError>
 }
 
 // Writes the PDU of an initiate's response.
-fn put_agreed(writer: &mut Writer, agreed: Agreed) -> Result<(), WriteFault>
+fn put_agreed(writer: &mut Writer, agreed: Agreed) -> Result<(), EncodeFault>
     ensures { Appends writer.old result writer.new (agreed_text agreed) }
 {
     let start = writer.len();
@@ -315,9 +323,10 @@ fn put_agreed(writer: &mut Writer, agreed: Agreed) -> Result<(), WriteFault>
 
 /// The text of a response, which is the one canonical spelling (ISO 9506-2); TooLong where it would
 /// have 2^32 octets or more. The handles in it are of its trees.
-pub fn write_response(alloc: Global, response: &Response<'_>) -> Result<Vec<u8>, WriteFault>
+pub fn write_response(alloc: Global, response: &Response<'_>) -> Result<Vec<u8>, EncodeFault>
     requires { IsAnswerable response.now }
-    ensures { Gives WriteFault.OutOfMemory (λ octets. octets.items) result (written (response_text response.now)) }
+    ensures { Gives EncodeFault.OutOfMemory (λ octets. octets.items) result
+        (written (response_text response.now)) }
 {
     match response {
         Response::Initiate(agreed) => Ok(write_agreed(alloc, *agreed)?),
@@ -337,8 +346,8 @@ pub fn write_agreed(alloc: Global, agreed: Agreed) -> Result<Vec<u8>, AllocError
     let mut writer = Writer::new(alloc);
     match put_agreed(&mut writer, agreed) {
         Ok(()) => Ok(writer.finish()),
-        Err(WriteFault::OutOfMemory) => Err(AllocError),
-        Err(WriteFault::TooLong) => unreachable!(),
+        Err(EncodeFault::OutOfMemory) => Err(AllocError),
+        Err(EncodeFault::TooLong) => unreachable!(),
     }
 }
 
@@ -351,8 +360,8 @@ pub fn write_error(alloc: Global, id: u32, class: ErrorClass) -> Result<Vec<u8>,
     let mut writer = Writer::new(alloc);
     match put_error(&mut writer, id, class) {
         Ok(()) => Ok(writer.finish()),
-        Err(WriteFault::OutOfMemory) => Err(AllocError),
-        Err(WriteFault::TooLong) => unreachable!(),
+        Err(EncodeFault::OutOfMemory) => Err(AllocError),
+        Err(EncodeFault::TooLong) => unreachable!(),
     }
 }
 
@@ -369,8 +378,8 @@ pub fn write_reject(
     let mut writer = Writer::new(alloc);
     match put_reject(&mut writer, id, reason) {
         Ok(()) => Ok(writer.finish()),
-        Err(WriteFault::OutOfMemory) => Err(AllocError),
-        Err(WriteFault::TooLong) => unreachable!(),
+        Err(EncodeFault::OutOfMemory) => Err(AllocError),
+        Err(EncodeFault::TooLong) => unreachable!(),
     }
 }
 
@@ -381,7 +390,7 @@ pub fn write_conclude(alloc: Global) -> Result<Vec<u8>, AllocError>
     let mut writer = Writer::new(alloc);
     match put_octets(&mut writer, Tag::context(12), &[]) {
         Ok(()) => Ok(writer.finish()),
-        Err(WriteFault::OutOfMemory) => Err(AllocError),
-        Err(WriteFault::TooLong) => unreachable!(),
+        Err(EncodeFault::OutOfMemory) => Err(AllocError),
+        Err(EncodeFault::TooLong) => unreachable!(),
     }
 }

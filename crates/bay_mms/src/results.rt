@@ -9,7 +9,7 @@ ghost use Rattle.bay_mms.specs.Responses.{text_result, failure_result, success_r
 ghost use Rattle.bay_mms.specs.Writing.{Adds, written};
 
 use crate::confirmed::{write_content, write_list};
-use crate::fault::WriteFault;
+use crate::fault::EncodeFault;
 use crate::put::{put_integer, put_octets};
 use crate::value::put_value;
 use bay_ber::tag::Tag;
@@ -46,7 +46,7 @@ impl ReadResponse {
     }
 
     /// The data of a row of a tree.
-    pub fn value(&mut self, tree: &Tree, handle: Handle) -> Result<(), WriteFault>
+    pub fn value(&mut self, tree: &Tree, handle: Handle) -> Result<(), EncodeFault>
         requires { IsHandle tree.now handle }
         ensures { Adds self.old result self.new (datum_text (data_at tree.now handle)) }
     {
@@ -54,14 +54,14 @@ impl ReadResponse {
     }
 
     /// A text in the place of a row's own.
-    pub fn text(&mut self, text: &str) -> Result<(), WriteFault>
+    pub fn text(&mut self, text: &str) -> Result<(), EncodeFault>
         ensures { Adds self.old result self.new (text_result text.now) }
     {
         put_octets(&mut self.results, Tag::context(10), text.as_bytes())
     }
 
     /// The number of an error (ISO 9506-2, DataAccessError).
-    pub fn failure(&mut self, cause: u8) -> Result<(), WriteFault>
+    pub fn failure(&mut self, cause: u8) -> Result<(), EncodeFault>
         ensures { Adds self.old result self.new (failure_result cause) }
     {
         put_integer(&mut self.results, 0, i64::from(cause))
@@ -69,8 +69,9 @@ impl ReadResponse {
 
     /// The response under an invoke id; TooLong where it would have 2^32 octets or more, which is
     /// answered as a response over the size of a PDU is.
-    pub fn finish(self, id: u32) -> Result<Vec<u8>, WriteFault>
-        ensures { Gives WriteFault.OutOfMemory (λ octets. octets.items) result (written (read_text id self)) }
+    pub fn finish(self, id: u32) -> Result<Vec<u8>, EncodeFault>
+        ensures { Gives EncodeFault.OutOfMemory (λ octets. octets.items) result
+            (written (read_text id self)) }
     {
         let ReadResponse { alloc, results } = self;
         write_list(alloc, id, 4, 1, results.finish().as_slice(), None)
@@ -105,22 +106,23 @@ impl WriteResponse {
     }
 
     /// The variable was written.
-    pub fn success(&mut self) -> Result<(), WriteFault>
+    pub fn success(&mut self) -> Result<(), EncodeFault>
         ensures { Adds self.old result self.new success_result }
     {
         put_octets(&mut self.results, Tag::context(1), &[])
     }
 
     /// The number of an error (ISO 9506-2, DataAccessError).
-    pub fn failure(&mut self, cause: u8) -> Result<(), WriteFault>
+    pub fn failure(&mut self, cause: u8) -> Result<(), EncodeFault>
         ensures { Adds self.old result self.new (failure_result cause) }
     {
         put_integer(&mut self.results, 0, i64::from(cause))
     }
 
     /// The response under an invoke id; TooLong as for a read.
-    pub fn finish(self, id: u32) -> Result<Vec<u8>, WriteFault>
-        ensures { Gives WriteFault.OutOfMemory (λ octets. octets.items) result (written (write_text id self)) }
+    pub fn finish(self, id: u32) -> Result<Vec<u8>, EncodeFault>
+        ensures { Gives EncodeFault.OutOfMemory (λ octets. octets.items) result
+            (written (write_text id self)) }
     {
         let WriteResponse { alloc, results } = self;
         write_content(alloc, id, 5, results.finish().as_slice())

@@ -92,7 +92,8 @@ fn names_of<'a>(parts: &[Value<'a>]) -> Option<Call<'a>>
 // The variable whose type is asked for (ISO 9506-2, GetVariableAccessAttributes).
 #[tactic(auto, unfolding(crate::specs::Grammar::attributes_as))]
 fn attributes_as<'a>(value: &Value<'a>) -> Result<Call<'a>, Refusal>
-    ensures asked { Gives Refusal.OutOfMemory asking result (spec.attributes_as (part_of value.now)) }
+    ensures asked { Gives Refusal.OutOfMemory asking result
+        (spec.attributes_as (part_of value.now)) }
     ensures memory { IsErrOf result Refusal.OutOfMemory → ⊥ }
 {
     match name_in(value.content) {
@@ -131,7 +132,8 @@ fn written_with<'a>(
     access: Access<'a>,
     values: Vec<Data<'a>>,
 ) -> Result<Call<'a>, Refusal>
-    ensures { Gives Refusal.OutOfMemory asking result (spec.written_with (accessed access.entry) (data_in values.entry.items)) }
+    ensures { Gives Refusal.OutOfMemory asking result
+        (spec.written_with (accessed access.entry) (data_in values.entry.items)) }
 {
     match access {
         Access::NamedList => Err(Refusal::Unknown),

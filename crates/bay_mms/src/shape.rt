@@ -30,6 +30,7 @@ fn truth_as(given: &Data<'_>) -> Option<bool>
     }
 }
 
+// The number, where the data are an integer.
 fn integer_as(given: &Data<'_>) -> Option<i64>
     ensures { result ≡ spec.integer_as (datum_of given.now) }
 {
@@ -39,6 +40,7 @@ fn integer_as(given: &Data<'_>) -> Option<i64>
     }
 }
 
+// The number, where the data are an unsigned one.
 fn unsigned_as(given: &Data<'_>) -> Option<i64>
     ensures { result ≡ spec.unsigned_as (datum_of given.now) }
 {
@@ -48,6 +50,7 @@ fn unsigned_as(given: &Data<'_>) -> Option<i64>
     }
 }
 
+// The octets, where the data are a string of octets.
 fn octets_as<'a>(given: &Data<'a>) -> Option<&'a [u8]>
     ensures { option_map (λ octets. octets.now) result ≡ spec.octets_as (datum_of given.now) }
 {
@@ -57,6 +60,7 @@ fn octets_as<'a>(given: &Data<'a>) -> Option<&'a [u8]>
     }
 }
 
+// The eight octets, where the data are a utc-time.
 fn moment_as(given: &Data<'_>) -> Option<[u8; 8]>
     ensures { result ≡ spec.moment_as (datum_of given.now) }
 {
@@ -101,7 +105,8 @@ fn parts_as<'b, 'a>(given: &'b Data<'a>) -> Option<&'b [Data<'a>]>
 
 // An originator: its category and its identity.
 fn origin_of<'a>(parts: &[Data<'a>]) -> Option<(i64, &'a [u8])>
-    ensures { option_map (λ origin. record { or_cat = origin.0; or_ident = origin.1.now }) result ≡ spec.origin_of (data_in parts.now) }
+    ensures { option_map (λ origin. record { or_cat = origin.0; or_ident = origin.1.now }) result
+        ≡ spec.origin_of (data_in parts.now) }
 {
     match parts {
         [category, identity] => {
@@ -116,7 +121,8 @@ fn origin_of<'a>(parts: &[Data<'a>]) -> Option<(i64, &'a [u8])>
 // An originator, where data are a structure of the two.
 #[tactic(auto, unfolding(crate::specs::Controls::origin_as))]
 fn origin_as<'a>(given: &Data<'a>) -> Option<(i64, &'a [u8])>
-    ensures { option_map (λ origin. record { or_cat = origin.0; or_ident = origin.1.now }) result ≡ spec.origin_as (datum_of given.now) }
+    ensures { option_map (λ origin. record { or_cat = origin.0; or_ident = origin.1.now }) result
+        ≡ spec.origin_as (datum_of given.now) }
 {
     origin_of(parts_as(given)?)
 }
@@ -130,7 +136,9 @@ fn control_of<'a>(
     moment: &Data<'a>,
     test: &Data<'a>,
 ) -> Option<Shape<'a>>
-    ensures { option_map shaping result ≡ spec.control_of (datum_of value.now) (datum_of origin.now) (datum_of number.now) (datum_of moment.now) (datum_of test.now) }
+    ensures { option_map shaping result
+        ≡ spec.control_of (datum_of value.now) (datum_of origin.now) (datum_of number.now)
+        (datum_of moment.now) (datum_of test.now) }
 {
     let ctl_val = truth_as(value)?;
     let (or_cat, or_ident) = origin_as(origin)?;
@@ -159,7 +167,8 @@ fn cancel_of<'a>(parts: &[Data<'a>]) -> Option<Shape<'a>>
 
 // An Oper has the five components of a control, and its checks behind them.
 fn operate_of<'a>(parts: &[Data<'a>]) -> Option<(Shape<'a>, Dbpos)>
-    ensures { option_map (λ found. record { control = shaping found.0; check = found.1 }) result ≡ spec.operate_of (data_in parts.now) }
+    ensures { option_map (λ found. record { control = shaping found.0; check = found.1 }) result
+        ≡ spec.operate_of (data_in parts.now) }
 {
     match parts {
         [value, origin, number, moment, test, check] => {
@@ -182,7 +191,8 @@ pub(crate) fn cancel_as<'a>(given: &Data<'a>) -> Option<Shape<'a>>
 /// What is operated, with its checks, where data have the shape of an Oper.
 #[tactic(auto, unfolding(crate::specs::Controls::operate_as))]
 pub(crate) fn operate_as<'a>(given: &Data<'a>) -> Option<(Shape<'a>, Dbpos)>
-    ensures { option_map (λ found. record { control = shaping found.0; check = found.1 }) result ≡ spec.operate_as (datum_of given.now) }
+    ensures { option_map (λ found. record { control = shaping found.0; check = found.1 }) result
+        ≡ spec.operate_as (datum_of given.now) }
 {
     operate_of(parts_as(given)?)
 }

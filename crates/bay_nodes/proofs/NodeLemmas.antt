@@ -14,101 +14,174 @@ use Rattle.bay_nodes.specs.Node.{Part, Parts, Node, row, rows_of, rows_of_parts,
 use Rattle.bay_nodes.specs.NodeRows.{line_row, under, table_rows, status_group, type_rows, position_model, command_rows, control_group, control_model}
 
 -- one line more of a table
-pub table_turn : (n : Nameplate) (node : List ℕ) (table : List (Bor (List ℕ) × InitialValue)) (i : ℕ) (line : Bor (List ℕ) × InitialValue) (done : List Row) → i < length table → line ≡ get_or table i line → done ++ table_rows n node (drop i table) ≡ (done ++ under node (line_row n line) ∷ []) ++ table_rows n node (drop (i + 1) table)
+pub table_turn : (n : Nameplate) (node : List ℕ) (table : List (Bor (List ℕ) × InitialValue))
+    (i : ℕ) (line : Bor (List ℕ) × InitialValue) (done : List Row) → i < length table
+    → line ≡ get_or table i line
+    → done ++ table_rows n node (drop i table)
+    ≡ (done ++ under node (line_row n line) ∷ []) ++ table_rows n node (drop (i + 1) table)
 table_turn n node table i line done h at =
-    ap (λ ls. done ++ table_rows n node ls) (drop_more table i line h ∙ ap (λ l. l ∷ drop (i + 1) table) (sym at))
-    ∙ sym (append_assoc done (under node (line_row n line) ∷ []) (table_rows n node (drop (i + 1) table)))
+    ap (λ ls. done ++ table_rows n node ls)
+    (drop_more table i line h ∙ ap (λ l. l ∷ drop (i + 1) table) (sym at))
+    ∙ sym (append_assoc done (under node (line_row n line) ∷ [])
+    (table_rows n node (drop (i + 1) table)))
 
 -- a node's own row, and the rows of its table
-pub node_appended : (n : Nameplate) (node : List ℕ) (table : List (Bor (List ℕ) × InitialValue)) (parts : Parts) → map (line_row n) table ≡ rows_of_parts [] parts → row node None ∷ table_rows n node table ≡ node_rows (record { name = node; parts = parts })
+pub node_appended : (n : Nameplate) (node : List ℕ) (table : List (Bor (List ℕ) × InitialValue))
+    (parts : Parts) → map (line_row n) table ≡ rows_of_parts [] parts
+    → row node None ∷ table_rows n node table ≡ node_rows (record { name = node; parts = parts })
 node_appended n node table parts same = ap (λ rs. row node None ∷ map (under node) rs) same
 
 -- what is appended for the device itself makes its nodes
-pub device_appended : (n : Nameplate) (old : List Row) (device physical : List (Bor (List ℕ) × InitialValue)) → map (line_row n) device ≡ rows_of_parts [] (device_parts n) → map (line_row n) physical ≡ rows_of_parts [] (physical_parts n)
-    → (old ++ row (codes "LLN0") None ∷ table_rows n (codes "LLN0") device) ++ row (codes "LPHD1") None ∷ table_rows n (codes "LPHD1") physical ≡ old ++ flat_map node_rows (device_node n ∷ physical_node n ∷ [])
+pub device_appended : (n : Nameplate) (old : List Row)
+    (device physical : List (Bor (List ℕ) × InitialValue))
+    → map (line_row n) device ≡ rows_of_parts [] (device_parts n)
+    → map (line_row n) physical ≡ rows_of_parts [] (physical_parts n)
+    → (old ++ row (codes "LLN0") None ∷ table_rows n (codes "LLN0") device)
+    ++ row (codes "LPHD1") None ∷ table_rows n (codes "LPHD1") physical
+    ≡ old ++ flat_map node_rows (device_node n ∷ physical_node n ∷ [])
 device_appended n old device physical d p =
     let first = node_rows (device_node n) in
     let second = node_rows (physical_node n) in
-    ap (λ rs. (old ++ rs) ++ row (codes "LPHD1") None ∷ table_rows n (codes "LPHD1") physical) (node_appended n (codes "LLN0") device (device_parts n) d)
-    ∙ ap (λ rs. (old ++ first) ++ rs) (node_appended n (codes "LPHD1") physical (physical_parts n) p)
+    ap (λ rs. (old ++ rs) ++ row (codes "LPHD1") None ∷ table_rows n (codes "LPHD1") physical)
+    (node_appended n (codes "LLN0") device (device_parts n) d)
+    ∙ ap (λ rs. (old ++ first) ++ rs)
+    (node_appended n (codes "LPHD1") physical (physical_parts n) p)
     ∙ append_assoc old first second
     ∙ ap (λ rs. old ++ (first ++ rs)) (sym (append-nil second))
 
 -- groups of rows that are appended one after another
-pub two_groups : (node : List ℕ) (old a b : List Row) → (old ++ map (under node) a) ++ map (under node) b ≡ old ++ map (under node) (a ++ b)
+pub two_groups : (node : List ℕ) (old a b : List Row)
+    → (old ++ map (under node) a) ++ map (under node) b ≡ old ++ map (under node) (a ++ b)
 two_groups node old a b = simp (append_assoc, map-append)
 
-pub four_groups : (node : List ℕ) (old a b c d : List Row) → (((old ++ map (under node) a) ++ map (under node) b) ++ map (under node) c) ++ map (under node) d ≡ old ++ map (under node) (a ++ (b ++ (c ++ d)))
+pub four_groups : (node : List ℕ) (old a b c d : List Row)
+    → (((old ++ map (under node) a) ++ map (under node) b) ++ map (under node) c)
+    ++ map (under node) d ≡ old ++ map (under node) (a ++ (b ++ (c ++ d)))
 four_groups node old a b c d = simp (append_assoc, map-append)
 
 -- and behind a node's own row
-node-groups : (node : List ℕ) (old a b c d : List Row) → ((((old ++ row (node ++ []) None ∷ []) ++ map (under node) a) ++ map (under node) b) ++ map (under node) c) ++ map (under node) d ≡ old ++ row node None ∷ map (under node) (a ++ (b ++ (c ++ d)))
+node-groups : (node : List ℕ) (old a b c d : List Row)
+    → ((((old ++ row (node ++ []) None ∷ []) ++ map (under node) a) ++ map (under node) b)
+    ++ map (under node) c) ++ map (under node) d
+    ≡ old ++ row node None ∷ map (under node) (a ++ (b ++ (c ++ d)))
 node-groups node old a b c d = simp (append_assoc, append-nil, map-append)
 
 -- what is appended for a switch's position makes its node
-pub position_appended : (old : List Row) (node : List ℕ) (kind : SwitchKind) → (((old ++ row (node ++ []) None ∷ []) ++ map (under node) status_group) ++ map (under node) (type_rows kind)) ++ map (under node) position_model ≡ old ++ node_rows (record { name = node; parts = position_parts kind })
-position_appended old node kind = sym (append-nil _) ∙ node-groups node old status_group (type_rows kind) position_model []
+pub position_appended : (old : List Row) (node : List ℕ) (kind : SwitchKind)
+    → (((old ++ row (node ++ []) None ∷ []) ++ map (under node) status_group)
+    ++ map (under node) (type_rows kind)) ++ map (under node) position_model
+    ≡ old ++ node_rows (record { name = node; parts = position_parts kind })
+position_appended old node kind =
+    sym (append-nil _) ∙ node-groups node old status_group (type_rows kind) position_model []
 
 -- the rows of the first parts, and then those of the others
-rows-of_both : (path : List ℕ) (ps qs : List Part) → rows_of_parts path (parts_of (ps ++ qs)) ≡ rows_of_parts path (parts_of ps) ++ rows_of_parts path (parts_of qs)
+rows-of_both : (path : List ℕ) (ps qs : List Part)
+    → rows_of_parts path (parts_of (ps ++ qs))
+    ≡ rows_of_parts path (parts_of ps) ++ rows_of_parts path (parts_of qs)
 rows-of_both path [] qs = refl
-rows-of_both path (p ∷ ps) qs = ap (λ rs. rows_of path p ++ rs) (rows-of_both path ps qs) ∙ sym (append_assoc (rows_of path p) (rows_of_parts path (parts_of ps)) (rows_of_parts path (parts_of qs)))
+rows-of_both path (p ∷ ps) qs =
+    ap (λ rs. rows_of path p ++ rs) (rows-of_both path ps qs)
+    ∙ sym (append_assoc (rows_of path p) (rows_of_parts path (parts_of ps))
+    (rows_of_parts path (parts_of qs)))
 
 -- the parts of a control behind its commands
 abbrev pub configuration : Control → ℕ → List Part
-configuration control timeout = inside (codes "CF") (inside (codes "Pos") (value (codes "ctlModel") (Int8 (pos (model_of control))) ∷ value (codes "sboTimeout") (Unsigned32 timeout) ∷ []) ∷ []) ∷ []
+configuration control timeout =
+    inside (codes "CF") (inside (codes "Pos")
+    (value (codes "ctlModel") (Int8 (pos (model_of control)))
+    ∷ value (codes "sboTimeout") (Unsigned32 timeout) ∷ []) ∷ []) ∷ []
 
 -- what is appended for a control makes its node
-control-appended : (old : List Row) (node : List ℕ) (control : Control) (timeout : ℕ) → ((((old ++ row (node ++ []) None ∷ []) ++ map (under node) control_group) ++ map (under node) (command_rows control)) ++ map (under node) (control_model control)) ++ row (node ++ codes "$CF$Pos$sboTimeout") (Some (Unsigned32 timeout)) ∷ [] ≡ old ++ node_rows (record { name = node; parts = control_parts control timeout })
+control-appended : (old : List Row) (node : List ℕ) (control : Control) (timeout : ℕ)
+    → ((((old ++ row (node ++ []) None ∷ []) ++ map (under node) control_group)
+    ++ map (under node) (command_rows control)) ++ map (under node) (control_model control))
+    ++ row (node ++ codes "$CF$Pos$sboTimeout") (Some (Unsigned32 timeout)) ∷ []
+    ≡ old ++ node_rows (record { name = node; parts = control_parts control timeout })
 control-appended old node control timeout =
-    node-groups node old control_group (command_rows control) (control_model control) (row (codes "$CF$Pos$sboTimeout") (Some (Unsigned32 timeout)) ∷ [])
-    ∙ ap (λ rs. old ++ row node None ∷ map (under node) (control_group ++ rs)) (sym (rows-of_both [] (commands control) (configuration control timeout)))
+    node-groups node old control_group (command_rows control) (control_model control)
+    (row (codes "$CF$Pos$sboTimeout") (Some (Unsigned32 timeout)) ∷ [])
+    ∙ ap (λ rs. old ++ row node None ∷ map (under node) (control_group ++ rs))
+    (sym (rows-of_both [] (commands control) (configuration control timeout)))
 
-pub control_appended : (n : Nameplate) (old : List Row) (node : List ℕ) (control : Control) (timeout : ℕ) (first last : List (Bor (List ℕ) × InitialValue)) → map (line_row n) first ≡ control_group → map (line_row n) last ≡ control_model control
-    → ((((old ++ row (node ++ []) None ∷ []) ++ table_rows n node first) ++ map (under node) (command_rows control)) ++ table_rows n node last) ++ row (node ++ codes "$CF$Pos$sboTimeout") (Some (Unsigned32 timeout)) ∷ [] ≡ old ++ node_rows (record { name = node; parts = control_parts control timeout })
-control_appended n old node control timeout first last f l = rw (f, l) (control-appended old node control timeout)
+pub control_appended : (n : Nameplate) (old : List Row) (node : List ℕ) (control : Control)
+    (timeout : ℕ) (first last : List (Bor (List ℕ) × InitialValue))
+    → map (line_row n) first ≡ control_group → map (line_row n) last ≡ control_model control
+    → ((((old ++ row (node ++ []) None ∷ []) ++ table_rows n node first)
+    ++ map (under node) (command_rows control)) ++ table_rows n node last)
+    ++ row (node ++ codes "$CF$Pos$sboTimeout") (Some (Unsigned32 timeout)) ∷ []
+    ≡ old ++ node_rows (record { name = node; parts = control_parts control timeout })
+control_appended n old node control timeout first last f l =
+    rw (f, l) (control-appended old node control timeout)
 
 -- the rows of the breakers or of the other switches, numbered from n
 abbrev pub positions_from : Bool → ℕ → List Switch → List Row
-positions_from breakers n ss = flat_map node_rows (map position_node (enumerate_from n (filter (is_of breakers) ss)))
+positions_from breakers n ss =
+    flat_map node_rows (map position_node (enumerate_from n (filter (is_of breakers) ss)))
 
-positions-cons : (breakers : Bool) (n : ℕ) (s : Switch) (ss : List Switch) (b : Bool) → is_of breakers s ≡ b → positions_from breakers n (s ∷ ss) ≡ cond b (node_rows (position_node (n, s)) ++ positions_from breakers (n + 1) ss) (positions_from breakers n ss)
+positions-cons : (breakers : Bool) (n : ℕ) (s : Switch) (ss : List Switch) (b : Bool)
+    → is_of breakers s ≡ b → positions_from breakers n (s ∷ ss)
+    ≡ cond b (node_rows (position_node (n, s)) ++ positions_from breakers (n + 1) ss)
+    (positions_from breakers n ss)
 positions-cons breakers n s ss true e = rw e
 positions-cons breakers n s ss false e = rw e
 
-positions-at : (breakers : Bool) (ss : List Switch) (i n : ℕ) (s : Switch) (b : Bool) → i < length ss → s ≡ get_or ss i s → is_of breakers s ≡ b → positions_from breakers n (drop i ss) ≡ cond b (node_rows (position_node (n, s)) ++ positions_from breakers (n + 1) (drop (i + 1) ss)) (positions_from breakers n (drop (i + 1) ss))
+positions-at : (breakers : Bool) (ss : List Switch) (i n : ℕ) (s : Switch) (b : Bool)
+    → i < length ss → s ≡ get_or ss i s → is_of breakers s ≡ b
+    → positions_from breakers n (drop i ss)
+    ≡ cond b (node_rows (position_node (n, s)) ++ positions_from breakers (n + 1) (drop (i + 1) ss))
+    (positions_from breakers n (drop (i + 1) ss))
 positions-at breakers ss i n s b h at e =
     ap (positions_from breakers n) (drop_more ss i s h)
     ∙ ap (λ t. positions_from breakers n (t ∷ drop (i + 1) ss)) (sym at)
     ∙ positions-cons breakers n s (drop (i + 1) ss) b e
 
 -- one turn: a switch that has a node here, and one that has none
-pub position_turn : (breakers : Bool) (ss : List Switch) (i n : ℕ) (s : Switch) (done : List Row) → i < length ss → s ≡ get_or ss i s → is_of breakers s ≡ true → done ++ positions_from breakers n (drop i ss) ≡ (done ++ node_rows (position_node (n, s))) ++ positions_from breakers (n + 1) (drop (i + 1) ss)
+pub position_turn : (breakers : Bool) (ss : List Switch) (i n : ℕ) (s : Switch) (done : List Row)
+    → i < length ss → s ≡ get_or ss i s → is_of breakers s ≡ true
+    → done ++ positions_from breakers n (drop i ss)
+    ≡ (done ++ node_rows (position_node (n, s)))
+    ++ positions_from breakers (n + 1) (drop (i + 1) ss)
 position_turn breakers ss i n s done h at e =
     ap (λ rows. done ++ rows) (positions-at breakers ss i n s true h at e)
-    ∙ sym (append_assoc done (node_rows (position_node (n, s))) (positions_from breakers (n + 1) (drop (i + 1) ss)))
+    ∙ sym (append_assoc done (node_rows (position_node (n, s)))
+    (positions_from breakers (n + 1) (drop (i + 1) ss)))
 
-pub position_passed : (breakers : Bool) (ss : List Switch) (i n : ℕ) (s : Switch) (done : List Row) → i < length ss → s ≡ get_or ss i s → is_of breakers s ≡ false → done ++ positions_from breakers n (drop i ss) ≡ done ++ positions_from breakers n (drop (i + 1) ss)
-position_passed breakers ss i n s done h at e = ap (λ rows. done ++ rows) (positions-at breakers ss i n s false h at e)
+pub position_passed : (breakers : Bool) (ss : List Switch) (i n : ℕ) (s : Switch) (done : List Row)
+    → i < length ss → s ≡ get_or ss i s → is_of breakers s ≡ false
+    → done ++ positions_from breakers n (drop i ss)
+    ≡ done ++ positions_from breakers n (drop (i + 1) ss)
+position_passed breakers ss i n s done h at e =
+    ap (λ rows. done ++ rows) (positions-at breakers ss i n s false h at e)
 
 -- the rows of nodes that are numbered one after the other from n
 abbrev pub numbered_from : {T : Type 0} → (ℕ × T → Node) → ℕ → List T → List Row
 numbered_from make n ts = flat_map node_rows (map make (enumerate_from n ts))
 
 -- one turn of them
-pub numbered_turn : {T : Type 0} (make : ℕ × T → Node) (ts : List T) (i : ℕ) (t : T) (done : List Row) → i < length ts → t ≡ get_or ts i t → done ++ numbered_from make (i + 1) (drop i ts) ≡ (done ++ node_rows (make (i + 1, t))) ++ numbered_from make (i + 1 + 1) (drop (i + 1) ts)
+pub numbered_turn : {T : Type 0} (make : ℕ × T → Node) (ts : List T) (i : ℕ) (t : T)
+    (done : List Row) → i < length ts → t ≡ get_or ts i t
+    → done ++ numbered_from make (i + 1) (drop i ts)
+    ≡ (done ++ node_rows (make (i + 1, t))) ++ numbered_from make (i + 1 + 1) (drop (i + 1) ts)
 numbered_turn make ts i t done h at =
-    ap (λ us. done ++ numbered_from make (i + 1) us) (drop_more ts i t h ∙ ap (λ u. u ∷ drop (i + 1) ts) (sym at))
-    ∙ sym (append_assoc done (node_rows (make (i + 1, t))) (numbered_from make (i + 1 + 1) (drop (i + 1) ts)))
+    ap (λ us. done ++ numbered_from make (i + 1) us)
+    (drop_more ts i t h ∙ ap (λ u. u ∷ drop (i + 1) ts) (sym at))
+    ∙ sym (append_assoc done (node_rows (make (i + 1, t)))
+    (numbered_from make (i + 1 + 1) (drop (i + 1) ts)))
 
-first-of-drop : {T : Type 0} (ts : List T) (i : ℕ) → i < length ts → (t : T) × (drop i ts ≡ t ∷ drop (i + 1) ts)
+first-of-drop : {T : Type 0} (ts : List T) (i : ℕ) → i < length ts
+    → (t : T) × (drop i ts ≡ t ∷ drop (i + 1) ts)
 first-of-drop [] i h = absurd (omega arith)
 first-of-drop (t ∷ ts) i h = (get_or (t ∷ ts) i t, drop_more (t ∷ ts) i t h)
 
 -- one turn of nodes that are the same but for their numbers
-pub alike_turn : {T : Type 0} (make : ℕ × T → Node) (node : ℕ → Node) (ts : List T) (i : ℕ) (done : List Row) → i < length ts → ((t : T) → make (i + 1, t) ≡ node (i + 1)) → done ++ numbered_from make (i + 1) (drop i ts) ≡ (done ++ node_rows (node (i + 1))) ++ numbered_from make (i + 1 + 1) (drop (i + 1) ts)
+pub alike_turn : {T : Type 0} (make : ℕ × T → Node) (node : ℕ → Node) (ts : List T) (i : ℕ)
+    (done : List Row) → i < length ts → ((t : T) → make (i + 1, t) ≡ node (i + 1))
+    → done ++ numbered_from make (i + 1) (drop i ts)
+    ≡ (done ++ node_rows (node (i + 1))) ++ numbered_from make (i + 1 + 1) (drop (i + 1) ts)
 alike_turn make node ts i done h alike =
     let t = first-of-drop ts i h in
     ap (λ us. done ++ numbered_from make (i + 1) us) t.1
-    ∙ sym (append_assoc done (node_rows (make (i + 1, t.0))) (numbered_from make (i + 1 + 1) (drop (i + 1) ts)))
-    ∙ ap (λ m. (done ++ node_rows m) ++ numbered_from make (i + 1 + 1) (drop (i + 1) ts)) (alike t.0)
+    ∙ sym (append_assoc done (node_rows (make (i + 1, t.0)))
+    (numbered_from make (i + 1 + 1) (drop (i + 1) ts)))
+    ∙ ap (λ m. (done ++ node_rows m) ++ numbered_from make (i + 1 + 1) (drop (i + 1) ts))
+    (alike t.0)

@@ -85,7 +85,8 @@ closing_of k = closing_names (interlocking_of k)
 
 -- the names of the switch at a place
 abbrev pub switch_names : List Switch → ℕ → Switch → SwitchNames
-switch_names switches k switch = names_by_nodes (node_of switches k switch) (control_of k) (interlocking_of k)
+switch_names switches k switch =
+    names_by_nodes (node_of switches k switch) (control_of k) (interlocking_of k)
 
 -- the names of a control: whether its switch is selected, and the rows by which it is selected,
 -- selected with a value and operated, and its selection given up (IEC 61850-7-2, control; IEC

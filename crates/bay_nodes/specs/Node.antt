@@ -26,6 +26,7 @@ mutual
     end : Parts
     part : Part → Parts → Parts
 
+-- a row of the tree
 abbrev pub row : List ℕ → Option Leaf → Row
 row name leaf = record { name = name; leaf = leaf }
 
@@ -33,19 +34,22 @@ row name leaf = record { name = name; leaf = leaf }
 abbrev mutual
   pub rows_of : List ℕ → Part → List Row
   rows_of path (value name leaf) = row (path ++ codes "$" ++ name) (Some leaf) ∷ []
-  rows_of path (structure name parts) = row (path ++ codes "$" ++ name) None ∷ rows_of_parts (path ++ codes "$" ++ name) parts
+  rows_of path (structure name parts) =
+      row (path ++ codes "$" ++ name) None ∷ rows_of_parts (path ++ codes "$" ++ name) parts
 
   pub rows_of_parts : List ℕ → Parts → List Row
   rows_of_parts path end = []
   rows_of_parts path (part p ps) = rows_of path p ++ rows_of_parts path ps
 
+-- a logical node: its name, and what stands below it
 pub record Node : Type 0 where
   pub name : List ℕ
   pub parts : Parts
 
 -- the rows of a logical node: its own, and those of its parts, which its name leads to
 abbrev pub node_rows : Node → List Row
-node_rows node = row node.name None ∷ map (λ r. row (node.name ++ r.name) r.leaf) (rows_of_parts [] node.parts)
+node_rows node =
+    row node.name None ∷ map (λ r. row (node.name ++ r.name) r.leaf) (rows_of_parts [] node.parts)
 
 abbrev pub parts_of : List Part → Parts
 parts_of [] = end
@@ -72,17 +76,23 @@ status_only name = inside name (value (codes "ctlModel") (Int8 (pos 0)) ∷ [])
 abbrev pub device_parts : Nameplate → Parts
 device_parts n =
     parts_of
-    (inside (codes "ST") (status (codes "Mod") (Int8 (pos 1)) Good ∷ status (codes "Beh") (Int8 (pos 1)) Good ∷ status (codes "Health") (Int8 (pos 1)) Good ∷ [])
+    (inside (codes "ST") (status (codes "Mod") (Int8 (pos 1)) Good
+    ∷ status (codes "Beh") (Int8 (pos 1)) Good ∷ status (codes "Health") (Int8 (pos 1)) Good
+    ∷ [])
     ∷ inside (codes "CF") (status_only (codes "Mod") ∷ [])
-    ∷ inside (codes "DC") (inside (codes "NamPlt") (value (codes "vendor") (Text n.vendor) ∷ value (codes "swRev") (Text n.revision) ∷ value (codes "d") (Text n.model) ∷ []) ∷ [])
+    ∷ inside (codes "DC") (inside (codes "NamPlt")
+    (value (codes "vendor") (Text n.vendor) ∷ value (codes "swRev") (Text n.revision)
+    ∷ value (codes "d") (Text n.model) ∷ []) ∷ [])
     ∷ [])
 
 -- the parts of LPHD1
 abbrev pub physical_parts : Nameplate → Parts
 physical_parts n =
     parts_of
-    (inside (codes "ST") (status (codes "PhyHealth") (Int8 (pos 1)) Good ∷ status (codes "Proxy") (Truth false) Good ∷ [])
-    ∷ inside (codes "DC") (inside (codes "PhyNam") (value (codes "vendor") (Text n.vendor) ∷ []) ∷ [])
+    (inside (codes "ST") (status (codes "PhyHealth") (Int8 (pos 1)) Good
+    ∷ status (codes "Proxy") (Truth false) Good ∷ [])
+    ∷ inside (codes "DC") (inside (codes "PhyNam") (value (codes "vendor") (Text n.vendor) ∷ [])
+    ∷ [])
     ∷ [])
 
 -- a breaker has no type; a disconnector's is 2, an earthing switch's 3 (IEC 61850-7-4, SwTyp)
@@ -109,7 +119,8 @@ abbrev pub operation : List ℕ → Part
 operation name =
     inside name
     (value (codes "ctlVal") (Truth false)
-    ∷ inside (codes "origin") (value (codes "orCat") (Int8 (pos 0)) ∷ value (codes "orIdent") (Octets []) ∷ [])
+    ∷ inside (codes "origin")
+    (value (codes "orCat") (Int8 (pos 0)) ∷ value (codes "orIdent") (Octets []) ∷ [])
     ∷ value (codes "ctlNum") (Unsigned8 0)
     ∷ value (codes "T") (Utc 0)
     ∷ value (codes "Test") (Truth false)
@@ -121,12 +132,14 @@ abbrev pub cancelling : Part
 cancelling =
     inside (codes "Cancel")
     (value (codes "ctlVal") (Truth false)
-    ∷ inside (codes "origin") (value (codes "orCat") (Int8 (pos 0)) ∷ value (codes "orIdent") (Octets []) ∷ [])
+    ∷ inside (codes "origin")
+    (value (codes "orCat") (Int8 (pos 0)) ∷ value (codes "orIdent") (Octets []) ∷ [])
     ∷ value (codes "ctlNum") (Unsigned8 0)
     ∷ value (codes "T") (Utc 0)
     ∷ value (codes "Test") (Truth false)
     ∷ [])
 
+-- the functional constraint CO, with what may be written to a position
 abbrev pub controls_by : List Part → List Part
 controls_by ps = inside (codes "CO") (inside (codes "Pos") ps ∷ []) ∷ []
 
@@ -134,8 +147,10 @@ controls_by ps = inside (codes "CO") (inside (codes "Pos") ps ∷ []) ∷ []
 abbrev pub commands : Control → List Part
 commands Status = []
 commands Direct = controls_by (operation (codes "Oper") ∷ [])
-commands Sbo = controls_by (value (codes "SBO") (Reference []) ∷ operation (codes "Oper") ∷ cancelling ∷ [])
-commands SboEnhanced = controls_by (operation (codes "SBOw") ∷ operation (codes "Oper") ∷ cancelling ∷ [])
+commands Sbo =
+    controls_by (value (codes "SBO") (Reference []) ∷ operation (codes "Oper") ∷ cancelling ∷ [])
+commands SboEnhanced =
+    controls_by (operation (codes "SBOw") ∷ operation (codes "Oper") ∷ cancelling ∷ [])
 
 -- the number of a control model (IEC 61850-7-3, ctlModel)
 abbrev pub model_of : Control → ℕ
@@ -148,15 +163,21 @@ model_of SboEnhanced = 4
 abbrev pub control_parts : Control → ℕ → Parts
 control_parts control timeout =
     parts_of
-    (inside (codes "ST") (inside (codes "Pos") (value (codes "stVal") (Dbpos Intermediate) ∷ stamp Invalid ++ value (codes "stSeld") (Truth false) ∷ []) ∷ [])
+    (inside (codes "ST") (inside (codes "Pos")
+    (value (codes "stVal") (Dbpos Intermediate) ∷ stamp Invalid
+    ++ value (codes "stSeld") (Truth false) ∷ []) ∷ [])
     ∷ commands control
-    ++ inside (codes "CF") (inside (codes "Pos") (value (codes "ctlModel") (Int8 (pos (model_of control))) ∷ value (codes "sboTimeout") (Unsigned32 timeout) ∷ []) ∷ [])
+    ++ inside (codes "CF") (inside (codes "Pos")
+    (value (codes "ctlModel") (Int8 (pos (model_of control)))
+    ∷ value (codes "sboTimeout") (Unsigned32 timeout) ∷ []) ∷ [])
     ∷ [])
 
 -- the parts of CILO
 abbrev pub interlocking_parts : Parts
 interlocking_parts =
-    parts_of (inside (codes "ST") (status (codes "EnaOpn") (Truth false) Invalid ∷ status (codes "EnaCls") (Truth false) Invalid ∷ []) ∷ [])
+    parts_of (inside (codes "ST")
+    (status (codes "EnaOpn") (Truth false) Invalid
+    ∷ status (codes "EnaCls") (Truth false) Invalid ∷ []) ∷ [])
 
 -- the magnitude of a measured value, as a whole number
 abbrev pub magnitude : Part
@@ -174,9 +195,12 @@ abbrev pub meter_parts : Parts
 meter_parts =
     parts_of
     (inside (codes "MX")
-    (measured (codes "TotW") ∷ measured (codes "TotVAr") ∷ measured (codes "Hz") ∷ inside (codes "A") (phase (codes "phsA") ∷ phase (codes "phsB") ∷ phase (codes "phsC") ∷ []) ∷ [])
+    (measured (codes "TotW") ∷ measured (codes "TotVAr") ∷ measured (codes "Hz")
+    ∷ inside (codes "A") (phase (codes "phsA") ∷ phase (codes "phsB") ∷ phase (codes "phsC")
+    ∷ []) ∷ [])
     ∷ [])
 
+-- a breaker has nodes of another class than the other switches
 abbrev pub is_breaker : SwitchKind → Bool
 is_breaker Breaker = true
 is_breaker Disconnector = false
@@ -201,10 +225,15 @@ physical_node nameplate = record { name = codes "LPHD1"; parts = physical_parts 
 
 -- the nodes of a switch with its number
 abbrev pub position_node : ℕ × Switch → Node
-position_node s = record { name = node_name (class_of s.1.kind) s.0; parts = position_parts s.1.kind }
+position_node s =
+    record { name = node_name (class_of s.1.kind) s.0; parts = position_parts s.1.kind }
 
 abbrev pub control_node : ℕ × Switch → Node
-control_node s = record { name = node_name (codes "CSWI") s.0; parts = control_parts s.1.control s.1.sbo_timeout_ms }
+control_node s =
+    record {
+      name = node_name (codes "CSWI") s.0;
+      parts = control_parts s.1.control s.1.sbo_timeout_ms;
+    }
 
 abbrev pub interlocking_node : ℕ × Switch → Node
 interlocking_node s = record { name = node_name (codes "CILO") s.0; parts = interlocking_parts }
@@ -220,7 +249,8 @@ is_of false s = not (is_breaker s.kind)
 
 -- the nodes of the breakers or of the other switches, numbered from 1 among themselves
 abbrev pub position_nodes : Bool → List Switch → List Node
-position_nodes breakers switches = map position_node (enumerate_from 1 (filter (is_of breakers) switches))
+position_nodes breakers switches =
+    map position_node (enumerate_from 1 (filter (is_of breakers) switches))
 
 -- the nodes of the controls and of the interlocking, numbered by the switches' places from 1
 abbrev pub control_nodes : List Switch → List Node
@@ -237,7 +267,9 @@ meter_nodes meters = map meter_node (enumerate_from 1 meters)
 abbrev pub nodes_of : Nameplate → List Switch → List (List ℕ) → List Node
 nodes_of nameplate switches meters =
     (device_node nameplate ∷ physical_node nameplate ∷ [])
-    ++ (position_nodes true switches ++ (position_nodes false switches ++ (control_nodes switches ++ (interlocking_nodes switches ++ meter_nodes meters))))
+    ++ (position_nodes true switches
+    ++ (position_nodes false switches
+    ++ (control_nodes switches ++ (interlocking_nodes switches ++ meter_nodes meters))))
 
 -- the rows of a bay
 abbrev pub rows_of_all : Nameplate → List Switch → List (List ℕ) → List Row

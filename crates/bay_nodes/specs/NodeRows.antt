@@ -54,25 +54,35 @@ status_group =
     ∷ status (codes "OpCnt") (leaf.Int32 (pos 0)) validity.Good
     ∷ []))
 
+-- the type of a switch, which a breaker has not
 abbrev pub type_rows : SwitchKind → List Row
 type_rows kind = rows_of_parts (codes "$ST") (parts_of (switch_type kind))
 
+-- the model of a position that is not controlled there
 abbrev pub position_model : List Row
 position_model = rows_of [] (inside (codes "CF") (status_only (codes "Pos") ∷ []))
 
 -- the groups of CSWI
 abbrev pub control_group : List Row
 control_group =
-    rows_of [] (inside (codes "ST") (inside (codes "Pos") (value (codes "stVal") (leaf.Dbpos position.Intermediate) ∷ stamp validity.Invalid ++ value (codes "stSeld") (leaf.Truth false) ∷ []) ∷ []))
+    rows_of [] (inside (codes "ST")
+    (inside (codes "Pos") (value (codes "stVal") (leaf.Dbpos position.Intermediate)
+    ∷ stamp validity.Invalid ++ value (codes "stSeld") (leaf.Truth false) ∷ []) ∷ []))
 
+-- the rows above what may be written to a position
 abbrev pub group_row : List Row
 group_row = row (codes "$CO") None ∷ row (codes "$CO$Pos") None ∷ []
 
+-- the row by which a switch is selected with a read
 abbrev pub select_row : List Row
 select_row = row (codes "$CO$Pos$SBO") (Some (leaf.Reference [])) ∷ []
 
+-- what may be written, or read to select
 abbrev pub command_rows : Control → List Row
 command_rows control = rows_of_parts [] (parts_of (commands control))
 
+-- the model of a control, and how long it stays selected
 abbrev pub control_model : Control → List Row
-control_model control = row (codes "$CF") None ∷ row (codes "$CF$Pos") None ∷ row (codes "$CF$Pos$ctlModel") (Some (leaf.Int8 (pos (model_of control)))) ∷ []
+control_model control =
+    row (codes "$CF") None ∷ row (codes "$CF$Pos") None
+    ∷ row (codes "$CF$Pos$ctlModel") (Some (leaf.Int8 (pos (model_of control)))) ∷ []

@@ -53,7 +53,8 @@ fn push_row(
     path: &str,
     leaf: Option<Leaf>,
 ) -> Result<(), AllocError>
-    ensures { IfOk result (λ _. rows.new.items ≡ rows.old.items ++ row (node.now ++ path.now) leaf ∷ []) }
+    ensures { IfOk result (λ _. rows.new.items
+        ≡ rows.old.items ++ row (node.now ++ path.now) leaf ∷ []) }
 {
     let name = format!(in alloc; "{node}{path}")?;
     rows.push(Row {
@@ -71,7 +72,8 @@ fn push_table(
     node: &str,
     table: &[(&str, InitialValue)],
 ) -> Result<(), AllocError>
-    ensures { IfOk result (λ _. rows.new.items ≡ rows.old.items ++ table_rows nameplate.now node.now table.now) }
+    ensures { IfOk result (λ _. rows.new.items
+        ≡ rows.old.items ++ table_rows nameplate.now node.now table.now) }
 {
     for (path, start) in table {
         let leaf = leaf_from(alloc, nameplate, *start)?;
@@ -88,7 +90,8 @@ fn push_node(
     node: &str,
     table: &[(&str, InitialValue)],
 ) -> Result<(), AllocError>
-    ensures { IfOk result (λ _. rows.new.items ≡ rows.old.items ++ row node.now None ∷ table_rows nameplate.now node.now table.now) }
+    ensures { IfOk result (λ _. rows.new.items
+        ≡ rows.old.items ++ row node.now None ∷ table_rows nameplate.now node.now table.now) }
 {
     push_row(alloc, rows, node, "", None)?;
     push_table(alloc, rows, nameplate, node, table)?;
@@ -97,7 +100,9 @@ fn push_node(
 
 /// The nodes of the device itself (IEC 61850-7-4, LLN0 and LPHD).
 fn push_device(alloc: Global, rows: &mut Vec<Row>, nameplate: &Nameplate) -> Result<(), AllocError>
-    ensures { IfOk result (λ _. rows.new.items ≡ rows.old.items ++ flat_map node_rows (device_node nameplate.now ∷ physical_node nameplate.now ∷ [])) }
+    ensures { IfOk result (λ _. rows.new.items
+        ≡ rows.old.items ++ flat_map node_rows
+        (device_node nameplate.now ∷ physical_node nameplate.now ∷ [])) }
 {
     push_node(alloc, rows, nameplate, "LLN0", tables::device_table())?;
     push_node(alloc, rows, nameplate, "LPHD1", tables::physical_table())?;
@@ -112,7 +117,8 @@ fn push_position_node(
     node: &str,
     kind: SwitchKind,
 ) -> Result<(), AllocError>
-    ensures { IfOk result (λ _. rows.new.items ≡ rows.old.items ++ node_rows (record { name = node.now; parts = position_parts kind })) }
+    ensures { IfOk result (λ _. rows.new.items
+        ≡ rows.old.items ++ node_rows (record { name = node.now; parts = position_parts kind })) }
 {
     push_row(alloc, rows, node, "", None)?;
     push_table(alloc, rows, nameplate, node, tables::position_table())?;
@@ -129,8 +135,11 @@ fn push_selection(
     node: &str,
     select: &[(&str, InitialValue)],
 ) -> Result<(), AllocError>
-    ensures { let operate = spec.rows_of (codes "$CO$Pos") (operation (codes "Oper")) in let cancel = spec.rows_of (codes "$CO$Pos") cancelling in
-        IfOk result (λ _. rows.new.items ≡ rows.old.items ++ map (under node.now) (group_row ++ (map (line_row nameplate.now) select.now ++ (operate ++ cancel)))) }
+    ensures { let operate = spec.rows_of (codes "$CO$Pos") (operation (codes "Oper")) in
+        let cancel = spec.rows_of (codes "$CO$Pos") cancelling in
+        IfOk result (λ _. rows.new.items
+        ≡ rows.old.items ++ map (under node.now)
+        (group_row ++ (map (line_row nameplate.now) select.now ++ (operate ++ cancel)))) }
 {
     push_table(alloc, rows, nameplate, node, tables::group_table())?;
     push_table(alloc, rows, nameplate, node, select)?;
@@ -147,7 +156,8 @@ fn push_commands(
     node: &str,
     control: Control,
 ) -> Result<(), AllocError>
-    ensures { IfOk result (λ _. rows.new.items ≡ rows.old.items ++ map (under node.now) (command_rows control)) }
+    ensures { IfOk result (λ _. rows.new.items
+        ≡ rows.old.items ++ map (under node.now) (command_rows control)) }
 {
     match control {
         Control::Status => Ok(()),
@@ -176,7 +186,11 @@ fn push_control_node(
     switch: &Switch,
 ) -> Result<(), AllocError>
     ensures { IfOk result (λ _. rows.new.items ≡ rows.old.items
-        ++ node_rows (record { name = node.now; parts = control_parts switch.now.control switch.now.sbo_timeout_ms })) }
+        ++ node_rows
+        (record {
+          name = node.now;
+          parts = control_parts switch.now.control switch.now.sbo_timeout_ms;
+        })) }
 {
     push_row(alloc, rows, node, "", None)?;
     push_table(alloc, rows, nameplate, node, tables::control_table())?;
@@ -206,7 +220,8 @@ fn push_position(
     number: usize,
     switch: &Switch,
 ) -> Result<(), AllocError>
-    ensures { IfOk result (λ _. rows.new.items ≡ rows.old.items ++ node_rows (position_node (number, switch.now))) }
+    ensures { IfOk result (λ _. rows.new.items
+        ≡ rows.old.items ++ node_rows (position_node (number, switch.now))) }
 {
     let node = node_name(alloc, class_of(switch.kind), number)?;
     push_position_node(alloc, rows, nameplate, node.as_str(), switch.kind)?;
@@ -221,7 +236,8 @@ fn push_control(
     number: usize,
     switch: &Switch,
 ) -> Result<(), AllocError>
-    ensures { IfOk result (λ _. rows.new.items ≡ rows.old.items ++ node_rows (control_node (number, switch.now))) }
+    ensures { IfOk result (λ _. rows.new.items
+        ≡ rows.old.items ++ node_rows (control_node (number, switch.now))) }
 {
     let node = node_name(alloc, CONTROL, number)?;
     push_control_node(alloc, rows, nameplate, node.as_str(), switch)?;
@@ -235,7 +251,9 @@ fn push_interlocking(
     nameplate: &Nameplate,
     number: usize,
 ) -> Result<(), AllocError>
-    ensures { IfOk result (λ _. rows.new.items ≡ rows.old.items ++ node_rows (record { name = spec.node_name (codes "CILO") number; parts = interlocking_parts })) }
+    ensures { IfOk result (λ _. rows.new.items
+        ≡ rows.old.items ++ node_rows
+        (record { name = spec.node_name (codes "CILO") number; parts = interlocking_parts })) }
 {
     let node = node_name(alloc, INTERLOCKING, number)?;
     push_node(
@@ -255,7 +273,9 @@ fn push_meter(
     nameplate: &Nameplate,
     number: usize,
 ) -> Result<(), AllocError>
-    ensures { IfOk result (λ _. rows.new.items ≡ rows.old.items ++ node_rows (record { name = spec.node_name (codes "MMXU") number; parts = meter_parts })) }
+    ensures { IfOk result (λ _. rows.new.items
+        ≡ rows.old.items ++ node_rows
+        (record { name = spec.node_name (codes "MMXU") number; parts = meter_parts })) }
 {
     let node = node_name(alloc, METER, number)?;
     push_node(alloc, rows, nameplate, node.as_str(), tables::meter_table())?;
@@ -270,7 +290,8 @@ fn push_positions(
     switches: &[Switch],
     breakers: bool,
 ) -> Result<(), AllocError>
-    ensures { IfOk result (λ _. rows.new.items ≡ rows.old.items ++ flat_map node_rows (position_nodes breakers switches.now)) }
+    ensures { IfOk result (λ _. rows.new.items
+        ≡ rows.old.items ++ flat_map node_rows (position_nodes breakers switches.now)) }
 {
     let mut number = 1usize;
     for switch in switches {
@@ -289,7 +310,8 @@ fn push_controls(
     nameplate: &Nameplate,
     switches: &[Switch],
 ) -> Result<(), AllocError>
-    ensures { IfOk result (λ _. rows.new.items ≡ rows.old.items ++ flat_map node_rows (control_nodes switches.now)) }
+    ensures { IfOk result (λ _. rows.new.items
+        ≡ rows.old.items ++ flat_map node_rows (control_nodes switches.now)) }
 {
     for i in 0..switches.len() {
         push_control(alloc, rows, nameplate, i + 1, &switches[i])?;
@@ -304,7 +326,8 @@ fn push_interlockings(
     nameplate: &Nameplate,
     switches: &[Switch],
 ) -> Result<(), AllocError>
-    ensures { IfOk result (λ _. rows.new.items ≡ rows.old.items ++ flat_map node_rows (interlocking_nodes switches.now)) }
+    ensures { IfOk result (λ _. rows.new.items
+        ≡ rows.old.items ++ flat_map node_rows (interlocking_nodes switches.now)) }
 {
     for i in 0..switches.len() {
         push_interlocking(alloc, rows, nameplate, i + 1)?;
@@ -319,7 +342,8 @@ fn push_meters(
     nameplate: &Nameplate,
     meters: &[Text],
 ) -> Result<(), AllocError>
-    ensures { IfOk result (λ _. rows.new.items ≡ rows.old.items ++ flat_map node_rows (meter_nodes meters.now)) }
+    ensures { IfOk result (λ _. rows.new.items
+        ≡ rows.old.items ++ flat_map node_rows (meter_nodes meters.now)) }
 {
     for i in 0..meters.len() {
         push_meter(alloc, rows, nameplate, i + 1)?;

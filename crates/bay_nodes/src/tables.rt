@@ -45,7 +45,8 @@ use InitialValue::{
 
 /// The rows below LLN0.
 pub fn device_table() -> &'static [(&'static str, InitialValue)]
-    ensures { (n : Nameplate) → map (line_row n) result.now ≡ node.rows_of_parts [] (node.device_parts n) }
+    ensures { (n : Nameplate)
+        → map (line_row n) result.now ≡ node.rows_of_parts [] (node.device_parts n) }
 {
     &[
         ("$ST", Structure),
@@ -74,7 +75,8 @@ pub fn device_table() -> &'static [(&'static str, InitialValue)]
 
 /// The rows below LPHD1.
 pub fn physical_table() -> &'static [(&'static str, InitialValue)]
-    ensures { (n : Nameplate) → map (line_row n) result.now ≡ node.rows_of_parts [] (node.physical_parts n) }
+    ensures { (n : Nameplate)
+        → map (line_row n) result.now ≡ node.rows_of_parts [] (node.physical_parts n) }
 {
     &[
         ("$ST", Structure),
@@ -179,7 +181,9 @@ pub fn select_table() -> &'static [(&'static str, InitialValue)]
 
 /// The rows by which a switch is selected with a value.
 pub fn select_with_value_table() -> &'static [(&'static str, InitialValue)]
-    ensures { (n : Nameplate) → map (line_row n) result.now ≡ node.rows_of (codes "$CO$Pos") (node.operation (codes "SBOw")) }
+    ensures { (n : Nameplate)
+        → map (line_row n) result.now
+        ≡ node.rows_of (codes "$CO$Pos") (node.operation (codes "SBOw")) }
 {
     &[
         (paths::SELECT_WITH_VALUE, Structure),
@@ -196,7 +200,9 @@ pub fn select_with_value_table() -> &'static [(&'static str, InitialValue)]
 
 /// The rows by which a switch is operated.
 pub fn operate_table() -> &'static [(&'static str, InitialValue)]
-    ensures { (n : Nameplate) → map (line_row n) result.now ≡ node.rows_of (codes "$CO$Pos") (node.operation (codes "Oper")) }
+    ensures { (n : Nameplate)
+        → map (line_row n) result.now
+        ≡ node.rows_of (codes "$CO$Pos") (node.operation (codes "Oper")) }
 {
     &[
         (paths::OPERATE, Structure),
@@ -213,7 +219,8 @@ pub fn operate_table() -> &'static [(&'static str, InitialValue)]
 
 /// The rows by which a selection is given up.
 pub fn cancel_table() -> &'static [(&'static str, InitialValue)]
-    ensures { (n : Nameplate) → map (line_row n) result.now ≡ node.rows_of (codes "$CO$Pos") node.cancelling }
+    ensures { (n : Nameplate)
+        → map (line_row n) result.now ≡ node.rows_of (codes "$CO$Pos") node.cancelling }
 {
     &[
         (paths::CANCEL, Structure),
@@ -257,7 +264,8 @@ pub fn control_model_table(control: Control) -> &'static [(&'static str, Initial
 
 /// The rows below CILO.
 pub fn interlocking_table() -> &'static [(&'static str, InitialValue)]
-    ensures { (n : Nameplate) → map (line_row n) result.now ≡ node.rows_of_parts [] node.interlocking_parts }
+    ensures { (n : Nameplate)
+        → map (line_row n) result.now ≡ node.rows_of_parts [] node.interlocking_parts }
 {
     &[
         ("$ST", Structure),
@@ -274,7 +282,8 @@ pub fn interlocking_table() -> &'static [(&'static str, InitialValue)]
 
 /// The rows below MMXU.
 pub fn meter_table() -> &'static [(&'static str, InitialValue)]
-    ensures { (n : Nameplate) → map (line_row n) result.now ≡ node.rows_of_parts [] node.meter_parts }
+    ensures { (n : Nameplate)
+        → map (line_row n) result.now ≡ node.rows_of_parts [] node.meter_parts }
 {
     &[
         ("$MX", Structure),

@@ -13,8 +13,12 @@ use Rattle.bay_process.specs.declared.switch.BoundSwitch.{BoundSwitch}
 use Rattle.bay_process.proofs.ListLemmas.{get-within}
 
 -- one switch more
-pub bound-snoc : (writes : List Source) (k : ℕ) (switches : List Switch) (rows : List SwitchRows) (s : Switch) (r : SwitchRows) (n : ℕ) → n ≡ length switches → n < length rows → r ≡ get_or rows n r
-    → bound_from writes k (switches ++ s ∷ []) rows ≡ bound_from writes k switches rows ++ record { switch = s; rows = r; outputs = outputs_at writes (k + n) } ∷ []
+pub bound-snoc : (writes : List Source) (k : ℕ) (switches : List Switch) (rows : List SwitchRows)
+    (s : Switch) (r : SwitchRows) (n : ℕ) → n ≡ length switches → n < length rows
+    → r ≡ get_or rows n r
+    → bound_from writes k (switches ++ s ∷ []) rows
+    ≡ bound_from writes k switches rows
+    ++ record { switch = s; rows = r; outputs = outputs_at writes (k + n) } ∷ []
 bound-snoc writes k [] [] s r n e lt is = absurd (omega arith)
 bound-snoc writes k [] (q ∷ rows) s r n e lt is =
     let first : r ≡ q = rw e at is in
@@ -25,21 +29,29 @@ bound-snoc writes k (t ∷ switches) (q ∷ rows) s r zero e lt is = absurd (ome
 bound-snoc writes k (t ∷ switches) (q ∷ rows) s r (suc n) e lt is =
     let more : k + 1 + n ≡ k + suc n = omega arith in
     let one : BoundSwitch = record { switch = t; rows = q; outputs = outputs_at writes k } in
-    ap (λ (bs : List BoundSwitch). one ∷ bs) (bound-snoc writes (k + 1) switches rows s r n (omega arith) (omega arith) is
-    ∙ ap (λ m. bound_from writes (k + 1) switches rows ++ record { switch = s; rows = r; outputs = outputs_at writes m } ∷ []) more)
+    ap (λ (bs : List BoundSwitch). one ∷ bs)
+    (bound-snoc writes (k + 1) switches rows s r n (omega arith) (omega arith) is
+    ∙ ap (λ m. bound_from writes (k + 1) switches rows
+    ++ record { switch = s; rows = r; outputs = outputs_at writes m } ∷ []) more)
 
 -- the switches are the bay's, and each stands with its rows and its writes
-pub bound-switches : (writes : List Source) (k : ℕ) (switches : List Switch) (rows : List SwitchRows) → length switches ≡ length rows → switches_of (bound_from writes k switches rows) ≡ switches
+pub bound-switches : (writes : List Source) (k : ℕ) (switches : List Switch)
+    (rows : List SwitchRows) → length switches ≡ length rows
+    → switches_of (bound_from writes k switches rows) ≡ switches
 bound-switches writes k [] rows same = refl
 bound-switches writes k (s ∷ switches) [] same = absurd (omega arith)
-bound-switches writes k (s ∷ switches) (r ∷ rows) same = ap (λ ss. s ∷ ss) (bound-switches writes (k + 1) switches rows (omega arith))
+bound-switches writes k (s ∷ switches) (r ∷ rows) same =
+    ap (λ ss. s ∷ ss) (bound-switches writes (k + 1) switches rows (omega arith))
 
-pub record Stands (writes : List Source) (k : ℕ) (switches : List Switch) (rows : List SwitchRows) (j : ℕ) (b : BoundSwitch) : Type 0 where
+pub record Stands (writes : List Source) (k : ℕ) (switches : List Switch) (rows : List SwitchRows)
+    (j : ℕ) (b : BoundSwitch) : Type 0 where
   pub switch_is : slice_get switches j ≡ Some b.switch
   pub rows_are : slice_get rows j ≡ Some b.rows
   pub outputs_are : b.outputs ≡ outputs_at writes (k + j)
 
-bound-stands : (writes : List Source) (k : ℕ) (switches : List Switch) (rows : List SwitchRows) (j : ℕ) (b : BoundSwitch) → slice_get (bound_from writes k switches rows) j ≡ Some b → Stands writes k switches rows j b
+bound-stands : (writes : List Source) (k : ℕ) (switches : List Switch) (rows : List SwitchRows)
+    (j : ℕ) (b : BoundSwitch) → slice_get (bound_from writes k switches rows) j ≡ Some b
+    → Stands writes k switches rows j b
 bound-stands writes k [] rows j b h = absurd cc
 bound-stands writes k (s ∷ switches) [] j b h = absurd cc
 bound-stands writes k (s ∷ switches) (r ∷ rows) zero b h =
@@ -54,9 +66,15 @@ bound-stands writes k (s ∷ switches) (r ∷ rows) zero b h =
 bound-stands writes k (s ∷ switches) (r ∷ rows) (suc j) b h =
     let w = bound-stands writes (k + 1) switches rows j b h in
     let more : k + 1 + j ≡ k + suc j = omega arith in
-    record { switch_is = w.switch_is; rows_are = w.rows_are; outputs_are = w.outputs_are ∙ ap (outputs_at writes) more }
+    record {
+      switch_is = w.switch_is;
+      rows_are = w.rows_are;
+      outputs_are = w.outputs_are ∙ ap (outputs_at writes) more;
+    }
 
-pub are-bound : (bay : Bay) (nodes : List Nodes) (layout : Layout) (writes : List Source) (rows : List SwitchRows) → AreAllNodes bay nodes → AreAllRows layout nodes rows → length nodes ≡ length bay.switches → length rows ≡ length nodes
+pub are-bound : (bay : Bay) (nodes : List Nodes) (layout : Layout) (writes : List Source)
+    (rows : List SwitchRows) → AreAllNodes bay nodes → AreAllRows layout nodes rows
+    → length nodes ≡ length bay.switches → length rows ≡ length nodes
     → AreBound layout writes (bound_from writes 0 bay.switches rows)
 are-bound bay nodes layout writes rows named placed same long k b h =
     let w = bound-stands writes 0 bay.switches rows k b h in
@@ -66,15 +84,20 @@ are-bound bay nodes layout writes rows named placed same long k b h =
     let p = own.position_named in
     let there : Some p.switch ≡ Some b.switch = sym p.here ∙ w.switch_is in
     let is : p.switch ≡ b.switch = cc in
-    let node : n.0.position ≡ node_of bay.switches k b.switch = p.named ∙ ap (node_of bay.switches k) is in
-    let all : switches_of (bound_from writes 0 bay.switches rows) ≡ bay.switches = bound-switches writes 0 bay.switches rows (omega arith) in
+    let node : n.0.position ≡ node_of bay.switches k b.switch =
+    p.named ∙ ap (node_of bay.switches k) is in
+    let all : switches_of (bound_from writes 0 bay.switches rows) ≡ bay.switches =
+    bound-switches writes 0 bay.switches rows (omega arith) in
     let none : 0 + k ≡ k = omega arith in
     let r = placed k n.0 b.rows n.1 w.rows_are in
     record {
       named =
-          r.named ∙ ap (λ m. names_by_nodes m n.0.control n.0.interlocking) node ∙ ap (λ m. names_by_nodes (node_of bay.switches k b.switch) m n.0.interlocking) own.control_named.named
-          ∙ ap (names_by_nodes (node_of bay.switches k b.switch) (control_of k)) own.interlocking_named.named
+          r.named ∙ ap (λ m. names_by_nodes m n.0.control n.0.interlocking) node
+          ∙ ap (λ m. names_by_nodes (node_of bay.switches k b.switch) m n.0.interlocking)
+          own.control_named.named
+          ∙ ap (names_by_nodes (node_of bay.switches k b.switch) (control_of k))
+          own.interlocking_named.named
           ∙ ap (λ ss. switch_names ss k b.switch) (sym all);
-      kinded = r.kinded;
+      leaf_typed = r.leaf_typed;
       outputs = w.outputs_are ∙ ap (outputs_at writes) none;
     }

@@ -6,10 +6,10 @@ use Rattle.std.proofs.lemmas.List.{get_or_default}
 use Rattle.std.proofs.lemmas.Slice.Eq.{bytes_eq-Decides}
 use Rattle.bay_tree.specs.declared.row.Row.{Row}
 use Rattle.bay_tree.specs.declared.leaf.Leaf.{Leaf}
-use Rattle.bay_tree.specs.declared.leaf.Kind.{Kind}
-use Rattle.bay_tree.specs.declared.leaf.Kind.TheVariants as kinds
-use Rattle.bay_tree.specs.Kinds.{kind_of}
-use Rattle.bay_tree.specs.Rows.{IsTree, place_of, row_at, name_at, leaf_of, kind_at, kinds_of}
+use Rattle.bay_tree.specs.declared.leaf.LeafType.{LeafType}
+use Rattle.bay_tree.specs.declared.leaf.LeafType.TheVariants as leaf_type
+use Rattle.bay_tree.specs.LeafTypes.{leaf_type_of}
+use Rattle.bay_tree.specs.Rows.{IsTree, place_of, row_at, name_at, leaf_of, leaf_type_at, leaf_types_of}
 use Rattle.bay_tree.specs.declared.leaf.Leaf.TheVariants as leaf
 use Rattle.bay_tree.specs.declared.leaf.Quality.{Quality as Validity}
 use Rattle.bay_tree.proofs.NamedLemmas.{leaf-named, found-leaf}
@@ -17,7 +17,7 @@ use Rattle.bay_tree.proofs.SearchLemmas.{place_of-found, place_of-none, place_of
 use Rattle.bay_nodes.specs.Node.{row}
 use Rattle.bay_config.specs.Laws.{IsBay, HasValue, HasPosition, HasControl, HasEnable, HasMeter, NamesMeter}
 use Rattle.bay_config.specs.declared.bay.Bay.{Bay}
-use Rattle.bay_process.specs.Layout.{Layout, layout_of, name_in, status_in, HasKind, AreStatusRows, AreMetersBound, IsMeterBound}
+use Rattle.bay_process.specs.Layout.{Layout, layout_of, name_in, status_in, HasLeafType, AreStatusRows, AreMetersBound, IsMeterBound}
 use Rattle.bay_nodes.specs.Names.{StatusNames, SwitchNames, opening_names, closing_names, names_by_nodes, ControlNames, control_names, control_names_of, MeterNames, meter_names_of}
 use Rattle.bay_process.specs.Controls.{HaveSelected, AreControlRows, AreAllControlRows}
 use Rattle.bay_process.specs.Nodes.{AreNodesOf, AreAllNodes, nodes_names, HasLeaf, HasStatus, HasSwitch, HasSwitches, AreThere, IsFound, AreFound, AreRowsOf, AreAllRows, AreAllMeters, HasMeterLeaves, IsMeterThere, HaveMeters, AreMeterRowsOf}
@@ -30,22 +30,30 @@ use Rattle.bay_process.specs.declared.rows.SwitchRows.{SwitchRows}
 use Rattle.bay_process.proofs.ListLemmas.{get-snoc}
 
 -- a row that a tree contains gives its name its value
-contains-leaf : (rows : List Row) (name : List ℕ) (value : Leaf) → IsTree rows → Contains rows (row name (Some value)) → leaf_of name rows ≡ Some value
+contains-leaf : (rows : List Row) (name : List ℕ) (value : Leaf) → IsTree rows
+    → Contains rows (row name (Some value)) → leaf_of name rows ≡ Some value
 contains-leaf rows name value tree w =
-    let is : row_at rows w.0 ≡ row name (Some value) = get_or_default rows w.0 _ (row name (Some value)) w.1 ∙ w.2 in
-    ap (λ n. leaf_of n rows) (sym (ap (λ (r : Row). r.name) is)) ∙ sym (leaf-named rows w.0 tree w.1) ∙ ap (λ (r : Row). r.leaf) is
+    let is : row_at rows w.0 ≡ row name (Some value) =
+    get_or_default rows w.0 _ (row name (Some value)) w.1 ∙ w.2 in
+    ap (λ n. leaf_of n rows) (sym (ap (λ (r : Row). r.name) is))
+    ∙ sym (leaf-named rows w.0 tree w.1) ∙ ap (λ (r : Row). r.leaf) is
 
-has-leaf : (rows : List Row) (name : List ℕ) (value : Leaf) → IsTree rows → Contains rows (row name (Some value)) → HasLeaf rows name (kind_of value)
-has-leaf rows name value tree w = ap (option_map kind_of) (contains-leaf rows name value tree w)
+has-leaf : (rows : List Row) (name : List ℕ) (value : Leaf) → IsTree rows
+    → Contains rows (row name (Some value)) → HasLeaf rows name (leaf_type_of value)
+has-leaf rows name value tree w =
+    ap (option_map leaf_type_of) (contains-leaf rows name value tree w)
 
-has-value : (rows : List Row) (names : StatusNames) (value : Leaf) (quality : Validity) → IsTree rows → HasValue rows names value quality → HasStatus rows names (kind_of value)
+has-value : (rows : List Row) (names : StatusNames) (value : Leaf) (quality : Validity)
+    → IsTree rows → HasValue rows names value quality → HasStatus rows names (leaf_type_of value)
 has-value rows names value quality tree h = record {
   value_leaf = has-leaf rows names.value value tree h.value_there;
   quality_leaf = has-leaf rows names.quality (leaf.Quality quality) tree h.quality_there;
   time_leaf = has-leaf rows names.time (leaf.Utc 0) tree h.moment_there;
 }
 
-has-switch : (rows : List Row) (node control interlocking : List ℕ) → IsTree rows → HasPosition rows node → HasControl rows control → HasEnable rows (opening_names interlocking) → HasEnable rows (closing_names interlocking)
+has-switch : (rows : List Row) (node control interlocking : List ℕ) → IsTree rows
+    → HasPosition rows node → HasControl rows control → HasEnable rows (opening_names interlocking)
+    → HasEnable rows (closing_names interlocking)
     → HasSwitch rows (names_by_nodes node control interlocking)
 has-switch rows node control interlocking tree p d o c = record {
   position = has-value rows _ _ _ tree p.position;
@@ -55,15 +63,18 @@ has-switch rows node control interlocking tree p d o c = record {
   ena_cls = has-value rows _ _ _ tree c;
 }
 
-pub has-switches : (bay : Bay) (nodes : List Nodes) → IsBay bay → AreAllNodes bay nodes → HasSwitches bay.rows nodes
+pub has-switches : (bay : Bay) (nodes : List Nodes) → IsBay bay → AreAllNodes bay nodes
+    → HasSwitches bay.rows nodes
 has-switches bay nodes is_bay all k n hn =
     let own = all k n hn in
     let p = own.position_named in
     let d = own.control_named in
     let i = own.interlocking_named in
-    has-switch bay.rows n.position n.control n.interlocking is_bay.tree (p.rows is_bay) (d.rows is_bay) (i.open_rows is_bay) (i.close_rows is_bay)
+    has-switch bay.rows n.position n.control n.interlocking is_bay.tree (p.rows is_bay)
+    (d.rows is_bay) (i.open_rows is_bay) (i.close_rows is_bay)
 
-has-meter : (rows : List Row) (names : MeterNames) → IsTree rows → HasMeter rows names → HasMeterLeaves rows names
+has-meter : (rows : List Row) (names : MeterNames) → IsTree rows → HasMeter rows names
+    → HasMeterLeaves rows names
 has-meter rows names tree m = record {
   tot_w = has-value rows _ _ _ tree m.tot_w;
   tot_var = has-value rows _ _ _ tree m.tot_var;
@@ -74,28 +85,40 @@ has-meter rows names tree m = record {
 }
 
 -- each control tells whether its switch is selected
-pub have-selected : (bay : Bay) (nodes : List Nodes) → IsBay bay → AreAllNodes bay nodes → HaveSelected bay.rows (length nodes)
+pub have-selected : (bay : Bay) (nodes : List Nodes) → IsBay bay → AreAllNodes bay nodes
+    → HaveSelected bay.rows (length nodes)
 have-selected bay nodes is_bay all k lt =
     let n = got nodes k lt in
     let own = (all k n.0 n.1).control_named in
-    has-leaf bay.rows _ (leaf.Truth false) is_bay.tree (subst (λ m. Contains bay.rows (row (control_names_of m).selected (Some (leaf.Truth false)))) own.named (own.rows is_bay).selected)
+    has-leaf bay.rows _ (leaf.Truth false) is_bay.tree
+    (subst (λ m. Contains bay.rows
+    (row (control_names_of m).selected (Some (leaf.Truth false)))) own.named
+    (own.rows is_bay).selected)
   where
-    got : (nodes : List Nodes) (k : ℕ) → k < length nodes → (n : Nodes) × (slice_get nodes k ≡ Some n)
+    got : (nodes : List Nodes) (k : ℕ) → k < length nodes
+        → (n : Nodes) × (slice_get nodes k ≡ Some n)
     got [] k lt = absurd (omega arith)
     got (n ∷ nodes) zero lt = (n, refl)
     got (n ∷ nodes) (suc k) lt = got nodes k (omega arith)
 
-pub have-meters : (bay : Bay) (nodes : List (List ℕ)) → IsBay bay → AreAllMeters bay nodes → HaveMeters bay.rows nodes
+pub have-meters : (bay : Bay) (nodes : List (List ℕ)) → IsBay bay → AreAllMeters bay nodes
+    → HaveMeters bay.rows nodes
 have-meters bay nodes is_bay all k n hn =
     let own = all k n hn in
-    record { named = own.named; leaves = has-meter bay.rows (meter_names_of n) is_bay.tree (own.rows is_bay) }
+    record {
+      named = own.named;
+      leaves = has-meter bay.rows (meter_names_of n) is_bay.tree (own.rows is_bay);
+    }
 
 -- a name that has a value is found
-there : (rows : List Row) (name : List ℕ) (kind : Kind) → HasLeaf rows name kind → leaf_of name rows ≢ None
-there rows name kind h none = let e : option_map kind_of None ≡ Some kind = rw none at h in cc
+there : (rows : List Row) (name : List ℕ) (leaf_type : LeafType) → HasLeaf rows name leaf_type
+    → leaf_of name rows ≢ None
+there rows name leaf_type h none = let e : option_map leaf_type_of None ≡ Some leaf_type =
+    rw none at h in cc
 
-pub are-there : (rows : List Row) (names : StatusNames) (kind : Kind) → HasStatus rows names kind → AreThere rows names
-are-there rows names kind h = record {
+pub are-there : (rows : List Row) (names : StatusNames) (leaf_type : LeafType)
+    → HasStatus rows names leaf_type → AreThere rows names
+are-there rows names leaf_type h = record {
   value_there = there rows names.value _ h.value_leaf;
   quality_there = there rows names.quality _ h.quality_leaf;
   time_there = there rows names.time _ h.time_leaf;
@@ -105,138 +128,203 @@ other_text : (b : Bool) → (b ≡ true → ⊥) → b ≡ false
 other_text true f = absurd (f refl)
 other_text false f = refl
 
-pub lacking-leaf : (rows : List Row) (name : List ℕ) → All (λ (r : Row). r.name ≢ name) rows → leaf_of name rows ≡ None
+pub lacking-leaf : (rows : List Row) (name : List ℕ) → All (λ (r : Row). r.name ≢ name) rows
+    → leaf_of name rows ≡ None
 lacking-leaf [] name lacks = refl
 lacking-leaf (row ∷ rows) name lacks =
-    let apart : bytes_eq row.name name ≡ false = other_text (bytes_eq row.name name) (λ t. lacks zero row (omega arith) ((bytes_eq-Decides row.name name).0 t)) in
-    ap (λ b. option_and_then (λ (r : Row). r.leaf) (cond b (Some row) (find (λ (r : Row). bytes_eq r.name name) rows))) apart
+    let apart : bytes_eq row.name name ≡ false =
+    other_text (bytes_eq row.name name)
+    (λ t. lacks zero row (omega arith) ((bytes_eq-Decides row.name name).0 t)) in
+    ap (λ b. option_and_then (λ (r : Row). r.leaf)
+    (cond b (Some row) (find (λ (r : Row). bytes_eq r.name name) rows))) apart
     ∙ lacking-leaf rows name (λ k d lt. lacks (suc k) d (omega arith))
 
 pub refused-so : {A E : Type 0} (o : Option A) (e f : E) → ok_or o e ≡ Err f → ok_or o e ≡ Err e
 refused-so None e f h = refl
 refused-so (Some x) e f h = absurd cc
 
--- the layout of a tree has the names and the kinds of its rows
+-- the layout of a tree has the names and the types of its rows
 name_at-in : (rows : List Row) (place : ℕ) → name_in (layout_of rows) place ≡ name_at rows place
 name_at-in [] place = refl
 name_at-in (row ∷ rows) zero = refl
 name_at-in (row ∷ rows) (suc place) = name_at-in rows place
 
-kind_at-in : (rows : List Row) (place : ℕ) → slice_index_or (kinds_of rows) place None ≡ kind_at rows place
-kind_at-in [] place = refl
-kind_at-in (row ∷ rows) zero = refl
-kind_at-in (row ∷ rows) (suc place) = kind_at-in rows place
+leaf_type_at-in : (rows : List Row) (place : ℕ)
+    → slice_index_or (leaf_types_of rows) place None ≡ leaf_type_at rows place
+leaf_type_at-in [] place = refl
+leaf_type_at-in (row ∷ rows) zero = refl
+leaf_type_at-in (row ∷ rows) (suc place) = leaf_type_at-in rows place
 
-found-kind : (rows : List Row) (name : List ℕ) (kind : Kind) (handle : ℕ) → HasLeaf rows name kind → IsFound rows name handle → HasKind (layout_of rows) handle kind
-found-kind rows name kind handle h f = kind_at-in rows handle ∙ ap (option_map kind_of) f.value ∙ h
+found-leaf_type : (rows : List Row) (name : List ℕ) (leaf_type : LeafType) (handle : ℕ)
+    → HasLeaf rows name leaf_type → IsFound rows name handle
+    → HasLeafType (layout_of rows) handle leaf_type
+found-leaf_type rows name leaf_type handle h f =
+    leaf_type_at-in rows handle ∙ ap (option_map leaf_type_of) f.value ∙ h
 
-found-kinds : (rows : List Row) (names : StatusNames) (kind : Kind) (handles : StatusRows) → HasStatus rows names kind → AreFound rows names handles → AreStatusRows (layout_of rows) kind handles
-found-kinds rows names kind handles h f = record {
-  value_kind = found-kind rows names.value _ handles.value h.value_leaf f.value_found;
-  quality_kind = found-kind rows names.quality _ handles.quality h.quality_leaf f.quality_found;
-  time_kind = found-kind rows names.time _ handles.time h.time_leaf f.time_found;
+found-leaf_types : (rows : List Row) (names : StatusNames) (leaf_type : LeafType)
+    (handles : StatusRows) → HasStatus rows names leaf_type → AreFound rows names handles
+    → AreStatusRows (layout_of rows) leaf_type handles
+found-leaf_types rows names leaf_type handles h f = record {
+  value_type = found-leaf_type rows names.value _ handles.value h.value_leaf f.value_found;
+  quality_type =
+      found-leaf_type rows names.quality _ handles.quality h.quality_leaf f.quality_found;
+  time_type = found-leaf_type rows names.time _ handles.time h.time_leaf f.time_found;
 }
 
-found-names : (rows : List Row) (names : StatusNames) (handles : StatusRows) → AreFound rows names handles → status_in (layout_of rows) handles ≡ names
+found-names : (rows : List Row) (names : StatusNames) (handles : StatusRows)
+    → AreFound rows names handles → status_in (layout_of rows) handles ≡ names
 found-names rows names handles f =
-    let value : name_in (layout_of rows) handles.value ≡ names.value = name_at-in rows handles.value ∙ f.value_found.named in
-    let quality : name_in (layout_of rows) handles.quality ≡ names.quality = name_at-in rows handles.quality ∙ f.quality_found.named in
-    let time : name_in (layout_of rows) handles.time ≡ names.time = name_at-in rows handles.time ∙ f.time_found.named in
+    let value : name_in (layout_of rows) handles.value ≡ names.value =
+    name_at-in rows handles.value ∙ f.value_found.named in
+    let quality : name_in (layout_of rows) handles.quality ≡ names.quality =
+    name_at-in rows handles.quality ∙ f.quality_found.named in
+    let time : name_in (layout_of rows) handles.time ≡ names.time =
+    name_at-in rows handles.time ∙ f.time_found.named in
     rw (value, quality, time) refl
 
-pub found-switch : (rows : List Row) (names : SwitchNames) (handles : SwitchRows) → HasSwitch rows names
-    → AreFound rows names.position handles.position → AreFound rows names.control handles.control → AreFound rows names.operations handles.operations → AreFound rows names.ena_opn handles.ena_opn → AreFound rows names.ena_cls handles.ena_cls
+pub found-switch : (rows : List Row) (names : SwitchNames) (handles : SwitchRows)
+    → HasSwitch rows names
+    → AreFound rows names.position handles.position → AreFound rows names.control handles.control
+    → AreFound rows names.operations handles.operations
+    → AreFound rows names.ena_opn handles.ena_opn → AreFound rows names.ena_cls handles.ena_cls
     → AreRowsOf (layout_of rows) names handles
 found-switch rows names handles h p d n o c =
-    let position : status_in (layout_of rows) handles.position ≡ names.position = found-names rows names.position handles.position p in
-    let control : status_in (layout_of rows) handles.control ≡ names.control = found-names rows names.control handles.control d in
-    let operations : status_in (layout_of rows) handles.operations ≡ names.operations = found-names rows names.operations handles.operations n in
-    let ena_opn : status_in (layout_of rows) handles.ena_opn ≡ names.ena_opn = found-names rows names.ena_opn handles.ena_opn o in
-    let ena_cls : status_in (layout_of rows) handles.ena_cls ≡ names.ena_cls = found-names rows names.ena_cls handles.ena_cls c in
+    let position : status_in (layout_of rows) handles.position ≡ names.position =
+    found-names rows names.position handles.position p in
+    let control : status_in (layout_of rows) handles.control ≡ names.control =
+    found-names rows names.control handles.control d in
+    let operations : status_in (layout_of rows) handles.operations ≡ names.operations =
+    found-names rows names.operations handles.operations n in
+    let ena_opn : status_in (layout_of rows) handles.ena_opn ≡ names.ena_opn =
+    found-names rows names.ena_opn handles.ena_opn o in
+    let ena_cls : status_in (layout_of rows) handles.ena_cls ≡ names.ena_cls =
+    found-names rows names.ena_cls handles.ena_cls c in
     record {
       named = rw (position, control, operations, ena_opn, ena_cls) refl;
-      kinded = record {
-        position = found-kinds rows names.position _ handles.position h.position p;
-        control = found-kinds rows names.control _ handles.control h.control d;
-        operations = found-kinds rows names.operations _ handles.operations h.operations n;
-        ena_opn = found-kinds rows names.ena_opn _ handles.ena_opn h.ena_opn o;
-        ena_cls = found-kinds rows names.ena_cls _ handles.ena_cls h.ena_cls c;
+      leaf_typed = record {
+        position = found-leaf_types rows names.position _ handles.position h.position p;
+        control = found-leaf_types rows names.control _ handles.control h.control d;
+        operations = found-leaf_types rows names.operations _ handles.operations h.operations n;
+        ena_opn = found-leaf_types rows names.ena_opn _ handles.ena_opn h.ena_opn o;
+        ena_cls = found-leaf_types rows names.ena_cls _ handles.ena_cls h.ena_cls c;
       };
     }
 
-pub found-meter : (rows : List Row) (names : MeterNames) (handles : MeterRows) → HasMeterLeaves rows names
-    → AreFound rows names.tot_w handles.tot_w → AreFound rows names.tot_var handles.tot_var → AreFound rows names.hz handles.hz
-    → AreFound rows names.phase_a handles.phase_a → AreFound rows names.phase_b handles.phase_b → AreFound rows names.phase_c handles.phase_c
+pub found-meter : (rows : List Row) (names : MeterNames) (handles : MeterRows)
+    → HasMeterLeaves rows names
+    → AreFound rows names.tot_w handles.tot_w → AreFound rows names.tot_var handles.tot_var
+    → AreFound rows names.hz handles.hz
+    → AreFound rows names.phase_a handles.phase_a → AreFound rows names.phase_b handles.phase_b
+    → AreFound rows names.phase_c handles.phase_c
     → AreMeterRowsOf (layout_of rows) names handles
 found-meter rows names handles h w v z a b c =
-    let tot_w : status_in (layout_of rows) handles.tot_w ≡ names.tot_w = found-names rows names.tot_w handles.tot_w w in
-    let tot_var : status_in (layout_of rows) handles.tot_var ≡ names.tot_var = found-names rows names.tot_var handles.tot_var v in
-    let hz : status_in (layout_of rows) handles.hz ≡ names.hz = found-names rows names.hz handles.hz z in
-    let phase_a : status_in (layout_of rows) handles.phase_a ≡ names.phase_a = found-names rows names.phase_a handles.phase_a a in
-    let phase_b : status_in (layout_of rows) handles.phase_b ≡ names.phase_b = found-names rows names.phase_b handles.phase_b b in
-    let phase_c : status_in (layout_of rows) handles.phase_c ≡ names.phase_c = found-names rows names.phase_c handles.phase_c c in
+    let tot_w : status_in (layout_of rows) handles.tot_w ≡ names.tot_w =
+    found-names rows names.tot_w handles.tot_w w in
+    let tot_var : status_in (layout_of rows) handles.tot_var ≡ names.tot_var =
+    found-names rows names.tot_var handles.tot_var v in
+    let hz : status_in (layout_of rows) handles.hz ≡ names.hz =
+    found-names rows names.hz handles.hz z in
+    let phase_a : status_in (layout_of rows) handles.phase_a ≡ names.phase_a =
+    found-names rows names.phase_a handles.phase_a a in
+    let phase_b : status_in (layout_of rows) handles.phase_b ≡ names.phase_b =
+    found-names rows names.phase_b handles.phase_b b in
+    let phase_c : status_in (layout_of rows) handles.phase_c ≡ names.phase_c =
+    found-names rows names.phase_c handles.phase_c c in
     record {
       named = rw (tot_w, tot_var, hz, phase_a, phase_b, phase_c) refl;
-      kinded = record {
-        tot_w = found-kinds rows names.tot_w _ handles.tot_w h.tot_w w;
-        tot_var = found-kinds rows names.tot_var _ handles.tot_var h.tot_var v;
-        hz = found-kinds rows names.hz _ handles.hz h.hz z;
-        phase_a = found-kinds rows names.phase_a _ handles.phase_a h.phase_a a;
-        phase_b = found-kinds rows names.phase_b _ handles.phase_b h.phase_b b;
-        phase_c = found-kinds rows names.phase_c _ handles.phase_c h.phase_c c;
+      leaf_typed = record {
+        tot_w = found-leaf_types rows names.tot_w _ handles.tot_w h.tot_w w;
+        tot_var = found-leaf_types rows names.tot_var _ handles.tot_var h.tot_var v;
+        hz = found-leaf_types rows names.hz _ handles.hz h.hz z;
+        phase_a = found-leaf_types rows names.phase_a _ handles.phase_a h.phase_a a;
+        phase_b = found-leaf_types rows names.phase_b _ handles.phase_b h.phase_b b;
+        phase_c = found-leaf_types rows names.phase_c _ handles.phase_c h.phase_c c;
       };
     }
 
 -- one meter more
-pub meters-snoc : (bay : Bay) (nodes : List (List ℕ)) (n : List ℕ) → AreAllMeters bay nodes → NamesMeter bay (length nodes) n → AreAllMeters bay (nodes ++ n ∷ [])
+pub meters-snoc : (bay : Bay) (nodes : List (List ℕ)) (n : List ℕ) → AreAllMeters bay nodes
+    → NamesMeter bay (length nodes) n → AreAllMeters bay (nodes ++ n ∷ [])
 meters-snoc bay nodes n all own k m h =
     ⊎_elim (λ (l : slice_get nodes k ≡ Some m). all k m l)
-    (λ (r : (k ≡ length nodes) × (n ≡ m)). subst (λ j. NamesMeter bay j m) (sym r.0) (subst (NamesMeter bay (length nodes)) r.1 own)) (get-snoc nodes n k m h)
+    (λ (r : (k ≡ length nodes) × (n ≡ m)). subst (λ j. NamesMeter bay j m) (sym r.0)
+    (subst (NamesMeter bay (length nodes)) r.1 own)) (get-snoc nodes n k m h)
 
-pub bound-meter : (rows : List Row) (k : ℕ) (node : List ℕ) (handles : MeterRows) → IsMeterThere rows k node → AreMeterRowsOf (layout_of rows) (meter_names_of node) handles → IsMeterBound (layout_of rows) k handles
-bound-meter rows k node handles there own = record { named = own.named ∙ ap meter_names_of there.named; kinded = own.kinded }
+pub bound-meter : (rows : List Row) (k : ℕ) (node : List ℕ) (handles : MeterRows)
+    → IsMeterThere rows k node → AreMeterRowsOf (layout_of rows) (meter_names_of node) handles
+    → IsMeterBound (layout_of rows) k handles
+bound-meter rows k node handles there own =
+    record { named = own.named ∙ ap meter_names_of there.named; leaf_typed = own.leaf_typed }
 
-pub bound-meters-snoc : (layout : Layout) (bound : List BoundMeter) (m : BoundMeter) → AreMetersBound layout bound → IsMeterBound layout (length bound) m.rows → AreMetersBound layout (bound ++ m ∷ [])
+pub bound-meters-snoc : (layout : Layout) (bound : List BoundMeter) (m : BoundMeter)
+    → AreMetersBound layout bound → IsMeterBound layout (length bound) m.rows
+    → AreMetersBound layout (bound ++ m ∷ [])
 bound-meters-snoc layout bound m all own k q h =
     ⊎_elim (λ (l : slice_get bound k ≡ Some q). all k q l)
-    (λ (r : (k ≡ length bound) × (m ≡ q)). subst (λ j. IsMeterBound layout j q.rows) (sym r.0) (subst (λ (x : BoundMeter). IsMeterBound layout (length bound) x.rows) r.1 own)) (get-snoc bound m k q h)
+    (λ (r : (k ≡ length bound) × (m ≡ q)). subst (λ j. IsMeterBound layout j q.rows) (sym r.0)
+    (subst (λ (x : BoundMeter). IsMeterBound layout (length bound) x.rows) r.1 own))
+    (get-snoc bound m k q h)
 
 -- one switch more
-pub nodes-snoc : (bay : Bay) (nodes : List Nodes) (n : Nodes) → AreAllNodes bay nodes → AreNodesOf bay (length nodes) n → AreAllNodes bay (nodes ++ n ∷ [])
+pub nodes-snoc : (bay : Bay) (nodes : List Nodes) (n : Nodes) → AreAllNodes bay nodes
+    → AreNodesOf bay (length nodes) n → AreAllNodes bay (nodes ++ n ∷ [])
 nodes-snoc bay nodes n all own k m h =
     ⊎_elim (λ (l : slice_get nodes k ≡ Some m). all k m l)
-    (λ (r : (k ≡ length nodes) × (n ≡ m)). subst (λ j. AreNodesOf bay j m) (sym r.0) (subst (AreNodesOf bay (length nodes)) r.1 own)) (get-snoc nodes n k m h)
+    (λ (r : (k ≡ length nodes) × (n ≡ m)). subst (λ j. AreNodesOf bay j m) (sym r.0)
+    (subst (AreNodesOf bay (length nodes)) r.1 own)) (get-snoc nodes n k m h)
 
-pub rows-snoc : (layout : Layout) (nodes : List Nodes) (rows : List SwitchRows) (n : Nodes) (r : SwitchRows) → AreAllRows layout nodes rows → slice_get nodes (length rows) ≡ Some n → AreRowsOf layout (nodes_names n) r
+pub rows-snoc : (layout : Layout) (nodes : List Nodes) (rows : List SwitchRows) (n : Nodes)
+    (r : SwitchRows) → AreAllRows layout nodes rows → slice_get nodes (length rows) ≡ Some n
+    → AreRowsOf layout (nodes_names n) r
     → AreAllRows layout nodes (rows ++ r ∷ [])
 rows-snoc layout nodes rows n r all here own k m q hm hq =
     ⊎_elim (λ (l : slice_get rows k ≡ Some q). all k m q hm l)
     (λ (last : (k ≡ length rows) × (r ≡ q)).
     let there : Some n ≡ Some m = sym here ∙ ap (slice_get nodes) (sym last.0) ∙ hm in
     let same : n ≡ m = cc in
-    subst (AreRowsOf layout (nodes_names m)) last.1 (subst (λ (x : Nodes). AreRowsOf layout (nodes_names x) r) same own)) (get-snoc rows r k q hq)
+    subst (AreRowsOf layout (nodes_names m)) last.1
+    (subst (λ (x : Nodes). AreRowsOf layout (nodes_names x) r) same own))
+    (get-snoc rows r k q hq)
 
 -- one control more
-pub controls-snoc : (rows : List Row) (controls : List ControlRows) (handles : ControlRows) → AreAllControlRows rows controls → AreControlRows rows (control_names (length controls)) handles → AreAllControlRows rows (controls ++ handles ∷ [])
+pub controls-snoc : (rows : List Row) (controls : List ControlRows) (handles : ControlRows)
+    → AreAllControlRows rows controls
+    → AreControlRows rows (control_names (length controls)) handles
+    → AreAllControlRows rows (controls ++ handles ∷ [])
 controls-snoc rows controls handles all own k r h =
     ⊎_elim (λ (l : slice_get controls k ≡ Some r). all k r l)
-    (λ (last : (k ≡ length controls) × (handles ≡ r)). subst (λ j. AreControlRows rows (control_names j) r) (sym last.0) (subst (AreControlRows rows (control_names (length controls))) last.1 own)) (get-snoc controls handles k r h)
+    (λ (last : (k ≡ length controls) × (handles ≡ r)). subst
+    (λ j. AreControlRows rows (control_names j) r) (sym last.0)
+    (subst (AreControlRows rows (control_names (length controls))) last.1 own))
+    (get-snoc controls handles k r h)
 
 -- what no place is found for has no value
-pub selected-kind : (rows : List Row) (name : List ℕ) (handle : ℕ) → HasLeaf rows name kinds.Truth → place_of rows name ≡ Some handle → HasKind (layout_of rows) handle kinds.Truth
-selected-kind rows name handle has at =
-    found-kind rows name kinds.Truth handle has (record { named = (place_of-found rows name handle at).1; value = found-leaf name rows handle at })
+pub selected-leaf_type : (rows : List Row) (name : List ℕ) (handle : ℕ)
+    → HasLeaf rows name leaf_type.Truth → place_of rows name ≡ Some handle
+    → HasLeafType (layout_of rows) handle leaf_type.Truth
+selected-leaf_type rows name handle has at =
+    found-leaf_type rows name leaf_type.Truth handle has
+    (record {
+      named = (place_of-found rows name handle at).1;
+      value = found-leaf name rows handle at;
+    })
 
-pub not-lacking : (rows : List Row) (name : List ℕ) → HasLeaf rows name kinds.Truth → place_of rows name ≡ None → ⊥
-not-lacking rows name has none = there rows name kinds.Truth has (lacking-leaf rows name (place_of-none rows name none))
+pub not-lacking : (rows : List Row) (name : List ℕ) → HasLeaf rows name leaf_type.Truth
+    → place_of rows name ≡ None → ⊥
+not-lacking rows name has none =
+    there rows name leaf_type.Truth has (lacking-leaf rows name (place_of-none rows name none))
 
 -- where a control's rows are follows from the names
-pub control-rows-stay : (before after : List Row) (names : ControlNames) (handles : ControlRows) → layout_of before ≡ layout_of after → AreControlRows before names handles → AreControlRows after names handles
+pub control-rows-stay : (before after : List Row) (names : ControlNames) (handles : ControlRows)
+    → layout_of before ≡ layout_of after → AreControlRows before names handles
+    → AreControlRows after names handles
 control-rows-stay before after names handles same own =
-    let stays = λ (name : List ℕ). place_of-stays before after name (ap (λ (l : Layout). l.names) same) in
+    let stays =
+    λ (name : List ℕ). place_of-stays before after name (ap (λ (l : Layout). l.names) same) in
     record {
       selected = sym (stays names.selected) ∙ own.selected;
-      selected_kind = subst (λ l. HasKind l handles.selected kinds.Truth) same own.selected_kind;
+      selected_type =
+          subst (λ l. HasLeafType l handles.selected leaf_type.Truth) same own.selected_type;
       select = own.select ∙ stays names.select;
       select_with_value = own.select_with_value ∙ stays names.select_with_value;
       operate = own.operate ∙ stays names.operate;

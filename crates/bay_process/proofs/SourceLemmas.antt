@@ -28,7 +28,8 @@ both (x ∷ xs) ys h k = (h.0, both xs ys h.1 k)
 
 switches-typed : (place : ℕ) (switches : List Switch) → Each IsTyped (points_from place switches)
 switches-typed place [] = tt
-switches-typed place (s ∷ switches) = (refl, (refl, (refl, (refl, (refl, switches-typed (place + 1) switches)))))
+switches-typed place (s ∷ switches) =
+    (refl, (refl, (refl, (refl, (refl, switches-typed (place + 1) switches)))))
 
 inputs-typed : (place : ℕ) (names : List (List ℕ)) → Each IsTyped (inputs_from place names)
 inputs-typed place [] = tt
@@ -36,11 +37,15 @@ inputs-typed place (n ∷ names) = (refl, inputs-typed (place + 1) names)
 
 meters-typed : (place : ℕ) (ids : List (List ℕ)) → Each IsTyped (meters_from place ids)
 meters-typed place [] = tt
-meters-typed place (m ∷ ids) = (refl, (refl, (refl, (refl, (refl, (refl, meters-typed (place + 1) ids))))))
+meters-typed place (m ∷ ids) =
+    (refl, (refl, (refl, (refl, (refl, (refl, meters-typed (place + 1) ids))))))
 
 -- each point of a bay does
-pub bay-typed : (switches : List Switch) (inputs meters : List (List ℕ)) → Each IsTyped (points_of_all switches inputs meters)
-bay-typed switches inputs meters = both (points_from 0 switches) _ (switches-typed 0 switches) (both (inputs_from 0 inputs) _ (inputs-typed 0 inputs) (meters-typed 0 meters))
+pub bay-typed : (switches : List Switch) (inputs meters : List (List ℕ))
+    → Each IsTyped (points_of_all switches inputs meters)
+bay-typed switches inputs meters =
+    both (points_from 0 switches) _ (switches-typed 0 switches)
+    (both (inputs_from 0 inputs) _ (inputs-typed 0 inputs) (meters-typed 0 meters))
 
 -- what is found passes the test, and stands for something of its type
 pub record Found (test : Point → Bool) (o : Option Point) : Type 0 where
@@ -49,14 +54,17 @@ pub record Found (test : Point → Bool) (o : Option Point) : Type 0 where
   pub passes : test point ≡ true
   pub typed : IsTyped point
 
-found-first : (test : Point → Bool) (q : Point) (points : List Point) → IsTyped q → (list_any test points ≡ true → Found test (find test points)) → (b : Bool) → test q ≡ b
+found-first : (test : Point → Bool) (q : Point) (points : List Point) → IsTyped q
+    → (list_any test points ≡ true → Found test (find test points)) → (b : Bool) → test q ≡ b
     → b || list_any test points ≡ true → Found test (cond b (Some q) (find test points))
 found-first test q points h rest true t e = record { point = q; is = refl; passes = t; typed = h }
 found-first test q points h rest false t e = rest e
 
-any-found : (test : Point → Bool) (points : List Point) → Each IsTyped points → list_any test points ≡ true → Found test (find test points)
+any-found : (test : Point → Bool) (points : List Point) → Each IsTyped points
+    → list_any test points ≡ true → Found test (find test points)
 any-found test [] h e = absurd cc
-any-found test (q ∷ points) h e = found-first test q points h.0 (any-found test points h.1) (test q) refl e
+any-found test (q ∷ points) h e =
+    found-first test q points h.0 (any-found test points h.1) (test q) refl e
 
 first : (a b : Bool) → a && b ≡ true → a ≡ true
 first true b e = refl
@@ -67,11 +75,14 @@ second true b e = e
 second false b e = absurd cc
 
 kind-is : (p : ImagePoint) (q : Point) → is_point p q ≡ true → p.elementary ≡ q.kind
-kind-is p q e = same_is p.elementary q.kind (first (same_type p.elementary q.kind) _ (second (same_name p.name q.name) _ e))
+kind-is p q e =
+    same_is p.elementary q.kind
+    (first (same_type p.elementary q.kind) _ (second (same_name p.name q.name) _ e))
 
 -- the points that may only be read stand for what has their types
 module _ (bay : List Point) (typed : Each IsTyped bay) where
-  one : (p : ImagePoint) (rest : List Source) (types : List ElementaryType) → list_any (is_point p) bay ≡ true → map type_of_source rest ≡ types
+  one : (p : ImagePoint) (rest : List Source) (types : List ElementaryType)
+      → list_any (is_point p) bay ≡ true → map type_of_source rest ≡ types
       → map type_of_source (cons_option (source_of bay p) rest) ≡ p.elementary ∷ types
   one p rest types any e =
       let f = any-found (is_point p) bay typed any in
@@ -79,17 +90,25 @@ module _ (bay : List Point) (typed : Each IsTyped bay) where
       ∙ ap (λ t. t ∷ map type_of_source rest) (f.typed ∙ sym (kind-is p f.point f.passes))
       ∙ ap (λ (ts : List ElementaryType). p.elementary ∷ ts) e
 
-  more : (p : ImagePoint) (points : List ImagePoint) → list_any (is_point p) bay ≡ true → map type_of_source (sources_of false bay points) ≡ map type_of_point (read_only points) → (w : Bool)
-      → map type_of_source (cond (beq w false) (cons_option (source_of bay p) (sources_of false bay points)) (sources_of false bay points))
+  more : (p : ImagePoint) (points : List ImagePoint) → list_any (is_point p) bay ≡ true
+      → map type_of_source (sources_of false bay points) ≡ map type_of_point (read_only points)
+      → (w : Bool)
+      → map type_of_source (cond (beq w false)
+      (cons_option (source_of bay p) (sources_of false bay points))
+      (sources_of false bay points))
       ≡ map type_of_point (cond (not w) (p ∷ read_only points) (read_only points))
   more p points any rest true = rest
-  more p points any rest false = one p (sources_of false bay points) (map type_of_point (read_only points)) any rest
+  more p points any rest false =
+      one p (sources_of false bay points) (map type_of_point (read_only points)) any rest
 
-  pub reads-typed : (points : List ImagePoint) → are_points bay points ≡ true → map type_of_source (sources_of false bay points) ≡ map type_of_point (read_only points)
+  pub reads-typed : (points : List ImagePoint) → are_points bay points ≡ true
+      → map type_of_source (sources_of false bay points) ≡ map type_of_point (read_only points)
   reads-typed [] e = refl
   reads-typed (p ∷ points) e =
-      more p points (first (list_any (is_point p) bay) _ (first _ (are_points bay points) e)) (reads-typed points (second _ (are_points bay points) e)) p.writable
+      more p points (first (list_any (is_point p) bay) _ (first _ (are_points bay points) e))
+      (reads-typed points (second _ (are_points bay points) e)) p.writable
 
-pub points-fit : (bay : List Point) (image : Image) → fits bay image ≡ true → are_points bay image.points ≡ true
+pub points-fit : (bay : List Point) (image : Image) → fits bay image ≡ true
+    → are_points bay image.points ≡ true
 unfolding fits
 points-fit bay image e = second _ (are_points bay image.points) e

@@ -1,6 +1,7 @@
 -- What the last scan wrote stands until the next one: no contact and no measure writes an
 -- interlocking value.
 use Rattle.std.proofs.Common.{◌≡◌, ◌≢◌, ℕ, ℤ, pos, ◌+ℤ◌, int_lt, zero, suc, ◌+◌, ◌<◌, ◌^◌, Bool, true, false, cond, ◌&&◌, nat_eq, List, [], ◌∷◌, ◌++◌, length, map, find, get_or, drop, codes, slice_set, Option, Some, None, option_and_then, refl, ap, sym, subst, ◌∙◌, arith}
+use Rattle.std.specs.Bool.{beq}
 use Rattle.std.specs.Char.{digit_value}
 use Rattle.std.specs.Fmt.{decimal}
 use Rattle.std.specs.List.{AllByRecursion}
@@ -24,7 +25,7 @@ use Rattle.bay_config.specs.declared.bay.MeterField.TheVariants.{TotW, TotVAr, H
 use Rattle.bay_nodes.specs.declared.switch.Switch.{Switch}
 use Rattle.bay_nodes.specs.declared.switch.SwitchKind.{SwitchKind}
 use Rattle.bay_nodes.specs.declared.switch.SwitchKind.TheVariants.{Breaker, Disconnector, Earthing}
-use Rattle.bay_process.specs.Values.{is_truth, is_quality, same_truth, with_status, with_enabled, with_output, counted, operation_counted, is_operation, tells, position_quality, rows_after_change, rows_after_contact, tells_measure, rows_after_measure}
+use Rattle.bay_process.specs.Values.{is_truth, is_quality, with_status, with_enabled, with_output, counted, operation_counted, is_operation, tells, position_quality, rows_after_change, rows_after_contact, tells_measure, rows_after_measure}
 use Rattle.bay_nodes.specs.Names.{StatusNames, SwitchNames, switch_names, node_of, meter_names, interlocking_of, opening_of, closing_of}
 use Rattle.bay_process.specs.Names.{field_names}
 use Rattle.bay_process.specs.declared.switch.Enabled.{Enabled}
@@ -39,31 +40,44 @@ value_of found = option_and_then (λ (r : Row). r.leaf) found
 abbrev written : Bool → Leaf → Row → Row
 written b value r = cond b (record { name = r.name; leaf = Some value }) r
 
-other-if : (b c : Bool) (r : Row) (rest before : Option Row) (name other : List ℕ) (value : Leaf) → bytes_eq r.name other ≡ b → bytes_eq r.name name ≡ c → name ≢ other → value_of rest ≡ value_of before
-    → value_of (cond (bytes_eq (written b value r).name name) (Some (written b value r)) rest) ≡ value_of (cond (bytes_eq r.name name) (Some r) before)
+other-if : (b c : Bool) (r : Row) (rest before : Option Row) (name other : List ℕ) (value : Leaf)
+    → bytes_eq r.name other ≡ b → bytes_eq r.name name ≡ c → name ≢ other
+    → value_of rest ≡ value_of before
+    → value_of (cond (bytes_eq (written b value r).name name) (Some (written b value r)) rest)
+    ≡ value_of (cond (bytes_eq r.name name) (Some r) before)
 other-if true true r rest before name other value here there apart same =
-    absurd (apart (sym ((bytes_eq-Decides r.name name).0 there) ∙ (bytes_eq-Decides r.name other).0 here))
+    absurd (apart (sym ((bytes_eq-Decides r.name name).0 there)
+    ∙ (bytes_eq-Decides r.name other).0 here))
 other-if true false r rest before name other value here there apart same = rw there same
 other-if false true r rest before name other value here there apart same = rw there refl
 other-if false false r rest before name other value here there apart same = rw there same
 
 -- another name's value stays
-pub leaf-other : (rows : List Row) (name other : List ℕ) (value : Leaf) → name ≢ other → leaf_of name (with_leaf_of other value rows) ≡ leaf_of name rows
+pub leaf-other : (rows : List Row) (name other : List ℕ) (value : Leaf) → name ≢ other
+    → leaf_of name (with_leaf_of other value rows) ≡ leaf_of name rows
 leaf-other [] name other value apart = refl
 leaf-other (r ∷ rows) name other value apart =
     other-if (bytes_eq r.name other) (bytes_eq r.name name) r
-    (find (λ q. bytes_eq q.name name) (with_leaf_of other value rows)) (find (λ q. bytes_eq q.name name) rows) name other value refl refl apart (leaf-other rows name other value apart)
+    (find (λ q. bytes_eq q.name name) (with_leaf_of other value rows))
+    (find (λ q. bytes_eq q.name name) rows) name other value refl refl apart
+    (leaf-other rows name other value apart)
 
-own-if : (b : Bool) (r : Row) (rest before : Option Row) (name : List ℕ) (value : Leaf) → bytes_eq r.name name ≡ b → value_of (cond b (Some r) before) ≢ None → (value_of before ≢ None → value_of rest ≡ Some value)
-    → value_of (cond (bytes_eq (written b value r).name name) (Some (written b value r)) rest) ≡ Some value
+own-if : (b : Bool) (r : Row) (rest before : Option Row) (name : List ℕ) (value : Leaf)
+    → bytes_eq r.name name ≡ b → value_of (cond b (Some r) before) ≢ None
+    → (value_of before ≢ None → value_of rest ≡ Some value)
+    → value_of (cond (bytes_eq (written b value r).name name) (Some (written b value r)) rest)
+    ≡ Some value
 own-if true r rest before name value here there below = rw here refl
 own-if false r rest before name value here there below = rw here (below there)
 
 -- the value that was written stands, if there was one
-pub leaf-own : (rows : List Row) (name : List ℕ) (value : Leaf) → leaf_of name rows ≢ None → leaf_of name (with_leaf_of name value rows) ≡ Some value
+pub leaf-own : (rows : List Row) (name : List ℕ) (value : Leaf) → leaf_of name rows ≢ None
+    → leaf_of name (with_leaf_of name value rows) ≡ Some value
 leaf-own [] name value there = absurd (there refl)
 leaf-own (r ∷ rows) name value there =
-    own-if (bytes_eq r.name name) r (find (λ q. bytes_eq q.name name) (with_leaf_of name value rows)) (find (λ q. bytes_eq q.name name) rows) name value refl there (leaf-own rows name value)
+    own-if (bytes_eq r.name name) r
+    (find (λ q. bytes_eq q.name name) (with_leaf_of name value rows))
+    (find (λ q. bytes_eq q.name name) rows) name value refl there (leaf-own rows name value)
 
 -- ---- names
 
@@ -81,7 +95,8 @@ dollar-not : (c : ℕ) → nat_eq c 36 ≡ false → c ≡ 36 → ⊥
 dollar-not c h e = let is : nat_eq c 36 ≡ true = grind (arith, nat_tests) in absurd cc
 
 -- two words before a `$` are one, and so is what follows
-words-same : (a b s t : List ℕ) → IsPlain a → IsPlain b → a ++ 36 ∷ s ≡ b ++ 36 ∷ t → (a ≡ b) × (s ≡ t)
+words-same : (a b s t : List ℕ) → IsPlain a → IsPlain b → a ++ 36 ∷ s ≡ b ++ 36 ∷ t
+    → (a ≡ b) × (s ≡ t)
 words-same [] [] s t p q e = (refl, cc)
 words-same [] (c ∷ b) s t p q e = absurd (dollar-not c q.0 (sym (ap (λ l. get_or l 0 0) e)))
 words-same (c ∷ a) [] s t p q e = absurd (dollar-not c p.0 (ap (λ l. get_or l 0 0) e))
@@ -90,10 +105,14 @@ words-same (c ∷ a) (d ∷ b) s t p q e =
     let first : c ≡ d = ap (λ l. get_or l 0 0) e in
     (ap (λ w. c ∷ w) rest.0 ∙ ap (λ x. x ∷ b) first, rest.1)
 
-pub same-node : (k i : ℕ) (s t : List ℕ) → k + 1 < 2 ^ 64 → i + 1 < 2 ^ 64 → interlocking_of k ++ 36 ∷ s ≡ interlocking_of i ++ 36 ∷ t → (k ≡ i) × (s ≡ t)
+pub same-node : (k i : ℕ) (s t : List ℕ) → k + 1 < 2 ^ 64 → i + 1 < 2 ^ 64
+    → interlocking_of k ++ 36 ∷ s ≡ interlocking_of i ++ 36 ∷ t → (k ≡ i) × (s ≡ t)
 same-node k i s t few less e =
     let own : decimal (k + 1) ++ 36 ∷ s ≡ decimal (i + 1) ++ 36 ∷ t = cc in
-    let parts = words-same (decimal (k + 1)) (decimal (i + 1)) s t (plain-digits _ (decimal_is_IsNumeral (k + 1) few).0.1) (plain-digits _ (decimal_is_IsNumeral (i + 1) less).0.1) own in
+    let parts =
+    words-same (decimal (k + 1)) (decimal (i + 1)) s t
+    (plain-digits _ (decimal_is_IsNumeral (k + 1) few).0.1)
+    (plain-digits _ (decimal_is_IsNumeral (i + 1) less).0.1) own in
     let number = decimal_injective (k + 1) (i + 1) few less parts.0 in
     (omega (arith, number), parts.1)
 
@@ -102,9 +121,12 @@ abbrev pub IsAway : List ℕ → Type 0
 IsAway other = (k : ℕ) (s : List ℕ) → interlocking_of k ++ s ≢ other
 
 away-position : (kind : SwitchKind) (n : ℕ) (t : List ℕ) → IsAway (node_name (class_of kind) n ++ t)
-away-position Breaker n t k s e = let first : 67 ≡ 88 = ap (λ l. get_or l 0 0) e in omega (arith, first)
-away-position Disconnector n t k s e = let first : 67 ≡ 88 = ap (λ l. get_or l 0 0) e in omega (arith, first)
-away-position Earthing n t k s e = let first : 67 ≡ 88 = ap (λ l. get_or l 0 0) e in omega (arith, first)
+away-position Breaker n t k s e = let first : 67 ≡ 88 =
+    ap (λ l. get_or l 0 0) e in omega (arith, first)
+away-position Disconnector n t k s e = let first : 67 ≡ 88 =
+    ap (λ l. get_or l 0 0) e in omega (arith, first)
+away-position Earthing n t k s e = let first : 67 ≡ 88 =
+    ap (λ l. get_or l 0 0) e in omega (arith, first)
 
 away-control : (n : ℕ) (t : List ℕ) → IsAway (node_name (codes "CSWI") n ++ t)
 away-control n t k s e = let second : 73 ≡ 83 = ap (λ l. get_or l 1 0) e in omega (arith, second)
@@ -122,20 +144,28 @@ pub record AreAway (names : StatusNames) : Type 0 where
 
 -- what the interlocking nodes name stays
 abbrev pub Keeps : List Row → List Row → Type 0
-Keeps rows new = (k : ℕ) (s : List ℕ) → leaf_of (interlocking_of k ++ s) new ≡ leaf_of (interlocking_of k ++ s) rows
+Keeps rows new = (k : ℕ) (s : List ℕ)
+    → leaf_of (interlocking_of k ++ s) new ≡ leaf_of (interlocking_of k ++ s) rows
 
-keeps-status : (names : StatusNames) (value : Leaf) (q : Quality) (now : ℕ) (rows : List Row) → AreAway names → Keeps rows (with_status names value q now rows)
+keeps-status : (names : StatusNames) (value : Leaf) (q : Quality) (now : ℕ) (rows : List Row)
+    → AreAway names → Keeps rows (with_status names value q now rows)
 keeps-status names value q now rows away k s =
-    leaf-other _ _ names.time _ (away.time_away k s) ∙ leaf-other _ _ names.quality _ (away.quality_away k s) ∙ leaf-other rows _ names.value _ (away.value_away k s)
+    leaf-other _ _ names.time _ (away.time_away k s)
+    ∙ leaf-other _ _ names.quality _ (away.quality_away k s)
+    ∙ leaf-other rows _ names.value _ (away.value_away k s)
 
 keeps-if : (b : Bool) (rows x y : List Row) → Keeps rows x → Keeps rows y → Keeps rows (cond b x y)
 keeps-if true rows x y p q = p
 keeps-if false rows x y p q = q
 
-keeps-counted : (names : StatusNames) (o : Option Leaf) (now : ℕ) (rows : List Row) → AreAway names → Keeps rows (counted names o now rows)
+keeps-counted : (names : StatusNames) (o : Option Leaf) (now : ℕ) (rows : List Row) → AreAway names
+    → Keeps rows (counted names o now rows)
 keeps-counted names (Some (leaf.Int32 n)) now rows away k s =
-    keeps-if (int_lt n (pos 2147483647)) rows (with_leaf_of names.time (leaf.Utc now) (with_leaf_of names.value (leaf.Int32 (n +ℤ pos 1)) rows)) rows
-    (λ j t. leaf-other _ _ names.time _ (away.time_away j t) ∙ leaf-other rows _ names.value _ (away.value_away j t)) (λ j t. refl) k s
+    keeps-if (int_lt n (pos 2147483647)) rows
+    (with_leaf_of names.time (leaf.Utc now)
+    (with_leaf_of names.value (leaf.Int32 (n +ℤ pos 1)) rows)) rows
+    (λ j t. leaf-other _ _ names.time _ (away.time_away j t)
+    ∙ leaf-other rows _ names.value _ (away.value_away j t)) (λ j t. refl) k s
 keeps-counted names None now rows away k s = refl
 keeps-counted names (Some (leaf.Truth b)) now rows away k s = refl
 keeps-counted names (Some (leaf.Dbpos p)) now rows away k s = refl
@@ -151,40 +181,98 @@ keeps-counted names (Some (leaf.Utc n)) now rows away k s = refl
 then-keeps : (rows mid new : List Row) → Keeps rows mid → Keeps mid new → Keeps rows new
 then-keeps rows mid new p q k s = q k s ∙ p k s
 
-pub keeps-contact : (switches : List Switch) (j : ℕ) (switch : Switch) (position : Dbpos) (now : ℕ) (rows : List Row) → Keeps rows (rows_after_contact (switch_names switches j switch) position now rows)
+pub keeps-contact : (switches : List Switch) (j : ℕ) (switch : Switch) (position : Dbpos) (now : ℕ)
+    (rows : List Row) → Keeps rows
+    (rows_after_contact (switch_names switches j switch) position now rows)
 keeps-contact switches j switch position now rows =
     let names = switch_names switches j switch in
-    let node : (t : List ℕ) → IsAway (node_of switches j switch ++ t) = away-position switch.kind (node_number switches switch j) in
-    let places : AreAway names.position = record { value_away = node _; quality_away = node _; time_away = node _ } in
-    let counts : AreAway names.operations = record { value_away = node _; quality_away = node _; time_away = node _ } in
-    let controls : AreAway names.control = record { value_away = away-control (j + 1) _; quality_away = away-control (j + 1) _; time_away = away-control (j + 1) _ } in
-    let told = with_status names.position (leaf.Dbpos position) (position_quality position) now rows in
-    let after = with_status names.control (leaf.Dbpos position) (position_quality position) now told in
-    let both : Keeps rows after = then-keeps rows told after (keeps-status names.position _ _ now rows places) (keeps-status names.control _ _ now told controls) in
+    let node : (t : List ℕ) → IsAway (node_of switches j switch ++ t) =
+    away-position switch.kind (node_number switches switch j) in
+    let places : AreAway names.position =
+    record { value_away = node _; quality_away = node _; time_away = node _ } in
+    let counts : AreAway names.operations =
+    record { value_away = node _; quality_away = node _; time_away = node _ } in
+    let controls : AreAway names.control =
+    record {
+      value_away = away-control (j + 1) _;
+      quality_away = away-control (j + 1) _;
+      time_away = away-control (j + 1) _;
+    } in
+    let told =
+    with_status names.position (leaf.Dbpos position) (position_quality position) now rows in
+    let after =
+    with_status names.control (leaf.Dbpos position) (position_quality position) now told in
+    let both : Keeps rows after =
+    then-keeps rows told after (keeps-status names.position _ _ now rows places)
+    (keeps-status names.control _ _ now told controls) in
     let counted = operation_counted names.operations now after in
-    keeps-if (tells names.position position rows) rows rows (rows_after_change names position now rows) (λ k s. refl)
+    keeps-if (tells names.position position rows) rows rows
+    (rows_after_change names position now rows) (λ k s. refl)
     (keeps-if (is_operation position (leaf_of names.position.value rows)) rows counted after
-    (then-keeps rows after counted both (keeps-counted names.operations (leaf_of names.operations.value after) now after counts)) both)
+    (then-keeps rows after counted both
+    (keeps-counted names.operations (leaf_of names.operations.value after) now after counts))
+    both)
 
-pub keeps-measure : (names : StatusNames) (value : ℤ) (now : ℕ) (rows : List Row) → AreAway names → Keeps rows (rows_after_measure names value now rows)
+pub keeps-measure : (names : StatusNames) (value : ℤ) (now : ℕ) (rows : List Row) → AreAway names
+    → Keeps rows (rows_after_measure names value now rows)
 keeps-measure names value now rows away =
-    keeps-if (tells_measure names value rows) rows rows _ (λ k s. refl) (keeps-status names (leaf.Int32 value) _ now rows away)
+    keeps-if (tells_measure names value rows) rows rows _ (λ k s. refl)
+    (keeps-status names (leaf.Int32 value) _ now rows away)
 
 pub field-away : (k : ℕ) (field : MeterField) → AreAway (field_names field (meter_names k))
-field-away k TotW = record { value_away = away-meter (k + 1) _; quality_away = away-meter (k + 1) _; time_away = away-meter (k + 1) _ }
-field-away k TotVAr = record { value_away = away-meter (k + 1) _; quality_away = away-meter (k + 1) _; time_away = away-meter (k + 1) _ }
-field-away k Hz = record { value_away = away-meter (k + 1) _; quality_away = away-meter (k + 1) _; time_away = away-meter (k + 1) _ }
-field-away k PhaseA = record { value_away = away-meter (k + 1) _; quality_away = away-meter (k + 1) _; time_away = away-meter (k + 1) _ }
-field-away k PhaseB = record { value_away = away-meter (k + 1) _; quality_away = away-meter (k + 1) _; time_away = away-meter (k + 1) _ }
-field-away k PhaseC = record { value_away = away-meter (k + 1) _; quality_away = away-meter (k + 1) _; time_away = away-meter (k + 1) _ }
+field-away k TotW =
+    record {
+      value_away = away-meter (k + 1) _;
+      quality_away = away-meter (k + 1) _;
+      time_away = away-meter (k + 1) _;
+    }
+field-away k TotVAr =
+    record {
+      value_away = away-meter (k + 1) _;
+      quality_away = away-meter (k + 1) _;
+      time_away = away-meter (k + 1) _;
+    }
+field-away k Hz =
+    record {
+      value_away = away-meter (k + 1) _;
+      quality_away = away-meter (k + 1) _;
+      time_away = away-meter (k + 1) _;
+    }
+field-away k PhaseA =
+    record {
+      value_away = away-meter (k + 1) _;
+      quality_away = away-meter (k + 1) _;
+      time_away = away-meter (k + 1) _;
+    }
+field-away k PhaseB =
+    record {
+      value_away = away-meter (k + 1) _;
+      quality_away = away-meter (k + 1) _;
+      time_away = away-meter (k + 1) _;
+    }
+field-away k PhaseC =
+    record {
+      value_away = away-meter (k + 1) _;
+      quality_away = away-meter (k + 1) _;
+      time_away = away-meter (k + 1) _;
+    }
 
 -- and so what was told stands
-pub told-kept : (rows new : List Row) (told : List (Option Enabled)) → AreTold rows told → Keeps rows new → AreTold new told
+pub told-kept : (rows new : List Row) (told : List (Option Enabled)) → AreTold rows told
+    → Keeps rows new → AreTold new told
 told-kept rows new told all keeps k enabled here =
     let is = all k enabled here in
     record {
-      opening = record { value_is = keeps k _ ∙ is.opening.value_is; quality_is = keeps k _ ∙ is.opening.quality_is };
-      closing = record { value_is = keeps k _ ∙ is.closing.value_is; quality_is = keeps k _ ∙ is.closing.quality_is };
+      opening =
+          record {
+            value_is = keeps k _ ∙ is.opening.value_is;
+            quality_is = keeps k _ ∙ is.opening.quality_is;
+          };
+      closing =
+          record {
+            value_is = keeps k _ ∙ is.closing.value_is;
+            quality_is = keeps k _ ∙ is.closing.quality_is;
+          };
     }
 
 -- ---- what a scan writes
@@ -222,22 +310,26 @@ good-is (Some (leaf.Text n)) h = absurd cc
 good-is (Some (leaf.Utc n)) h = absurd cc
 
 -- what stands is not written again
-pub enabled-same : (names : StatusNames) (b c : Bool) (now : ℕ) (rows : List Row) → Stands rows names c → same_truth b c ≡ true → with_enabled names b now rows ≡ rows
+pub enabled-same : (names : StatusNames) (b c : Bool) (now : ℕ) (rows : List Row)
+    → Stands rows names c → beq b c ≡ true → with_enabled names b now rows ≡ rows
 enabled-same names b c now rows s e =
     let is : is_truth b (Some (leaf.Truth c)) ≡ true = e in
     rw (s.value_is, s.quality_is, is) refl
 
 -- and what differs is written
-pub enabled-changed : (names : StatusNames) (b c : Bool) (now : ℕ) (rows : List Row) → Stands rows names c → same_truth b c ≡ false
+pub enabled-changed : (names : StatusNames) (b c : Bool) (now : ℕ) (rows : List Row)
+    → Stands rows names c → beq b c ≡ false
     → with_enabled names b now rows ≡ with_status names (leaf.Truth b) Good now rows
 enabled-changed names b c now rows s e =
     let is : is_truth b (Some (leaf.Truth c)) ≡ false = e in
     rw (s.value_is, s.quality_is, is) refl
 
-pub stands-valued : (rows : List Row) (names : StatusNames) (b : Bool) → Stands rows names b → AreValued rows names
+pub stands-valued : (rows : List Row) (names : StatusNames) (b : Bool) → Stands rows names b
+    → AreValued rows names
 stands-valued rows names b s = record {
   value_there = λ e. let none : Some (leaf.Truth b) ≡ None = sym s.value_is ∙ e in absurd cc;
-  quality_there = λ e. let none : Some (leaf.Quality Good) ≡ None = sym s.quality_is ∙ e in absurd cc;
+  quality_there = λ e. let none : Some (leaf.Quality Good) ≡ None =
+      sym s.quality_is ∙ e in absurd cc;
 }
 
 -- the names of a status value differ, and it has a value and a quality
@@ -247,21 +339,32 @@ record AreOwn (rows : List Row) (names : StatusNames) : Type 0 where
   quality_time : names.quality ≢ names.time
   valued : AreValued rows names
 
-stands-if : (t : Bool) (names : StatusNames) (b : Bool) (now : ℕ) (rows : List Row) → AreOwn rows names → (is_truth b (leaf_of names.value rows) && is_quality Good (leaf_of names.quality rows)) ≡ t
+stands-if : (t : Bool) (names : StatusNames) (b : Bool) (now : ℕ) (rows : List Row)
+    → AreOwn rows names → (is_truth b (leaf_of names.value rows)
+    && is_quality Good (leaf_of names.quality rows)) ≡ t
     → Stands (cond t rows (with_status names (leaf.Truth b) Good now rows)) names b
 stands-if true names b now rows own same =
-    let parts = and_parts (is_truth b (leaf_of names.value rows)) (is_quality Good (leaf_of names.quality rows)) same in
+    let parts =
+    and_parts (is_truth b (leaf_of names.value rows))
+    (is_quality Good (leaf_of names.quality rows)) same in
     record { value_is = truth-is b _ parts.0; quality_is = good-is _ parts.1 }
 stands-if false names b now rows own same =
     let first = with_leaf_of names.value (leaf.Truth b) rows in
     let second = with_leaf_of names.quality (leaf.Quality Good) first in
-    let kept : leaf_of names.quality first ≡ leaf_of names.quality rows = leaf-other rows names.quality names.value _ (λ e. own.value_quality (sym e)) in
+    let kept : leaf_of names.quality first ≡ leaf_of names.quality rows =
+    leaf-other rows names.quality names.value _ (λ e. own.value_quality (sym e)) in
     record {
-      value_is = leaf-other second names.value names.time _ own.value_time ∙ leaf-other first names.value names.quality _ own.value_quality ∙ leaf-own rows names.value _ own.valued.value_there;
-      quality_is = leaf-other second names.quality names.time _ own.quality_time ∙ leaf-own first names.quality _ (λ e. own.valued.quality_there (sym kept ∙ e));
+      value_is =
+          leaf-other second names.value names.time _ own.value_time
+          ∙ leaf-other first names.value names.quality _ own.value_quality
+          ∙ leaf-own rows names.value _ own.valued.value_there;
+      quality_is =
+          leaf-other second names.quality names.time _ own.quality_time
+          ∙ leaf-own first names.quality _ (λ e. own.valued.quality_there (sym kept ∙ e));
     }
 
-stands-enabled : (names : StatusNames) (b : Bool) (now : ℕ) (rows : List Row) → AreOwn rows names → Stands (with_enabled names b now rows) names b
+stands-enabled : (names : StatusNames) (b : Bool) (now : ℕ) (rows : List Row) → AreOwn rows names
+    → Stands (with_enabled names b now rows) names b
 stands-enabled names b now rows own = stands-if _ names b now rows own refl
 
 -- a name is none of a status value's
@@ -270,12 +373,18 @@ record IsOther (name : List ℕ) (names : StatusNames) : Type 0 where
   quality_other : name ≢ names.quality
   time_other : name ≢ names.time
 
-other-enabled-if : (t : Bool) (name : List ℕ) (names : StatusNames) (b : Bool) (now : ℕ) (rows : List Row) → IsOther name names → leaf_of name (cond t rows (with_status names (leaf.Truth b) Good now rows)) ≡ leaf_of name rows
+other-enabled-if : (t : Bool) (name : List ℕ) (names : StatusNames) (b : Bool) (now : ℕ)
+    (rows : List Row) → IsOther name names
+    → leaf_of name (cond t rows (with_status names (leaf.Truth b) Good now rows))
+    ≡ leaf_of name rows
 other-enabled-if true name names b now rows other = refl
 other-enabled-if false name names b now rows other =
-    leaf-other _ name names.time _ other.time_other ∙ leaf-other _ name names.quality _ other.quality_other ∙ leaf-other rows name names.value _ other.value_other
+    leaf-other _ name names.time _ other.time_other
+    ∙ leaf-other _ name names.quality _ other.quality_other
+    ∙ leaf-other rows name names.value _ other.value_other
 
-other-enabled : (name : List ℕ) (names : StatusNames) (b : Bool) (now : ℕ) (rows : List Row) → IsOther name names → leaf_of name (with_enabled names b now rows) ≡ leaf_of name rows
+other-enabled : (name : List ℕ) (names : StatusNames) (b : Bool) (now : ℕ) (rows : List Row)
+    → IsOther name names → leaf_of name (with_enabled names b now rows) ≡ leaf_of name rows
 other-enabled name names b now rows other = other-enabled-if _ name names b now rows other
 
 -- names of one node differ behind it, and those of two nodes always
@@ -287,37 +396,62 @@ module _ (k i : ℕ) (few : k + 1 < 2 ^ 64) (less : i + 1 < 2 ^ 64) (apart : k �
   two-nodes s t e = apart (same-node k i s t few less e).0
 
   other-opening : (s : List ℕ) → IsOther (interlocking_of k ++ 36 ∷ s) (opening_of i)
-  other-opening s = record { value_other = two-nodes s _; quality_other = two-nodes s _; time_other = two-nodes s _ }
+  other-opening s =
+      record {
+        value_other = two-nodes s _;
+        quality_other = two-nodes s _;
+        time_other = two-nodes s _;
+      }
 
   other-closing : (s : List ℕ) → IsOther (interlocking_of k ++ 36 ∷ s) (closing_of i)
-  other-closing s = record { value_other = two-nodes s _; quality_other = two-nodes s _; time_other = two-nodes s _ }
+  other-closing s =
+      record {
+        value_other = two-nodes s _;
+        quality_other = two-nodes s _;
+        time_other = two-nodes s _;
+      }
 
   -- what another node names stays
   keeps-output : (o c : Bool) (now : ℕ) (rows : List Row) (s : List ℕ)
-      → leaf_of (interlocking_of k ++ 36 ∷ s) (with_enabled (closing_of i) c now (with_enabled (opening_of i) o now rows)) ≡ leaf_of (interlocking_of k ++ 36 ∷ s) rows
-  keeps-output o c now rows s = other-enabled _ (closing_of i) c now (with_enabled (opening_of i) o now rows) (other-closing s) ∙ other-enabled _ (opening_of i) o now rows (other-opening s)
+      → leaf_of (interlocking_of k ++ 36 ∷ s)
+      (with_enabled (closing_of i) c now (with_enabled (opening_of i) o now rows))
+      ≡ leaf_of (interlocking_of k ++ 36 ∷ s) rows
+  keeps-output o c now rows s =
+      other-enabled _ (closing_of i) c now (with_enabled (opening_of i) o now rows)
+      (other-closing s) ∙ other-enabled _ (opening_of i) o now rows (other-opening s)
 
 -- opening and closing of one switch
-closing-other : (k : ℕ) (s : List ℕ) → get_or s 7 0 ≡ 79 → IsOther (interlocking_of k ++ s) (closing_of k)
+closing-other : (k : ℕ) (s : List ℕ) → get_or s 7 0 ≡ 79
+    → IsOther (interlocking_of k ++ s) (closing_of k)
 closing-other k s at =
-    let apart : (t : List ℕ) → get_or t 7 0 ≡ 67 → interlocking_of k ++ s ≢ interlocking_of k ++ t = λ t is. one-node k s t (λ e. let same = ap (λ l. get_or l 7 0) e in omega (arith, at, is, same)) in
+    let apart : (t : List ℕ) → get_or t 7 0 ≡ 67
+    → interlocking_of k ++ s ≢ interlocking_of k ++ t =
+    λ t is. one-node k s t (λ e. let same = ap (λ l. get_or l 7 0) e in
+    omega (arith, at, is, same)) in
     record { value_other = apart _ refl; quality_other = apart _ refl; time_other = apart _ refl }
 
-opening-other : (k : ℕ) (s : List ℕ) → get_or s 7 0 ≡ 67 → IsOther (interlocking_of k ++ s) (opening_of k)
+opening-other : (k : ℕ) (s : List ℕ) → get_or s 7 0 ≡ 67
+    → IsOther (interlocking_of k ++ s) (opening_of k)
 opening-other k s at =
-    let apart : (t : List ℕ) → get_or t 7 0 ≡ 79 → interlocking_of k ++ s ≢ interlocking_of k ++ t = λ t is. one-node k s t (λ e. let same = ap (λ l. get_or l 7 0) e in omega (arith, at, is, same)) in
+    let apart : (t : List ℕ) → get_or t 7 0 ≡ 79
+    → interlocking_of k ++ s ≢ interlocking_of k ++ t =
+    λ t is. one-node k s t (λ e. let same = ap (λ l. get_or l 7 0) e in
+    omega (arith, at, is, same)) in
     record { value_other = apart _ refl; quality_other = apart _ refl; time_other = apart _ refl }
 
 -- what is said of closing stands after opening was written
-pub closing-stands : (k : ℕ) (b c : Bool) (now : ℕ) (rows : List Row) → Stands rows (closing_of k) c → Stands (with_enabled (opening_of k) b now rows) (closing_of k) c
+pub closing-stands : (k : ℕ) (b c : Bool) (now : ℕ) (rows : List Row) → Stands rows (closing_of k) c
+    → Stands (with_enabled (opening_of k) b now rows) (closing_of k) c
 closing-stands k b c now rows s = record {
   value_is = other-enabled _ (opening_of k) b now rows (opening-other k _ refl) ∙ s.value_is;
   quality_is = other-enabled _ (opening_of k) b now rows (opening-other k _ refl) ∙ s.quality_is;
 }
 
 -- opening and closing have three names each
-suffix-apart : (k n a b : ℕ) (s t : List ℕ) → get_or s n 0 ≡ a → get_or t n 0 ≡ b → (a ≡ b → ⊥) → interlocking_of k ++ s ≢ interlocking_of k ++ t
-suffix-apart k n a b s t here there apart = one-node k s t (λ e. apart (sym here ∙ ap (λ l. get_or l n 0) e ∙ there))
+suffix-apart : (k n a b : ℕ) (s t : List ℕ) → get_or s n 0 ≡ a → get_or t n 0 ≡ b → (a ≡ b → ⊥)
+    → interlocking_of k ++ s ≢ interlocking_of k ++ t
+suffix-apart k n a b s t here there apart =
+    one-node k s t (λ e. apart (sym here ∙ ap (λ l. get_or l n 0) e ∙ there))
 
 opening-own : (rows : List Row) (k : ℕ) → AreValued rows (opening_of k) → AreOwn rows (opening_of k)
 opening-own rows k valued = record {
@@ -336,61 +470,96 @@ closing-own rows k valued = record {
 }
 
 -- both values stand after they were written
-pub told-here : (k : ℕ) (enabled : Enabled) (now : ℕ) (rows mid new : List Row) → AreValued rows (opening_of k) → mid ≡ with_enabled (opening_of k) enabled.may_open now rows
-    → AreValued mid (closing_of k) → new ≡ with_enabled (closing_of k) enabled.may_close now mid → IsTold new k enabled
+pub told-here : (k : ℕ) (enabled : Enabled) (now : ℕ) (rows mid new : List Row)
+    → AreValued rows (opening_of k) → mid ≡ with_enabled (opening_of k) enabled.may_open now rows
+    → AreValued mid (closing_of k) → new ≡ with_enabled (closing_of k) enabled.may_close now mid
+    → IsTold new k enabled
 told-here k enabled now rows mid new opens first closes second =
-    let opened = stands-enabled (opening_of k) enabled.may_open now rows (opening-own rows k opens) in
+    let opened =
+    stands-enabled (opening_of k) enabled.may_open now rows (opening-own rows k opens) in
     let stood : Stands mid (opening_of k) enabled.may_open = rw first opened in
-    let closed = stands-enabled (closing_of k) enabled.may_close now mid (closing-own mid k closes) in
+    let closed =
+    stands-enabled (closing_of k) enabled.may_close now mid (closing-own mid k closes) in
     rw second record {
       opening = record {
-        value_is = other-enabled _ (closing_of k) _ now mid (closing-other k _ refl) ∙ stood.value_is;
-        quality_is = other-enabled _ (closing_of k) _ now mid (closing-other k _ refl) ∙ stood.quality_is;
+        value_is =
+            other-enabled _ (closing_of k) _ now mid (closing-other k _ refl) ∙ stood.value_is;
+        quality_is =
+            other-enabled _ (closing_of k) _ now mid (closing-other k _ refl) ∙ stood.quality_is;
       };
       closing = closed;
     }
 
-told-within : (told : List (Option Enabled)) (k : ℕ) (enabled : Enabled) → told_at told k ≡ Some enabled → k < length told
+told-within : (told : List (Option Enabled)) (k : ℕ) (enabled : Enabled)
+    → told_at told k ≡ Some enabled → k < length told
 told-within [] k enabled h = absurd cc
 told-within (x ∷ told) zero enabled h = omega arith
-told-within (x ∷ told) (suc k) enabled h = let below = told-within told k enabled h in omega (arith, below)
+told-within (x ∷ told) (suc k) enabled h = let below =
+    told-within told k enabled h in omega (arith, below)
 
-told-if : (b : Bool) (told : List (Option Enabled)) (i : ℕ) (enabled : Enabled) (now : ℕ) (rows : List Row) → AreTold rows told → i < length told → length told < 2 ^ 64
-    → IsTold (with_enabled (closing_of i) enabled.may_close now (with_enabled (opening_of i) enabled.may_open now rows)) i enabled
-    → (k : ℕ) → nat_eq k i ≡ b → (e : Enabled) → told_at (slice_set told i (Some enabled)) k ≡ Some e
-    → IsTold (with_enabled (closing_of i) enabled.may_close now (with_enabled (opening_of i) enabled.may_open now rows)) k e
+told-if : (b : Bool) (told : List (Option Enabled)) (i : ℕ) (enabled : Enabled) (now : ℕ)
+    (rows : List Row) → AreTold rows told → i < length told → length told < 2 ^ 64
+    → IsTold (with_enabled (closing_of i) enabled.may_close now
+    (with_enabled (opening_of i) enabled.may_open now rows)) i enabled
+    → (k : ℕ) → nat_eq k i ≡ b → (e : Enabled)
+    → told_at (slice_set told i (Some enabled)) k ≡ Some e
+    → IsTold (with_enabled (closing_of i) enabled.may_close now
+    (with_enabled (opening_of i) enabled.may_open now rows)) k e
 told-if true told i enabled now rows all lt few written k same e here =
-    let new = with_enabled (closing_of i) enabled.may_close now (with_enabled (opening_of i) enabled.may_open now rows) in
+    let new =
+    with_enabled (closing_of i) enabled.may_close now
+    (with_enabled (opening_of i) enabled.may_open now rows) in
     let is : k ≡ i = grind (arith, nat_tests) in
-    let own : Some enabled ≡ Some e = sym (get_or-set_same told i (Some enabled) None lt) ∙ ap (told_at (slice_set told i (Some enabled))) (sym is) ∙ here in
+    let own : Some enabled ≡ Some e =
+    sym (get_or-set_same told i (Some enabled) None lt)
+    ∙ ap (told_at (slice_set told i (Some enabled))) (sym is) ∙ here in
     let one : enabled ≡ e = cc in
     subst (λ n. IsTold new n e) (sym is) (subst (IsTold new i) one written)
 told-if false told i enabled now rows all lt few written k same e here =
-    let apart : k ≡ i → ⊥ = λ is. let no : nat_eq k i ≡ true = grind (arith, nat_tests) in absurd cc in
-    let before : told_at told k ≡ Some e = sym (get_or-set_other told i k (Some enabled) None apart) ∙ here in
+    let apart : k ≡ i → ⊥ = λ is. let no : nat_eq k i ≡ true =
+    grind (arith, nat_tests) in absurd cc in
+    let before : told_at told k ≡ Some e =
+    sym (get_or-set_other told i k (Some enabled) None apart) ∙ here in
     let within = told-within told k e before in
     let stood = all k e before in
-    let keeps = keeps-output k i (omega (arith, within, few)) (omega (arith, lt, few)) apart enabled.may_open enabled.may_close now rows in
+    let keeps =
+    keeps-output k i (omega (arith, within, few)) (omega (arith, lt, few)) apart
+    enabled.may_open enabled.may_close now rows in
     record {
-      opening = record { value_is = keeps _ ∙ stood.opening.value_is; quality_is = keeps _ ∙ stood.opening.quality_is };
-      closing = record { value_is = keeps _ ∙ stood.closing.value_is; quality_is = keeps _ ∙ stood.closing.quality_is };
+      opening =
+          record {
+            value_is = keeps _ ∙ stood.opening.value_is;
+            quality_is = keeps _ ∙ stood.opening.quality_is;
+          };
+      closing =
+          record {
+            value_is = keeps _ ∙ stood.closing.value_is;
+            quality_is = keeps _ ∙ stood.closing.quality_is;
+          };
     }
 
 -- and what is kept of the others stands too
-none-at : {X : Type 0} (xs : List X) (k : ℕ) (e : Enabled) → told_at (map (λ _. None) xs) k ≡ Some e → ⊥
+none-at : {X : Type 0} (xs : List X) (k : ℕ) (e : Enabled) → told_at (map (λ _. None) xs) k ≡ Some e
+    → ⊥
 none-at [] k e here = absurd cc
 none-at (x ∷ xs) zero e here = absurd cc
 none-at (x ∷ xs) (suc k) e here = none-at xs k e here
 
 -- what was written of one switch and what is kept of the others stands
-pub told-written : (told : List (Option Enabled)) (i : ℕ) (enabled : Enabled) (names : SwitchNames) (now : ℕ) (rows new : List Row) → AreTold rows told → i < length told → length told < 2 ^ 64
-    → names.ena_opn ≡ opening_of i → names.ena_cls ≡ closing_of i → new ≡ with_output names enabled.may_open enabled.may_close now rows → IsTold new i enabled
+pub told-written : (told : List (Option Enabled)) (i : ℕ) (enabled : Enabled) (names : SwitchNames)
+    (now : ℕ) (rows new : List Row) → AreTold rows told → i < length told → length told < 2 ^ 64
+    → names.ena_opn ≡ opening_of i → names.ena_cls ≡ closing_of i
+    → new ≡ with_output names enabled.may_open enabled.may_close now rows → IsTold new i enabled
     → AreTold new (slice_set told i (Some enabled))
 told-written told i enabled names now rows new all lt few opens closes is own =
-    let by : new ≡ with_enabled (closing_of i) enabled.may_close now (with_enabled (opening_of i) enabled.may_open now rows) =
-    is ∙ ap (λ n. with_enabled names.ena_cls enabled.may_close now (with_enabled n enabled.may_open now rows)) opens
-    ∙ ap (λ n. with_enabled n enabled.may_close now (with_enabled (opening_of i) enabled.may_open now rows)) closes in
-    rw by (λ k e here. told-if (nat_eq k i) told i enabled now rows all lt few (rw by at own) k refl e here)
+    let by : new ≡ with_enabled (closing_of i) enabled.may_close now
+    (with_enabled (opening_of i) enabled.may_open now rows) =
+    is ∙ ap (λ n. with_enabled names.ena_cls enabled.may_close now
+    (with_enabled n enabled.may_open now rows)) opens
+    ∙ ap (λ n. with_enabled n enabled.may_close now
+    (with_enabled (opening_of i) enabled.may_open now rows)) closes in
+    rw by (λ k e here. told-if (nat_eq k i) told i enabled now rows all lt few (rw by at own) k refl
+    e here)
 
 -- nothing was told
 pub none-told : {X : Type 0} (xs : List X) (rows : List Row) → AreTold rows (map (λ _. None) xs)

@@ -2,21 +2,23 @@
 use Rattle.std.specs.Prelude.{◌≡◌, ℕ, ◌<◌, List, Some, slice_get}
 use Rattle.bay_tree.specs.Rows.{place_of}
 use Rattle.bay_tree.specs.declared.row.Row.{Row}
-use Rattle.bay_tree.specs.declared.leaf.Kind.TheVariants as kind
+use Rattle.bay_tree.specs.declared.leaf.LeafType.TheVariants as leaf_type
 use Rattle.bay_nodes.specs.Names.{ControlNames, control_names}
-use Rattle.bay_process.specs.Layout.{HasKind, layout_of}
+use Rattle.bay_process.specs.Layout.{HasLeafType, layout_of}
 use Rattle.bay_process.specs.Nodes.{HasLeaf}
 use Rattle.bay_process.specs.declared.controls.ControlRows.{ControlRows}
 
 -- the rows tell of each of so many switches whether it is selected
 abbrev pub HaveSelected : List Row → ℕ → Type 0
-HaveSelected rows count = (k : ℕ) → k < count → HasLeaf rows (control_names k).selected kind.Truth
+HaveSelected rows count =
+    (k : ℕ) → k < count → HasLeaf rows (control_names k).selected leaf_type.Truth
 
 -- each handle is where the row of its name stands, if there is one; there is one that tells whether
 -- the switch is selected
-pub record AreControlRows (rows : List Row) (names : ControlNames) (handles : ControlRows) : Type 0 where
+pub record AreControlRows (rows : List Row) (names : ControlNames) (handles : ControlRows)
+    : Type 0 where
   pub selected : place_of rows names.selected ≡ Some handles.selected
-  pub selected_kind : HasKind (layout_of rows) handles.selected kind.Truth
+  pub selected_type : HasLeafType (layout_of rows) handles.selected leaf_type.Truth
   pub select : handles.select ≡ place_of rows names.select
   pub select_with_value : handles.select_with_value ≡ place_of rows names.select_with_value
   pub operate : handles.operate ≡ place_of rows names.operate
@@ -24,4 +26,5 @@ pub record AreControlRows (rows : List Row) (names : ControlNames) (handles : Co
 
 -- those of the switch at each place
 abbrev pub AreAllControlRows : List Row → List ControlRows → Type 0
-AreAllControlRows rows controls = (k : ℕ) (handles : ControlRows) → slice_get controls k ≡ Some handles → AreControlRows rows (control_names k) handles
+AreAllControlRows rows controls = (k : ℕ) (handles : ControlRows)
+    → slice_get controls k ≡ Some handles → AreControlRows rows (control_names k) handles

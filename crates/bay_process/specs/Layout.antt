@@ -1,10 +1,10 @@
--- Where the values of switches and meters stand in a tree: the names and the kinds of the rows at
+-- Where the values of switches and meters stand in a tree: the names and the types of the rows at
 -- their handles.
 use Rattle.std.specs.Prelude.{◌≡◌, ℕ, ◌+◌, List, [], ◌∷◌, map, Option, Some, None, All, position, slice_get, slice_index_or}
-use Rattle.bay_tree.specs.Rows.{names_of, kinds_of}
+use Rattle.bay_tree.specs.Rows.{names_of, leaf_types_of}
 use Rattle.bay_tree.specs.declared.row.Row.{Row}
-use Rattle.bay_tree.specs.declared.leaf.Kind.{Kind}
-use Rattle.bay_tree.specs.declared.leaf.Kind.TheVariants as kind
+use Rattle.bay_tree.specs.declared.leaf.LeafType.{LeafType}
+use Rattle.bay_tree.specs.declared.leaf.LeafType.TheVariants as leaf_type
 use Rattle.bay_nodes.specs.declared.switch.Switch.{Switch}
 use Rattle.bay_nodes.specs.Names.{StatusNames, SwitchNames, switch_names, MeterNames, meter_names}
 use Rattle.bay_process.specs.declared.switch.SwitchOutputs.{SwitchOutputs}
@@ -19,21 +19,29 @@ use Rattle.bay_process.specs.declared.rows.StatusRows.{StatusRows}
 use Rattle.bay_process.specs.declared.rows.SwitchRows.{SwitchRows}
 use Rattle.bay_process.specs.declared.switch.BoundSwitch.{BoundSwitch}
 
--- the names and the kinds of a tree's rows, which no new value changes
+-- the names and the types of a tree's rows, which no new value changes
 pub record Layout : Type 0 where
   pub names : List (List ℕ)
-  pub kinds : List (Option Kind)
+  pub leaf_types : List (Option LeafType)
 
+-- the layout of a tree
 abbrev pub layout_of : List Row → Layout
-layout_of rows = record { names = names_of rows; kinds = kinds_of rows }
+layout_of rows = record { names = names_of rows; leaf_types = leaf_types_of rows }
 
 -- the name of the row at a handle
 abbrev pub name_in : Layout → ℕ → List ℕ
 name_in layout handle = slice_index_or layout.names handle []
 
+-- the names at the handles of a value, its quality and its moment
 abbrev pub status_in : Layout → StatusRows → StatusNames
-status_in layout rows = record { value = name_in layout rows.value; quality = name_in layout rows.quality; time = name_in layout rows.time }
+status_in layout rows =
+    record {
+      value = name_in layout rows.value;
+      quality = name_in layout rows.quality;
+      time = name_in layout rows.time;
+    }
 
+-- the names at the handles of a switch
 abbrev pub switch_in : Layout → SwitchRows → SwitchNames
 switch_in layout rows = record {
   position = status_in layout rows.position;
@@ -43,27 +51,27 @@ switch_in layout rows = record {
   ena_cls = status_in layout rows.ena_cls;
 }
 
--- a value of this kind stands at the handle
-abbrev pub HasKind : Layout → ℕ → Kind → Type 0
-HasKind layout handle kind = slice_index_or layout.kinds handle None ≡ Some kind
+-- a value of this type stands at the handle
+abbrev pub HasLeafType : Layout → ℕ → LeafType → Type 0
+HasLeafType layout handle leaf_type = slice_index_or layout.leaf_types handle None ≡ Some leaf_type
 
--- a value of this kind, with its quality and its moment
-pub record AreStatusRows (layout : Layout) (value : Kind) (rows : StatusRows) : Type 0 where
-  pub value_kind : HasKind layout rows.value value
-  pub quality_kind : HasKind layout rows.quality kind.Quality
-  pub time_kind : HasKind layout rows.time kind.Utc
+-- a value of this type, with its quality and its moment
+pub record AreStatusRows (layout : Layout) (value : LeafType) (rows : StatusRows) : Type 0 where
+  pub value_type : HasLeafType layout rows.value value
+  pub quality_type : HasLeafType layout rows.quality leaf_type.Quality
+  pub time_type : HasLeafType layout rows.time leaf_type.Utc
 
 -- a switch's position, twice, how often it moved, and its two interlocking values
 pub record AreSwitchRows (layout : Layout) (rows : SwitchRows) : Type 0 where
-  pub position : AreStatusRows layout kind.Dbpos rows.position
-  pub control : AreStatusRows layout kind.Dbpos rows.control
-  pub operations : AreStatusRows layout kind.Int32 rows.operations
-  pub ena_opn : AreStatusRows layout kind.Truth rows.ena_opn
-  pub ena_cls : AreStatusRows layout kind.Truth rows.ena_cls
+  pub position : AreStatusRows layout leaf_type.Dbpos rows.position
+  pub control : AreStatusRows layout leaf_type.Dbpos rows.control
+  pub operations : AreStatusRows layout leaf_type.Int32 rows.operations
+  pub ena_opn : AreStatusRows layout leaf_type.Truth rows.ena_opn
+  pub ena_cls : AreStatusRows layout leaf_type.Truth rows.ena_cls
 
 -- those of each switch
-abbrev pub AreKinded : Layout → List BoundSwitch → Type 0
-AreKinded layout bound = All (λ b. AreSwitchRows layout b.rows) bound
+abbrev pub AreLeafTyped : Layout → List BoundSwitch → Type 0
+AreLeafTyped layout bound = All (λ b. AreSwitchRows layout b.rows) bound
 
 -- the bay's switches, in their order
 abbrev pub switches_of : List BoundSwitch → List Switch
@@ -72,23 +80,32 @@ switches_of bound = map (λ b. b.switch) bound
 -- among the points that may be written, the places of the interlocking values of the switch at a
 -- place
 abbrev pub outputs_at : List Source → ℕ → SwitchOutputs
-outputs_at writes k = record { ena_opn = position (is_point k EnableOpen) writes; ena_cls = position (is_point k EnableClose) writes }
+outputs_at writes k =
+    record {
+      ena_opn = position (is_point k EnableOpen) writes;
+      ena_cls = position (is_point k EnableClose) writes;
+    }
 
 -- the handles of the switch at a place have its names, and its outputs are those of its points
-pub record IsBound (layout : Layout) (writes : List Source) (switches : List Switch) (k : ℕ) (bound : BoundSwitch) : Type 0 where
+pub record IsBound (layout : Layout) (writes : List Source) (switches : List Switch) (k : ℕ)
+    (bound : BoundSwitch) : Type 0 where
   pub named : switch_in layout bound.rows ≡ switch_names switches k bound.switch
-  pub kinded : AreSwitchRows layout bound.rows
+  pub leaf_typed : AreSwitchRows layout bound.rows
   pub outputs : bound.outputs ≡ outputs_at writes k
 
+-- each switch is bound at its place
 abbrev pub AreBound : Layout → List Source → List BoundSwitch → Type 0
-AreBound layout writes bound = (k : ℕ) (b : BoundSwitch) → slice_get bound k ≡ Some b → IsBound layout writes (switches_of bound) k b
+AreBound layout writes bound = (k : ℕ) (b : BoundSwitch) → slice_get bound k ≡ Some b
+    → IsBound layout writes (switches_of bound) k b
 
 -- the switches with their rows, from place k on, and the places of their interlocking values
 abbrev pub bound_from : List Source → ℕ → List Switch → List SwitchRows → List BoundSwitch
 bound_from writes k [] rows = []
 bound_from writes k (s ∷ ss) [] = []
-bound_from writes k (s ∷ ss) (r ∷ rs) = record { switch = s; rows = r; outputs = outputs_at writes k } ∷ bound_from writes (k + 1) ss rs
+bound_from writes k (s ∷ ss) (r ∷ rs) =
+    record { switch = s; rows = r; outputs = outputs_at writes k } ∷ bound_from writes (k + 1) ss rs
 
+-- the names at the handles of a meter
 abbrev pub meter_in : Layout → MeterRows → MeterNames
 meter_in layout rows = record {
   tot_w = status_in layout rows.tot_w;
@@ -110,16 +127,16 @@ field_rows rows PhaseC = rows.phase_c
 
 -- the measured values of a meter
 pub record AreMeterRows (layout : Layout) (rows : MeterRows) : Type 0 where
-  pub tot_w : AreStatusRows layout kind.Int32 rows.tot_w
-  pub tot_var : AreStatusRows layout kind.Int32 rows.tot_var
-  pub hz : AreStatusRows layout kind.Int32 rows.hz
-  pub phase_a : AreStatusRows layout kind.Int32 rows.phase_a
-  pub phase_b : AreStatusRows layout kind.Int32 rows.phase_b
-  pub phase_c : AreStatusRows layout kind.Int32 rows.phase_c
+  pub tot_w : AreStatusRows layout leaf_type.Int32 rows.tot_w
+  pub tot_var : AreStatusRows layout leaf_type.Int32 rows.tot_var
+  pub hz : AreStatusRows layout leaf_type.Int32 rows.hz
+  pub phase_a : AreStatusRows layout leaf_type.Int32 rows.phase_a
+  pub phase_b : AreStatusRows layout leaf_type.Int32 rows.phase_b
+  pub phase_c : AreStatusRows layout leaf_type.Int32 rows.phase_c
 
 -- those of each meter
-abbrev pub AreMeterKinded : Layout → List BoundMeter → Type 0
-AreMeterKinded layout bound = All (λ m. AreMeterRows layout m.rows) bound
+abbrev pub AreMetersLeafTyped : Layout → List BoundMeter → Type 0
+AreMetersLeafTyped layout bound = All (λ m. AreMeterRows layout m.rows) bound
 
 -- the bay's meters, in their order
 abbrev pub meters_of : List BoundMeter → List (List ℕ)
@@ -128,7 +145,9 @@ meters_of bound = map (λ m. m.id) bound
 -- the handles of the meter at a place have its names
 pub record IsMeterBound (layout : Layout) (k : ℕ) (rows : MeterRows) : Type 0 where
   pub named : meter_in layout rows ≡ meter_names k
-  pub kinded : AreMeterRows layout rows
+  pub leaf_typed : AreMeterRows layout rows
 
+-- each meter is bound at its place
 abbrev pub AreMetersBound : Layout → List BoundMeter → Type 0
-AreMetersBound layout bound = (k : ℕ) (m : BoundMeter) → slice_get bound k ≡ Some m → IsMeterBound layout k m.rows
+AreMetersBound layout bound =
+    (k : ℕ) (m : BoundMeter) → slice_get bound k ≡ Some m → IsMeterBound layout k m.rows

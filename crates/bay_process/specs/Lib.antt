@@ -1,6 +1,6 @@
 -- What public clauses cite of the crates below.
 pub use Rattle.bay_nodes.specs.Names as NodeNames
-pub use Rattle.bay_tree.specs.Kinds
+pub use Rattle.bay_tree.specs.LeafTypes
 pub use Rattle.bay_tree.specs.Rows
 -- Its own definitions.
 pub mod Controls

@@ -3,6 +3,7 @@ use Rattle.bay_config.specs.declared.bay.MeterField.{MeterField}
 use Rattle.bay_config.specs.declared.bay.MeterField.TheVariants.{TotW, TotVAr, Hz, PhaseA, PhaseB, PhaseC}
 use Rattle.bay_nodes.specs.Names.{StatusNames, MeterNames}
 
+-- the names of a field of a meter
 abbrev pub field_names : MeterField → MeterNames → StatusNames
 field_names TotW names = names.tot_w
 field_names TotVAr names = names.tot_var

@@ -1,11 +1,11 @@
 -- The rows of a bay's switches by the names of their nodes, and the handles that a tree gives for
 -- them.
 use Rattle.std.specs.Prelude.{◌≡◌, ◌≢◌, ℕ, ◌+◌, codes, List, Some, None, option_map, slice_get}
-use Rattle.bay_tree.specs.Kinds.{kind_of}
+use Rattle.bay_tree.specs.LeafTypes.{leaf_type_of}
 use Rattle.bay_tree.specs.Rows.{name_at, leaf_at, leaf_of}
 use Rattle.bay_tree.specs.declared.row.Row.{Row}
-use Rattle.bay_tree.specs.declared.leaf.Kind.{Kind}
-use Rattle.bay_tree.specs.declared.leaf.Kind.TheVariants as kind
+use Rattle.bay_tree.specs.declared.leaf.LeafType.{LeafType}
+use Rattle.bay_tree.specs.declared.leaf.LeafType.TheVariants as leaf_type
 use Rattle.bay_config.specs.declared.bay.Bay.{Bay}
 use Rattle.bay_nodes.specs.Node.{node_name}
 use Rattle.bay_config.specs.Laws.{NamesPosition, NamesControl, NamesInterlocking, NamesMeter}
@@ -22,31 +22,36 @@ pub record AreNodesOf (bay : Bay) (place : ℕ) (nodes : Nodes) : Type 0 where
   pub control_named : NamesControl bay place nodes.control
   pub interlocking_named : NamesInterlocking bay place nodes.interlocking
 
+-- the nodes of each switch of a bay have their names
 abbrev pub AreAllNodes : Bay → List Nodes → Type 0
 AreAllNodes bay nodes = (k : ℕ) (n : Nodes) → slice_get nodes k ≡ Some n → AreNodesOf bay k n
 
+-- the names of the values below a switch's three nodes
 abbrev pub nodes_names : Nodes → SwitchNames
 nodes_names nodes = names_by_nodes nodes.position nodes.control nodes.interlocking
 
--- the rows have a value of this name and kind
-abbrev pub HasLeaf : List Row → List ℕ → Kind → Type 0
-HasLeaf rows name kind = option_map kind_of (leaf_of name rows) ≡ Some kind
+-- the rows have a value of this name and type
+abbrev pub HasLeaf : List Row → List ℕ → LeafType → Type 0
+HasLeaf rows name leaf_type = option_map leaf_type_of (leaf_of name rows) ≡ Some leaf_type
 
-pub record HasStatus (rows : List Row) (names : StatusNames) (value : Kind) : Type 0 where
+-- the rows have a value of these names and type, with its quality and its moment
+pub record HasStatus (rows : List Row) (names : StatusNames) (value : LeafType) : Type 0 where
   pub value_leaf : HasLeaf rows names.value value
-  pub quality_leaf : HasLeaf rows names.quality kind.Quality
-  pub time_leaf : HasLeaf rows names.time kind.Utc
+  pub quality_leaf : HasLeaf rows names.quality leaf_type.Quality
+  pub time_leaf : HasLeaf rows names.time leaf_type.Utc
 
 -- the rows have a switch's values
 pub record HasSwitch (rows : List Row) (names : SwitchNames) : Type 0 where
-  pub position : HasStatus rows names.position kind.Dbpos
-  pub control : HasStatus rows names.control kind.Dbpos
-  pub operations : HasStatus rows names.operations kind.Int32
-  pub ena_opn : HasStatus rows names.ena_opn kind.Truth
-  pub ena_cls : HasStatus rows names.ena_cls kind.Truth
+  pub position : HasStatus rows names.position leaf_type.Dbpos
+  pub control : HasStatus rows names.control leaf_type.Dbpos
+  pub operations : HasStatus rows names.operations leaf_type.Int32
+  pub ena_opn : HasStatus rows names.ena_opn leaf_type.Truth
+  pub ena_cls : HasStatus rows names.ena_cls leaf_type.Truth
 
+-- the rows have the values of each switch
 abbrev pub HasSwitches : List Row → List Nodes → Type 0
-HasSwitches rows nodes = (k : ℕ) (n : Nodes) → slice_get nodes k ≡ Some n → HasSwitch rows (nodes_names n)
+HasSwitches rows nodes =
+    (k : ℕ) (n : Nodes) → slice_get nodes k ≡ Some n → HasSwitch rows (nodes_names n)
 
 -- the rows have a value of each of these names
 pub record AreThere (rows : List Row) (names : StatusNames) : Type 0 where
@@ -59,19 +64,22 @@ pub record IsFound (rows : List Row) (name : List ℕ) (handle : ℕ) : Type 0 w
   pub named : name_at rows handle ≡ name
   pub value : leaf_at rows handle ≡ leaf_of name rows
 
+-- handles at which a value, its quality and its moment stand
 pub record AreFound (rows : List Row) (names : StatusNames) (handles : StatusRows) : Type 0 where
   pub value_found : IsFound rows names.value handles.value
   pub quality_found : IsFound rows names.quality handles.quality
   pub time_found : IsFound rows names.time handles.time
 
--- the handles of a switch's values have their names and their kinds
+-- the handles of a switch's values have their names and their types
 pub record AreRowsOf (layout : Layout) (names : SwitchNames) (rows : SwitchRows) : Type 0 where
   pub named : switch_in layout rows ≡ names
-  pub kinded : AreSwitchRows layout rows
+  pub leaf_typed : AreSwitchRows layout rows
 
+-- the handles of each switch are those of its nodes
 abbrev pub AreAllRows : Layout → List Nodes → List SwitchRows → Type 0
 AreAllRows layout nodes rows =
-    (k : ℕ) (n : Nodes) (r : SwitchRows) → slice_get nodes k ≡ Some n → slice_get rows k ≡ Some r → AreRowsOf layout (nodes_names n) r
+    (k : ℕ) (n : Nodes) (r : SwitchRows) → slice_get nodes k ≡ Some n → slice_get rows k ≡ Some r
+    → AreRowsOf layout (nodes_names n) r
 
 -- the names are those of the meters' nodes
 abbrev pub AreAllMeters : Bay → List (List ℕ) → Type 0
@@ -79,22 +87,23 @@ AreAllMeters bay nodes = (k : ℕ) (n : List ℕ) → slice_get nodes k ≡ Some
 
 -- the rows have a meter's values
 pub record HasMeterLeaves (rows : List Row) (names : MeterNames) : Type 0 where
-  pub tot_w : HasStatus rows names.tot_w kind.Int32
-  pub tot_var : HasStatus rows names.tot_var kind.Int32
-  pub hz : HasStatus rows names.hz kind.Int32
-  pub phase_a : HasStatus rows names.phase_a kind.Int32
-  pub phase_b : HasStatus rows names.phase_b kind.Int32
-  pub phase_c : HasStatus rows names.phase_c kind.Int32
+  pub tot_w : HasStatus rows names.tot_w leaf_type.Int32
+  pub tot_var : HasStatus rows names.tot_var leaf_type.Int32
+  pub hz : HasStatus rows names.hz leaf_type.Int32
+  pub phase_a : HasStatus rows names.phase_a leaf_type.Int32
+  pub phase_b : HasStatus rows names.phase_b leaf_type.Int32
+  pub phase_c : HasStatus rows names.phase_c leaf_type.Int32
 
 -- those of the meters at their places, which the nodes name
 pub record IsMeterThere (rows : List Row) (k : ℕ) (node : List ℕ) : Type 0 where
   pub named : node ≡ node_name (codes "MMXU") (k + 1)
   pub leaves : HasMeterLeaves rows (meter_names_of node)
 
+-- the rows have the values of each meter
 abbrev pub HaveMeters : List Row → List (List ℕ) → Type 0
 HaveMeters rows nodes = (k : ℕ) (n : List ℕ) → slice_get nodes k ≡ Some n → IsMeterThere rows k n
 
--- the handles of a meter's values have their names and their kinds
+-- the handles of a meter's values have their names and their types
 pub record AreMeterRowsOf (layout : Layout) (names : MeterNames) (rows : MeterRows) : Type 0 where
   pub named : meter_in layout rows ≡ names
-  pub kinded : AreMeterRows layout rows
+  pub leaf_typed : AreMeterRows layout rows

@@ -22,16 +22,19 @@ pub record IsWired (bay : List Point) (image : Image) (wired : WiredMachine) : T
   pub writes : wired.writes.items ≡ sources_of true bay image.points
 
 -- the switches, each with rows that its nodes name, and the places of their interlocking values
-pub record AreBoundSwitches (layout : Layout) (writes : List Source) (switches : List Switch) (nodes : List Nodes) (bound : List BoundSwitch) : Type 0 where
+pub record AreBoundSwitches (layout : Layout) (writes : List Source) (switches : List Switch)
+    (nodes : List Nodes) (bound : List BoundSwitch) : Type 0 where
   pub rows : List SwitchRows
   pub sized : length rows ≡ length nodes
   pub named : AreAllRows layout nodes rows
   pub is : bound ≡ bound_from writes 0 switches rows
 
 -- a tree of these rows, and the switches and the meters with the rows that their nodes name
-pub record AreBoundRows (rows : List Row) (switches : List Switch) (meters : List (List ℕ)) (nodes : List Nodes) (writes : List Source) (bound : BoundRows) : Type 0 where
+pub record AreBoundRows (rows : List Row) (switches : List Switch) (meters : List (List ℕ))
+    (nodes : List Nodes) (writes : List Source) (bound : BoundRows) : Type 0 where
   pub tree : bound.tree ≡ rows
-  pub of_switches : AreBoundSwitches (layout_of bound.tree) writes switches nodes bound.switches.items
+  pub of_switches : AreBoundSwitches (layout_of bound.tree) writes switches nodes
+      bound.switches.items
   pub ids : meters_of bound.meters.items ≡ meters
   pub of_meters : AreMetersBound (layout_of bound.tree) bound.meters.items
   pub told : bound.told ≡ map (λ _. None) bound.switches.items

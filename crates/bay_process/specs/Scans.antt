@@ -19,23 +19,30 @@ use Rattle.bay_process.specs.declared.switch.BoundSwitch.{BoundSwitch}
 abbrev pub leaf_at : List Row → ℕ → Option Leaf
 leaf_at rows handle = leaf_of (name_in (layout_of rows) handle) rows
 
+-- what the program reads of a switch
 abbrev pub switch_value : List Row → SwitchPoint → Option BoundSwitch → Value
 switch_value rows point None = position_value point None
 switch_value rows point (Some b) = position_value point (leaf_at rows b.rows.position.value)
 
+-- what the program reads of a meter
 abbrev pub meter_value : List Row → MeterField → Option BoundMeter → Value
 meter_value rows field None = Long (number_of_leaf None)
-meter_value rows field (Some m) = Long (number_of_leaf (leaf_at rows (field_rows m.rows field).value))
+meter_value rows field (Some m) =
+    Long (number_of_leaf (leaf_at rows (field_rows m.rows field).value))
 
 -- what the contacts, the inputs and the measures give a point
 abbrev pub bound_value : List Row → List BoundSwitch → List Bool → List BoundMeter → Source → Value
-bound_value rows switches inputs meters (source.Switch k point) = switch_value rows point (slice_get switches k)
-bound_value rows switches inputs meters (source.Input k) = Truth (unwrap_or (slice_get inputs k) false)
-bound_value rows switches inputs meters (source.Meter k field) = meter_value rows field (slice_get meters k)
+bound_value rows switches inputs meters (source.Switch k point) =
+    switch_value rows point (slice_get switches k)
+bound_value rows switches inputs meters (source.Input k) =
+    Truth (unwrap_or (slice_get inputs k) false)
+bound_value rows switches inputs meters (source.Meter k field) =
+    meter_value rows field (slice_get meters k)
 
 -- the interlocking values of the switches take their points' values
 abbrev pub outputs_put : Layout → List BoundSwitch → List Value → ℕ → List Row → List Row
 outputs_put layout [] outputs now rows = rows
 outputs_put layout (b ∷ bs) outputs now rows =
     outputs_put layout bs outputs now
-    (with_output (switch_in layout b.rows) (is_true (output_at b.outputs.ena_opn outputs)) (is_true (output_at b.outputs.ena_cls outputs)) now rows)
+    (with_output (switch_in layout b.rows) (is_true (output_at b.outputs.ena_opn outputs))
+    (is_true (output_at b.outputs.ena_cls outputs)) now rows)

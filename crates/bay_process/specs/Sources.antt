@@ -20,7 +20,9 @@ source_of bay p = option_map (λ b. b.source) (find (is_point p) bay)
 abbrev pub sources_of : Bool → List Point → List ImagePoint → List Source
 sources_of writable bay [] = []
 sources_of writable bay (p ∷ points) =
-    if beq p.writable writable then cons_option (source_of bay p) (sources_of writable bay points) else sources_of writable bay points
+    if beq p.writable writable
+    then cons_option (source_of bay p) (sources_of writable bay points)
+    else sources_of writable bay points
 
 -- the type of what a point stands for
 abbrev pub type_of_switch_point : SwitchPoint → ElementaryType
@@ -30,6 +32,7 @@ type_of_switch_point Closed = elementary.Bool
 type_of_switch_point EnableOpen = elementary.Bool
 type_of_switch_point EnableClose = elementary.Bool
 
+-- the type of a point, by what it stands for
 abbrev pub type_of_source : Source → ElementaryType
 type_of_source (source.Switch k point) = type_of_switch_point point
 type_of_source (source.Input k) = elementary.Bool

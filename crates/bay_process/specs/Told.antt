@@ -31,18 +31,20 @@ told_at told k = slice_index_or told k None
 
 -- what is kept of the switches stands in the rows
 abbrev pub AreTold : List Row → List (Option Enabled) → Type 0
-AreTold rows told = (k : ℕ) (enabled : Enabled) → told_at told k ≡ Some enabled → IsTold rows k enabled
+AreTold rows told =
+    (k : ℕ) (enabled : Enabled) → told_at told k ≡ Some enabled → IsTold rows k enabled
 
 -- the handles of the interlocking values of the switch at a place have its names
 pub record AreEnabling (layout : Layout) (k : ℕ) (rows : SwitchRows) : Type 0 where
   pub opening : status_in layout rows.ena_opn ≡ opening_of k
   pub closing : status_in layout rows.ena_cls ≡ closing_of k
 
--- and their kinds
+-- and their types
 pub record IsInterlocked (layout : Layout) (k : ℕ) (rows : SwitchRows) : Type 0 where
-  pub kinded : AreSwitchRows layout rows
+  pub leaf_typed : AreSwitchRows layout rows
   pub named : AreEnabling layout k rows
 
 -- those of each switch
 abbrev pub AreInterlocked : Layout → List BoundSwitch → Type 0
-AreInterlocked layout bound = (k : ℕ) (b : BoundSwitch) → slice_get bound k ≡ Some b → IsInterlocked layout k b.rows
+AreInterlocked layout bound =
+    (k : ℕ) (b : BoundSwitch) → slice_get bound k ≡ Some b → IsInterlocked layout k b.rows

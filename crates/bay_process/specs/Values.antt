@@ -1,6 +1,7 @@
 -- What contacts, inputs, measures and a scan's outputs make of the rows of a tree (IEC 61850-7-4:
 -- XCBR, XSWI, CSWI, CILO and MMXU; IEC 61850-7-3: status values and measured values).
 use Rattle.std.specs.Prelude.{ℕ, ℤ, ◌+◌, Bool, true, false, not, ◌&&◌, ◌==◌, pos, ◌+ℤ◌, int_lt, List, [], ◌∷◌, position, slice_get, Option, None, Some, if◌then◌else◌}
+use Rattle.std.specs.Bool.{beq}
 use Rattle.std.specs.Ordering.{int_eq}
 use Rattle.bay_tree.specs.Rows.{leaf_of, with_leaf_of}
 use Rattle.bay_tree.specs.declared.row.Row.{Row}
@@ -25,14 +26,17 @@ use Rattle.bay_process.specs.Names.{field_names}
 -- a status value, its quality and its moment
 abbrev pub with_status : StatusNames → Leaf → Quality → ℕ → List Row → List Row
 with_status names value quality now rows =
-    with_leaf_of names.time (leaf.Utc now) (with_leaf_of names.quality (leaf.Quality quality) (with_leaf_of names.value value rows))
+    with_leaf_of names.time (leaf.Utc now)
+    (with_leaf_of names.quality (leaf.Quality quality) (with_leaf_of names.value value rows))
 
+-- a position at which both end positions are reported is not to be trusted
 abbrev pub position_quality : Dbpos → Quality
 position_quality Bad = Invalid
 position_quality Intermediate = Good
 position_quality Off = Good
 position_quality On = Good
 
+-- open or closed, and nothing between
 abbrev pub is_end_position : Dbpos → Bool
 is_end_position Off = true
 is_end_position On = true
@@ -47,27 +51,34 @@ same_position On On = true
 same_position Bad Bad = true
 same_position p q = false
 
+-- two qualities are one
 abbrev pub same_quality : Quality → Quality → Bool
 same_quality Good Good = true
 same_quality Invalid Invalid = true
 same_quality p q = false
 
+-- this position stands there
 abbrev pub is_position : Dbpos → Option Leaf → Bool
 is_position p (Some (leaf.Dbpos q)) = same_position p q
 is_position p other = false
 
+-- this quality stands there
 abbrev pub is_quality : Quality → Option Leaf → Bool
 is_quality q (Some (leaf.Quality r)) = same_quality q r
 is_quality q other = false
 
+-- this truth value stands there
 abbrev pub is_truth : Bool → Option Leaf → Bool
-is_truth b (Some (leaf.Truth c)) = if b then c else not c
+is_truth b (Some (leaf.Truth c)) = beq b c
 is_truth b other = false
 
 -- one operation more, up to the greatest value
 abbrev pub counted : StatusNames → Option Leaf → ℕ → List Row → List Row
 counted names (Some (leaf.Int32 n)) now rows =
-    if int_lt n (pos 2147483647) then with_leaf_of names.time (leaf.Utc now) (with_leaf_of names.value (leaf.Int32 (n +ℤ pos 1)) rows) else rows
+    if int_lt n (pos 2147483647)
+    then with_leaf_of names.time (leaf.Utc now)
+    (with_leaf_of names.value (leaf.Int32 (n +ℤ pos 1)) rows)
+    else rows
 counted names other now rows = rows
 
 -- a contact counts where it moves the switch to an end position
@@ -81,34 +92,41 @@ operation_counted names now rows = counted names (leaf_of names.value rows) now 
 -- the rows tell this position already
 abbrev pub tells : StatusNames → Dbpos → List Row → Bool
 tells names position rows =
-    is_position position (leaf_of names.value rows) && is_quality (position_quality position) (leaf_of names.quality rows)
+    is_position position (leaf_of names.value rows)
+    && is_quality (position_quality position) (leaf_of names.quality rows)
 
 -- the rows after a contact that changes the value or the quality of a position, which the control
 -- repeats
 abbrev pub rows_after_change : SwitchNames → Dbpos → ℕ → List Row → List Row
 rows_after_change names position now rows =
-    let told = with_status names.position (leaf.Dbpos position) (position_quality position) now rows in
-    let after = with_status names.control (leaf.Dbpos position) (position_quality position) now told in
-    if is_operation position (leaf_of names.position.value rows) then operation_counted names.operations now after else after
+    let told =
+    with_status names.position (leaf.Dbpos position) (position_quality position) now rows in
+    let after =
+    with_status names.control (leaf.Dbpos position) (position_quality position) now told in
+    if is_operation position (leaf_of names.position.value rows)
+    then operation_counted names.operations now after
+    else after
 
 -- the rows after a contact: one that leaves value and quality as they are changes nothing
 abbrev pub rows_after_contact : SwitchNames → Dbpos → ℕ → List Row → List Row
-rows_after_contact names position now rows = if tells names.position position rows then rows else rows_after_change names position now rows
+rows_after_contact names position now rows =
+    if tells names.position position rows then rows else rows_after_change names position now rows
 
-abbrev pub same_truth : Bool → Bool → Bool
-same_truth a b = if a then b else not b
-
+-- this number stands there
 abbrev pub is_number : ℤ → Option Leaf → Bool
 is_number n (Some (leaf.Int32 m)) = int_eq n m
 is_number n other = false
 
 -- the rows tell this measured value already, with a good quality
 abbrev pub tells_measure : StatusNames → ℤ → List Row → Bool
-tells_measure names value rows = is_number value (leaf_of names.value rows) && is_quality Good (leaf_of names.quality rows)
+tells_measure names value rows =
+    is_number value (leaf_of names.value rows) && is_quality Good (leaf_of names.quality rows)
 
 -- the rows after a measure: one that leaves value and quality as they are changes nothing
 abbrev pub rows_after_measure : StatusNames → ℤ → ℕ → List Row → List Row
-rows_after_measure names value now rows = if tells_measure names value rows then rows else with_status names (leaf.Int32 value) Good now rows
+rows_after_measure names value now rows =
+    if tells_measure names value rows then rows
+    else with_status names (leaf.Int32 value) Good now rows
 
 -- the number of a position: 0 intermediate, 1 off, 2 on, 3 bad
 abbrev pub number_of_position : Option Leaf → ℤ
@@ -128,7 +146,8 @@ position_value EnableClose position = Truth false
 -- the position of the switch at a place, as the rows have it
 abbrev pub position_leaf : List Switch → List Row → ℕ → Option Switch → Option Leaf
 position_leaf switches rows k None = None
-position_leaf switches rows k (Some switch) = leaf_of (switch_names switches k switch).position.value rows
+position_leaf switches rows k (Some switch) =
+    leaf_of (switch_names switches k switch).position.value rows
 
 -- a measured value, in whole units
 abbrev pub number_of_leaf : Option Leaf → ℤ
@@ -140,6 +159,7 @@ abbrev pub measure_leaf : List Row → ℕ → MeterField → Option (List ℕ) 
 measure_leaf rows k field None = None
 measure_leaf rows k field (Some id) = leaf_of (field_names field (meter_names k)).value rows
 
+-- two points of a switch are one
 abbrev pub same_point : SwitchPoint → SwitchPoint → Bool
 same_point Position Position = true
 same_point Open Open = true
@@ -166,16 +186,20 @@ output_of k point writes outputs = is_true (output_at (position (is_point k poin
 -- an interlocking value and its quality, with the moment where one of them changed
 abbrev pub with_enabled : StatusNames → Bool → ℕ → List Row → List Row
 with_enabled names value now rows =
-    if is_truth value (leaf_of names.value rows) && is_quality Good (leaf_of names.quality rows) then rows
+    if is_truth value (leaf_of names.value rows) && is_quality Good (leaf_of names.quality rows)
+    then rows
     else with_status names (leaf.Truth value) Good now rows
 
 -- both interlocking values of a switch: whether it may be opened, and closed
 abbrev pub with_output : SwitchNames → Bool → Bool → ℕ → List Row → List Row
-with_output names opens closes now rows = with_enabled names.ena_cls closes now (with_enabled names.ena_opn opens now rows)
+with_output names opens closes now rows =
+    with_enabled names.ena_cls closes now (with_enabled names.ena_opn opens now rows)
 
 -- the interlocking values of all switches take their points' values, from place k on
-abbrev pub with_outputs : List Switch → List Source → List Value → ℕ → ℕ → List Switch → List Row → List Row
+abbrev pub with_outputs : List Switch → List Source → List Value → ℕ → ℕ → List Switch → List Row
+    → List Row
 with_outputs switches writes outputs now k [] rows = rows
 with_outputs switches writes outputs now k (s ∷ ss) rows =
     with_outputs switches writes outputs now (k + 1) ss
-    (with_output (switch_names switches k s) (output_of k EnableOpen writes outputs) (output_of k EnableClose writes outputs) now rows)
+    (with_output (switch_names switches k s) (output_of k EnableOpen writes outputs)
+    (output_of k EnableClose writes outputs) now rows)

@@ -40,7 +40,8 @@ pub fn sources_of(
     bay: &[Point],
     points: &[ImagePoint],
 ) -> Result<Vec<Source>, AllocError>
-    ensures { IfOk result (λ sources. sources.items ≡ spec_sources.sources_of writable bay.now points.now) }
+    ensures { IfOk result (λ sources. sources.items
+        ≡ spec_sources.sources_of writable bay.now points.now) }
 {
     let mut sources = Vec::new(alloc);
     for point in points {
@@ -53,12 +54,6 @@ pub fn sources_of(
     Ok(sources)
 }
 
-fn same_point(first: SwitchPoint, second: SwitchPoint) -> bool
-    ensures { result ≡ spec.same_point first second }
-{
-    first == second
-}
-
 /// Whether this is a point of the switch at a place.
 fn is_point(source: Source, switch: usize, point: SwitchPoint) -> bool
     ensures { result ≡ spec.is_point switch point source }
@@ -67,7 +62,7 @@ fn is_point(source: Source, switch: usize, point: SwitchPoint) -> bool
         Source::Switch {
             switch: at,
             point: which,
-        } => at == switch && same_point(which, point),
+        } => at == switch && which == point,
         Source::Input { .. } | Source::Meter { .. } => false,
     }
 }

@@ -1,6 +1,6 @@
 // What a contact does to the rows of its switch (IEC 61850-7-4, XCBR and XSWI: Pos and OpCnt).
 ghost use Rattle.std.specs.Prelude.{◌≡◌, not};
-ghost use Rattle.bay_tree.specs.declared.leaf.Kind.TheVariants as kind;
+ghost use Rattle.bay_tree.specs.declared.leaf.LeafType.TheVariants as leaf_type;
 ghost use Rattle.bay_process.specs.Values.{operation_counted, rows_after_change, rows_after_contact};
 ghost use Rattle.bay_process.specs.Values as spec;
 ghost use Rattle.bay_process.specs.Layout.{layout_of, status_in, switch_in, AreStatusRows, AreSwitchRows};
@@ -31,7 +31,7 @@ fn is_end_position(position: Dbpos) -> bool
 
 /// Counts one operation more, unless the count is at its greatest value.
 fn count_operation(tree: &mut Tree, rows: StatusRows, now: u64)
-    requires { AreStatusRows (layout_of tree.old) kind.Int32 rows }
+    requires { AreStatusRows (layout_of tree.old) leaf_type.Int32 rows }
     ensures rows { tree.new ≡ operation_counted (status_in (layout_of tree.old) rows) now tree.old }
     ensures layout { layout_of tree.new ≡ layout_of tree.old }
 {
@@ -44,7 +44,7 @@ fn count_operation(tree: &mut Tree, rows: StatusRows, now: u64)
 
 /// Whether a position stands there already, with its quality.
 fn tells(tree: &Tree, rows: StatusRows, position: Dbpos) -> bool
-    requires { AreStatusRows (layout_of tree.now) kind.Dbpos rows }
+    requires { AreStatusRows (layout_of tree.now) leaf_type.Dbpos rows }
     ensures { result ≡ spec.tells (status_in (layout_of tree.now) rows) position tree.now }
 {
     let is_same = is_position(tree, rows.value, position);
@@ -56,7 +56,8 @@ fn tells(tree: &Tree, rows: StatusRows, position: Dbpos) -> bool
 /// an end.
 fn put_position(tree: &mut Tree, rows: &SwitchRows, position: Dbpos, now: u64)
     requires { AreSwitchRows (layout_of tree.old) rows.now }
-    ensures rows { tree.new ≡ rows_after_change (switch_in (layout_of tree.old) rows.now) position now tree.old }
+    ensures rows { tree.new ≡ rows_after_change (switch_in (layout_of tree.old) rows.now) position
+        now tree.old }
     ensures layout { layout_of tree.new ≡ layout_of tree.old }
 {
     let is_operation = is_end_position(position)
@@ -83,8 +84,10 @@ fn put_position(tree: &mut Tree, rows: &SwitchRows, position: Dbpos, now: u64)
 /// Takes a switch's position, and answers whether that changed its value or its quality.
 pub fn take_position(tree: &mut Tree, rows: &SwitchRows, position: Dbpos, now: u64) -> bool
     requires { AreSwitchRows (layout_of tree.old) rows.now }
-    ensures changed { result ≡ not (spec.tells (status_in (layout_of tree.old) rows.now.position) position tree.old) }
-    ensures rows { tree.new ≡ rows_after_contact (switch_in (layout_of tree.old) rows.now) position now tree.old }
+    ensures changed { result
+        ≡ not (spec.tells (status_in (layout_of tree.old) rows.now.position) position tree.old) }
+    ensures rows { tree.new ≡ rows_after_contact (switch_in (layout_of tree.old) rows.now) position
+        now tree.old }
     ensures layout { layout_of tree.new ≡ layout_of tree.old }
 {
     if tells(tree, rows.position, position) {

@@ -2,7 +2,7 @@
 // and Cancel).
 ghost use Rattle.std.specs.Prelude.{◌≡◌, ◌++◌, ℕ, List, codes, length, Some, IfOk};
 ghost use Rattle.bay_tree.specs.Rows.{place_of};
-ghost use Rattle.bay_tree.specs.declared.leaf.Kind.TheVariants as kind;
+ghost use Rattle.bay_tree.specs.declared.leaf.LeafType.TheVariants as leaf_type;
 ghost use Rattle.bay_tree.specs.declared.row.Row.{Row};
 ghost use Rattle.bay_nodes.specs.Names.{ControlNames, control_names_of};
 ghost use Rattle.bay_process.specs.Controls.{HaveSelected, AreControlRows, AreAllControlRows};
@@ -49,8 +49,9 @@ fn handle_at(
 
 /// The handle of the row that tells whether the switch of a control is selected.
 fn selected_at(alloc: Global, tree: &Tree, node: &str) -> Result<Handle, AllocError>
-    requires { HasLeaf tree.now (control_names_of node.now).selected kind.Truth }
-    ensures { IfOk result (λ handle. place_of tree.now (control_names_of node.now).selected ≡ Some handle) }
+    requires { HasLeaf tree.now (control_names_of node.now).selected leaf_type.Truth }
+    ensures { IfOk result (λ handle. place_of tree.now (control_names_of node.now).selected
+        ≡ Some handle) }
 {
     match handle_at(alloc, tree, node, SELECTED)? {
         Some(handle) => Ok(handle),

@@ -1,10 +1,10 @@
 // The measured values of a meter (IEC 61850-7-4, MMXU; IEC 61850-7-3, MV and CMV).
 ghost use Rattle.std.specs.Prelude.{◌≡◌, not};
-ghost use Rattle.bay_tree.specs.declared.leaf.Kind.TheVariants as kind;
+ghost use Rattle.bay_tree.specs.declared.leaf.LeafType.TheVariants as leaf_type;
 ghost use Rattle.bay_tree.specs.Rows.{leaf_of};
 ghost use Rattle.bay_process.specs.Values.{tells_measure, rows_after_measure};
 ghost use Rattle.bay_process.specs.Values as spec;
-ghost use Rattle.bay_process.specs.Layout.{layout_of, name_in, status_in, field_rows, HasKind, AreStatusRows};
+ghost use Rattle.bay_process.specs.Layout.{layout_of, name_in, status_in, field_rows, HasLeafType, AreStatusRows};
 
 use crate::rows::{StatusRows, count_at, is_quality, put_status};
 use bay_base::text::Text;
@@ -49,17 +49,20 @@ impl MeterRows {
 
 /// Whether a number stands there.
 fn is_number(tree: &Tree, handle: Handle, number: i32) -> bool
-    requires { HasKind (layout_of tree.now) handle kind.Int32 }
-    ensures { result ≡ spec.is_number number (leaf_of (name_in (layout_of tree.now) handle) tree.now) }
+    requires { HasLeafType (layout_of tree.now) handle leaf_type.Int32 }
+    ensures { result ≡ spec.is_number number
+        (leaf_of (name_in (layout_of tree.now) handle) tree.now) }
 {
     number == count_at(tree, handle)
 }
 
 /// Takes a measured value, and answers whether that changed it or its quality.
 pub fn take_measure(tree: &mut Tree, rows: StatusRows, value: i32, now: u64) -> bool
-    requires { AreStatusRows (layout_of tree.old) kind.Int32 rows }
-    ensures changed { result ≡ not (tells_measure (status_in (layout_of tree.old) rows) value tree.old) }
-    ensures rows { tree.new ≡ rows_after_measure (status_in (layout_of tree.old) rows) value now tree.old }
+    requires { AreStatusRows (layout_of tree.old) leaf_type.Int32 rows }
+    ensures changed { result
+        ≡ not (tells_measure (status_in (layout_of tree.old) rows) value tree.old) }
+    ensures rows { tree.new ≡ rows_after_measure (status_in (layout_of tree.old) rows) value now
+        tree.old }
     ensures layout { layout_of tree.new ≡ layout_of tree.old }
 {
     let is_same = is_number(tree, rows.value, value);

@@ -68,9 +68,11 @@ pub struct NodeNames {
 
 /// The names of the nodes of a bay's switches and meters.
 pub fn node_names(alloc: Global, bay: &Bay) -> Result<NodeNames, AllocError>
-    ensures switches_sized { IfOk result (λ nodes. length nodes.switches.items ≡ length bay.now.switches) }
+    ensures switches_sized { IfOk result
+        (λ nodes. length nodes.switches.items ≡ length bay.now.switches) }
     ensures switches_named { IfOk result (λ nodes. AreAllNodes bay.now nodes.switches.items) }
-    ensures meters_sized { IfOk result (λ nodes. length nodes.meters.items ≡ length bay.now.meters) }
+    ensures meters_sized { IfOk result
+        (λ nodes. length nodes.meters.items ≡ length bay.now.meters) }
     ensures meters_named { IfOk result (λ nodes. AreAllMeters bay.now nodes.meters.items) }
 {
     let switches = all_nodes(alloc, bay)?;
@@ -99,7 +101,8 @@ fn bound_switches(
 ) -> Result<Vec<BoundSwitch>, AllocError>
     requires sized { length nodes.now ≡ length switches.items }
     requires there { HasSwitches tree.now nodes.now }
-    ensures { IfOk result (λ bound. AreBoundSwitches (layout_of tree.now) writes.now switches.items nodes.now bound.items) }
+    ensures { IfOk result (λ bound. AreBoundSwitches (layout_of tree.now) writes.now switches.items
+        nodes.now bound.items) }
 {
     let rows = all_switch_rows(alloc, tree, nodes)?;
     let bound = bind_switches(alloc, switches, rows.as_slice(), writes)?;
@@ -120,7 +123,8 @@ pub fn bound_rows(
     requires switches_there { HasSwitches rows.items nodes.now.switches.items }
     requires meters_sized { length nodes.now.meters.items ≡ length meters.now }
     requires meters_there { HaveMeters rows.items nodes.now.meters.items }
-    ensures { IfOk result (AreBoundRows rows.items switches.items meters.now nodes.now.switches.items writes.now) }
+    ensures { IfOk result (AreBoundRows rows.items switches.items meters.now
+        nodes.now.switches.items writes.now) }
 {
     let tree = Tree::build(alloc, rows)?;
     let switches = bound_switches(alloc, &tree, switches, nodes.switches.as_slice(), writes)?;

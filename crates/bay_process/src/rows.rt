@@ -1,12 +1,12 @@
 // The rows of status values in the tree: a value, its quality and its moment (IEC 61850-7-3).
 ghost use Rattle.std.specs.Prelude.{◌≡◌, ◌≢◌, None, Some};
-ghost use Rattle.bay_tree.specs.declared.leaf.Kind.TheVariants as kind;
+ghost use Rattle.bay_tree.specs.declared.leaf.LeafType.TheVariants as leaf_type;
 ghost use Rattle.bay_tree.specs.declared.leaf.Leaf.TheVariants as leaves;
-ghost use Rattle.bay_tree.specs.Kinds.{kind_of};
+ghost use Rattle.bay_tree.specs.LeafTypes.{leaf_type_of};
 ghost use Rattle.bay_tree.specs.Rows.{leaf_of, with_leaf_of};
 ghost use Rattle.bay_process.specs.Values.{with_status};
 ghost use Rattle.bay_process.specs.Values as spec;
-ghost use Rattle.bay_process.specs.Layout.{layout_of, name_in, status_in, HasKind, AreStatusRows};
+ghost use Rattle.bay_process.specs.Layout.{layout_of, name_in, status_in, HasLeafType, AreStatusRows};
 
 use bay_tree::leaf::{Dbpos, Leaf, Quality};
 use bay_tree::tree::{Handle, Tree};
@@ -34,10 +34,10 @@ pub struct SwitchRows {
     pub ena_cls: StatusRows,
 }
 
-/// Writes a value of the kind that stands there.
+/// Writes a value of the type that stands there.
 #[inline(always)]
 pub fn put(tree: &mut Tree, handle: Handle, leaf: Leaf)
-    requires { HasKind (layout_of tree.old) handle (kind_of leaf) }
+    requires { HasLeafType (layout_of tree.old) handle (leaf_type_of leaf) }
     ensures rows { tree.new ≡ with_leaf_of (name_in (layout_of tree.old) handle) leaf tree.old }
     ensures layout { layout_of tree.new ≡ layout_of tree.old }
 {
@@ -50,8 +50,9 @@ pub fn put(tree: &mut Tree, handle: Handle, leaf: Leaf)
 /// Writes a value, its quality and its moment.
 #[inline(always)]
 pub fn put_status(tree: &mut Tree, rows: StatusRows, value: Leaf, quality: Quality, now: u64)
-    requires { AreStatusRows (layout_of tree.old) (kind_of value) rows }
-    ensures rows { tree.new ≡ with_status (status_in (layout_of tree.old) rows) value quality now tree.old }
+    requires { AreStatusRows (layout_of tree.old) (leaf_type_of value) rows }
+    ensures rows { tree.new ≡ with_status (status_in (layout_of tree.old) rows) value quality now
+        tree.old }
     ensures layout { layout_of tree.new ≡ layout_of tree.old }
 {
     put(tree, rows.value, value);
@@ -61,7 +62,7 @@ pub fn put_status(tree: &mut Tree, rows: StatusRows, value: Leaf, quality: Quali
 
 /// The position that stands there.
 pub fn position_at(tree: &Tree, handle: Handle) -> Dbpos
-    requires { HasKind (layout_of tree.now) handle kind.Dbpos }
+    requires { HasLeafType (layout_of tree.now) handle leaf_type.Dbpos }
     ensures { leaf_of (name_in (layout_of tree.now) handle) tree.now ≡ Some (leaves.Dbpos result) }
 {
     match tree.get(handle) {
@@ -72,8 +73,9 @@ pub fn position_at(tree: &Tree, handle: Handle) -> Dbpos
 
 // The quality that stands there.
 fn quality_at(tree: &Tree, handle: Handle) -> Quality
-    requires { HasKind (layout_of tree.now) handle kind.Quality }
-    ensures { leaf_of (name_in (layout_of tree.now) handle) tree.now ≡ Some (leaves.Quality result) }
+    requires { HasLeafType (layout_of tree.now) handle leaf_type.Quality }
+    ensures { leaf_of (name_in (layout_of tree.now) handle) tree.now
+        ≡ Some (leaves.Quality result) }
 {
     match tree.get(handle) {
         Some(Leaf::Quality(quality)) => *quality,
@@ -83,7 +85,7 @@ fn quality_at(tree: &Tree, handle: Handle) -> Quality
 
 // The truth value that stands there.
 fn truth_at(tree: &Tree, handle: Handle) -> bool
-    requires { HasKind (layout_of tree.now) handle kind.Truth }
+    requires { HasLeafType (layout_of tree.now) handle leaf_type.Truth }
     ensures { leaf_of (name_in (layout_of tree.now) handle) tree.now ≡ Some (leaves.Truth result) }
 {
     match tree.get(handle) {
@@ -94,7 +96,7 @@ fn truth_at(tree: &Tree, handle: Handle) -> bool
 
 /// The number that stands there.
 pub fn count_at(tree: &Tree, handle: Handle) -> i32
-    requires { HasKind (layout_of tree.now) handle kind.Int32 }
+    requires { HasLeafType (layout_of tree.now) handle leaf_type.Int32 }
     ensures { leaf_of (name_in (layout_of tree.now) handle) tree.now ≡ Some (leaves.Int32 result) }
 {
     match tree.get(handle) {
@@ -105,16 +107,18 @@ pub fn count_at(tree: &Tree, handle: Handle) -> i32
 
 /// Whether a position stands there.
 pub fn is_position(tree: &Tree, handle: Handle, position: Dbpos) -> bool
-    requires { HasKind (layout_of tree.now) handle kind.Dbpos }
-    ensures { result ≡ spec.is_position position (leaf_of (name_in (layout_of tree.now) handle) tree.now) }
+    requires { HasLeafType (layout_of tree.now) handle leaf_type.Dbpos }
+    ensures { result ≡ spec.is_position position
+        (leaf_of (name_in (layout_of tree.now) handle) tree.now) }
 {
     position == position_at(tree, handle)
 }
 
 /// Whether a quality stands there.
 pub fn is_quality(tree: &Tree, handle: Handle, quality: Quality) -> bool
-    requires { HasKind (layout_of tree.now) handle kind.Quality }
-    ensures value { result ≡ spec.is_quality quality (leaf_of (name_in (layout_of tree.now) handle) tree.now) }
+    requires { HasLeafType (layout_of tree.now) handle leaf_type.Quality }
+    ensures value { result ≡ spec.is_quality quality
+        (leaf_of (name_in (layout_of tree.now) handle) tree.now) }
     ensures there { leaf_of (name_in (layout_of tree.now) handle) tree.now ≢ None }
 {
     quality == quality_at(tree, handle)
@@ -122,8 +126,9 @@ pub fn is_quality(tree: &Tree, handle: Handle, quality: Quality) -> bool
 
 /// Whether a truth value stands there.
 pub fn is_truth(tree: &Tree, handle: Handle, value: bool) -> bool
-    requires { HasKind (layout_of tree.now) handle kind.Truth }
-    ensures value { result ≡ spec.is_truth value (leaf_of (name_in (layout_of tree.now) handle) tree.now) }
+    requires { HasLeafType (layout_of tree.now) handle leaf_type.Truth }
+    ensures value { result ≡ spec.is_truth value
+        (leaf_of (name_in (layout_of tree.now) handle) tree.now) }
     ensures there { leaf_of (name_in (layout_of tree.now) handle) tree.now ≢ None }
 {
     truth_at(tree, handle) == value

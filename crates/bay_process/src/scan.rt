@@ -1,6 +1,6 @@
 // What a scan reads, and what it writes (IEC 61850-7-4, CILO: EnaOpn and EnaCls).
 ghost use Rattle.std.specs.Prelude.{◌≡◌, ◌<◌, ◌^◌, ℕ, [], length, slice_get, Some, None};
-ghost use Rattle.bay_tree.specs.declared.leaf.Kind.TheVariants as kind;
+ghost use Rattle.bay_tree.specs.declared.leaf.LeafType.TheVariants as leaf_type;
 ghost use Rattle.bay_tree.specs.declared.leaf.Leaf.TheVariants as leaves;
 ghost use Rattle.il_image.specs.Images.{IsValue};
 ghost use Rattle.il_image.specs.Values.{type_of};
@@ -8,7 +8,7 @@ ghost use Rattle.bay_base.specs.declared.types.ElementaryType.TheVariants as ele
 ghost use Rattle.il_scan.specs.Places.{is_true};
 ghost use Rattle.bay_process.specs.Values.{output_at, with_enabled, with_output};
 ghost use Rattle.bay_process.specs.Values as spec_values;
-ghost use Rattle.bay_process.specs.Layout.{layout_of, status_in, switch_in, AreStatusRows, AreSwitchRows, AreKinded, AreMeterKinded};
+ghost use Rattle.bay_process.specs.Layout.{layout_of, status_in, switch_in, AreStatusRows, AreSwitchRows, AreLeafTyped, AreMetersLeafTyped};
 ghost use Rattle.bay_process.specs.Sources.{type_of_source, type_of_switch_point};
 ghost use Rattle.bay_process.specs.Told.{AreEnabling, AreInterlocked, AreTold, AreValued, IsInterlocked, IsTold, Stands};
 ghost use Rattle.bay_process.specs.Scans.{bound_value, leaf_at, outputs_put};
@@ -19,7 +19,7 @@ use crate::rows::{
     StatusRows, SwitchRows, count_at, is_quality, is_truth, position_at, put_status,
 };
 use crate::switch::{BoundSwitch, Enabled};
-use crate::values::{ToldValues, Truths, same_truth};
+use crate::values::{ToldValues, Truths};
 use bay_config::bay::{MeterField, Source, SwitchPoint};
 use bay_tree::leaf::{Dbpos, Leaf, Quality};
 use bay_tree::tree::Tree;
@@ -40,7 +40,7 @@ fn number_of_position(position: Dbpos) -> i16
 
 /// What a point of a switch says of its position.
 fn position_value(tree: &Tree, rows: StatusRows, point: SwitchPoint) -> Value
-    requires { AreStatusRows (layout_of tree.now) kind.Dbpos rows }
+    requires { AreStatusRows (layout_of tree.now) leaf_type.Dbpos rows }
     ensures value { result ≡ spec_values.position_value point (leaf_at tree.now rows.value) }
     ensures typed { type_of result ≡ type_of_switch_point point }
     ensures is_value { IsValue result }
@@ -68,7 +68,7 @@ fn no_position(point: SwitchPoint) -> Value
 
 /// The value that the contacts give a point of the switch at a place.
 fn switch_value(tree: &Tree, switches: &[BoundSwitch], switch: usize, point: SwitchPoint) -> Value
-    requires { AreKinded (layout_of tree.now) switches.now }
+    requires { AreLeafTyped (layout_of tree.now) switches.now }
     ensures value { result ≡ spec.switch_value tree.now point (slice_get switches.now switch) }
     ensures typed { type_of result ≡ type_of_switch_point point }
     ensures is_value { IsValue result }
@@ -81,7 +81,7 @@ fn switch_value(tree: &Tree, switches: &[BoundSwitch], switch: usize, point: Swi
 
 /// The measured value of a field of the meter at a place.
 fn meter_value(tree: &Tree, meters: &[BoundMeter], meter: usize, field: MeterField) -> Value
-    requires { AreMeterKinded (layout_of tree.now) meters.now }
+    requires { AreMetersLeafTyped (layout_of tree.now) meters.now }
     ensures value { result ≡ spec.meter_value tree.now field (slice_get meters.now meter) }
     ensures typed { type_of result ≡ elementary.Dint }
     ensures is_value { IsValue result }
@@ -100,8 +100,8 @@ fn point_value(
     meters: &[BoundMeter],
     source: Source,
 ) -> Value
-    requires switches { AreKinded (layout_of tree.now) switches.now }
-    requires meters { AreMeterKinded (layout_of tree.now) meters.now }
+    requires switches { AreLeafTyped (layout_of tree.now) switches.now }
+    requires meters { AreMetersLeafTyped (layout_of tree.now) meters.now }
     ensures value { result ≡ bound_value tree.now switches.now inputs.now meters.now source }
     ensures typed { type_of result ≡ type_of_source source }
     ensures is_value { IsValue result }
@@ -121,8 +121,8 @@ pub struct ReadPoints<'a> {
     pub inputs: &'a Truths,
     pub meters: &'a [BoundMeter],
     pub reads: &'a [Source],
-    ghost kinded: { AreKinded (layout_of tree.now) switches.now },
-    ghost metered: { AreMeterKinded (layout_of tree.now) meters.now },
+    ghost leaf_typed: { AreLeafTyped (layout_of tree.now) switches.now },
+    ghost metered: { AreMetersLeafTyped (layout_of tree.now) meters.now },
 }
 
 impl<'a> Inputs for ReadPoints<'a> {
@@ -134,7 +134,8 @@ impl<'a> Inputs for ReadPoints<'a> {
 
     ghost types = { λ points. map type_of_source points.reads.now };
 
-    ghost values = { λ points. map (bound_value points.tree.now points.switches.now points.inputs.now points.meters.now) points.reads.now };
+    ghost values = { λ points. map (bound_value points.tree.now points.switches.now points.inputs.now
+        points.meters.now) points.reads.now };
 
     #[inline(always)]
     fn input(&self, place: usize) -> Value {
@@ -147,13 +148,16 @@ impl<'a> Inputs for ReadPoints<'a> {
         )
     }
 
-    ghost sized = { λ points. length-map points.reads.now (bound_value points.tree.now points.switches.now points.inputs.now points.meters.now) ∙ sym (length-map points.reads.now type_of_source) };
+    ghost sized = { λ points. length-map points.reads.now
+        (bound_value points.tree.now points.switches.now points.inputs.now points.meters.now)
+        ∙ sym (length-map points.reads.now type_of_source) };
 }
 
 /// Gives an interlocking value the value of its point.
 fn set_enabled(tree: &mut Tree, rows: StatusRows, value: bool, now: u64)
-    requires { AreStatusRows (layout_of tree.old) kind.Truth rows }
-    ensures rows { tree.new ≡ with_enabled (status_in (layout_of tree.old) rows) value now tree.old }
+    requires { AreStatusRows (layout_of tree.old) leaf_type.Truth rows }
+    ensures rows { tree.new ≡ with_enabled (status_in (layout_of tree.old) rows) value now
+        tree.old }
     ensures layout { layout_of tree.new ≡ layout_of tree.old }
     ensures valued { AreValued tree.old (status_in (layout_of tree.old) rows) }
 {
@@ -178,9 +182,11 @@ fn output(outputs: &Outputs<'_>, place: Option<usize>) -> bool
 /// Gives the interlocking values of the switch at a place new values.
 fn write_output(tree: &mut Tree, rows: &SwitchRows, enabled: Enabled, now: u64)
     requires { AreSwitchRows (layout_of tree.old) rows.now }
-    ensures rows { tree.new ≡ with_output (switch_in (layout_of tree.old) rows.now) enabled.may_open enabled.may_close now tree.old }
+    ensures rows { tree.new ≡ with_output (switch_in (layout_of tree.old) rows.now) enabled.may_open
+        enabled.may_close now tree.old }
     ensures layout { layout_of tree.new ≡ layout_of tree.old }
-    ensures told { (k : ℕ) → AreEnabling (layout_of tree.old) k rows.now → IsTold tree.new k enabled }
+    ensures told { (k : ℕ) → AreEnabling (layout_of tree.old) k rows.now
+        → IsTold tree.new k enabled }
 {
     set_enabled(tree, rows.ena_opn, enabled.may_open, now);
     set_enabled(tree, rows.ena_cls, enabled.may_close, now);
@@ -188,35 +194,16 @@ fn write_output(tree: &mut Tree, rows: &SwitchRows, enabled: Enabled, now: u64)
 
 /// Gives an interlocking value a new value, where one stands there with a good quality.
 fn change_enabled(tree: &mut Tree, rows: StatusRows, stood: bool, value: bool, now: u64)
-    requires rows { AreStatusRows (layout_of tree.old) kind.Truth rows }
+    requires rows { AreStatusRows (layout_of tree.old) leaf_type.Truth rows }
     requires stands { Stands tree.old (status_in (layout_of tree.old) rows) stood }
-    ensures rows { tree.new ≡ with_enabled (status_in (layout_of tree.old) rows) value now tree.old }
+    ensures rows { tree.new ≡ with_enabled (status_in (layout_of tree.old) rows) value now
+        tree.old }
     ensures layout { layout_of tree.new ≡ layout_of tree.old }
 {
-    if same_truth(value, stood) {
+    if value == stood {
         return;
     }
     put_status(tree, rows, Leaf::Truth(value), Quality::Good, now)
-}
-
-/// Gives the interlocking values of the switch at a place new values, where the last scan wrote
-/// these.
-fn change_output(
-    tree: &mut Tree,
-    _place: usize,
-    rows: &SwitchRows,
-    stood: Enabled,
-    enabled: Enabled,
-    now: u64,
-)
-    requires rows { IsInterlocked (layout_of tree.old) _place rows.now }
-    requires stands { IsTold tree.old _place stood }
-    ensures rows { tree.new ≡ with_output (switch_in (layout_of tree.old) rows.now) enabled.may_open enabled.may_close now tree.old }
-    ensures layout { layout_of tree.new ≡ layout_of tree.old }
-    ensures told { IsTold tree.new _place enabled }
-{
-    change_enabled(tree, rows.ena_opn, stood.may_open, enabled.may_open, now);
-    change_enabled(tree, rows.ena_cls, stood.may_close, enabled.may_close, now);
 }
 
 /// Gives the interlocking values of the switch at a place new values. What the last scan wrote is
@@ -233,7 +220,8 @@ fn tell(
     requires told { AreTold tree.old told.old }
     requires within { place < length told.old }
     requires few { length told.old < 2 ^ 64 }
-    ensures rows { tree.new ≡ with_output (switch_in (layout_of tree.old) rows.now) enabled.may_open enabled.may_close now tree.old }
+    ensures rows { tree.new ≡ with_output (switch_in (layout_of tree.old) rows.now) enabled.may_open
+        enabled.may_close now tree.old }
     ensures layout { layout_of tree.new ≡ layout_of tree.old }
     ensures told { AreTold tree.new told.new }
     ensures sized { length told.new ≡ length told.old }
@@ -241,7 +229,10 @@ fn tell(
     let stood = told.get(place);
     told.set(place, enabled);
     match stood {
-        Some(stood) => change_output(tree, place, rows, stood, enabled, now),
+        Some(stood) => {
+            change_enabled(tree, rows.ena_opn, stood.may_open, enabled.may_open, now);
+            change_enabled(tree, rows.ena_cls, stood.may_close, enabled.may_close, now);
+        }
         None => write_output(tree, rows, enabled, now),
     }
 }
@@ -257,7 +248,8 @@ pub fn write_outputs(
     requires interlocked { AreInterlocked (layout_of tree.old) switches.now }
     requires told { AreTold tree.old told.old }
     requires sized { length told.old ≡ length switches.now }
-    ensures rows { tree.new ≡ outputs_put (layout_of tree.old) switches.now outputs.now now tree.old }
+    ensures rows { tree.new ≡ outputs_put (layout_of tree.old) switches.now outputs.now now
+        tree.old }
     ensures layout { layout_of tree.new ≡ layout_of tree.old }
     ensures told { AreTold tree.new told.new }
     ensures sized { length told.new ≡ length switches.now }

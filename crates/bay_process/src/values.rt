@@ -91,10 +91,3 @@ impl ToldValues {
         self.values[place] = Some(enabled);
     }
 }
-
-/// Whether two truth values are one.
-pub fn same_truth(first: bool, second: bool) -> bool
-    ensures { result ≡ spec.same_truth first second }
-{
-    first == second
-}

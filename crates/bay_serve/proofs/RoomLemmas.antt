@@ -10,18 +10,25 @@ abbrev entry_of : Standing → ℕ
 entry_of s = cond (is_told s) 1 0
 
 pub told-set : (xs : List Standing) (k : ℕ) (v : Standing) → k < length xs
-    → count_by is_told (slice_set xs k v) + entry_of (slice_index_or xs k Steady) ≡ count_by is_told xs + entry_of v
+    → count_by is_told (slice_set xs k v) + entry_of (slice_index_or xs k Steady)
+    ≡ count_by is_told xs + entry_of v
 told-set [] k v h = absurd (omega arith)
 told-set (x ∷ xs) zero v h =
-    let new : count_by is_told (slice_set (x ∷ xs) zero v) ≡ entry_of v + count_by is_told xs = sum_by-cons entry_of v xs in
-    let old : count_by is_told (x ∷ xs) ≡ entry_of x + count_by is_told xs = sum_by-cons entry_of x xs in
+    let new : count_by is_told (slice_set (x ∷ xs) zero v) ≡ entry_of v + count_by is_told xs =
+    sum_by-cons entry_of v xs in
+    let old : count_by is_told (x ∷ xs) ≡ entry_of x + count_by is_told xs =
+    sum_by-cons entry_of x xs in
     let here : entry_of (slice_index_or (x ∷ xs) zero Steady) ≡ entry_of x = refl in
     omega arith
 told-set (x ∷ xs) (suc k) v h =
     let inner : k < length xs = omega arith in
-    let new : count_by is_told (slice_set (x ∷ xs) (suc k) v) ≡ entry_of x + count_by is_told (slice_set xs k v) = sum_by-cons entry_of x (slice_set xs k v) in
-    let old : count_by is_told (x ∷ xs) ≡ entry_of x + count_by is_told xs = sum_by-cons entry_of x xs in
-    let here : entry_of (slice_index_or (x ∷ xs) (suc k) Steady) ≡ entry_of (slice_index_or xs k Steady) = refl in
+    let new : count_by is_told (slice_set (x ∷ xs) (suc k) v)
+    ≡ entry_of x + count_by is_told (slice_set xs k v) =
+    sum_by-cons entry_of x (slice_set xs k v) in
+    let old : count_by is_told (x ∷ xs) ≡ entry_of x + count_by is_told xs =
+    sum_by-cons entry_of x xs in
+    let here : entry_of (slice_index_or (x ∷ xs) (suc k) Steady)
+    ≡ entry_of (slice_index_or xs k Steady) = refl in
     omega (arith, told-set xs k v inner)
 
 set-length : (xs : List Standing) (k : ℕ) (v : Standing) → length (slice_set xs k v) ≡ length xs
@@ -30,7 +37,8 @@ set-length (x ∷ xs) zero v = omega arith
 set-length (x ∷ xs) (suc k) v = omega (arith, set-length xs k v)
 
 -- one that was not told is told now
-pub told-more : (xs : List Standing) (k : ℕ) (v : Standing) → k < length xs → is_told (slice_index_or xs k Steady) ≡ false → is_told v ≡ true
+pub told-more : (xs : List Standing) (k : ℕ) (v : Standing) → k < length xs
+    → is_told (slice_index_or xs k Steady) ≡ false → is_told v ≡ true
     → count_by is_told (slice_set xs k v) ≡ count_by is_told xs + 1
 told-more xs k v h isnt is =
     let none : entry_of (slice_index_or xs k Steady) ≡ 0 = ap (λ b. cond b 1 0) isnt in
@@ -38,14 +46,21 @@ told-more xs k v h isnt is =
     omega (arith, told-set xs k v h)
 
 -- one that is told, or is not, still is
-pub told-same : (xs : List Standing) (k : ℕ) (v : Standing) → k < length xs → is_told v ≡ is_told (slice_index_or xs k Steady)
+pub told-same : (xs : List Standing) (k : ℕ) (v : Standing) → k < length xs
+    → is_told v ≡ is_told (slice_index_or xs k Steady)
     → count_by is_told (slice_set xs k v) ≡ count_by is_told xs
 told-same xs k v h same =
     let e : entry_of v ≡ entry_of (slice_index_or xs k Steady) = ap (λ b. cond b 1 0) same in
     omega (arith, told-set xs k v h)
 
 -- while one is not told, there are fewer entries than associations
-pub told-room : (xs : List Standing) (k : ℕ) → k < length xs → is_told (slice_index_or xs k Steady) ≡ false → count_by is_told xs < length xs
+pub told-room : (xs : List Standing) (k : ℕ) → k < length xs
+    → is_told (slice_index_or xs k Steady) ≡ false → count_by is_told xs < length xs
 told-room xs k h isnt =
     let is : is_told Gone ≡ true = refl in
-    omega (arith, told-more xs k Gone h isnt is, count_by-le-length is_told (slice_set xs k Gone), set-length xs k Gone)
+    omega (
+      arith,
+      told-more xs k Gone h isnt is,
+      count_by-le-length is_told (slice_set xs k Gone),
+      set-length xs k Gone,
+    )

@@ -15,42 +15,65 @@ use Rattle.bay_serve.specs.Served.{TakesIn}
 use Rattle.bay_serve.specs.Turns.{Held, Noted, Turning, left_by, left_noted, put_all, put_answer, put_ended, put_told, told_of, turning, with_commands, with_device}
 use Rattle.bay_serve.proofs.EventLemmas.{line-outcome, outcome-anywhere}
 
-held-as : (h : Held) (device : State) (queues : List (List ℕ)) → h.device ≡ device → h.queues ≡ queues → h ≡ record { device = device; queues = queues }
+held-as : (h : Held) (device : State) (queues : List (List ℕ)) → h.device ≡ device
+    → h.queues ≡ queues → h ≡ record { device = device; queues = queues }
 held-as h device queues p q =
     let with_queues : List (List ℕ) → Held = λ qs. record { device = h.device; queues = qs } in
     let with_state : State → Held = λ d. record { device = d; queues = queues } in
     ap with_queues q ∙ ap with_state p
 
 -- what a line tells of was done
-pub told : (now : ℕ) (named : NamedData) (h after : Held) (noted : Noted) (e : Event) (result : Result Step StepFault) (step : Step) (t : Turning)
-    → anywhere e ≡ placed_event h.device named → IsOutcome (outcome None now e h.device) result after.device → result ≡ Ok step
-    → after.queues ≡ h.queues → t ≡ put_ended step.ended (turning after noted) → t ≡ told_of now named (turning h noted)
+pub told : (now : ℕ) (named : NamedData) (h after : Held) (noted : Noted) (e : Event)
+    (result : Result Step StepFault) (step : Step) (t : Turning)
+    → anywhere e ≡ placed_event h.device named
+    → IsOutcome (outcome None now e h.device) result after.device → result ≡ Ok step
+    → after.queues ≡ h.queues → t ≡ put_ended step.ended (turning after noted)
+    → t ≡ told_of now named (turning h noted)
 told now named h after noted e result step t is gives ok queues put =
     let o : Outcome = outcome None now (placed_event h.device named) h.device in
     let same : outcome None now e h.device ≡ o = line-outcome now h.device named e is in
-    let answer : o.answer ≡ Ok step = ap (λ (x : Outcome). x.answer) (sym same) ∙ sym gives.answered ∙ ok in
-    let held : after ≡ record { device = o.after; queues = h.queues } = held-as after o.after h.queues (gives.left ∙ ap (λ (x : Outcome). x.after) same) queues in
+    let answer : o.answer ≡ Ok step =
+    ap (λ (x : Outcome). x.answer) (sym same) ∙ sym gives.answered ∙ ok in
+    let held : after ≡ record { device = o.after; queues = h.queues } =
+    held-as after o.after h.queues (gives.left ∙ ap (λ (x : Outcome). x.after) same) queues in
     put ∙ ap (λ (x : Held). put_ended step.ended (turning x noted)) held
-    ∙ ap (λ (a : Result Step StepFault). put_told a (with_device o.after (turning h noted))) (sym answer)
+    ∙ ap (λ (a : Result Step StepFault). put_told a (with_device o.after (turning h noted)))
+    (sym answer)
 
 -- octets were taken in
-pub taken : (now place : ℕ) (octets : List ℕ) (h after : Held) (noted left : Noted) (e : Event) (result : Result Step StepFault) (step : Step) (sends : List Sent) (commands : List Command) (t u v : Turning)
-    → anywhere e ≡ Recv (place + 1) (lying octets) → Steps now e h.device result after.device → result ≡ Ok step → after.queues ≡ h.queues
-    → left ≡ left_noted place step.closed noted → t ≡ put_ended step.ended (turning after left) → sends ≡ step.sent → u ≡ put_all sends t
+pub taken : (now place : ℕ) (octets : List ℕ) (h after : Held) (noted left : Noted) (e : Event)
+    (result : Result Step StepFault) (step : Step) (sends : List Sent) (commands : List Command)
+    (t u v : Turning)
+    → anywhere e ≡ Recv (place + 1) (lying octets) → Steps now e h.device result after.device
+    → result ≡ Ok step → after.queues ≡ h.queues
+    → left ≡ left_noted place step.closed noted → t ≡ put_ended step.ended (turning after left)
+    → sends ≡ step.sent → u ≡ put_all sends t
     → commands ≡ step.commands → v ≡ with_commands commands u
     → TakesIn now place octets (turning h noted) v
-taken now place octets h after noted left e result step sends commands t u v is steps ok queues leaves put all_sent puts all_told tells =
+taken now place octets h after noted left e result step sends commands t u v is steps ok queues
+    leaves put all_sent puts all_told tells =
     let choice : Option ℕ = steps.choice in
     let o : Outcome = outcome choice now (Recv (place + 1) (lying octets)) h.device in
-    let same : outcome choice now e h.device ≡ o = sym (outcome-anywhere choice now e h.device) ∙ ap (λ x. outcome choice now x h.device) is in
-    let answer : o.answer ≡ Ok step = ap (λ (x : Outcome). x.answer) (sym same) ∙ sym steps.answered ∙ ok in
-    let held : after ≡ record { device = o.after; queues = h.queues } = held-as after o.after h.queues (steps.left ∙ ap (λ (x : Outcome). x.after) same) queues in
-    let first : turning after left ≡ left_by place step.closed (with_device o.after (turning h noted)) =
-    ap (λ (x : Held). turning x left) held ∙ ap (λ (n : Noted). turning (record { device = o.after; queues = h.queues }) n) leaves in
-    let whole : v ≡ with_commands step.commands (put_all step.sent (put_ended step.ended (left_by place step.closed (with_device o.after (turning h noted))))) =
+    let same : outcome choice now e h.device ≡ o =
+    sym (outcome-anywhere choice now e h.device) ∙ ap (λ x. outcome choice now x h.device) is in
+    let answer : o.answer ≡ Ok step =
+    ap (λ (x : Outcome). x.answer) (sym same) ∙ sym steps.answered ∙ ok in
+    let held : after ≡ record { device = o.after; queues = h.queues } =
+    held-as after o.after h.queues (steps.left ∙ ap (λ (x : Outcome). x.after) same) queues in
+    let first : turning after left
+    ≡ left_by place step.closed (with_device o.after (turning h noted)) =
+    ap (λ (x : Held). turning x left) held
+    ∙ ap (λ (n : Noted). turning (record { device = o.after; queues = h.queues }) n) leaves in
+    let whole : v ≡ with_commands step.commands
+    (put_all step.sent (put_ended step.ended
+    (left_by place step.closed (with_device o.after (turning h noted))))) =
     tells ∙ ap (λ (cs : List Command). with_commands cs u) all_told
-    ∙ ap (λ (x : Turning). with_commands step.commands x) (puts ∙ ap (λ (xs : List Sent). put_all xs t) all_sent ∙ ap (λ (x : Turning). put_all step.sent x) (put ∙ ap (λ (x : Turning). put_ended step.ended x) first)) in
+    ∙ ap (λ (x : Turning). with_commands step.commands x)
+    (puts ∙ ap (λ (xs : List Sent). put_all xs t) all_sent
+    ∙ ap (λ (x : Turning). put_all step.sent x)
+    (put ∙ ap (λ (x : Turning). put_ended step.ended x) first)) in
     record {
       choice = choice;
-      is = whole ∙ ap (λ (a : Result Step StepFault). put_answer place a (with_device o.after (turning h noted))) (sym answer);
+      is = whole ∙ ap (λ (a : Result Step StepFault). put_answer place a
+          (with_device o.after (turning h noted))) (sym answer);
     }

@@ -33,6 +33,7 @@ FitsIn room (Ok Nothing) = Unit {0}
 FitsIn room (Ok End) = Unit {0}
 FitsIn room (Err e) = Unit {0}
 
+-- the link failed
 abbrev pub is_broken : Heard → Bool
 is_broken (Octets xs) = false
 is_broken Silence = false
@@ -52,7 +53,8 @@ abbrev pub failures_after : ℕ → Bool → ℕ
 failures_after n failed = if failed then min (n + 1) 18446744073709551615 else n
 
 -- one call of a link, which counts its failures
-pub record Called {L : Type 0} (does : L → Call → L → Type 0) (failures : L → ℕ) (old : L) (call : Call) (new : L) : Type 0 where
+pub record Called {L : Type 0} (does : L → Call → L → Type 0) (failures : L → ℕ) (old : L)
+    (call : Call) (new : L) : Type 0 where
   pub done : does old call new
   pub counted : failures new ≡ failures_after (failures old) (is_failed call)
 

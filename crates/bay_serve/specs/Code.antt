@@ -5,12 +5,14 @@ use Rattle.bay_serve.specs.declared.told.Closing.TheVariants.{Ended, Fault, Queu
 use Rattle.bay_serve.specs.declared.fault.ServeFault.{ServeFault}
 use Rattle.bay_serve.specs.declared.fault.ServeFault.TheVariants.{BadLine, MomentTooLarge, OutOfMemory}
 
+-- the number by which the end of an association is told
 abbrev pub code_of : Closing → ℕ
 code_of Ended = 0
 code_of (Fault code) = code
 code_of QueueFull = 130
 code_of LinkFailed = 131
 
+-- the number of a refused turn; want of memory has none
 abbrev pub serve_code_of : ServeFault → Option ℕ
 serve_code_of BadLine = Some 120
 serve_code_of MomentTooLarge = Some 114

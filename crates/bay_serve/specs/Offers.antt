@@ -14,15 +14,22 @@ pub record Offered : Type 0 where
   pub failed : Bool
   pub calls : List Call
 
+-- the same behind one call more on the link
 abbrev pub after_call : Call → Offered → Offered
 after_call call o = record { left = o.left; failed = o.failed; calls = call ∷ o.calls }
 
+-- and behind these
 abbrev pub after_calls : List Call → Offered → Offered
 after_calls calls o = record { left = o.left; failed = o.failed; calls = calls ++ o.calls }
 
 -- the last write of an offer: it fails, or takes nothing
 abbrev pub last_write : ℕ → List ℕ → Bool → Offered
-last_write a octets fails = record { left = octets; failed = fails; calls = Writes a octets (if fails then None else Some 0) ∷ [] }
+last_write a octets fails =
+    record {
+      left = octets;
+      failed = fails;
+      calls = Writes a octets (if fails then None else Some 0) ∷ [];
+    }
 
 -- Octets are offered until none is left, until a write takes none, or until one fails. The link
 -- takes so many at each write.
@@ -30,4 +37,5 @@ abbrev pub offered : ℕ → List ℕ → List ℕ → Bool → Offered
 offered a [] takes fails = record { left = []; failed = false; calls = [] }
 offered a (x ∷ xs) [] fails = last_write a (x ∷ xs) fails
 offered a (x ∷ xs) (zero ∷ takes) fails = last_write a (x ∷ xs) false
-offered a (x ∷ xs) (suc n ∷ takes) fails = after_call (Writes a (x ∷ xs) (Some (n + 1))) (offered a (drop n xs) takes fails)
+offered a (x ∷ xs) (suc n ∷ takes) fails =
+    after_call (Writes a (x ∷ xs) (Some (n + 1))) (offered a (drop n xs) takes fails)

@@ -11,7 +11,8 @@ pub record HasRoom (octets : Vec ℕ) : Type 0 where
 
 -- There is room for a command of each reading and an entry for each association, and each
 -- association that is told has its entry.
-pub record HasEntries {C M A : Type 0} (standings : List Standing) (commands : Vec C) (closed : Vec M) (memory : Vec A) : Type 0 where
+pub record HasEntries {C M A : Type 0} (standings : List Standing) (commands : Vec C)
+    (closed : Vec M) (memory : Vec A) : Type 0 where
   pub commands_room : 8 ≤ vec_capacity commands
   pub closed_room : 8 ≤ vec_capacity closed
   pub memory_room : 8 ≤ vec_capacity memory

@@ -16,6 +16,7 @@ use Rattle.bay_serve.specs.declared.told.Turn.{Turn}
 abbrev pub line_of : List ℕ → Option NamedData
 line_of text = process_of (trace_line_of text)
 
+-- what a turn's line tells, where there is a line that is understood
 abbrev pub line_in : Option (List ℕ) → Option NamedData
 line_in line = option_and_then line_of line
 
@@ -54,20 +55,24 @@ pub record TakesIn (now place : ℕ) (octets : List ℕ) (before after : Turning
 
 module _ {L : Type 0} (step : L → Call → L → Type 0) where
   -- a part of a turn was done: with some choice, the calls and what is left are the part's
-  pub record Goes {C : Type 0} (f : C → Turning → Turning) (calls : C → Turning → List Call) (old new : L) (before after : Turning) : Type 0 where
+  pub record Goes {C : Type 0} (f : C → Turning → Turning) (calls : C → Turning → List Call)
+      (old new : L) (before after : Turning) : Type 0 where
     pub choice : C
     pub talks : Talks step old (calls choice before) new
     pub is : after ≡ f choice before
 
   -- it was done for the first places, so many
-  pub record GoesEach {C : Type 0} (f : ℕ → C → Turning → Turning) (calls : ℕ → C → Turning → List Call) (old new : L) (count : ℕ) (before after : Turning) : Type 0 where
+  pub record GoesEach {C : Type 0} (f : ℕ → C → Turning → Turning)
+      (calls : ℕ → C → Turning → List Call) (old new : L) (count : ℕ) (before after : Turning)
+      : Type 0 where
     pub choices : List C
     pub many : length choices ≡ count
     pub talks : Talks step old (calls_of_each f calls 0 choices before) new
     pub is : after ≡ after_each f 0 choices before
 
   -- octets were offered to the link: how many were taken, and whether a write failed
-  pub record Offers (old new : L) (a : ℕ) (octets : List ℕ) (done : ℕ) (failed : Bool) : Type 0 where
+  pub record Offers (old new : L) (a : ℕ) (octets : List ℕ) (done : ℕ) (failed : Bool)
+      : Type 0 where
     pub takes : List ℕ
     pub fails : Bool
     pub talks : Talks step old (offered a octets takes fails).calls new
@@ -79,14 +84,17 @@ module _ {L : Type 0} (step : L → Call → L → Type 0) where
     pub takes : List ℕ
     pub calls : List Call
     pub talks : Talks step old calls new
-    pub goes : (later : List ℕ) (fails : Bool) → offered a octets (takes ++ later) fails ≡ after_calls calls (offered a (drop done octets) later fails)
+    pub goes : (later : List ℕ) (fails : Bool)
+        → offered a octets (takes ++ later) fails
+        ≡ after_calls calls (offered a (drop done octets) later fails)
 
   -- ---- a turn
 
   -- There is a script, of what the link answered to an accept, eight reads and eight offers and of
   -- where memory was refused, such that the calls on the link, the server after them and what the
   -- turn tells are the script's.
-  pub record Serves (old new : L) (now : ℕ) (line : Option NamedData) (before after : Held) (turn : Turn) : Type 0 where
+  pub record Serves (old new : L) (now : ℕ) (line : Option NamedData) (before after : Held)
+      (turn : Turn) : Type 0 where
     pub script : Script
     pub all_read : length script.readings ≡ 8
     pub all_offered : length script.offers ≡ 8

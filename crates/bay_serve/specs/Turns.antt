@@ -58,6 +58,7 @@ is_up_in place h = is_some (connection_at (Some place) h.device)
 abbrev pub is_up : ℕ → Turning → Bool
 is_up place s = is_up_in place s.server
 
+-- how an association stands in a turn
 abbrev pub standing_in : ℕ → Noted → Standing
 standing_in place n = slice_index_or n.standings place Steady
 
@@ -65,7 +66,8 @@ abbrev pub standing_of : ℕ → Turning → Standing
 standing_of place s = standing_in place s.noted
 
 abbrev pub with_device : State → Turning → Turning
-with_device device s = record { server = record { device = device; queues = s.server.queues }; noted = s.noted }
+with_device device s =
+    record { server = record { device = device; queues = s.server.queues }; noted = s.noted }
 
 abbrev pub put_queue : ℕ → List ℕ → Held → Held
 put_queue place queue h = record { device = h.device; queues = slice_set h.queues place queue }
@@ -73,6 +75,7 @@ put_queue place queue h = record { device = h.device; queues = slice_set h.queue
 abbrev pub with_queue : ℕ → List ℕ → Turning → Turning
 with_queue place queue s = record { server = put_queue place queue s.server; noted = s.noted }
 
+-- an association stands so from now on
 abbrev pub stands : ℕ → Standing → Noted → Noted
 stands place standing n = record n { standings = slice_set n.standings place standing }
 
@@ -83,12 +86,16 @@ with_noted noted s = record { server = s.server; noted = noted }
 
 -- that an association was closed, once
 abbrev pub told : ℕ → Closing → Noted → Noted
-told place closing n = if is_told (standing_in place n) then n else record n { closed = n.closed ++ (place + 1, closing) ∷ [] }
+told place closing n =
+    if is_told (standing_in place n) then n
+    else record n { closed = n.closed ++ (place + 1, closing) ∷ [] }
 
 -- that it was closed for want of memory, once
 abbrev pub told_memory : ℕ → Noted → Noted
-told_memory place n = if is_told (standing_in place n) then n else record n { memory = n.memory ++ (place + 1) ∷ [] }
+told_memory place n =
+    if is_told (standing_in place n) then n else record n { memory = n.memory ++ (place + 1) ∷ [] }
 
+-- that the device closed it
 abbrev pub told_why : ℕ → Why → Noted → Noted
 told_why place Ended n = told place closing.Ended n
 told_why place (Fault code) n = told place (closing.Fault code) n
@@ -114,13 +121,17 @@ put_whole place octets s =
     if has_room (queue_of place s) octets then with_queue place (queue_of place s ++ octets) s
     else with_noted (stands place (filled (standing_of place s)) s.noted) s
 
+-- one that is open, and not leaving, takes replies
 abbrev pub put_at : Option ℕ → List ℕ → Turning → Turning
 put_at None octets s = s
-put_at (Some place) octets s = if takes_replies (standing_of place s) (is_up place s) then put_whole place octets s else s
+put_at (Some place) octets s =
+    if takes_replies (standing_of place s) (is_up place s) then put_whole place octets s else s
 
+-- what the device sends goes to its association
 abbrev pub put_sent : Sent → Turning → Turning
 put_sent sent s = put_at (place_of sent.association) sent.octets s
 
+-- in its order
 abbrev pub put_all : List Sent → Turning → Turning
 put_all [] s = s
 put_all (sent ∷ more) s = put_all more (put_sent sent s)
@@ -137,16 +148,19 @@ abbrev pub put_quiet : Result Step StepFault → Turning → Turning
 put_quiet (Err fault) s = s
 put_quiet (Ok step) s = put_ended step.ended s
 
+-- what it sends, and the device after it
 abbrev pub quiet_after : Outcome → Turning → Turning
 quiet_after o s = put_quiet o.answer (with_device o.after s)
 
+-- an event at a turn's moment
 abbrev pub stepped : ℕ → Event → Turning → Turning
 stepped now event s = quiet_after (outcome None now event s.server.device) s
 
 -- An association is closed at once, and what is left in its queue is lost.
 unfoldable pub cut_off : ℕ → Closing → ℕ → Turning → Turning
 cut_off now closing place s =
-    let t = stepped now (Close (place + 1)) s in with_noted (goes place closing t.noted) (with_queue place [] t)
+    let t = stepped now (Close (place + 1)) s in
+    with_noted (goes place closing t.noted) (with_queue place [] t)
 
 -- the lowest association to which a reply did not fit
 abbrev pub first_full : Noted → Option ℕ
@@ -158,13 +172,16 @@ abbrev pub settled_next : ℕ → Option ℕ → Turning → (Turning → Turnin
 settled_next now None s later = s
 settled_next now (Some place) s later = later (cut_off now closing.QueueFull place s)
 
+-- up to so many, the lowest first
 abbrev pub settled_in : ℕ → ℕ → Turning → Turning
 settled_in now zero s = s
 settled_in now (suc count) s = settled_next now (first_full s.noted) s (settled_in now count)
 
+-- the calls that close them
 abbrev pub settling_next : ℕ → Option ℕ → Turning → (Turning → List Call) → List Call
 settling_next now None s later = []
-settling_next now (Some place) s later = Closes (place + 1) ∷ later (cut_off now closing.QueueFull place s)
+settling_next now (Some place) s later =
+    Closes (place + 1) ∷ later (cut_off now closing.QueueFull place s)
 
 abbrev pub settling_in : ℕ → ℕ → Turning → List Call
 settling_in now zero s = []
@@ -174,6 +191,7 @@ settling_in now (suc count) s = settling_next now (first_full s.noted) s (settli
 unfoldable pub settled : ℕ → Turning → Turning
 settled now s = settled_in now 8 s
 
+-- the calls of all eight
 unfoldable pub settling : ℕ → Turning → List Call
 settling now s = settling_in now 8 s
 
@@ -186,17 +204,20 @@ free_place h = position is_none h.device.connections
 abbrev pub opened : ℕ → ℕ → Turning → Turning
 opened now place s = stepped now (Open (place + 1)) s
 
+-- a connection that was taken is opened
 abbrev pub on_accept : ℕ → Option ℕ → Option Bool → Turning → Turning
 on_accept now None taken s = s
 on_accept now (Some place) None s = s
 on_accept now (Some place) (Some false) s = s
 on_accept now (Some place) (Some true) s = settled now (opened now place s)
 
+-- the calls on the link for it: where no association is free the link is not asked
 abbrev pub accept_calls_at : ℕ → Option ℕ → Option Bool → Turning → List Call
 accept_calls_at now None taken s = []
 accept_calls_at now (Some place) None s = Accepts (place + 1) None ∷ []
 accept_calls_at now (Some place) (Some false) s = Accepts (place + 1) (Some false) ∷ []
-accept_calls_at now (Some place) (Some true) s = Accepts (place + 1) (Some true) ∷ settling now (opened now place s)
+accept_calls_at now (Some place) (Some true) s =
+    Accepts (place + 1) (Some true) ∷ settling now (opened now place s)
 
 -- One connection that waits is taken, under the lowest free number.
 abbrev pub accepted : ℕ → Option Bool → Turning → Turning
@@ -221,45 +242,56 @@ left_noted place (Some closed) n = leaves place closed.1 n
 abbrev pub left_by : ℕ → Option (ℕ × Why) → Turning → Turning
 left_by place closed s = with_noted (left_noted place closed s.noted) s
 
+-- switch commands that were issued in this turn
 abbrev pub with_commands : List Command → Turning → Turning
 with_commands commands s = with_noted (record s.noted { commands = s.noted.commands ++ commands }) s
 
 -- the device's answer to octets: whether it closed the association, what it sends, and its commands
 abbrev pub put_answer : ℕ → Result Step StepFault → Turning → Turning
 put_answer place (Err fault) s = s
-put_answer place (Ok step) s = with_commands step.commands (put_all step.sent (put_ended step.ended (left_by place step.closed s)))
+put_answer place (Ok step) s =
+    with_commands step.commands
+    (put_all step.sent (put_ended step.ended (left_by place step.closed s)))
 
 abbrev pub answer_after : ℕ → Outcome → Turning → Turning
 answer_after place o s = put_answer place o.answer (with_device o.after s)
 
+-- octets that came
 abbrev pub taken_in : ℕ → ℕ → Option ℕ → List ℕ → Turning → Turning
-taken_in now place choice octets s = answer_after place (outcome choice now (Recv (place + 1) (lying octets)) s.server.device) s
+taken_in now place choice octets s =
+    answer_after place (outcome choice now (Recv (place + 1) (lying octets)) s.server.device) s
 
 -- the client sends no more
 abbrev pub hung_up : ℕ → ℕ → Turning → Turning
 hung_up now place s = stepped now (Close (place + 1)) (with_noted (leaves place Ended s.noted) s)
 
+-- what the link brought
 abbrev pub on_heard : ℕ → ℕ → Option ℕ → Heard → Turning → Turning
 on_heard now place choice (Octets octets) s = settled now (taken_in now place choice octets s)
 on_heard now place choice Silence s = s
 on_heard now place choice Over s = settled now (hung_up now place s)
 on_heard now place choice Broken s = settled now (cut_off now closing.LinkFailed place s)
 
+-- the calls on the link that follow
 abbrev pub heard_calls : ℕ → ℕ → Option ℕ → Heard → Turning → List Call
 heard_calls now place choice (Octets octets) s = settling now (taken_in now place choice octets s)
 heard_calls now place choice Silence s = []
 heard_calls now place choice Over s = settling now (hung_up now place s)
-heard_calls now place choice Broken s = Closes (place + 1) ∷ settling now (cut_off now closing.LinkFailed place s)
+heard_calls now place choice Broken s =
+    Closes (place + 1) ∷ settling now (cut_off now closing.LinkFailed place s)
 
 -- An open association is read once, up to 4,096 octets.
 abbrev pub read_one : ℕ → ℕ → Reading → Turning → Turning
 read_one now place r s = if is_up place s then on_heard now place r.choice r.heard s else s
 
 abbrev pub read_calls : ℕ → ℕ → Reading → Turning → List Call
-read_calls now place r s = if is_up place s then Reads (place + 1) 4096 r.heard ∷ heard_calls now place r.choice r.heard s else []
+read_calls now place r s =
+    if is_up place s then Reads (place + 1) 4096 r.heard ∷ heard_calls now place r.choice r.heard s
+    else []
 
 -- ---- the line and the scan
 
+-- a line that the device refuses is told of
 abbrev pub put_told : Result Step StepFault → Turning → Turning
 put_told (Err fault) s = with_noted (record s.noted { refused = Some (step_code_of fault) }) s
 put_told (Ok step) s = put_ended step.ended s
@@ -269,8 +301,10 @@ told_after o s = put_told o.answer (with_device o.after s)
 
 -- what the line tells of the process happens at the turn's moment
 abbrev pub told_of : ℕ → NamedData → Turning → Turning
-told_of now named s = told_after (outcome None now (placed_event s.server.device named) s.server.device) s
+told_of now named s =
+    told_after (outcome None now (placed_event s.server.device named) s.server.device) s
 
+-- a turn has a line, or none
 abbrev pub lined : ℕ → Option NamedData → Turning → Turning
 lined now None s = s
 lined now (Some named) s = settled now (told_of now named s)
@@ -279,6 +313,7 @@ abbrev pub line_calls : ℕ → Option NamedData → Turning → List Call
 line_calls now None s = []
 line_calls now (Some named) s = settling now (told_of now named s)
 
+-- the program runs once
 abbrev pub scanned : ℕ → Turning → Turning
 scanned now s = settled now (stepped now Scan s)
 
@@ -287,11 +322,15 @@ scan_calls now s = settling now (stepped now Scan s)
 
 -- ---- what is offered
 
+-- what the link takes of a queue
 abbrev pub offer_of : ℕ → Offer → Turning → Offered
 offer_of place o s = offered (place + 1) (queue_of place s) o.takes o.fails
 
+-- what it did not take stays, unless it failed
 abbrev pub after_offer : ℕ → ℕ → Offered → Turning → Turning
-after_offer now place o s = if o.failed then settled now (cut_off now closing.LinkFailed place s) else with_queue place o.left s
+after_offer now place o s =
+    if o.failed then settled now (cut_off now closing.LinkFailed place s)
+    else with_queue place o.left s
 
 -- it is closed now, and its queue empty
 abbrev pub parted : ℕ → Turning → Turning
@@ -305,12 +344,16 @@ offer_one now place o s =
     else (if is_up place s then after_offer now place (offer_of place o s) s else s)
 
 abbrev pub offer_end : ℕ → ℕ → Bool → Turning → List Call
-offer_end now place failed s = if failed then Closes (place + 1) ∷ settling now (cut_off now closing.LinkFailed place s) else []
+offer_end now place failed s =
+    if failed then Closes (place + 1) ∷ settling now (cut_off now closing.LinkFailed place s)
+    else []
 
+-- the calls on the link for it
 abbrev pub offer_calls : ℕ → ℕ → Offer → Turning → List Call
 offer_calls now place o s =
     if is_leaving (standing_of place s) then (offer_of place o s).calls ++ Closes (place + 1) ∷ []
-    else (if is_up place s then (offer_of place o s).calls ++ offer_end now place (offer_of place o s).failed s else [])
+    else (if is_up place s then (offer_of place o s).calls
+    ++ offer_end now place (offer_of place o s).failed s else [])
 
 -- ---- a turn
 
@@ -319,9 +362,12 @@ abbrev pub after_each : {C : Type 0} → (ℕ → C → Turning → Turning) →
 after_each f place [] s = s
 after_each f place (c ∷ cs) s = after_each f (place + 1) cs (f place c s)
 
-abbrev pub calls_of_each : {C : Type 0} → (ℕ → C → Turning → Turning) → (ℕ → C → Turning → List Call) → ℕ → List C → Turning → List Call
+-- the calls of one place after another
+abbrev pub calls_of_each : {C : Type 0} → (ℕ → C → Turning → Turning)
+    → (ℕ → C → Turning → List Call) → ℕ → List C → Turning → List Call
 calls_of_each f calls place [] s = []
-calls_of_each f calls place (c ∷ cs) s = calls place c s ++ calls_of_each f calls (place + 1) cs (f place c s)
+calls_of_each f calls place (c ∷ cs) s =
+    calls place c s ++ calls_of_each f calls (place + 1) cs (f place c s)
 
 -- all that a turn does not itself decide: whether a connection waited, what each association
 -- brought, and what was taken of each queue
@@ -334,12 +380,22 @@ pub record Script : Type 0 where
 abbrev pub moment_at : ℕ → Held → ℕ
 moment_at clock h = max clock h.device.moment
 
+-- what a turn has noted before it did anything
 abbrev pub nothing_noted : Noted
-nothing_noted = record { standings = replicate 8 Steady; refused = None; commands = []; closed = []; memory = [] }
+nothing_noted =
+    record {
+      standings = replicate 8 Steady;
+      refused = None;
+      commands = [];
+      closed = [];
+      memory = [];
+    }
 
+-- a turn begins
 abbrev pub begun : Held → Turning
 begun h = turning h nothing_noted
 
+-- after each of its parts
 abbrev pub after_accept : ℕ → Script → Held → Turning
 after_accept now script h = accepted now script.accepted (begun h)
 
@@ -364,4 +420,5 @@ turn_calls now line script h =
     ++ calls_of_each (read_one now) (read_calls now) 0 script.readings (after_accept now script h)
     ++ line_calls now line (after_reads now script h)
     ++ scan_calls now (after_line now line script h)
-    ++ calls_of_each (offer_one now) (offer_calls now) 0 script.offers (after_scan now line script h)
+    ++ calls_of_each (offer_one now) (offer_calls now) 0 script.offers
+    (after_scan now line script h)

@@ -22,7 +22,8 @@ pub fn cut_off<L: Link>(
 )
     requires { place < 8 }
     ensures call { Called L.does L.failures link.old (Closes (place + 1)) link.new }
-    ensures after { turning server.new notes.new ≡ spec.cut_off now closing place (turning server.old notes.old) }
+    ensures after { turning server.new notes.new
+        ≡ spec.cut_off now closing place (turning server.old notes.old) }
     ensures commands { notes.new.commands ≡ notes.old.commands }
 {
     let association = place as u16 + 1;
@@ -40,8 +41,10 @@ fn settle_some<L: Link>(
     now: u64,
     count: usize,
 )
-    ensures talks { Talks (Called L.does L.failures) link.old (settling_in now count (turning server.old notes.old)) link.new }
-    ensures after { turning server.new notes.new ≡ settled_in now count (turning server.old notes.old) }
+    ensures talks { Talks (Called L.does L.failures) link.old
+        (settling_in now count (turning server.old notes.old)) link.new }
+    ensures after { turning server.new notes.new
+        ≡ settled_in now count (turning server.old notes.old) }
     ensures commands { notes.new.commands ≡ notes.old.commands }
 {
     if count == 0 {
@@ -55,7 +58,8 @@ fn settle_some<L: Link>(
 
 /// Closes each association to which a reply did not fit.
 pub fn settle<L: Link>(server: &mut Server, notes: &mut Notes, link: &mut L, now: u64)
-    ensures talks { Talks (Called L.does L.failures) link.old (settling now (turning server.old notes.old)) link.new }
+    ensures talks { Talks (Called L.does L.failures) link.old
+        (settling now (turning server.old notes.old)) link.new }
     ensures after { turning server.new notes.new ≡ settled now (turning server.old notes.old) }
     ensures commands { notes.new.commands ≡ notes.old.commands }
 {

@@ -37,13 +37,15 @@ pub trait Link {
     fn accept(&mut self, association: u16) -> Result<bool, LinkFault>
         requires low { 0 < association }
         requires high { association ≤ 8 }
-        ensures call { Called does failures self.old (Accepts association (result_ok result)) self.new };
+        ensures call { Called does failures self.old (Accepts association (result_ok result))
+            self.new };
 
     /// Reads at most as many octets of a client as there is room for.
     fn read(&mut self, association: u16, room: &mut [u8]) -> Result<Got, LinkFault>
         requires low { 0 < association }
         requires high { association ≤ 8 }
-        ensures call { Called does failures self.old (Reads association (length room.old) (heard result room.new)) self.new }
+        ensures call { Called does failures self.old
+            (Reads association (length room.old) (heard result room.new)) self.new }
         ensures within { FitsIn room.new result };
 
     /// Sends a front of the octets to a client, and answers how many; 0 where none can be taken
@@ -51,7 +53,8 @@ pub trait Link {
     fn write(&mut self, association: u16, octets: &[u8]) -> Result<usize, LinkFault>
         requires low { 0 < association }
         requires high { association ≤ 8 }
-        ensures call { Called does failures self.old (Writes association octets.now (result_ok result)) self.new }
+        ensures call { Called does failures self.old
+            (Writes association octets.now (result_ok result)) self.new }
         ensures within { IfOk result (λ n. n ≤ length octets.now) };
 
     /// Closes the connection of a client.

@@ -30,7 +30,13 @@ impl Model for Notes {
 
     ghost Value = { Noted };
 
-    ghost view = { λ n. record { standings = n.standings; refused = n.refused; commands = n.commands.items; closed = n.closed.items; memory = n.memory.items } };
+    ghost view = { λ n. record {
+      standings = n.standings;
+      refused = n.refused;
+      commands = n.commands.items;
+      closed = n.closed.items;
+      memory = n.memory.items;
+    } };
 
     ghost invariant = { λ n. HasEntries n.standings n.commands n.closed n.memory };
 }
@@ -148,7 +154,12 @@ impl Notes {
 
     /// What the turn tells.
     pub fn into_turn(self) -> Turn
-        ensures { result ≡ record { refused = self.refused; commands = self.commands; closed = self.closed; memory = self.memory } }
+        ensures { result ≡ record {
+          refused = self.refused;
+          commands = self.commands;
+          closed = self.closed;
+          memory = self.memory;
+        } }
     {
         let Notes {
             standings: _,

@@ -24,7 +24,8 @@ fn offer<L: Link>(octets: &[u8], link: &mut L, association: u16) -> Offered
     requires low { 0 < association }
     requires high { association ≤ 8 }
     ensures within { result.done ≤ length octets.now }
-    ensures offers { Offers (Called L.does L.failures) link.old link.new association octets.now result.done result.failed }
+    ensures offers { Offers (Called L.does L.failures) link.old link.new association octets.now
+        result.done result.failed }
 {
     let mut done = 0;
     while done < octets.len() {
@@ -48,7 +49,8 @@ fn offer<L: Link>(octets: &[u8], link: &mut L, association: u16) -> Offered
 /// Offers the queue of an association, if it is open or leaving.
 fn offer_one<L: Link>(server: &mut Server, notes: &mut Notes, link: &mut L, now: u64, place: usize)
     requires { place < 8 }
-    ensures { Goes (Called L.does L.failures) (spec.offer_one now place) (offer_calls now place) link.old link.new (turning server.old notes.old) (turning server.new notes.new) }
+    ensures { Goes (Called L.does L.failures) (spec.offer_one now place) (offer_calls now place)
+        link.old link.new (turning server.old notes.old) (turning server.new notes.new) }
 {
     let association = place as u16 + 1;
     if notes.standing(place).is_leaving() {
@@ -72,7 +74,8 @@ fn offer_one<L: Link>(server: &mut Server, notes: &mut Notes, link: &mut L, now:
 
 /// Offers all queues, in the order of their numbers.
 pub fn offer_each<L: Link>(server: &mut Server, notes: &mut Notes, link: &mut L, now: u64)
-    ensures { GoesEach (Called L.does L.failures) (spec.offer_one now) (offer_calls now) link.old link.new 8 (turning server.old notes.old) (turning server.new notes.new) }
+    ensures { GoesEach (Called L.does L.failures) (spec.offer_one now) (offer_calls now) link.old
+        link.new 8 (turning server.old notes.old) (turning server.new notes.new) }
 {
     for place in 0..ASSOCIATIONS {
         offer_one(server, notes, link, now, place);

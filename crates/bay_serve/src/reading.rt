@@ -18,7 +18,8 @@ const PIECE: usize = 4096;
 
 /// Takes a connection that waits, if there is one and a number is free.
 pub fn accept_one<L: Link>(server: &mut Server, notes: &mut Notes, link: &mut L, now: u64)
-    ensures goes { Goes (Called L.does L.failures) (accepted now) (accept_calls now) link.old link.new (turning server.old notes.old) (turning server.new notes.new) }
+    ensures goes { Goes (Called L.does L.failures) (accepted now) (accept_calls now) link.old
+        link.new (turning server.old notes.old) (turning server.new notes.new) }
     ensures commands { notes.new.commands ≡ notes.old.commands }
 {
     let Some(place) = server.free_place() else {
@@ -39,7 +40,8 @@ pub fn accept_one<L: Link>(server: &mut Server, notes: &mut Notes, link: &mut L,
 fn take_in(server: &mut Server, notes: &mut Notes, now: u64, place: usize, octets: &[u8])
     requires place { place < 8 }
     requires room { length notes.old.commands < 8 }
-    ensures takes { TakesIn now place octets.now (turning server.old notes.old) (turning server.new notes.new) }
+    ensures takes { TakesIn now place octets.now (turning server.old notes.old)
+        (turning server.new notes.new) }
     ensures grows { length notes.new.commands ≤ length notes.old.commands + 1 }
 {
     let association = place as u16 + 1;
@@ -62,7 +64,8 @@ fn take_in(server: &mut Server, notes: &mut Notes, now: u64, place: usize, octet
 fn read_one<L: Link>(server: &mut Server, notes: &mut Notes, link: &mut L, now: u64, place: usize)
     requires place { place < 8 }
     requires room { length notes.old.commands < 8 }
-    ensures goes { Goes (Called L.does L.failures) (spec.read_one now place) (read_calls now place) link.old link.new (turning server.old notes.old) (turning server.new notes.new) }
+    ensures goes { Goes (Called L.does L.failures) (spec.read_one now place) (read_calls now place)
+        link.old link.new (turning server.old notes.old) (turning server.new notes.new) }
     ensures grows { length notes.new.commands ≤ length notes.old.commands + 1 }
 {
     if !server.is_open(place) {
@@ -91,7 +94,8 @@ fn read_one<L: Link>(server: &mut Server, notes: &mut Notes, link: &mut L, now: 
 /// Reads all clients, in the order of their numbers.
 pub fn read_each<L: Link>(server: &mut Server, notes: &mut Notes, link: &mut L, now: u64)
     requires { length notes.old.commands ≤ 0 }
-    ensures { GoesEach (Called L.does L.failures) (spec.read_one now) (read_calls now) link.old link.new 8 (turning server.old notes.old) (turning server.new notes.new) }
+    ensures { GoesEach (Called L.does L.failures) (spec.read_one now) (read_calls now) link.old
+        link.new 8 (turning server.old notes.old) (turning server.new notes.new) }
 {
     for place in 0..ASSOCIATIONS {
         read_one(server, notes, link, now, place);

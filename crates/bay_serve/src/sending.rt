@@ -13,7 +13,8 @@ use bay_services::answer::Command;
 /// Puts a reply whole into the queue of an association, or notes that it did not fit.
 fn put_whole(server: &mut Server, notes: &mut Notes, place: usize, octets: &[u8])
     requires { place < 8 }
-    ensures after { turning server.new notes.new ≡ spec.put_whole place octets.now (turning server.old notes.old) }
+    ensures after { turning server.new notes.new
+        ≡ spec.put_whole place octets.now (turning server.old notes.old) }
     ensures commands { notes.new.commands ≡ notes.old.commands }
 {
     if !server.put(place, octets) {
@@ -23,7 +24,8 @@ fn put_whole(server: &mut Server, notes: &mut Notes, place: usize, octets: &[u8]
 
 /// Puts what is sent to an association into its queue, if that takes replies.
 pub fn put_sent(server: &mut Server, notes: &mut Notes, sent: &Sent)
-    ensures after { turning server.new notes.new ≡ spec.put_sent sent.now (turning server.old notes.old) }
+    ensures after { turning server.new notes.new
+        ≡ spec.put_sent sent.now (turning server.old notes.old) }
     ensures commands { notes.new.commands ≡ notes.old.commands }
 {
     let Some(place) = place_of(sent.association) else {
@@ -36,7 +38,8 @@ pub fn put_sent(server: &mut Server, notes: &mut Notes, sent: &Sent)
 
 /// Puts all that is sent into the queues, in its order.
 pub fn put_all(server: &mut Server, notes: &mut Notes, sends: &[Sent])
-    ensures after { turning server.new notes.new ≡ spec.put_all sends.now (turning server.old notes.old) }
+    ensures after { turning server.new notes.new
+        ≡ spec.put_all sends.now (turning server.old notes.old) }
     ensures commands { notes.new.commands ≡ notes.old.commands }
 {
     for sent in sends {
@@ -46,7 +49,8 @@ pub fn put_all(server: &mut Server, notes: &mut Notes, sends: &[Sent])
 
 /// Puts what tells of an end into its queue, if anything does.
 pub fn put_ended(server: &mut Server, notes: &mut Notes, ended: &Option<Sent>)
-    ensures after { turning server.new notes.new ≡ spec.put_ended ended.now (turning server.old notes.old) }
+    ensures after { turning server.new notes.new
+        ≡ spec.put_ended ended.now (turning server.old notes.old) }
     ensures commands { notes.new.commands ≡ notes.old.commands }
 {
     if let Some(sent) = ended {
@@ -57,7 +61,8 @@ pub fn put_ended(server: &mut Server, notes: &mut Notes, ended: &Option<Sent>)
 /// Does an event that sends nothing but what tells of an end.
 pub fn step_quietly(server: &mut Server, notes: &mut Notes, now: u64, event: Event<'_>)
     requires { IsWithoutOctets event }
-    ensures after { turning server.new notes.new ≡ stepped now event.entry (turning server.old notes.old) }
+    ensures after { turning server.new notes.new
+        ≡ stepped now event.entry (turning server.old notes.old) }
     ensures commands { notes.new.commands ≡ notes.old.commands }
 {
     if let Ok(step) = server.step(now, event) {
@@ -69,7 +74,8 @@ pub fn step_quietly(server: &mut Server, notes: &mut Notes, now: u64, event: Eve
 pub fn tell_commands(server: &Server, notes: &mut Notes, commands: &[Command])
     requires single { length commands.now ≤ 1 }
     requires room { length notes.old.commands < 8 }
-    ensures after { turning server.now notes.new ≡ with_commands commands.now (turning server.now notes.old) }
+    ensures after { turning server.now notes.new
+        ≡ with_commands commands.now (turning server.now notes.old) }
     ensures grows { length notes.new.commands ≤ length notes.old.commands + 1 }
 {
     if let Some(command) = commands.first() {

@@ -55,7 +55,8 @@ impl Server {
     pub fn new(alloc: Global, device: Device) -> Result<Self, Device>
         requires closed { device.connections ≡ replicate 8 None }
         requires timed { AreTimed device.controls.controls }
-        ensures ok { IfOk result (λ server. server ≡ record { device = device; queues = replicate 8 [] }) }
+        ensures ok { IfOk result
+            (λ server. server ≡ record { device = device; queues = replicate 8 [] }) }
         ensures err { IfErr result (λ back. back ≡ device) }
     {
         match make_queues(alloc) {
@@ -91,7 +92,8 @@ impl Server {
     /// Does one event on the device.
     pub(crate) fn step(&mut self, now: u64, event: Event<'_>) -> Result<Step, StepFault>
         ensures steps { Steps now event.entry self.old.device result self.new.device }
-        ensures sure { IsWithoutOctets event.entry → IsOutcome (outcome None now event.entry self.old.device) result self.new.device }
+        ensures sure { IsWithoutOctets event.entry
+            → IsOutcome (outcome None now event.entry self.old.device) result self.new.device }
         ensures single { IsSingle result }
         ensures queues { self.new.queues ≡ self.old.queues }
     {
@@ -110,7 +112,9 @@ impl Server {
     pub(crate) fn put(&mut self, place: usize, octets: &[u8]) -> bool
         requires { place < 8 }
         ensures fits { result ≡ has_room (queue_at place self.old) octets.now }
-        ensures after { self.new ≡ (if result then put_queue place (queue_at place self.old ++ octets.now) self.old else self.old) }
+        ensures after { self.new
+            ≡ (if result then put_queue place (queue_at place self.old ++ octets.now) self.old
+            else self.old) }
     {
         self.queues[place].put(octets)
     }

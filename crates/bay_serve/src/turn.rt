@@ -24,7 +24,8 @@ use std::alloc::{AllocError, Global};
 /// What a line tells of the process happens at the turn's moment.
 fn tell(server: &mut Server, notes: &mut Notes, now: u64, event: NamedEvent<'_>)
     requires { AreOctets (named_view event) [] }
-    ensures after { turning server.new notes.new ≡ told_of now (named_view event.entry) (turning server.old notes.old) }
+    ensures after { turning server.new notes.new
+        ≡ told_of now (named_view event.entry) (turning server.old notes.old) }
 {
     let event = placed_event(server.device(), &[], event);
     match server.step(now, event) {
@@ -42,8 +43,11 @@ fn tell_line<L: Link>(
     line: Option<NamedEvent<'_>>,
 )
     requires { IfSome line (λ event. AreOctets (named_view event) []) }
-    ensures talks { Talks (Called L.does L.failures) link.old (line_calls now (option_map named_view line.entry) (turning server.old notes.old)) link.new }
-    ensures after { turning server.new notes.new ≡ lined now (option_map named_view line.entry) (turning server.old notes.old) }
+    ensures talks { Talks (Called L.does L.failures) link.old
+        (line_calls now (option_map named_view line.entry) (turning server.old notes.old))
+        link.new }
+    ensures after { turning server.new notes.new
+        ≡ lined now (option_map named_view line.entry) (turning server.old notes.old) }
 {
     if let Some(event) = line {
         tell(server, notes, now, event);
@@ -53,7 +57,8 @@ fn tell_line<L: Link>(
 
 /// The program runs once.
 fn scan<L: Link>(server: &mut Server, notes: &mut Notes, link: &mut L, now: u64)
-    ensures talks { Talks (Called L.does L.failures) link.old (scan_calls now (turning server.old notes.old)) link.new }
+    ensures talks { Talks (Called L.does L.failures) link.old
+        (scan_calls now (turning server.old notes.old)) link.new }
     ensures after { turning server.new notes.new ≡ scanned now (turning server.old notes.old) }
 {
     step_quietly(server, notes, now, Event::Scan);
@@ -81,11 +86,14 @@ pub fn serve_turn<L: Link>(
 ) -> Result<Turn, ServeFault>
     // There is a script with which the calls on the link, the server after them and what is told
     // are the turn's.
-    ensures ok { IfOk result (λ turn. Serves (Called L.does L.failures) link.old link.new (moment_at clock server.old) (line_in (text_in line.entry)) server.old server.new turn) }
+    ensures ok { IfOk result
+        (λ turn. Serves (Called L.does L.failures) link.old link.new (moment_at clock server.old)
+        (line_in (text_in line.entry)) server.old server.new turn) }
     // A turn is done where its line and its moment are right, and where it is not there is want of
     // memory or it says why.
     ensures right { OnOk result (turn_refusal clock (text_in line.entry) server.old ≡ None) }
-    ensures refused { IfErr result (λ fault. IsRefused fault (turn_refusal clock (text_in line.entry) server.old)) }
+    ensures refused { IfErr result
+        (λ fault. IsRefused fault (turn_refusal clock (text_in line.entry) server.old)) }
     ensures server_kept { OnErr result (server.new ≡ server.old) }
     ensures link_kept { OnErr result (link.new ≡ link.old) }
 {

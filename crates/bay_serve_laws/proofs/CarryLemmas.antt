@@ -26,7 +26,8 @@ MayLose Gone up queue lost = (queue ≡ []) × (up ≡ false)
 
 -- what was taken, what the queue holds, and what is lost are what it held at first and what was
 -- sent
-pub record Carries (taken held sent : List ℕ) (standing : Standing) (up : Bool) (queue : List ℕ) : Type 0 where
+pub record Carries (taken held sent : List ℕ) (standing : Standing) (up : Bool) (queue : List ℕ)
+    : Type 0 where
   pub lost : List ℕ
   pub is : taken ++ (queue ++ lost) ≡ held ++ sent
   pub may : MayLose standing up queue lost
@@ -41,26 +42,32 @@ pub record Carried (now p : ℕ) (held taken sent : List ℕ) (s : Turning) : Ty
   pub sound : IsSound now s
   pub carries : Carries taken held sent (standing_of p s) (is_up p s) (queue_of p s)
 
-pub Carries-as : (taken held sent : List ℕ) (x y : Standing) (u v : Bool) (q r : List ℕ) → Carries taken held sent x u q → y ≡ x → v ≡ u → r ≡ q
+pub Carries-as : (taken held sent : List ℕ) (x y : Standing) (u v : Bool) (q r : List ℕ)
+    → Carries taken held sent x u q → y ≡ x → v ≡ u → r ≡ q
     → Carries taken held sent y v r
 Carries-as taken held sent x y u v q r c e f g =
     subst (λ z. Carries taken held sent z v r) (sym e)
-    (subst (λ z. Carries taken held sent x z r) (sym f) (subst (λ z. Carries taken held sent x u z) (sym g) c))
+    (subst (λ z. Carries taken held sent x z r) (sym f)
+    (subst (λ z. Carries taken held sent x u z) (sym g) c))
 
-pub Carried-sent : (now p : ℕ) (held taken sent more : List ℕ) (s : Turning) → Carried now p held taken sent s → sent ≡ more → Carried now p held taken more s
+pub Carried-sent : (now p : ℕ) (held taken sent more : List ℕ) (s : Turning)
+    → Carried now p held taken sent s → sent ≡ more → Carried now p held taken more s
 Carried-sent now p held taken sent more s c e = subst (λ l. Carried now p held taken l s) e c
 
-pub Carried-taken : (now p : ℕ) (held taken more sent : List ℕ) (s : Turning) → Carried now p held taken sent s → taken ≡ more → Carried now p held more sent s
+pub Carried-taken : (now p : ℕ) (held taken more sent : List ℕ) (s : Turning)
+    → Carried now p held taken sent s → taken ≡ more → Carried now p held more sent s
 Carried-taken now p held taken more sent s c e = subst (λ l. Carried now p held l sent s) e c
 
-Carried-if : (now p : ℕ) (held taken sent : List ℕ) (b : Bool) (s t : Turning) → Carried now p held taken sent s → Carried now p held taken sent t
+Carried-if : (now p : ℕ) (held taken sent : List ℕ) (b : Bool) (s t : Turning)
+    → Carried now p held taken sent s → Carried now p held taken sent t
     → Carried now p held taken sent (if b then s else t)
 Carried-if now p held taken sent true s t c d = c
 Carried-if now p held taken sent false s t c d = d
 
 -- ---- a reply
 
-may-take : (x : Standing) (u : Bool) (q lost : List ℕ) → takes_replies x u ≡ true → MayLose x u q lost → (lost ≡ []) × ((r : List ℕ) → MayLose x u r [])
+may-take : (x : Standing) (u : Bool) (q lost : List ℕ) → takes_replies x u ≡ true
+    → MayLose x u q lost → (lost ≡ []) × ((r : List ℕ) → MayLose x u r [])
 may-take Steady true q lost e m = (m, λ r. refl)
 may-take Steady false q lost e m = absurd (cc)
 may-take Full u q lost e m = absurd (cc)
@@ -68,7 +75,8 @@ may-take Leaving u q lost e m = (m.0, λ r. (refl, m.1))
 may-take LeavingFull u q lost e m = absurd (cc)
 may-take Gone u q lost e m = absurd (cc)
 
-may-fill : (x : Standing) (u : Bool) (q lost : List ℕ) → takes_replies x u ≡ true → MayLose x u q lost → (more : List ℕ) → MayLose (filled x) u q more
+may-fill : (x : Standing) (u : Bool) (q lost : List ℕ) → takes_replies x u ≡ true
+    → MayLose x u q lost → (more : List ℕ) → MayLose (filled x) u q more
 may-fill Steady true q lost e m more = tt
 may-fill Steady false q lost e m more = absurd (cc)
 may-fill Full u q lost e m more = absurd (cc)
@@ -76,7 +84,8 @@ may-fill Leaving u q lost e m more = m.1
 may-fill LeavingFull u q lost e m more = absurd (cc)
 may-fill Gone u q lost e m more = absurd (cc)
 
-may-drop : (x : Standing) (u : Bool) (q lost : List ℕ) → takes_replies x u ≡ false → MayLose x u q lost → (more : List ℕ) → MayLose x u q more
+may-drop : (x : Standing) (u : Bool) (q lost : List ℕ) → takes_replies x u ≡ false
+    → MayLose x u q lost → (more : List ℕ) → MayLose x u q more
 may-drop Steady true q lost e m more = absurd (cc)
 may-drop Steady false q lost e m more = m
 may-drop Full u q lost e m more = tt
@@ -85,39 +94,64 @@ may-drop LeavingFull u q lost e m more = m
 may-drop Gone u q lost e m more = m
 
 -- more was sent, and is lost
-pub also-lost : (taken held sent q lost more : List ℕ) → taken ++ (q ++ lost) ≡ held ++ sent → taken ++ (q ++ (lost ++ more)) ≡ held ++ (sent ++ more)
+pub also-lost : (taken held sent q lost more : List ℕ) → taken ++ (q ++ lost) ≡ held ++ sent
+    → taken ++ (q ++ (lost ++ more)) ≡ held ++ (sent ++ more)
 also-lost taken held sent q lost more e =
-    ap (λ l. taken ++ l) (sym (append_assoc q lost more)) ∙ sym (append_assoc taken (q ++ lost) more)
+    ap (λ l. taken ++ l) (sym (append_assoc q lost more))
+    ∙ sym (append_assoc taken (q ++ lost) more)
     ∙ ap (λ l. l ++ more) e ∙ append_assoc held sent more
 
 -- more was sent, and is in the queue
-also-held : (taken held sent q lost more : List ℕ) → lost ≡ [] → taken ++ (q ++ lost) ≡ held ++ sent → taken ++ ((q ++ more) ++ []) ≡ held ++ (sent ++ more)
+also-held : (taken held sent q lost more : List ℕ) → lost ≡ [] → taken ++ (q ++ lost) ≡ held ++ sent
+    → taken ++ ((q ++ more) ++ []) ≡ held ++ (sent ++ more)
 also-held taken held sent q lost more n e =
-    ap (λ l. taken ++ l) (append-nil (q ++ more)) ∙ ap (λ l. taken ++ (q ++ (l ++ more))) (sym n) ∙ also-lost taken held sent q lost more e
+    ap (λ l. taken ++ l) (append-nil (q ++ more)) ∙ ap (λ l. taken ++ (q ++ (l ++ more))) (sym n)
+    ∙ also-lost taken held sent q lost more e
 
-put-here_if : (b r : Bool) (now p : ℕ) (held taken sent octets : List ℕ) (s : Turning) → p < 8 → takes_replies (standing_of p s) (is_up p s) ≡ b
+put-here_if : (b r : Bool) (now p : ℕ) (held taken sent octets : List ℕ) (s : Turning) → p < 8
+    → takes_replies (standing_of p s) (is_up p s) ≡ b
     → Carried now p held taken sent s
-    → Carried now p held taken (sent ++ octets) (if b then (if r then with_queue p (queue_of p s ++ octets) s else with_noted (stands p (filled (standing_of p s)) s.noted) s) else s)
+    → Carried now p held taken (sent ++ octets)
+    (if b then (if r then with_queue p (queue_of p s ++ octets) s
+    else with_noted (stands p (filled (standing_of p s)) s.noted) s) else s)
 put-here_if true true now p held taken sent octets s h e c =
     let q = queue_of p s in
     let f = c.carries in
     let take = may-take (standing_of p s) (is_up p s) q f.lost e f.may in
-    let here : get_or (set s.server.queues p (q ++ octets)) p [] ≡ q ++ octets = get_or-set_same s.server.queues p (q ++ octets) [] (omega (arith, c.sound.queues)) in
+    let here : get_or (set s.server.queues p (q ++ octets)) p [] ≡ q ++ octets =
+    get_or-set_same s.server.queues p (q ++ octets) [] (omega (arith, c.sound.queues)) in
     let put : Carries taken held (sent ++ octets) (standing_of p s) (is_up p s) (q ++ octets) =
-    record { lost = []; is = also-held taken held sent q f.lost octets take.0 f.is; may = take.1 (q ++ octets) } in
     record {
-      sound = record { queues = length-set s.server.queues p (q ++ octets) ∙ c.sound.queues; standings = c.sound.standings; moment = c.sound.moment };
+      lost = [];
+      is = also-held taken held sent q f.lost octets take.0 f.is;
+      may = take.1 (q ++ octets);
+    } in
+    record {
+      sound = record {
+        queues = length-set s.server.queues p (q ++ octets) ∙ c.sound.queues;
+        standings = c.sound.standings;
+        moment = c.sound.moment;
+      };
       carries = Carries-as taken held (sent ++ octets) _ _ _ _ _ _ put refl refl here;
     }
 put-here_if true false now p held taken sent octets s h e c =
     let q = queue_of p s in
     let x = standing_of p s in
     let f = c.carries in
-    let here : get_or (set s.noted.standings p (filled x)) p Steady ≡ filled x = get_or-set_same s.noted.standings p (filled x) Steady (omega (arith, c.sound.standings)) in
+    let here : get_or (set s.noted.standings p (filled x)) p Steady ≡ filled x =
+    get_or-set_same s.noted.standings p (filled x) Steady (omega (arith, c.sound.standings)) in
     let put : Carries taken held (sent ++ octets) (filled x) (is_up p s) q =
-    record { lost = f.lost ++ octets; is = also-lost taken held sent q f.lost octets f.is; may = may-fill x (is_up p s) q f.lost e f.may (f.lost ++ octets) } in
     record {
-      sound = record { queues = c.sound.queues; standings = length-set s.noted.standings p (filled x) ∙ c.sound.standings; moment = c.sound.moment };
+      lost = f.lost ++ octets;
+      is = also-lost taken held sent q f.lost octets f.is;
+      may = may-fill x (is_up p s) q f.lost e f.may (f.lost ++ octets);
+    } in
+    record {
+      sound = record {
+        queues = c.sound.queues;
+        standings = length-set s.noted.standings p (filled x) ∙ c.sound.standings;
+        moment = c.sound.moment;
+      };
       carries = Carries-as taken held (sent ++ octets) _ _ _ _ _ _ put here refl refl;
     }
 put-here_if false r now p held taken sent octets s h e c =
@@ -132,89 +166,132 @@ put-here_if false r now p held taken sent octets s h e c =
       };
     }
 
-put-here : (now p : ℕ) (held taken sent octets : List ℕ) (s : Turning) → p < 8 → Carried now p held taken sent s
+put-here : (now p : ℕ) (held taken sent octets : List ℕ) (s : Turning) → p < 8
+    → Carried now p held taken sent s
     → Carried now p held taken (sent ++ octets) (put_at (Some p) octets s)
 put-here now p held taken sent octets s h c =
-    put-here_if (takes_replies (standing_of p s) (is_up p s)) (has_room (queue_of p s) octets) now p held taken sent octets s h refl c
+    put-here_if (takes_replies (standing_of p s) (is_up p s)) (has_room (queue_of p s) octets) now p
+    held taken sent octets s h refl c
 
 -- ---- what is done at another place
 
-pub other-queue : (now p i : ℕ) (held taken sent q : List ℕ) (s : Turning) → i ≢ p → Carried now p held taken sent s → Carried now p held taken sent (with_queue i q s)
+pub other-queue : (now p i : ℕ) (held taken sent q : List ℕ) (s : Turning) → i ≢ p
+    → Carried now p held taken sent s → Carried now p held taken sent (with_queue i q s)
 other-queue now p i held taken sent q s n c =
-    let there : get_or (set s.server.queues i q) p [] ≡ queue_of p s = get_or-set_other s.server.queues i p q [] (λ e. n (sym e)) in
+    let there : get_or (set s.server.queues i q) p [] ≡ queue_of p s =
+    get_or-set_other s.server.queues i p q [] (λ e. n (sym e)) in
     record {
-      sound = record { queues = length-set s.server.queues i q ∙ c.sound.queues; standings = c.sound.standings; moment = c.sound.moment };
+      sound = record {
+        queues = length-set s.server.queues i q ∙ c.sound.queues;
+        standings = c.sound.standings;
+        moment = c.sound.moment;
+      };
       carries = Carries-as taken held sent _ _ _ _ _ _ c.carries refl refl there;
     }
 
-pub other-standing : (now p i : ℕ) (held taken sent : List ℕ) (x : Standing) (s : Turning) → i ≢ p → Carried now p held taken sent s
+pub other-standing : (now p i : ℕ) (held taken sent : List ℕ) (x : Standing) (s : Turning) → i ≢ p
+    → Carried now p held taken sent s
     → Carried now p held taken sent (with_noted (stands i x s.noted) s)
 other-standing now p i held taken sent x s n c =
-    let there : get_or (set s.noted.standings i x) p Steady ≡ standing_of p s = get_or-set_other s.noted.standings i p x Steady (λ e. n (sym e)) in
+    let there : get_or (set s.noted.standings i x) p Steady ≡ standing_of p s =
+    get_or-set_other s.noted.standings i p x Steady (λ e. n (sym e)) in
     record {
-      sound = record { queues = c.sound.queues; standings = length-set s.noted.standings i x ∙ c.sound.standings; moment = c.sound.moment };
+      sound = record {
+        queues = c.sound.queues;
+        standings = length-set s.noted.standings i x ∙ c.sound.standings;
+        moment = c.sound.moment;
+      };
       carries = Carries-as taken held sent _ _ _ _ _ _ c.carries there refl refl;
     }
 
-put-there : (now p : ℕ) (held taken sent octets : List ℕ) (o : Option ℕ) (s : Turning) → (o ≡ Some p → ⊥) → Carried now p held taken sent s
+put-there : (now p : ℕ) (held taken sent octets : List ℕ) (o : Option ℕ) (s : Turning)
+    → (o ≡ Some p → ⊥) → Carried now p held taken sent s
     → Carried now p held taken sent (put_at o octets s)
 put-there now p held taken sent octets None s n c = c
 put-there now p held taken sent octets (Some i) s n c =
     let q = queue_of i s ++ octets in
     let x = filled (standing_of i s) in
     let far : i ≢ p = λ e. n (ap (λ k. Some k) e) in
-    Carried-if now p held taken sent (takes_replies (standing_of i s) (is_up i s)) (put_whole i octets s) s
-    (Carried-if now p held taken sent (has_room (queue_of i s) octets) (with_queue i q s) (with_noted (stands i x s.noted) s)
-    (other-queue now p i held taken sent q s far c) (other-standing now p i held taken sent x s far c)) c
+    Carried-if now p held taken sent (takes_replies (standing_of i s) (is_up i s))
+    (put_whole i octets s) s
+    (Carried-if now p held taken sent (has_room (queue_of i s) octets) (with_queue i q s)
+    (with_noted (stands i x s.noted) s)
+    (other-queue now p i held taken sent q s far c)
+    (other-standing now p i held taken sent x s far c)) c
 
 -- ---- what is sent
 
-sent_if : (b : Bool) (now p a : ℕ) (held taken sent octets : List ℕ) (s : Turning) → p < 8 → (a == p + 1) ≡ b → Carried now p held taken sent s
+sent_if : (b : Bool) (now p a : ℕ) (held taken sent octets : List ℕ) (s : Turning) → p < 8
+    → (a == p + 1) ≡ b → Carried now p held taken sent s
     → Carried now p held taken (sent ++ (if b then octets else [])) (put_at (place_of a) octets s)
 sent_if true now p a held taken sent octets s h e c =
     let place : place_of a ≡ Some p = ap place_of (eqb-true a (p + 1) e) ∙ place-of p h in
-    subst (λ o. Carried now p held taken (sent ++ octets) (put_at o octets s)) (sym place) (put-here now p held taken sent octets s h c)
+    subst (λ o. Carried now p held taken (sent ++ octets) (put_at o octets s)) (sym place)
+    (put-here now p held taken sent octets s h c)
 sent_if false now p a held taken sent octets s h e c =
-    let other : place_of a ≡ Some p → ⊥ = λ q. let same : (a == p + 1) ≡ true = eq-eqb a (p + 1) (number-of a p q) in cc in
-    Carried-sent now p held taken sent (sent ++ []) _ (put-there now p held taken sent octets (place_of a) s other c) (sym (append-nil sent))
+    let other : place_of a ≡ Some p → ⊥ = λ q. let same : (a == p + 1) ≡ true =
+    eq-eqb a (p + 1) (number-of a p q) in cc in
+    Carried-sent now p held taken sent (sent ++ []) _
+    (put-there now p held taken sent octets (place_of a) s other c) (sym (append-nil sent))
 
-put_sent-carried : (now p : ℕ) (held taken sent : List ℕ) (x : Sent) (s : Turning) → p < 8 → Carried now p held taken sent s
+put_sent-carried : (now p : ℕ) (held taken sent : List ℕ) (x : Sent) (s : Turning) → p < 8
+    → Carried now p held taken sent s
     → Carried now p held taken (sent ++ octets_to (p + 1) x) (put_sent x s)
-put_sent-carried now p held taken sent x s h c = sent_if (x.association == p + 1) now p x.association held taken sent x.octets s h refl c
+put_sent-carried now p held taken sent x s h c =
+    sent_if (x.association == p + 1) now p x.association held taken sent x.octets s h refl c
 
-pub put_all-carried : (now p : ℕ) (held taken sent : List ℕ) (xs : List Sent) (s : Turning) → p < 8 → Carried now p held taken sent s
+pub put_all-carried : (now p : ℕ) (held taken sent : List ℕ) (xs : List Sent) (s : Turning) → p < 8
+    → Carried now p held taken sent s
     → Carried now p held taken (sent ++ all_to (p + 1) xs) (put_all xs s)
-put_all-carried now p held taken sent [] s h c = Carried-sent now p held taken sent (sent ++ []) s c (sym (append-nil sent))
+put_all-carried now p held taken sent [] s h c =
+    Carried-sent now p held taken sent (sent ++ []) s c (sym (append-nil sent))
 put_all-carried now p held taken sent (x ∷ xs) s h c =
     Carried-sent now p held taken _ (sent ++ (octets_to (p + 1) x ++ all_to (p + 1) xs)) _
-    (put_all-carried now p held taken (sent ++ octets_to (p + 1) x) xs (put_sent x s) h (put_sent-carried now p held taken sent x s h c))
+    (put_all-carried now p held taken (sent ++ octets_to (p + 1) x) xs (put_sent x s) h
+    (put_sent-carried now p held taken sent x s h c))
     (append_assoc sent (octets_to (p + 1) x) (all_to (p + 1) xs))
 
-pub put_ended-carried : (now p : ℕ) (held taken sent : List ℕ) (x : Option Sent) (s : Turning) → p < 8 → Carried now p held taken sent s
+pub put_ended-carried : (now p : ℕ) (held taken sent : List ℕ) (x : Option Sent) (s : Turning)
+    → p < 8 → Carried now p held taken sent s
     → Carried now p held taken (sent ++ end_to (p + 1) x) (put_ended x s)
-put_ended-carried now p held taken sent None s h c = Carried-sent now p held taken sent (sent ++ []) s c (sym (append-nil sent))
-put_ended-carried now p held taken sent (Some x) s h c = put_sent-carried now p held taken sent x s h c
+put_ended-carried now p held taken sent None s h c =
+    Carried-sent now p held taken sent (sent ++ []) s c (sym (append-nil sent))
+put_ended-carried now p held taken sent (Some x) s h c =
+    put_sent-carried now p held taken sent x s h c
 
 -- nothing is sent but what tells of an end
-only_end : (a : ℕ) (step : Step) → step.sent ≡ [] → end_to a step.ended ≡ end_to a step.ended ++ all_to a step.sent
-only_end a step e = sym (append-nil (end_to a step.ended)) ∙ ap (λ l. end_to a step.ended ++ all_to a l) (sym e)
+only_end : (a : ℕ) (step : Step) → step.sent ≡ []
+    → end_to a step.ended ≡ end_to a step.ended ++ all_to a step.sent
+only_end a step e =
+    sym (append-nil (end_to a step.ended)) ∙ ap (λ l. end_to a step.ended ++ all_to a l) (sym e)
 
-pub put_quiet-carried : (now p : ℕ) (held taken sent : List ℕ) (answer : Result Step StepFault) (s : Turning) → p < 8 → IsQuiet answer → Carried now p held taken sent s
+pub put_quiet-carried : (now p : ℕ) (held taken sent : List ℕ) (answer : Result Step StepFault)
+    (s : Turning) → p < 8 → IsQuiet answer → Carried now p held taken sent s
     → Carried now p held taken (sent ++ answer_to (p + 1) answer) (put_quiet answer s)
-put_quiet-carried now p held taken sent (Err fault) s h q c = Carried-sent now p held taken sent (sent ++ []) s c (sym (append-nil sent))
+put_quiet-carried now p held taken sent (Err fault) s h q c =
+    Carried-sent now p held taken sent (sent ++ []) s c (sym (append-nil sent))
 put_quiet-carried now p held taken sent (Ok step) s h q c =
-    Carried-sent now p held taken _ (sent ++ (end_to (p + 1) step.ended ++ all_to (p + 1) step.sent)) _
-    (put_ended-carried now p held taken sent step.ended s h c) (ap (λ l. sent ++ l) (only_end (p + 1) step q.sent))
+    Carried-sent now p held taken _
+    (sent ++ (end_to (p + 1) step.ended ++ all_to (p + 1) step.sent)) _
+    (put_ended-carried now p held taken sent step.ended s h c)
+    (ap (λ l. sent ++ l) (only_end (p + 1) step q.sent))
 
-pub put_told-carried : (now p : ℕ) (held taken sent : List ℕ) (answer : Result Step StepFault) (s : Turning) → p < 8 → IsQuiet answer → Carried now p held taken sent s
+pub put_told-carried : (now p : ℕ) (held taken sent : List ℕ) (answer : Result Step StepFault)
+    (s : Turning) → p < 8 → IsQuiet answer → Carried now p held taken sent s
     → Carried now p held taken (sent ++ answer_to (p + 1) answer) (put_told answer s)
 put_told-carried now p held taken sent (Err fault) s h q c =
     Carried-sent now p held taken sent (sent ++ []) (put_told (Err fault) s)
-    (record { sound = record { queues = c.sound.queues; standings = c.sound.standings; moment = c.sound.moment }; carries = c.carries }) (sym (append-nil sent))
-put_told-carried now p held taken sent (Ok step) s h q c = put_quiet-carried now p held taken sent (Ok step) s h q c
+    (record {
+      sound = record
+          { queues = c.sound.queues; standings = c.sound.standings; moment = c.sound.moment };
+      carries = c.carries;
+    }) (sym (append-nil sent))
+put_told-carried now p held taken sent (Ok step) s h q c =
+    put_quiet-carried now p held taken sent (Ok step) s h q c
 
 -- the device goes on, and the association stays as open as it was
-pub device-carried : (now p : ℕ) (held taken sent : List ℕ) (d : State) (s : Turning) → d.moment ≤ now → up_at p d ≡ is_up p s → Carried now p held taken sent s
+pub device-carried : (now p : ℕ) (held taken sent : List ℕ) (d : State) (s : Turning)
+    → d.moment ≤ now → up_at p d ≡ is_up p s → Carried now p held taken sent s
     → Carried now p held taken sent (with_device d s)
 device-carried now p held taken sent d s h e c =
     record {

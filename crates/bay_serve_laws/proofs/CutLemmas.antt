@@ -25,14 +25,18 @@ use Rattle.bay_serve_laws.proofs.UpLemmas.{close-outcome-far, close-outcome-here
 -- ---- how associations stand
 
 -- the standings behind the closing of one
-gone-standings : (now place : ℕ) (why : Closing) (s : Turning) → (cut_off now why place s).noted.standings ≡ set (stepped now (Close (place + 1)) s).noted.standings place Gone
+gone-standings : (now place : ℕ) (why : Closing) (s : Turning)
+    → (cut_off now why place s).noted.standings
+    ≡ set (stepped now (Close (place + 1)) s).noted.standings place Gone
 unfolding cut_off
-gone-standings now place why s = let t : Turning = stepped now (Close (place + 1)) s in ap (λ l. set l place Gone) (told-standings place why t.noted)
+gone-standings now place why s = let t : Turning = stepped now (Close (place + 1)) s in
+    ap (λ l. set l place Gone) (told-standings place why t.noted)
 
 closing-puts : (now place : ℕ) (s : Turning) → Puts s (stepped now (Close (place + 1)) s)
 closing-puts now place s =
     let o = outcome None now (Close (place + 1)) s.server.device in
-    let puts : Puts (with_device o.after s) (stepped now (Close (place + 1)) s) = put_quiet-puts o.answer (with_device o.after s) in
+    let puts : Puts (with_device o.after s) (stepped now (Close (place + 1)) s) =
+    put_quiet-puts o.answer (with_device o.after s) in
     record { queues = puts.queues; fills = puts.fills }
 
 cut-remaining : (now place : ℕ) (why : Closing) (s : Turning) → standing_of place s ≡ Full
@@ -43,22 +47,29 @@ cut-remaining now place why s e =
     ap (λ l. suc (remaining l)) (gone-standings now place why s)
     ∙ goes-remaining t.noted.standings place (puts.fills.full place e) ∙ puts.fills.remain
 
-cut-length : (now place : ℕ) (why : Closing) (s : Turning) → length (cut_off now why place s).noted.standings ≡ length s.noted.standings
+cut-length : (now place : ℕ) (why : Closing) (s : Turning)
+    → length (cut_off now why place s).noted.standings ≡ length s.noted.standings
 cut-length now place why s =
     let t : Turning = stepped now (Close (place + 1)) s in
     let puts : Puts s t = closing-puts now place s in
-    ap length (gone-standings now place why s) ∙ length-set t.noted.standings place Gone ∙ puts.fills.sized
+    ap length (gone-standings now place why s) ∙ length-set t.noted.standings place Gone
+    ∙ puts.fills.sized
 
-pub cut-kept : (now place i : ℕ) (why : Closing) (s : Turning) → is_leaving (standing_of i s) ≡ false → is_leaving (standing_of i (cut_off now why place s)) ≡ false
+pub cut-kept : (now place i : ℕ) (why : Closing) (s : Turning)
+    → is_leaving (standing_of i s) ≡ false
+    → is_leaving (standing_of i (cut_off now why place s)) ≡ false
 cut-kept now place i why s e =
     let t : Turning = stepped now (Close (place + 1)) s in
     let puts : Puts s t = closing-puts now place s in
-    ap (λ l. is_leaving (get_or l i Steady)) (gone-standings now place why s) ∙ goes-kept t.noted.standings place i (puts.fills.kept i e)
+    ap (λ l. is_leaving (get_or l i Steady)) (gone-standings now place why s)
+    ∙ goes-kept t.noted.standings place i (puts.fills.kept i e)
 
 -- ---- all that did not fit is dealt with
 
-calm_next : (now count : ℕ) (o : Option ℕ) (s : Turning) → first_full s.noted ≡ o → remaining s.noted.standings ≤ suc count
-    → ((t : Turning) → remaining t.noted.standings ≤ count → AreCalm (settled_in now count t).noted.standings)
+calm_next : (now count : ℕ) (o : Option ℕ) (s : Turning) → first_full s.noted ≡ o
+    → remaining s.noted.standings ≤ suc count
+    → ((t : Turning) → remaining t.noted.standings ≤ count
+    → AreCalm (settled_in now count t).noted.standings)
     → AreCalm (settled_next now o s (settled_in now count)).noted.standings
 calm_next now count None s e h later = none-full s.noted.standings e
 calm_next now count (Some place) s e h later =
@@ -67,58 +78,83 @@ calm_next now count (Some place) s e h later =
     let fewer = cut-remaining now place closing.QueueFull s full in
     later (cut_off now closing.QueueFull place s) (omega (arith, fewer))
 
-calm_in : (now count : ℕ) (s : Turning) → remaining s.noted.standings ≤ count → AreCalm (settled_in now count s).noted.standings
+calm_in : (now count : ℕ) (s : Turning) → remaining s.noted.standings ≤ count
+    → AreCalm (settled_in now count s).noted.standings
 calm_in now zero s h = none-remains s.noted.standings h
-calm_in now (suc count) s h = calm_next now count (first_full s.noted) s refl h (λ t g. calm_in now count t g)
+calm_in now (suc count) s h =
+    calm_next now count (first_full s.noted) s refl h (λ t g. calm_in now count t g)
 
 -- no association is left to which a reply did not fit
-pub settled-calm : (now : ℕ) (s : Turning) → length s.noted.standings ≡ 8 → AreCalm (settled now s).noted.standings
+pub settled-calm : (now : ℕ) (s : Turning) → length s.noted.standings ≡ 8
+    → AreCalm (settled now s).noted.standings
 unfolding settled
-settled-calm now s e = let most = remaining-le s.noted.standings in calm_in now 8 s (omega (arith, most, e))
+settled-calm now s e = let most =
+    remaining-le s.noted.standings in calm_in now 8 s (omega (arith, most, e))
 
 kept_next : (now count i : ℕ) (o : Option ℕ) (s : Turning) → is_leaving (standing_of i s) ≡ false
-    → ((t : Turning) → is_leaving (standing_of i t) ≡ false → is_leaving (standing_of i (settled_in now count t)) ≡ false)
+    → ((t : Turning) → is_leaving (standing_of i t) ≡ false
+    → is_leaving (standing_of i (settled_in now count t)) ≡ false)
     → is_leaving (standing_of i (settled_next now o s (settled_in now count))) ≡ false
 kept_next now count i None s e later = e
-kept_next now count i (Some place) s e later = later (cut_off now closing.QueueFull place s) (cut-kept now place i closing.QueueFull s e)
+kept_next now count i (Some place) s e later =
+    later (cut_off now closing.QueueFull place s) (cut-kept now place i closing.QueueFull s e)
 
-kept_in : (now count i : ℕ) (s : Turning) → is_leaving (standing_of i s) ≡ false → is_leaving (standing_of i (settled_in now count s)) ≡ false
+kept_in : (now count i : ℕ) (s : Turning) → is_leaving (standing_of i s) ≡ false
+    → is_leaving (standing_of i (settled_in now count s)) ≡ false
 kept_in now zero i s e = e
-kept_in now (suc count) i s e = kept_next now count i (first_full s.noted) s e (λ t g. kept_in now count i t g)
+kept_in now (suc count) i s e =
+    kept_next now count i (first_full s.noted) s e (λ t g. kept_in now count i t g)
 
-pub settled-kept : (now i : ℕ) (s : Turning) → is_leaving (standing_of i s) ≡ false → is_leaving (standing_of i (settled now s)) ≡ false
+pub settled-kept : (now i : ℕ) (s : Turning) → is_leaving (standing_of i s) ≡ false
+    → is_leaving (standing_of i (settled now s)) ≡ false
 unfolding settled
 settled-kept now i s e = kept_in now 8 i s e
 
 -- ---- an association that is closed at once, seen from one of them
 
 -- notes with the same standings
-pub noted-carried : (now p : ℕ) (held taken sent : List ℕ) (n : Noted) (s : Turning) → n.standings ≡ s.noted.standings → Carried now p held taken sent s
+pub noted-carried : (now p : ℕ) (held taken sent : List ℕ) (n : Noted) (s : Turning)
+    → n.standings ≡ s.noted.standings → Carried now p held taken sent s
     → Carried now p held taken sent (with_noted n s)
 noted-carried now p held taken sent n s e c = record {
-  sound = record { queues = c.sound.queues; standings = ap length e ∙ c.sound.standings; moment = c.sound.moment };
-  carries = Carries-as taken held sent _ _ _ _ _ _ c.carries (ap (λ l. get_or l p Steady) e) refl refl;
+  sound = record {
+    queues = c.sound.queues;
+    standings = ap length e ∙ c.sound.standings;
+    moment = c.sound.moment;
+  };
+  carries =
+      Carries-as taken held sent _ _ _ _ _ _ c.carries (ap (λ l. get_or l p Steady) e) refl refl;
 }
 
-cut-far : (now p i : ℕ) (held taken sent : List ℕ) (why : Closing) (s : Turning) → p < 8 → i ≢ p → Carried now p held taken sent s
-    → Carried now p held taken (sent ++ answer_to (p + 1) (outcome None now (Close (i + 1)) s.server.device).answer) (cut_off now why i s)
+cut-far : (now p i : ℕ) (held taken sent : List ℕ) (why : Closing) (s : Turning) → p < 8 → i ≢ p
+    → Carried now p held taken sent s
+    → Carried now p held taken
+    (sent ++ answer_to (p + 1) (outcome None now (Close (i + 1)) s.server.device).answer)
+    (cut_off now why i s)
 unfolding cut_off
 cut-far now p i held taken sent why s h n c =
     let o = outcome None now (Close (i + 1)) s.server.device in
     let more = sent ++ answer_to (p + 1) o.answer in
     let moved : Carried now p held taken sent (with_device o.after s) =
-    device-carried now p held taken sent o.after s (outcome-moment None now (Close (i + 1)) s.server.device c.sound.moment) (close-outcome-far None now i p s.server.device n) c in
+    device-carried now p held taken sent o.after s
+    (outcome-moment None now (Close (i + 1)) s.server.device c.sound.moment)
+    (close-outcome-far None now i p s.server.device n) c in
     let t : Turning = put_quiet o.answer (with_device o.after s) in
     let put : Carried now p held taken more t =
-    put_quiet-carried now p held taken sent o.answer (with_device o.after s) h (outcome-quiet None now (Close (i + 1)) s.server.device tt) moved in
+    put_quiet-carried now p held taken sent o.answer (with_device o.after s) h
+    (outcome-quiet None now (Close (i + 1)) s.server.device tt) moved in
     let x : Turning = with_queue i [] t in
     let y : Turning = with_noted (told i why t.noted) x in
     other-standing now p i held taken more Gone y n
-    (noted-carried now p held taken more (told i why t.noted) x (told-standings i why t.noted) (other-queue now p i held taken more [] t n put))
+    (noted-carried now p held taken more (told i why t.noted) x (told-standings i why t.noted)
+    (other-queue now p i held taken more [] t n put))
 
 -- what is taken and a rest are what was held and sent; the rest is lost
-pub cut-lost : (now p : ℕ) (held taken sent rest : List ℕ) (why : Closing) (s : Turning) → p < 8 → now ≤ last_moment → IsSound now s → taken ++ rest ≡ held ++ sent
-    → Carried now p held taken (sent ++ answer_to (p + 1) (outcome None now (Close (p + 1)) s.server.device).answer) (cut_off now why p s)
+pub cut-lost : (now p : ℕ) (held taken sent rest : List ℕ) (why : Closing) (s : Turning) → p < 8
+    → now ≤ last_moment → IsSound now s → taken ++ rest ≡ held ++ sent
+    → Carried now p held taken
+    (sent ++ answer_to (p + 1) (outcome None now (Close (p + 1)) s.server.device).answer)
+    (cut_off now why p s)
 unfolding cut_off
 cut-lost now p held taken sent rest why s h past sound is =
     let o = outcome None now (Close (p + 1)) s.server.device in
@@ -127,14 +163,24 @@ cut-lost now p held taken sent rest why s h past sound is =
     let puts : Puts s t = closing-puts now p s in
     let same : Same (with_device o.after s) t = put_quiet-same o.answer (with_device o.after s) in
     let queues : length t.server.queues ≡ 8 = puts.queues ∙ sound.queues in
-    let standings : length n.standings ≡ 8 = ap length (told-standings p why t.noted) ∙ puts.fills.sized ∙ sound.standings in
-    let up : is_up p t ≡ false = ap (up_at p) same.device ∙ close-outcome-here None now p s.server.device h past sound.moment in
-    let empty : get_or (set t.server.queues p []) p [] ≡ [] = get_or-set_same t.server.queues p [] [] (omega (arith, queues)) in
-    let gone : get_or (set n.standings p Gone) p Steady ≡ Gone = get_or-set_same n.standings p Gone Steady (omega (arith, standings)) in
-    let before : o.after.moment ≤ now = outcome-moment None now (Close (p + 1)) s.server.device sound.moment in
+    let standings : length n.standings ≡ 8 =
+    ap length (told-standings p why t.noted) ∙ puts.fills.sized ∙ sound.standings in
+    let up : is_up p t ≡ false =
+    ap (up_at p) same.device
+    ∙ close-outcome-here None now p s.server.device h past sound.moment in
+    let empty : get_or (set t.server.queues p []) p [] ≡ [] =
+    get_or-set_same t.server.queues p [] [] (omega (arith, queues)) in
+    let gone : get_or (set n.standings p Gone) p Steady ≡ Gone =
+    get_or-set_same n.standings p Gone Steady (omega (arith, standings)) in
+    let before : o.after.moment ≤ now =
+    outcome-moment None now (Close (p + 1)) s.server.device sound.moment in
     let more = answer_to (p + 1) o.answer in
     let lost : Carries taken held (sent ++ more) Gone false [] =
-    record { lost = rest ++ more; is = also-lost taken held sent [] rest more is; may = (refl, refl) } in
+    record {
+      lost = rest ++ more;
+      is = also-lost taken held sent [] rest more is;
+      may = (refl, refl);
+    } in
     record {
       sound = record {
         queues = length-set t.server.queues p [] ∙ queues;
@@ -144,22 +190,35 @@ cut-lost now p held taken sent rest why s h past sound is =
       carries = Carries-as taken held (sent ++ more) _ _ _ _ _ _ lost gone up empty;
     }
 
-cut_if : (b : Bool) (now p i : ℕ) (held taken sent : List ℕ) (why : Closing) (s : Turning) → p < 8 → now ≤ last_moment → (i == p) ≡ b → Carried now p held taken sent s
-    → Carried now p held taken (sent ++ answer_to (p + 1) (outcome None now (Close (i + 1)) s.server.device).answer) (cut_off now why i s)
+cut_if : (b : Bool) (now p i : ℕ) (held taken sent : List ℕ) (why : Closing) (s : Turning) → p < 8
+    → now ≤ last_moment → (i == p) ≡ b → Carried now p held taken sent s
+    → Carried now p held taken
+    (sent ++ answer_to (p + 1) (outcome None now (Close (i + 1)) s.server.device).answer)
+    (cut_off now why i s)
 cut_if true now p i held taken sent why s h past e c =
-    subst (λ j. Carried now p held taken (sent ++ answer_to (p + 1) (outcome None now (Close (j + 1)) s.server.device).answer) (cut_off now why j s)) (sym (eqb-true i p e))
-    (cut-lost now p held taken sent (queue_of p s ++ c.carries.lost) why s h past c.sound c.carries.is)
-cut_if false now p i held taken sent why s h past e c = cut-far now p i held taken sent why s h (λ q. let same : (i == p) ≡ true = eq-eqb i p q in cc) c
+    subst (λ j. Carried now p held taken
+    (sent ++ answer_to (p + 1) (outcome None now (Close (j + 1)) s.server.device).answer)
+    (cut_off now why j s)) (sym (eqb-true i p e))
+    (cut-lost now p held taken sent (queue_of p s ++ c.carries.lost) why s h past c.sound
+    c.carries.is)
+cut_if false now p i held taken sent why s h past e c =
+    cut-far now p i held taken sent why s h (λ q. let same : (i == p) ≡ true = eq-eqb i p q in cc) c
 
-pub cut-carried : (now p i : ℕ) (held taken sent : List ℕ) (why : Closing) (s : Turning) → p < 8 → now ≤ last_moment → Carried now p held taken sent s
-    → Carried now p held taken (sent ++ answer_to (p + 1) (outcome None now (Close (i + 1)) s.server.device).answer) (cut_off now why i s)
-cut-carried now p i held taken sent why s h past c = cut_if (i == p) now p i held taken sent why s h past refl c
+pub cut-carried : (now p i : ℕ) (held taken sent : List ℕ) (why : Closing) (s : Turning) → p < 8
+    → now ≤ last_moment → Carried now p held taken sent s
+    → Carried now p held taken
+    (sent ++ answer_to (p + 1) (outcome None now (Close (i + 1)) s.server.device).answer)
+    (cut_off now why i s)
+cut-carried now p i held taken sent why s h past c =
+    cut_if (i == p) now p i held taken sent why s h past refl c
 
-pub cut-device : (now i : ℕ) (why : Closing) (s : Turning) → (cut_off now why i s).server.device ≡ (outcome None now (Close (i + 1)) s.server.device).after
+pub cut-device : (now i : ℕ) (why : Closing) (s : Turning)
+    → (cut_off now why i s).server.device ≡ (outcome None now (Close (i + 1)) s.server.device).after
 unfolding cut_off
 cut-device now i why s =
     let o = outcome None now (Close (i + 1)) s.server.device in
-    let same : Same (with_device o.after s) (put_quiet o.answer (with_device o.after s)) = put_quiet-same o.answer (with_device o.after s) in
+    let same : Same (with_device o.after s) (put_quiet o.answer (with_device o.after s)) =
+    put_quiet-same o.answer (with_device o.after s) in
     same.device
 
 -- what is kept between the parts of a turn
@@ -168,46 +227,69 @@ pub record Well (now p : ℕ) (held taken sent : List ℕ) (s : Turning) : Type 
   pub calm : AreCalm s.noted.standings
 
 module _ (now p : ℕ) (held : List ℕ) (h : p < 8) (past : now ≤ last_moment) where
-  pub cut-moves : (i : ℕ) (why : Closing) (s : Turning) (calls : List Call) → taken_of (p + 1) calls ≡ []
-      → Moves (Carried now p held) (Carried now p held) now p s calls (closing_of i ∷ []) (cut_off now why i s)
+  pub cut-moves : (i : ℕ) (why : Closing) (s : Turning) (calls : List Call)
+      → taken_of (p + 1) calls ≡ []
+      → Moves (Carried now p held) (Carried now p held) now p s calls (closing_of i ∷ [])
+      (cut_off now why i s)
   cut-moves i why s calls none =
-      Moves-one (Carried now p held) (Carried now p held) now p s (cut_off now why i s) calls (closing_of i) (cut-device now i why s) none
+      Moves-one (Carried now p held) (Carried now p held) now p s (cut_off now why i s) calls
+      (closing_of i) (cut-device now i why s) none
       (λ taken sent c. cut-carried now p i held taken sent why s h past c)
 
-  next-moves : (o : Option ℕ) (s : Turning) (f : Turning → Turning) (calls : Turning → List Call) (events : Turning → List ChosenEvent)
-      → ((t : Turning) → Moves (Carried now p held) (Carried now p held) now p t (calls t) (events t) (f t))
-      → Moves (Carried now p held) (Carried now p held) now p s (settling_next now o s calls) (settled_next_events now o s events) (settled_next now o s f)
-  next-moves None s f calls events later = Moves-none (Carried now p held) (Carried now p held) now p s s [] refl refl (λ taken sent c. c)
+  next-moves : (o : Option ℕ) (s : Turning) (f : Turning → Turning) (calls : Turning → List Call)
+      (events : Turning → List ChosenEvent)
+      → ((t : Turning) → Moves (Carried now p held) (Carried now p held) now p t (calls t)
+      (events t) (f t))
+      → Moves (Carried now p held) (Carried now p held) now p s (settling_next now o s calls)
+      (settled_next_events now o s events) (settled_next now o s f)
+  next-moves None s f calls events later =
+      Moves-none (Carried now p held) (Carried now p held) now p s s [] refl refl
+      (λ taken sent c. c)
   next-moves (Some place) s f calls events later =
       let t : Turning = cut_off now closing.QueueFull place s in
-      Moves-trans (Carried now p held) (Carried now p held) (Carried now p held) now p s t (f t) (Closes (place + 1) ∷ []) (calls t) (closing_of place ∷ []) (events t)
+      Moves-trans (Carried now p held) (Carried now p held) (Carried now p held) now p s t (f t)
+      (Closes (place + 1) ∷ []) (calls t) (closing_of place ∷ []) (events t)
       (cut-moves place closing.QueueFull s (Closes (place + 1) ∷ []) refl) (later t)
 
   settled_in-moves : (count : ℕ) (s : Turning)
-      → Moves (Carried now p held) (Carried now p held) now p s (settling_in now count s) (settled_in_events now count s) (settled_in now count s)
-  settled_in-moves zero s = Moves-none (Carried now p held) (Carried now p held) now p s s [] refl refl (λ taken sent c. c)
+      → Moves (Carried now p held) (Carried now p held) now p s (settling_in now count s)
+      (settled_in_events now count s) (settled_in now count s)
+  settled_in-moves zero s =
+      Moves-none (Carried now p held) (Carried now p held) now p s s [] refl refl
+      (λ taken sent c. c)
   settled_in-moves (suc count) s =
-      next-moves (first_full s.noted) s (settled_in now count) (settling_in now count) (settled_in_events now count) (settled_in-moves count)
+      next-moves (first_full s.noted) s (settled_in now count) (settling_in now count)
+      (settled_in_events now count) (settled_in-moves count)
 
-  settled-carried : (s : Turning) → Moves (Carried now p held) (Carried now p held) now p s (settling now s) (settled_events now s) (settled now s)
+  settled-carried : (s : Turning)
+      → Moves (Carried now p held) (Carried now p held) now p s (settling now s)
+      (settled_events now s) (settled now s)
   unfolding settled settling settled_events
   settled-carried s = settled_in-moves 8 s
 
-  pub settled-moves : (s : Turning) → Moves (Carried now p held) (Well now p held) now p s (settling now s) (settled_events now s) (settled now s)
+  pub settled-moves : (s : Turning)
+      → Moves (Carried now p held) (Well now p held) now p s (settling now s) (settled_events now s)
+      (settled now s)
   settled-moves s =
       let moves = settled-carried s in
       record {
         device = moves.device;
-        goes = λ taken sent c. record { carried = moves.goes taken sent c; calm = settled-calm now s c.sound.standings };
+        goes = λ taken sent c. record
+            { carried = moves.goes taken sent c; calm = settled-calm now s c.sound.standings };
       }
 
   -- an event, and what did not fit then
-  pub then-moves : (s t : Turning) (calls : List Call) (e : ChosenEvent) → Moves (Well now p held) (Carried now p held) now p s calls (e ∷ []) t
-      → Moves (Well now p held) (Well now p held) now p s (calls ++ settling now t) (e ∷ settled_events now t) (settled now t)
+  pub then-moves : (s t : Turning) (calls : List Call) (e : ChosenEvent)
+      → Moves (Well now p held) (Carried now p held) now p s calls (e ∷ []) t
+      → Moves (Well now p held) (Well now p held) now p s (calls ++ settling now t)
+      (e ∷ settled_events now t) (settled now t)
   then-moves s t calls e m =
-      Moves-trans (Well now p held) (Carried now p held) (Well now p held) now p s t (settled now t) calls (settling now t) (e ∷ []) (settled_events now t) m (settled-moves t)
+      Moves-trans (Well now p held) (Carried now p held) (Well now p held) now p s t (settled now t)
+      calls (settling now t) (e ∷ []) (settled_events now t) m (settled-moves t)
 
   -- where nothing of the association was of interest before
-  pub calm-moves : (s t : Turning) (calls : List Call) (events : List ChosenEvent) → Moves (Carried now p held) (Carried now p held) now p s calls events t
+  pub calm-moves : (s t : Turning) (calls : List Call) (events : List ChosenEvent)
+      → Moves (Carried now p held) (Carried now p held) now p s calls events t
       → Moves (Well now p held) (Carried now p held) now p s calls events t
-  calm-moves s t calls events m = record { device = m.device; goes = λ taken sent w. m.goes taken sent w.carried }
+  calm-moves s t calls events m =
+      record { device = m.device; goes = λ taken sent w. m.goes taken sent w.carried }

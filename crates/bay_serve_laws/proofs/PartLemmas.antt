@@ -23,9 +23,11 @@ use Rattle.bay_serve_laws.proofs.QuietLemmas.{IsQuiet, outcome-quiet, placed-qui
 use Rattle.bay_serve_laws.proofs.SameLemmas.{Commands, Same, SameNotes, Same-refl, goes-commands, goes-same, leaves-same, parted-same, put_answer-commands, put_quiet-same, put_told-same}
 
 -- Where Q holds, the commands that are told are those of the events.
-pub record Part (Q : Type 0) (now : ℕ) (s : Turning) (calls : List Call) (events : List ChosenEvent) (t : Turning) : Type 0 where
+pub record Part (Q : Type 0) (now : ℕ) (s : Turning) (calls : List Call) (events : List ChosenEvent)
+    (t : Turning) : Type 0 where
   pub device : t.server.device ≡ (done_at now events s.server.device).after
-  pub commands : Q → t.noted.commands ≡ s.noted.commands ++ commands_of (done_at now events s.server.device).answers
+  pub commands : Q → t.noted.commands
+      ≡ s.noted.commands ++ commands_of (done_at now events s.server.device).answers
   pub blames : Blames s.noted.closed t.noted.closed calls
 
 module _ (Q : Type 0) (now : ℕ) where
@@ -39,7 +41,8 @@ module _ (Q : Type 0) (now : ℕ) where
   Part-still : (s : Turning) (calls : List Call) → Part Q now s calls [] s
   Part-still s calls = Part-same s s calls (Same-refl s)
 
-  pub Part-trans : (s t u : Turning) (c d : List Call) (xs ys : List ChosenEvent) → Part Q now s c xs t → Part Q now t d ys u → Part Q now s (c ++ d) (xs ++ ys) u
+  pub Part-trans : (s t u : Turning) (c d : List Call) (xs ys : List ChosenEvent)
+      → Part Q now s c xs t → Part Q now t d ys u → Part Q now s (c ++ d) (xs ++ ys) u
   Part-trans s t u c d xs ys a b =
       let both : IsBoth now xs ys s.server.device = done-append now xs ys s.server.device in
       let first = (done_at now xs s.server.device).answers in
@@ -50,7 +53,8 @@ module _ (Q : Type 0) (now : ℕ) where
             ∙ ap (λ x. t.noted.commands ++ commands_of (done_at now ys x).answers) a.device
             ∙ ap (λ x. x ++ commands_of second) (a.commands q)
             ∙ append_assoc s.noted.commands (commands_of first) (commands_of second)
-            ∙ ap (λ x. s.noted.commands ++ x) (sym (commands-append first second) ∙ ap commands_of (sym both.answers));
+            ∙ ap (λ x. s.noted.commands ++ x)
+            (sym (commands-append first second) ∙ ap commands_of (sym both.answers));
         blames = Blames-trans s.noted.closed t.noted.closed u.noted.closed c d a.blames b.blames;
       }
 
@@ -61,7 +65,8 @@ module _ (Q : Type 0) (now : ℕ) where
   quiet-commands (Ok step) h = h.commands
 
   -- an event of which only the device is left, and what does not matter here
-  Part-one : (s t : Turning) (calls : List Call) (e : ChosenEvent) (o : Outcome) → outcome e.0 now e.1 s.server.device ≡ o
+  Part-one : (s t : Turning) (calls : List Call) (e : ChosenEvent) (o : Outcome)
+      → outcome e.0 now e.1 s.server.device ≡ o
       → (Q → IsQuiet o.answer) → Same (with_device o.after s) t → Part Q now s calls (e ∷ []) t
   Part-one s t calls e o is quiet same = record {
     device = same.device ∙ ap (λ (x : Outcome). x.after) (sym is);
@@ -71,43 +76,60 @@ module _ (Q : Type 0) (now : ℕ) where
     blames = Blames-same s.noted.closed t.noted.closed calls same.failures;
   }
 
-  Part-stepped : (event : Event) (s : Turning) (calls : List Call) → IsWithoutOctets event → Part Q now s calls (surely event ∷ []) (stepped now event s)
+  Part-stepped : (event : Event) (s : Turning) (calls : List Call) → IsWithoutOctets event
+      → Part Q now s calls (surely event ∷ []) (stepped now event s)
   Part-stepped event s calls h =
       let o = outcome None now event s.server.device in
-      Part-one s (stepped now event s) calls (surely event) o refl (λ q. outcome-quiet None now event s.server.device h)
+      Part-one s (stepped now event s) calls (surely event) o refl
+      (λ q. outcome-quiet None now event s.server.device h)
       (put_quiet-same o.answer (with_device o.after s))
 
   Part-told : (event : Event) (s : Turning) (calls : List Call) → (Q → IsWithoutOctets event)
-      → Part Q now s calls (surely event ∷ []) (told_after (outcome None now event s.server.device) s)
+      → Part Q now s calls (surely event ∷ [])
+      (told_after (outcome None now event s.server.device) s)
   Part-told event s calls h =
       let o = outcome None now event s.server.device in
-      Part-one s (told_after o s) calls (surely event) o refl (λ q. outcome-quiet None now event s.server.device (h q))
+      Part-one s (told_after o s) calls (surely event) o refl
+      (λ q. outcome-quiet None now event s.server.device (h q))
       (put_told-same o.answer (with_device o.after s))
 
   Part-taken : (choice : Option ℕ) (place : ℕ) (octets : List ℕ) (s : Turning) (calls : List Call)
-      → Part Q now s calls ((choice, Recv (place + 1) (lying octets)) ∷ []) (taken_in now place choice octets s)
+      → Part Q now s calls ((choice, Recv (place + 1) (lying octets)) ∷ [])
+      (taken_in now place choice octets s)
   Part-taken choice place octets s calls =
       let o = outcome choice now (Recv (place + 1) (lying octets)) s.server.device in
-      let told : Commands (commands_in o.answer) (with_device o.after s) (taken_in now place choice octets s) = put_answer-commands place o.answer (with_device o.after s) in
+      let told : Commands (commands_in o.answer) (with_device o.after s)
+      (taken_in now place choice octets s) =
+      put_answer-commands place o.answer (with_device o.after s) in
       record {
         device = told.device;
-        commands = λ q. told.commands ∙ ap (λ l. s.noted.commands ++ l) (sym (append-nil (commands_in o.answer)));
-        blames = Blames-same s.noted.closed (taken_in now place choice octets s).noted.closed calls told.failures;
+        commands =
+            λ q. told.commands ∙ ap (λ l. s.noted.commands ++ l)
+            (sym (append-nil (commands_in o.answer)));
+        blames =
+            Blames-same s.noted.closed (taken_in now place choice octets s).noted.closed calls
+            told.failures;
       }
 
-  Part-hung : (place : ℕ) (s : Turning) (calls : List Call) → Part Q now s calls (closing_of place ∷ []) (hung_up now place s)
+  Part-hung : (place : ℕ) (s : Turning) (calls : List Call)
+      → Part Q now s calls (closing_of place ∷ []) (hung_up now place s)
   Part-hung place s calls =
       let left : Turning = with_noted (leaves place Ended s.noted) s in
-      Part-trans s left (hung_up now place s) [] calls [] (closing_of place ∷ []) (Part-same s left [] (leaves-same place Ended s))
+      Part-trans s left (hung_up now place s) [] calls [] (closing_of place ∷ [])
+      (Part-same s left [] (leaves-same place Ended s))
       (Part-stepped (Close (place + 1)) left calls tt)
 
-  gone-blames : (place : ℕ) (why : Closing) (t : Turning) (calls : List Call) → (is_link_failed why ≡ false) ⊎ (some_failed calls ≡ true)
+  gone-blames : (place : ℕ) (why : Closing) (t : Turning) (calls : List Call)
+      → (is_link_failed why ≡ false) ⊎ (some_failed calls ≡ true)
       → Blames t.noted.closed (goes place why t.noted).closed calls
-  gone-blames place why t calls (inl e) = let same : SameNotes t.noted (goes place why t.noted) = goes-same place why t.noted e in
+  gone-blames place why t calls (inl e) = let same : SameNotes t.noted (goes place why t.noted) =
+      goes-same place why t.noted e in
       Blames-same t.noted.closed (goes place why t.noted).closed calls same.failures
-  gone-blames place why t calls (inr e) = Blames-failed t.noted.closed (goes place why t.noted).closed calls e
+  gone-blames place why t calls (inr e) =
+      Blames-failed t.noted.closed (goes place why t.noted).closed calls e
 
-  Part-cut : (why : Closing) (place : ℕ) (s : Turning) (calls : List Call) → (is_link_failed why ≡ false) ⊎ (some_failed calls ≡ true)
+  Part-cut : (why : Closing) (place : ℕ) (s : Turning) (calls : List Call)
+      → (is_link_failed why ≡ false) ⊎ (some_failed calls ≡ true)
       → Part Q now s calls (closing_of place ∷ []) (cut_off now why place s)
   unfolding cut_off
   Part-cut why place s calls h =
@@ -118,123 +140,172 @@ module _ (Q : Type 0) (now : ℕ) where
         commands = λ q. goes-commands place why t.noted ∙ sym (append-nil t.noted.commands);
         blames = gone-blames place why t calls h;
       } in
-      Part-trans s t u [] calls (closing_of place ∷ []) [] (Part-stepped (Close (place + 1)) s [] tt) last
+      Part-trans s t u [] calls (closing_of place ∷ []) []
+      (Part-stepped (Close (place + 1)) s [] tt) last
 
   -- ---- what did not fit
 
-  Part-next : (o : Option ℕ) (s : Turning) (f : Turning → Turning) (calls : Turning → List Call) (events : Turning → List ChosenEvent)
+  Part-next : (o : Option ℕ) (s : Turning) (f : Turning → Turning) (calls : Turning → List Call)
+      (events : Turning → List ChosenEvent)
       → ((t : Turning) → Part Q now t (calls t) (events t) (f t))
-      → Part Q now s (settling_next now o s calls) (settled_next_events now o s events) (settled_next now o s f)
+      → Part Q now s (settling_next now o s calls) (settled_next_events now o s events)
+      (settled_next now o s f)
   Part-next None s f calls events later = Part-still s []
   Part-next (Some place) s f calls events later =
       let t : Turning = cut_off now closing.QueueFull place s in
       Part-trans s t (f t) (Closes (place + 1) ∷ []) (calls t) (closing_of place ∷ []) (events t)
       (Part-cut closing.QueueFull place s (Closes (place + 1) ∷ []) (inl refl)) (later t)
 
-  Part-settled_in : (count : ℕ) (s : Turning) → Part Q now s (settling_in now count s) (settled_in_events now count s) (settled_in now count s)
+  Part-settled_in : (count : ℕ) (s : Turning)
+      → Part Q now s (settling_in now count s) (settled_in_events now count s)
+      (settled_in now count s)
   Part-settled_in zero s = Part-still s []
   Part-settled_in (suc count) s =
-      Part-next (first_full s.noted) s (settled_in now count) (settling_in now count) (settled_in_events now count) (Part-settled_in count)
+      Part-next (first_full s.noted) s (settled_in now count) (settling_in now count)
+      (settled_in_events now count) (Part-settled_in count)
 
-  Part-settled : (s : Turning) → Part Q now s (settling now s) (settled_events now s) (settled now s)
+  Part-settled : (s : Turning)
+      → Part Q now s (settling now s) (settled_events now s) (settled now s)
   unfolding settled settling settled_events
   Part-settled s = Part-settled_in 8 s
 
   -- an event, and what did not fit then
   Part-then : (s t : Turning) (calls : List Call) (e : ChosenEvent) → Part Q now s calls (e ∷ []) t
       → Part Q now s (calls ++ settling now t) (e ∷ settled_events now t) (settled now t)
-  Part-then s t calls e h = Part-trans s t (settled now t) calls (settling now t) (e ∷ []) (settled_events now t) h (Part-settled t)
+  Part-then s t calls e h =
+      Part-trans s t (settled now t) calls (settling now t) (e ∷ []) (settled_events now t) h
+      (Part-settled t)
 
   -- ---- the parts
 
   Part-on_accept : (place : Option ℕ) (taken : Option Bool) (s : Turning)
-      → Part Q now s (accept_calls_at now place taken s) (accept_events_at now place taken s) (on_accept now place taken s)
+      → Part Q now s (accept_calls_at now place taken s) (accept_events_at now place taken s)
+      (on_accept now place taken s)
   Part-on_accept None taken s = Part-still s []
   Part-on_accept (Some place) None s = Part-still s (Accepts (place + 1) None ∷ [])
   Part-on_accept (Some place) (Some false) s = Part-still s (Accepts (place + 1) (Some false) ∷ [])
   Part-on_accept (Some place) (Some true) s =
       let calls = Accepts (place + 1) (Some true) ∷ [] in
-      Part-then s (opened now place s) calls (surely (Open (place + 1))) (Part-stepped (Open (place + 1)) s calls tt)
+      Part-then s (opened now place s) calls (surely (Open (place + 1)))
+      (Part-stepped (Open (place + 1)) s calls tt)
 
-  pub Part-accept : (taken : Option Bool) (s : Turning) → Part Q now s (accept_calls now taken s) (accept_events now taken s) (accepted now taken s)
+  pub Part-accept : (taken : Option Bool) (s : Turning)
+      → Part Q now s (accept_calls now taken s) (accept_events now taken s) (accepted now taken s)
   Part-accept taken s = Part-on_accept (free_place s.server) taken s
 
   Part-heard : (place : ℕ) (choice : Option ℕ) (heard : Heard) (s : Turning)
-      → Part Q now s (Reads (place + 1) 4096 heard ∷ heard_calls now place choice heard s) (heard_events now place choice heard s) (on_heard now place choice heard s)
+      → Part Q now s (Reads (place + 1) 4096 heard ∷ heard_calls now place choice heard s)
+      (heard_events now place choice heard s) (on_heard now place choice heard s)
   Part-heard place choice (Octets octets) s =
       let calls = Reads (place + 1) 4096 (Octets octets) ∷ [] in
-      Part-then s (taken_in now place choice octets s) calls (choice, Recv (place + 1) (lying octets)) (Part-taken choice place octets s calls)
+      Part-then s (taken_in now place choice octets s) calls
+      (choice, Recv (place + 1) (lying octets)) (Part-taken choice place octets s calls)
   Part-heard place choice Silence s = Part-still s (Reads (place + 1) 4096 Silence ∷ [])
   Part-heard place choice Over s =
       let calls = Reads (place + 1) 4096 Over ∷ [] in
       Part-then s (hung_up now place s) calls (closing_of place) (Part-hung place s calls)
   Part-heard place choice Broken s =
       let calls = Reads (place + 1) 4096 Broken ∷ Closes (place + 1) ∷ [] in
-      Part-then s (cut_off now closing.LinkFailed place s) calls (closing_of place) (Part-cut closing.LinkFailed place s calls (inr refl))
+      Part-then s (cut_off now closing.LinkFailed place s) calls (closing_of place)
+      (Part-cut closing.LinkFailed place s calls (inr refl))
 
-  Part-if : (s t : Turning) (calls : List Call) (events : List ChosenEvent) (b : Bool) → Part Q now s calls events t
+  Part-if : (s t : Turning) (calls : List Call) (events : List ChosenEvent) (b : Bool)
+      → Part Q now s calls events t
       → Part Q now s (if b then calls else []) (if b then events else []) (if b then t else s)
   Part-if s t calls events true h = h
   Part-if s t calls events false h = Part-still s []
 
-  pub Part-read : (place : ℕ) (r : Reading) (s : Turning) → Part Q now s (read_calls now place r s) (read_events now place r s) (read_one now place r s)
+  pub Part-read : (place : ℕ) (r : Reading) (s : Turning)
+      → Part Q now s (read_calls now place r s) (read_events now place r s) (read_one now place r s)
   Part-read place r s =
-      Part-if s (on_heard now place r.choice r.heard s) (Reads (place + 1) 4096 r.heard ∷ heard_calls now place r.choice r.heard s)
-      (heard_events now place r.choice r.heard s) (is_up place s) (Part-heard place r.choice r.heard s)
+      Part-if s (on_heard now place r.choice r.heard s)
+      (Reads (place + 1) 4096 r.heard ∷ heard_calls now place r.choice r.heard s)
+      (heard_events now place r.choice r.heard s) (is_up place s)
+      (Part-heard place r.choice r.heard s)
 
-  pub Part-line : (line : Option NamedData) (s : Turning) → (Q → HasNoOctets line) → Part Q now s (line_calls now line s) (line_events now line s) (lined now line s)
+  pub Part-line : (line : Option NamedData) (s : Turning) → (Q → HasNoOctets line)
+      → Part Q now s (line_calls now line s) (line_events now line s) (lined now line s)
   Part-line None s h = Part-still s []
   Part-line (Some named) s h =
       let event = placed_event s.server.device named in
-      Part-then s (told_of now named s) [] (surely event) (Part-told event s [] (λ q. placed-quiet s.server.device named (h q)))
+      Part-then s (told_of now named s) [] (surely event)
+      (Part-told event s [] (λ q. placed-quiet s.server.device named (h q)))
 
-  pub Part-scan : (s : Turning) → Part Q now s (scan_calls now s) (scan_events now s) (scanned now s)
+  pub Part-scan : (s : Turning)
+      → Part Q now s (scan_calls now s) (scan_events now s) (scanned now s)
   Part-scan s = Part-then s (stepped now Scan s) [] (surely Scan) (Part-stepped Scan s [] tt)
 
-  Part-offered : (place : ℕ) (o : Offer) (s : Turning) (failed : Bool) → (offer_of place o s).failed ≡ failed
-      → Part Q now s ((offer_of place o s).calls ++ offer_end now place failed s) (failed_events now place failed s)
-      (if failed then settled now (cut_off now closing.LinkFailed place s) else with_queue place (offer_of place o s).left s)
+  Part-offered : (place : ℕ) (o : Offer) (s : Turning) (failed : Bool)
+      → (offer_of place o s).failed ≡ failed
+      → Part Q now s ((offer_of place o s).calls ++ offer_end now place failed s)
+      (failed_events now place failed s)
+      (if failed then settled now (cut_off now closing.LinkFailed place s)
+      else with_queue place (offer_of place o s).left s)
   Part-offered place o s true e =
       let calls = (offer_of place o s).calls in
       let t : Turning = cut_off now closing.LinkFailed place s in
-      let behind : Part Q now t (Closes (place + 1) ∷ settling now t) (settled_events now t) (settled now t) =
-      Part-trans t t (settled now t) (Closes (place + 1) ∷ []) (settling now t) [] (settled_events now t) (Part-still t (Closes (place + 1) ∷ [])) (Part-settled t) in
-      Part-trans s t (settled now t) calls (Closes (place + 1) ∷ settling now t) (closing_of place ∷ []) (settled_events now t)
-      (Part-cut closing.LinkFailed place s calls (inr (offered-failed (place + 1) _ o.takes o.fails e))) behind
+      let behind : Part Q now t (Closes (place + 1) ∷ settling now t) (settled_events now t)
+      (settled now t) =
+      Part-trans t t (settled now t) (Closes (place + 1) ∷ []) (settling now t) []
+      (settled_events now t) (Part-still t (Closes (place + 1) ∷ [])) (Part-settled t) in
+      Part-trans s t (settled now t) calls (Closes (place + 1) ∷ settling now t)
+      (closing_of place ∷ []) (settled_events now t)
+      (Part-cut closing.LinkFailed place s calls
+      (inr (offered-failed (place + 1) _ o.takes o.fails e))) behind
   Part-offered place o s false e =
-      Part-same s (with_queue place (offer_of place o s).left s) ((offer_of place o s).calls ++ []) (record { device = refl; commands = refl; failures = refl })
+      Part-same s (with_queue place (offer_of place o s).left s) ((offer_of place o s).calls ++ [])
+      (record { device = refl; commands = refl; failures = refl })
 
   Part-offer_if : (place : ℕ) (o : Offer) (s : Turning) (leaving up : Bool)
-      → Part Q now s (if leaving then (offer_of place o s).calls ++ Closes (place + 1) ∷ [] else (if up then (offer_of place o s).calls ++ offer_end now place (offer_of place o s).failed s else []))
-      (if leaving then [] else (if up then failed_events now place (offer_of place o s).failed s else []))
-      (if leaving then parted place s else (if up then after_offer now place (offer_of place o s) s else s))
-  Part-offer_if place o s true up = Part-same s (parted place s) ((offer_of place o s).calls ++ Closes (place + 1) ∷ []) (parted-same place s)
+      → Part Q now s (if leaving then (offer_of place o s).calls ++ Closes (place + 1) ∷ []
+      else (if up then (offer_of place o s).calls
+      ++ offer_end now place (offer_of place o s).failed s else []))
+      (if leaving then [] else
+      (if up then failed_events now place (offer_of place o s).failed s else []))
+      (if leaving then parted place s
+      else (if up then after_offer now place (offer_of place o s) s else s))
+  Part-offer_if place o s true up =
+      Part-same s (parted place s) ((offer_of place o s).calls ++ Closes (place + 1) ∷ [])
+      (parted-same place s)
   Part-offer_if place o s false true = Part-offered place o s (offer_of place o s).failed refl
   Part-offer_if place o s false false = Part-still s []
 
-  pub Part-offer : (place : ℕ) (o : Offer) (s : Turning) → Part Q now s (offer_calls now place o s) (offer_events now place o s) (offer_one now place o s)
+  pub Part-offer : (place : ℕ) (o : Offer) (s : Turning)
+      → Part Q now s (offer_calls now place o s) (offer_events now place o s)
+      (offer_one now place o s)
   Part-offer place o s = Part-offer_if place o s (is_leaving (standing_of place s)) (is_up place s)
 
-  Part-each : {C : Type 0} (f : ℕ → C → Turning → Turning) (calls : ℕ → C → Turning → List Call) (events : ℕ → C → Turning → List ChosenEvent)
-      → ((place : ℕ) (c : C) (s : Turning) → Part Q now s (calls place c s) (events place c s) (f place c s))
-      → (place : ℕ) (cs : List C) (s : Turning) → Part Q now s (calls_of_each f calls place cs s) (events_of_each f events place cs s) (after_each f place cs s)
+  Part-each : {C : Type 0} (f : ℕ → C → Turning → Turning) (calls : ℕ → C → Turning → List Call)
+      (events : ℕ → C → Turning → List ChosenEvent)
+      → ((place : ℕ) (c : C) (s : Turning)
+      → Part Q now s (calls place c s) (events place c s) (f place c s))
+      → (place : ℕ) (cs : List C) (s : Turning)
+      → Part Q now s (calls_of_each f calls place cs s) (events_of_each f events place cs s)
+      (after_each f place cs s)
   Part-each f calls events step place [] s = Part-still s []
   Part-each f calls events step place (c ∷ cs) s =
       let t : Turning = f place c s in
-      Part-trans s t (after_each f (place + 1) cs t) (calls place c s) (calls_of_each f calls (place + 1) cs t) (events place c s) (events_of_each f events (place + 1) cs t)
+      Part-trans s t (after_each f (place + 1) cs t) (calls place c s)
+      (calls_of_each f calls (place + 1) cs t) (events place c s)
+      (events_of_each f events (place + 1) cs t)
       (step place c s) (Part-each f calls events step (place + 1) cs t)
 
   -- the whole of a turn
   pub Part-turn : (line : Option NamedData) (script : Script) (h : Held) → (Q → HasNoOctets line)
-      → Part Q now (begun h) (turn_calls now line script h) (turn_events now line script h) (turned now line script h)
+      → Part Q now (begun h) (turn_calls now line script h) (turn_events now line script h)
+      (turned now line script h)
   Part-turn line script h quiet =
       let s0 : Turning = begun h in
       let s1 : Turning = after_accept now script h in
       let s2 : Turning = after_reads now script h in
       let s3 : Turning = after_line now line script h in
       let s4 : Turning = after_scan now line script h in
-      let reads = Part-each (read_one now) (read_calls now) (read_events now) Part-read 0 script.readings s1 in
-      let offers = Part-each (offer_one now) (offer_calls now) (offer_events now) Part-offer 0 script.offers s4 in
+      let reads =
+      Part-each (read_one now) (read_calls now) (read_events now) Part-read 0 script.readings s1
+      in
+      let offers =
+      Part-each (offer_one now) (offer_calls now) (offer_events now) Part-offer 0 script.offers
+      s4 in
       let to2 = Part-trans s0 s1 s2 _ _ _ _ (Part-accept script.accepted s0) reads in
       let to3 = Part-trans s0 s2 s3 _ _ _ _ to2 (Part-line line s2 quiet) in
       let to4 = Part-trans s0 s3 s4 _ _ _ _ to3 (Part-scan s3) in

@@ -21,7 +21,11 @@ Puts-refl : (s : Turning) → Puts s s
 Puts-refl s = record { queues = refl; fills = Fills-refl s.noted.standings }
 
 Puts-trans : (s t u : Turning) → Puts s t → Puts t u → Puts s u
-Puts-trans s t u a b = record { queues = b.queues ∙ a.queues; fills = Fills-trans s.noted.standings t.noted.standings u.noted.standings a.fills b.fills }
+Puts-trans s t u a b =
+    record {
+      queues = b.queues ∙ a.queues;
+      fills = Fills-trans s.noted.standings t.noted.standings u.noted.standings a.fills b.fills;
+    }
 
 Puts-if : (b : Bool) (s t u : Turning) → Puts s t → Puts s u → Puts s (if b then t else u)
 Puts-if true s t u x y = x
@@ -32,7 +36,8 @@ put_at-puts None octets s = Puts-refl s
 put_at-puts (Some i) octets s =
     let q = queue_of i s ++ octets in
     Puts-if (takes_replies (standing_of i s) (is_up i s)) s (put_whole i octets s) s
-    (Puts-if (has_room (queue_of i s) octets) s (with_queue i q s) (with_noted (stands i (filled (standing_of i s)) s.noted) s)
+    (Puts-if (has_room (queue_of i s) octets) s (with_queue i q s)
+    (with_noted (stands i (filled (standing_of i s)) s.noted) s)
     (record { queues = length-set s.server.queues i q; fills = Fills-refl s.noted.standings })
     (record { queues = refl; fills = Fills-one s.noted.standings i })) (Puts-refl s)
 
@@ -41,7 +46,9 @@ put_sent-puts x s = put_at-puts (place_of x.association) x.octets s
 
 pub put_all-puts : (xs : List Sent) (s : Turning) → Puts s (put_all xs s)
 put_all-puts [] s = Puts-refl s
-put_all-puts (x ∷ xs) s = Puts-trans s (put_sent x s) (put_all xs (put_sent x s)) (put_sent-puts x s) (put_all-puts xs (put_sent x s))
+put_all-puts (x ∷ xs) s =
+    Puts-trans s (put_sent x s) (put_all xs (put_sent x s)) (put_sent-puts x s)
+    (put_all-puts xs (put_sent x s))
 
 pub put_ended-puts : (x : Option Sent) (s : Turning) → Puts s (put_ended x s)
 put_ended-puts None s = Puts-refl s
@@ -53,14 +60,21 @@ put_quiet-puts (Ok step) s = put_ended-puts step.ended s
 
 -- ---- telling changes no standing
 
-told_if : (b : Bool) (n m : Noted) → m.standings ≡ n.standings → (let o : Noted = if b then n else m in o).standings ≡ n.standings
+told_if : (b : Bool) (n m : Noted) → m.standings ≡ n.standings
+    → (let o : Noted = if b then n else m in o).standings ≡ n.standings
 told_if true n m e = refl
 told_if false n m e = e
 
-pub told-standings : (place : ℕ) (why : Closing) (n : Noted) → (told place why n).standings ≡ n.standings
-told-standings place why n = told_if (is_told (standing_in place n)) n (record n { closed = n.closed ++ (place + 1, why) ∷ [] }) refl
+pub told-standings : (place : ℕ) (why : Closing) (n : Noted)
+    → (told place why n).standings ≡ n.standings
+told-standings place why n =
+    told_if (is_told (standing_in place n)) n
+    (record n { closed = n.closed ++ (place + 1, why) ∷ [] }) refl
 
-pub told_why-standings : (place : ℕ) (why : Why) (n : Noted) → (told_why place why n).standings ≡ n.standings
+pub told_why-standings : (place : ℕ) (why : Why) (n : Noted)
+    → (told_why place why n).standings ≡ n.standings
 told_why-standings place Ended n = told-standings place closing.Ended n
 told_why-standings place (Fault code) n = told-standings place (closing.Fault code) n
-told_why-standings place Memory n = told_if (is_told (standing_in place n)) n (record n { memory = n.memory ++ (place + 1) ∷ [] }) refl
+told_why-standings place Memory n =
+    told_if (is_told (standing_in place n)) n (record n { memory = n.memory ++ (place + 1) ∷ [] })
+    refl

@@ -24,54 +24,74 @@ abbrev pub IsQuiet : Result Step StepFault → Type 0
 IsQuiet (Err fault) = Unit {0}
 IsQuiet (Ok step) = SaysLittle step
 
-contact-quiet : (now k : ℕ) (position : Dbpos) (s : State) (switch : Option Switch) → IsQuiet (contact_outcome now k position s switch).answer
+contact-quiet : (now k : ℕ) (position : Dbpos) (s : State) (switch : Option Switch)
+    → IsQuiet (contact_outcome now k position s switch).answer
 contact-quiet now k position s None = tt
 contact-quiet now k position s (Some switch) = record { sent = refl; commands = refl }
 
-input-quiet : (now k : ℕ) (value : Bool) (s : State) (before : Option Bool) → IsQuiet (input_outcome now k value s before).answer
+input-quiet : (now k : ℕ) (value : Bool) (s : State) (before : Option Bool)
+    → IsQuiet (input_outcome now k value s before).answer
 input-quiet now k value s None = tt
 input-quiet now k value s (Some before) = record { sent = refl; commands = refl }
 
-measure-quiet : (now k : ℕ) (field : MeterField) (value : ℤ) (s : State) (id : Option (List ℕ)) → IsQuiet (measure_outcome now k field value s id).answer
+measure-quiet : (now k : ℕ) (field : MeterField) (value : ℤ) (s : State) (id : Option (List ℕ))
+    → IsQuiet (measure_outcome now k field value s id).answer
 measure-quiet now k field value s None = tt
 measure-quiet now k field value s (Some id) = record { sent = refl; commands = refl }
 
-open-quiet : (now a : ℕ) (s : State) (place : Option ℕ) (talk : Option Talk) → IsQuiet (open_outcome now a s place talk).answer
+open-quiet : (now a : ℕ) (s : State) (place : Option ℕ) (talk : Option Talk)
+    → IsQuiet (open_outcome now a s place talk).answer
 open-quiet now a s None talk = tt
 open-quiet now a s (Some place) None = record { sent = refl; commands = refl }
 open-quiet now a s (Some place) (Some talk) = tt
 
-close-quiet : (now a : ℕ) (s : State) (talk : Option Talk) → IsQuiet (close_outcome now a s talk).answer
+close-quiet : (now a : ℕ) (s : State) (talk : Option Talk)
+    → IsQuiet (close_outcome now a s talk).answer
 close-quiet now a s None = tt
 close-quiet now a s (Some talk) = record { sent = refl; commands = refl }
 
-recv-quiet : (choice : Option ℕ) (now a : ℕ) (octets : List ℕ) (s : State) (talk : Option Talk) → octets ≡ [] → IsQuiet (recv_outcome choice now a octets s talk).answer
+recv-quiet : (choice : Option ℕ) (now a : ℕ) (octets : List ℕ) (s : State) (talk : Option Talk)
+    → octets ≡ [] → IsQuiet (recv_outcome choice now a octets s talk).answer
 recv-quiet choice now a octets s None e = tt
 recv-quiet choice now a octets s (Some talk) e =
-    subst (λ l. IsQuiet (octets_outcome choice now a s talk l).answer) (sym e) (record { sent = refl; commands = refl })
+    subst (λ l. IsQuiet (octets_outcome choice now a s talk l).answer) (sym e)
+    (record { sent = refl; commands = refl })
 
-event-quiet : (choice : Option ℕ) (now : ℕ) (event : Event) (s : State) → IsWithoutOctets event → IsQuiet (event_outcome choice now event s).answer
+event-quiet : (choice : Option ℕ) (now : ℕ) (event : Event) (s : State) → IsWithoutOctets event
+    → IsQuiet (event_outcome choice now event s).answer
 event-quiet choice now (Open a) s h = open-quiet now a s (place_of a) (connection_at (place_of a) s)
-event-quiet choice now (Recv a octets) s h = recv-quiet choice now a octets.now s (connection_at (place_of a) s) h
+event-quiet choice now (Recv a octets) s h =
+    recv-quiet choice now a octets.now s (connection_at (place_of a) s) h
 event-quiet choice now (Close a) s h = close-quiet now a s (connection_at (place_of a) s)
-event-quiet choice now (Contact k position) s h = contact-quiet now k position s (slice_get s.switches k)
+event-quiet choice now (Contact k position) s h =
+    contact-quiet now k position s (slice_get s.switches k)
 event-quiet choice now (Input k value) s h = input-quiet now k value s (slice_get s.input_values k)
-event-quiet choice now (Measure k field value) s h = measure-quiet now k field value s (slice_get s.meters k)
+event-quiet choice now (Measure k field value) s h =
+    measure-quiet now k field value s (slice_get s.meters k)
 event-quiet choice now Scan s h = record { sent = refl; commands = refl }
 
 -- what holds of a refusal and of what else an event does holds of it at any moment
 pub at_any_moment : (P : Outcome → Type 0) (choice : Option ℕ) (now : ℕ) (event : Event) (s : State)
-    → ((fault : StepFault) → P (refused fault s)) → P (event_outcome choice now event s) → P (outcome choice now event s)
+    → ((fault : StepFault) → P (refused fault s)) → P (event_outcome choice now event s)
+    → P (outcome choice now event s)
 at_any_moment P choice now event s f g =
-    elim (nat_lt last_moment now) as (λ b. P (if b then refused MomentTooLarge s else if nat_lt now s.moment then refused TimeWentBack s else event_outcome choice now event s)) [
+    elim (nat_lt last_moment now) as
+    (λ b. P (if b then refused MomentTooLarge s else if nat_lt now s.moment
+    then refused TimeWentBack s else event_outcome choice now event s)) [
       | true ↦ f MomentTooLarge
-      | false ↦ elim (nat_lt now s.moment) as (λ b. P (if b then refused TimeWentBack s else event_outcome choice now event s)) [ true ↦ f TimeWentBack | false ↦ g ]
+      | false ↦ elim (nat_lt now s.moment) as
+          (λ b. P (if b then refused TimeWentBack s else event_outcome choice now event s))
+          [ true ↦ f TimeWentBack | false ↦ g ]
     ]
 
-pub outcome-quiet : (choice : Option ℕ) (now : ℕ) (event : Event) (s : State) → IsWithoutOctets event → IsQuiet (outcome choice now event s).answer
-outcome-quiet choice now event s h = at_any_moment (λ o. IsQuiet o.answer) choice now event s (λ f. tt) (event-quiet choice now event s h)
+pub outcome-quiet : (choice : Option ℕ) (now : ℕ) (event : Event) (s : State)
+    → IsWithoutOctets event → IsQuiet (outcome choice now event s).answer
+outcome-quiet choice now event s h =
+    at_any_moment (λ o. IsQuiet o.answer) choice now event s (λ f. tt)
+    (event-quiet choice now event s h)
 
-pub placed-quiet : (s : State) (named : NamedData) → AreOctets named [] → IsWithoutOctets (placed_event s named)
+pub placed-quiet : (s : State) (named : NamedData) → AreOctets named []
+    → IsWithoutOctets (placed_event s named)
 placed-quiet s (connects a) h = tt
 placed-quiet s (receives a octets) h = sym h
 placed-quiet s (disconnects a) h = tt

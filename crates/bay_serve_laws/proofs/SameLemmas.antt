@@ -24,7 +24,12 @@ pub Same-refl : (s : Turning) → Same s s
 Same-refl s = record { device = refl; commands = refl; failures = refl }
 
 pub Same-trans : (s t u : Turning) → Same s t → Same t u → Same s u
-Same-trans s t u a b = record { device = b.device ∙ a.device; commands = b.commands ∙ a.commands; failures = b.failures ∙ a.failures }
+Same-trans s t u a b =
+    record {
+      device = b.device ∙ a.device;
+      commands = b.commands ∙ a.commands;
+      failures = b.failures ∙ a.failures;
+    }
 
 Same-if : (s t u : Turning) (b : Bool) → Same s t → Same s u → Same s (if b then t else u)
 Same-if s t u true a b = a
@@ -32,13 +37,17 @@ Same-if s t u false a b = b
 
 put_whole-same : (place : ℕ) (octets : List ℕ) (s : Turning) → Same s (put_whole place octets s)
 put_whole-same place octets s =
-    Same-if s (with_queue place (queue_of place s ++ octets) s) (with_noted (stands place (filled (standing_of place s)) s.noted) s) (has_room (queue_of place s) octets)
-    (record { device = refl; commands = refl; failures = refl }) (record { device = refl; commands = refl; failures = refl })
+    Same-if s (with_queue place (queue_of place s ++ octets) s)
+    (with_noted (stands place (filled (standing_of place s)) s.noted) s)
+    (has_room (queue_of place s) octets)
+    (record { device = refl; commands = refl; failures = refl })
+    (record { device = refl; commands = refl; failures = refl })
 
 put_at-same : (place : Option ℕ) (octets : List ℕ) (s : Turning) → Same s (put_at place octets s)
 put_at-same None octets s = Same-refl s
 put_at-same (Some place) octets s =
-    Same-if s (put_whole place octets s) s (takes_replies (standing_of place s) (is_up place s)) (put_whole-same place octets s) (Same-refl s)
+    Same-if s (put_whole place octets s) s (takes_replies (standing_of place s) (is_up place s))
+    (put_whole-same place octets s) (Same-refl s)
 
 put_sent-same : (sent : Sent) (s : Turning) → Same s (put_sent sent s)
 put_sent-same sent s = put_at-same (place_of sent.association) sent.octets s
@@ -46,7 +55,8 @@ put_sent-same sent s = put_at-same (place_of sent.association) sent.octets s
 put_all-same : (sends : List Sent) (s : Turning) → Same s (put_all sends s)
 put_all-same [] s = Same-refl s
 put_all-same (sent ∷ more) s =
-    Same-trans s (put_sent sent s) (put_all more (put_sent sent s)) (put_sent-same sent s) (put_all-same more (put_sent sent s))
+    Same-trans s (put_sent sent s) (put_all more (put_sent sent s)) (put_sent-same sent s)
+    (put_all-same more (put_sent sent s))
 
 put_ended-same : (ended : Option Sent) (s : Turning) → Same s (put_ended ended s)
 put_ended-same None s = Same-refl s
@@ -70,44 +80,54 @@ notes_if : (n m : Noted) (b : Bool) → SameNotes n m → SameNotes n (if b then
 notes_if n m true h = record { commands = refl; failures = refl }
 notes_if n m false h = h
 
-told-same : (place : ℕ) (closing : Closing) (n : Noted) → is_link_failed closing ≡ false → SameNotes n (told place closing n)
+told-same : (place : ℕ) (closing : Closing) (n : Noted) → is_link_failed closing ≡ false
+    → SameNotes n (told place closing n)
 told-same place closing n e =
-    notes_if n (record n { closed = n.closed ++ (place + 1, closing) ∷ [] }) (is_told (standing_in place n))
+    notes_if n (record n { closed = n.closed ++ (place + 1, closing) ∷ [] })
+    (is_told (standing_in place n))
     (record { commands = refl; failures = tells-append n.closed (place + 1) closing e })
 
 told_memory-same : (place : ℕ) (n : Noted) → SameNotes n (told_memory place n)
 told_memory-same place n =
-    notes_if n (record n { memory = n.memory ++ (place + 1) ∷ [] }) (is_told (standing_in place n)) (record { commands = refl; failures = refl })
+    notes_if n (record n { memory = n.memory ++ (place + 1) ∷ [] }) (is_told (standing_in place n))
+    (record { commands = refl; failures = refl })
 
 told_why-same : (place : ℕ) (why : Why) (n : Noted) → SameNotes n (told_why place why n)
 told_why-same place Ended n = told-same place closing.Ended n refl
 told_why-same place (Fault code) n = told-same place (closing.Fault code) n refl
 told_why-same place Memory n = told_memory-same place n
 
-pub leaves-same : (place : ℕ) (why : Why) (s : Turning) → Same s (with_noted (leaves place why s.noted) s)
+pub leaves-same : (place : ℕ) (why : Why) (s : Turning)
+    → Same s (with_noted (leaves place why s.noted) s)
 leaves-same place why s =
     let told : SameNotes s.noted (told_why place why s.noted) = told_why-same place why s.noted in
     record { device = refl; commands = told.commands; failures = told.failures }
 
-pub goes-same : (place : ℕ) (closing : Closing) (n : Noted) → is_link_failed closing ≡ false → SameNotes n (goes place closing n)
+pub goes-same : (place : ℕ) (closing : Closing) (n : Noted) → is_link_failed closing ≡ false
+    → SameNotes n (goes place closing n)
 goes-same place closing n e =
     let told : SameNotes n (told place closing n) = told-same place closing n e in
     record { commands = told.commands; failures = told.failures }
 
-commands_if : (n m : Noted) (b : Bool) → m.commands ≡ n.commands → (let o : Noted = if b then n else m in o).commands ≡ n.commands
+commands_if : (n m : Noted) (b : Bool) → m.commands ≡ n.commands
+    → (let o : Noted = if b then n else m in o).commands ≡ n.commands
 commands_if n m true e = refl
 commands_if n m false e = e
 
 -- whatever the reason
-pub goes-commands : (place : ℕ) (closing : Closing) (n : Noted) → (goes place closing n).commands ≡ n.commands
-goes-commands place closing n = commands_if n (record n { closed = n.closed ++ (place + 1, closing) ∷ [] }) (is_told (standing_in place n)) refl
+pub goes-commands : (place : ℕ) (closing : Closing) (n : Noted)
+    → (goes place closing n).commands ≡ n.commands
+goes-commands place closing n =
+    commands_if n (record n { closed = n.closed ++ (place + 1, closing) ∷ [] })
+    (is_told (standing_in place n)) refl
 
 pub parted-same : (place : ℕ) (s : Turning) → Same s (parted place s)
 parted-same place s = record { device = refl; commands = refl; failures = refl }
 
 -- ---- the device's answer to octets
 
-left_by-same : (place : ℕ) (closed : Option (ℕ × Why)) (s : Turning) → Same s (left_by place closed s)
+left_by-same : (place : ℕ) (closed : Option (ℕ × Why)) (s : Turning)
+    → Same s (left_by place closed s)
 left_by-same place None s = Same-refl s
 left_by-same place (Some closed) s = leaves-same place closed.1 s
 
@@ -117,8 +137,10 @@ pub record Commands (added : List Command) (s t : Turning) : Type 0 where
   pub commands : t.noted.commands ≡ s.noted.commands ++ added
   pub failures : tells_failure t.noted.closed ≡ tells_failure s.noted.closed
 
-pub put_answer-commands : (place : ℕ) (answer : Result Step StepFault) (s : Turning) → Commands (commands_in answer) s (put_answer place answer s)
-put_answer-commands place (Err fault) s = record { device = refl; commands = sym (append-nil s.noted.commands); failures = refl }
+pub put_answer-commands : (place : ℕ) (answer : Result Step StepFault) (s : Turning)
+    → Commands (commands_in answer) s (put_answer place answer s)
+put_answer-commands place (Err fault) s =
+    record { device = refl; commands = sym (append-nil s.noted.commands); failures = refl }
 put_answer-commands place (Ok step) s =
     let left : Turning = left_by place step.closed s in
     let ended : Turning = put_ended step.ended left in
@@ -126,4 +148,8 @@ put_answer-commands place (Ok step) s =
     let all : Same s put =
     Same-trans s left put (left_by-same place step.closed s)
     (Same-trans left ended put (put_ended-same step.ended left) (put_all-same step.sent ended)) in
-    record { device = all.device; commands = ap (λ l. l ++ step.commands) all.commands; failures = all.failures }
+    record {
+      device = all.device;
+      commands = ap (λ l. l ++ step.commands) all.commands;
+      failures = all.failures;
+    }

@@ -33,19 +33,22 @@ filled-leaving Leaving e = e
 filled-leaving LeavingFull e = e
 filled-leaving Gone e = refl
 
-filled-remaining : (l : List Standing) (j : ℕ) → remaining (set l j (filled (get_or l j Steady))) ≡ remaining l
+filled-remaining : (l : List Standing) (j : ℕ)
+    → remaining (set l j (filled (get_or l j Steady))) ≡ remaining l
 filled-remaining [] j = refl
 filled-remaining (x ∷ l) zero = and_one-filled x (remaining l)
 filled-remaining (x ∷ l) (suc j) = ap (and_one x) (filled-remaining l j)
 
-filled-full : (l : List Standing) (j i : ℕ) → get_or l i Steady ≡ Full → get_or (set l j (filled (get_or l j Steady))) i Steady ≡ Full
+filled-full : (l : List Standing) (j i : ℕ) → get_or l i Steady ≡ Full
+    → get_or (set l j (filled (get_or l j Steady))) i Steady ≡ Full
 filled-full [] j i e = e
 filled-full (x ∷ l) zero zero e = ap filled e
 filled-full (x ∷ l) zero (suc i) e = e
 filled-full (x ∷ l) (suc j) zero e = e
 filled-full (x ∷ l) (suc j) (suc i) e = filled-full l j i e
 
-filled-kept : (l : List Standing) (j i : ℕ) → is_leaving (get_or l i Steady) ≡ false → is_leaving (get_or (set l j (filled (get_or l j Steady))) i Steady) ≡ false
+filled-kept : (l : List Standing) (j i : ℕ) → is_leaving (get_or l i Steady) ≡ false
+    → is_leaving (get_or (set l j (filled (get_or l j Steady))) i Steady) ≡ false
 filled-kept [] j i e = e
 filled-kept (x ∷ l) zero zero e = filled-leaving x e
 filled-kept (x ∷ l) zero (suc i) e = e
@@ -57,14 +60,20 @@ pub record Fills (l m : List Standing) : Type 0 where
   pub sized : length m ≡ length l
   pub remain : remaining m ≡ remaining l
   pub full : (i : ℕ) → get_or l i Steady ≡ Full → get_or m i Steady ≡ Full
-  pub kept : (i : ℕ) → is_leaving (get_or l i Steady) ≡ false → is_leaving (get_or m i Steady) ≡ false
+  pub kept : (i : ℕ) → is_leaving (get_or l i Steady) ≡ false
+      → is_leaving (get_or m i Steady) ≡ false
 
 pub Fills-refl : (l : List Standing) → Fills l l
 Fills-refl l = record { sized = refl; remain = refl; full = λ i e. e; kept = λ i e. e }
 
 pub Fills-trans : (l m n : List Standing) → Fills l m → Fills m n → Fills l n
 Fills-trans l m n a b =
-    record { sized = b.sized ∙ a.sized; remain = b.remain ∙ a.remain; full = λ i e. b.full i (a.full i e); kept = λ i e. b.kept i (a.kept i e) }
+    record {
+      sized = b.sized ∙ a.sized;
+      remain = b.remain ∙ a.remain;
+      full = λ i e. b.full i (a.full i e);
+      kept = λ i e. b.kept i (a.kept i e);
+    }
 
 set-length : (l : List Standing) (j : ℕ) (x : Standing) → length (set l j x) ≡ length l
 set-length [] j x = refl
@@ -87,12 +96,15 @@ and_one-suc LeavingFull n m e = ap suc e
 and_one-suc Gone n m e = e
 
 -- one more is gone
-pub goes-remaining : (l : List Standing) (i : ℕ) → get_or l i Steady ≡ Full → suc (remaining (set l i Gone)) ≡ remaining l
+pub goes-remaining : (l : List Standing) (i : ℕ) → get_or l i Steady ≡ Full
+    → suc (remaining (set l i Gone)) ≡ remaining l
 goes-remaining [] i e = absurd (cc)
 goes-remaining (x ∷ l) zero e = ap (λ y. remaining (y ∷ l)) (sym e)
-goes-remaining (x ∷ l) (suc i) e = and_one-suc x (remaining (set l i Gone)) (remaining l) (goes-remaining l i e)
+goes-remaining (x ∷ l) (suc i) e =
+    and_one-suc x (remaining (set l i Gone)) (remaining l) (goes-remaining l i e)
 
-pub goes-kept : (l : List Standing) (j i : ℕ) → is_leaving (get_or l i Steady) ≡ false → is_leaving (get_or (set l j Gone) i Steady) ≡ false
+pub goes-kept : (l : List Standing) (j i : ℕ) → is_leaving (get_or l i Steady) ≡ false
+    → is_leaving (get_or (set l j Gone) i Steady) ≡ false
 goes-kept [] j i e = e
 goes-kept (x ∷ l) zero zero e = refl
 goes-kept (x ∷ l) zero (suc i) e = e
@@ -153,7 +165,8 @@ passes_first false n m h = (refl, omega arith)
 none_passes : (l : List Standing) → length l ≤ position_or_len is_full l → AreCalm l
 none_passes [] h i = refl
 none_passes (x ∷ l) h zero = (passes_first (is_full x) (position_or_len is_full l) (length l) h).0
-none_passes (x ∷ l) h (suc i) = none_passes l (passes_first (is_full x) (position_or_len is_full l) (length l) h).1 i
+none_passes (x ∷ l) h (suc i) =
+    none_passes l (passes_first (is_full x) (position_or_len is_full l) (length l) h).1 i
 
 not_found : (b : Bool) (n : ℕ) → cond b (Some n) None ≡ None → b ≡ false
 not_found true n e = absurd (cc)
@@ -161,7 +174,8 @@ not_found false n e = refl
 
 pub none-full : (l : List Standing) → position is_full l ≡ None → AreCalm l
 none-full l e =
-    none_passes l (ltb-false (position_or_len is_full l) (length l) (not_found (nat_lt (position_or_len is_full l) (length l)) (position_or_len is_full l) e))
+    none_passes l (ltb-false (position_or_len is_full l) (length l)
+    (not_found (nat_lt (position_or_len is_full l) (length l)) (position_or_len is_full l) e))
 
 pub full-is : (x : Standing) → is_full x ≡ true → x ≡ Full
 full-is Steady e = absurd (cc)

@@ -15,31 +15,51 @@ use Rattle.bay_serve_laws.proofs.MoveLemmas.{Moves, Moves-none, Moves-trans}
 use Rattle.bay_serve_laws.proofs.OfferFlows.{each-left, offer-moves}
 use Rattle.bay_serve_laws.proofs.ReadFlows.{Fresh, accept-moves, begun-fresh, line-moves, read-moves, scan-moves}
 
-each-moves : {C : Type 0} (P : List ℕ → List ℕ → Turning → Type 0) (now p : ℕ) (f : ℕ → C → Turning → Turning) (calls : ℕ → C → Turning → List Call) (events : ℕ → C → Turning → List ChosenEvent)
+each-moves : {C : Type 0} (P : List ℕ → List ℕ → Turning → Type 0) (now p : ℕ)
+    (f : ℕ → C → Turning → Turning) (calls : ℕ → C → Turning → List Call)
+    (events : ℕ → C → Turning → List ChosenEvent)
     → ((i : ℕ) (c : C) (s : Turning) → Moves P P now p s (calls i c s) (events i c s) (f i c s))
-    → (i : ℕ) (cs : List C) (s : Turning) → Moves P P now p s (calls_of_each f calls i cs s) (events_of_each f events i cs s) (after_each f i cs s)
-each-moves P now p f calls events step i [] s = Moves-none P P now p s s [] refl refl (λ taken sent w. w)
+    → (i : ℕ) (cs : List C) (s : Turning)
+    → Moves P P now p s (calls_of_each f calls i cs s) (events_of_each f events i cs s)
+    (after_each f i cs s)
+each-moves P now p f calls events step i [] s =
+    Moves-none P P now p s s [] refl refl (λ taken sent w. w)
 each-moves P now p f calls events step i (c ∷ cs) s =
     let t : Turning = f i c s in
-    Moves-trans P P P now p s t (after_each f (i + 1) cs t) (calls i c s) (calls_of_each f calls (i + 1) cs t) (events i c s) (events_of_each f events (i + 1) cs t)
+    Moves-trans P P P now p s t (after_each f (i + 1) cs t) (calls i c s)
+    (calls_of_each f calls (i + 1) cs t) (events i c s) (events_of_each f events (i + 1) cs t)
     (step i c s) (each-moves P now p f calls events step (i + 1) cs t)
 
-turn-moves : (now p : ℕ) (held : List ℕ) (line : Option NamedData) (script : Script) (h : Held) → p < 8 → now ≤ last_moment → IsOfProcess line
-    → Moves (Fresh now p held) (Well now p held) now p (begun h) (turn_calls now line script h) (turn_events now line script h) (turned now line script h)
+turn-moves : (now p : ℕ) (held : List ℕ) (line : Option NamedData) (script : Script) (h : Held)
+    → p < 8 → now ≤ last_moment → IsOfProcess line
+    → Moves (Fresh now p held) (Well now p held) now p (begun h) (turn_calls now line script h)
+    (turn_events now line script h) (turned now line script h)
 turn-moves now p held line script h low past told =
     let s0 : Turning = begun h in
     let s1 : Turning = after_accept now script h in
     let s2 : Turning = after_reads now script h in
     let s3 : Turning = after_line now line script h in
     let s4 : Turning = after_scan now line script h in
-    let reads = each-moves (Well now p held) now p (read_one now) (read_calls now) (read_events now) (read-moves now p held low past) 0 script.readings s1 in
-    let offers = each-moves (Well now p held) now p (offer_one now) (offer_calls now) (offer_events now) (offer-moves now p held low past) 0 script.offers s4 in
-    let to2 = Moves-trans (Fresh now p held) (Well now p held) (Well now p held) now p s0 s1 s2 _ _ _ _ (accept-moves now p held low past script.accepted s0) reads in
-    let to3 = Moves-trans (Fresh now p held) (Well now p held) (Well now p held) now p s0 s2 s3 _ _ _ _ to2 (line-moves now p held low past line s2 told) in
-    let to4 = Moves-trans (Fresh now p held) (Well now p held) (Well now p held) now p s0 s3 s4 _ _ _ _ to3 (scan-moves now p held low past s3) in
-    Moves-trans (Fresh now p held) (Well now p held) (Well now p held) now p s0 s4 (turned now line script h) _ _ _ _ to4 offers
+    let reads =
+    each-moves (Well now p held) now p (read_one now) (read_calls now) (read_events now)
+    (read-moves now p held low past) 0 script.readings s1 in
+    let offers =
+    each-moves (Well now p held) now p (offer_one now) (offer_calls now) (offer_events now)
+    (offer-moves now p held low past) 0 script.offers s4 in
+    let to2 =
+    Moves-trans (Fresh now p held) (Well now p held) (Well now p held) now p s0 s1 s2 _ _ _ _
+    (accept-moves now p held low past script.accepted s0) reads in
+    let to3 =
+    Moves-trans (Fresh now p held) (Well now p held) (Well now p held) now p s0 s2 s3 _ _ _ _
+    to2 (line-moves now p held low past line s2 told) in
+    let to4 =
+    Moves-trans (Fresh now p held) (Well now p held) (Well now p held) now p s0 s3 s4 _ _ _ _
+    to3 (scan-moves now p held low past s3) in
+    Moves-trans (Fresh now p held) (Well now p held) (Well now p held) now p s0 s4
+    (turned now line script h) _ _ _ _ to4 offers
 
-kept_at : (x : Standing) (u : Bool) (q lost : List ℕ) → MayLose x u q lost → is_full x ≡ false → is_leaving x ≡ false → (q ≡ q ++ lost) ⊎ ((q ≡ []) × (u ≡ false))
+kept_at : (x : Standing) (u : Bool) (q lost : List ℕ) → MayLose x u q lost → is_full x ≡ false
+    → is_leaving x ≡ false → (q ≡ q ++ lost) ⊎ ((q ≡ []) × (u ≡ false))
 kept_at Steady true q lost m e f = inl (sym (append-nil q) ∙ ap (λ l. q ++ l) (sym m))
 kept_at Steady false q lost m e f = inr (m, refl)
 kept_at Full u q lost m e f = absurd (cc)
@@ -47,7 +67,8 @@ kept_at Leaving u q lost m e f = absurd (cc)
 kept_at LeavingFull u q lost m e f = absurd (cc)
 kept_at Gone u q lost m e f = inr m
 
-empty_at : (x : Standing) (u : Bool) (q lost : List ℕ) → MayLose x u q lost → is_full x ≡ false → is_leaving x ≡ false → u ≡ false → q ≡ []
+empty_at : (x : Standing) (u : Bool) (q lost : List ℕ) → MayLose x u q lost → is_full x ≡ false
+    → is_leaving x ≡ false → u ≡ false → q ≡ []
 empty_at Steady true q lost m e f g = absurd (cc)
 empty_at Steady false q lost m e f g = m
 empty_at Full u q lost m e f g = absurd (cc)
@@ -55,24 +76,36 @@ empty_at Leaving u q lost m e f g = absurd (cc)
 empty_at LeavingFull u q lost m e f g = absurd (cc)
 empty_at Gone u q lost m e f g = m.0
 
-pub loses-nothing : (now : ℕ) (line : Option NamedData) (script : Script) (h : Held) → IsTidy h → IsInTime now h → IsOfProcess line → length script.offers ≡ 8
+pub loses-nothing : (now : ℕ) (line : Option NamedData) (script : Script) (h : Held) → IsTidy h
+    → IsInTime now h → IsOfProcess line → length script.offers ≡ 8
     → LosesNothing now line script h
 loses-nothing now line script h tidy time told offers =
     let t : Turning = turned now line script h in
     let taken = λ (p : ℕ). taken_of (p + 1) (turn_calls now line script h) in
-    let sent = λ (p : ℕ). sent_to (p + 1) (done_at now (turn_events now line script h) h.device).answers in
+    let sent =
+    λ (p : ℕ). sent_to (p + 1) (done_at now (turn_events now line script h) h.device).answers in
     let well : (p : ℕ) → p < 8 → Well now p (queue_at p h) (taken p) (sent p) t = λ p low.
-    (turn-moves now p (queue_at p h) line script h low time.not_past told).goes [] [] (begun-fresh now p h low tidy time.not_before) in
-    let left : (p : ℕ) → p < 8 → is_leaving (standing_of p t) ≡ false = λ p low. each-left now 0 p p script.offers (after_scan now line script h) (omega arith) (omega (arith, offers, low)) in
+    (turn-moves now p (queue_at p h) line script h low time.not_past told).goes [] []
+    (begun-fresh now p h low tidy time.not_before) in
+    let left : (p : ℕ) → p < 8
+    → is_leaving (standing_of p t) ≡ false =
+    λ p low. each-left now 0 p p script.offers (after_scan now line script h) (omega arith)
+    (omega (arith, offers, low)) in
     record {
       flows = λ p low.
           let w = well p low in
           let f = w.carried.carries in
-          record { rest = queue_of p t ++ f.lost; is = f.is; kept = kept_at (standing_of p t) (is_up p t) (queue_of p t) f.lost f.may (w.calm p) (left p low) };
+          record {
+            rest = queue_of p t ++ f.lost;
+            is = f.is;
+            kept = kept_at (standing_of p t) (is_up p t) (queue_of p t) f.lost f.may (w.calm p)
+                (left p low);
+          };
       tidy = record {
         sized = (well 0 (omega arith)).carried.sound.queues;
         empty = λ p low down.
             let w = well p low in
-            empty_at (standing_of p t) (is_up p t) (queue_of p t) w.carried.carries.lost w.carried.carries.may (w.calm p) (left p low) down;
+            empty_at (standing_of p t) (is_up p t) (queue_of p t) w.carried.carries.lost
+            w.carried.carries.may (w.calm p) (left p low) down;
       };
     }

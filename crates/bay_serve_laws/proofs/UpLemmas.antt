@@ -31,21 +31,24 @@ none-down [] i = refl
 none-down (t ∷ ts) zero = refl
 none-down (t ∷ ts) (suc i) = none-down ts i
 
-other-up : (ts : List (Option Talk)) (i p : ℕ) (t : Option Talk) → i ≢ p → up_in p (set ts i t) ≡ up_in p ts
+other-up : (ts : List (Option Talk)) (i p : ℕ) (t : Option Talk) → i ≢ p
+    → up_in p (set ts i t) ≡ up_in p ts
 other-up [] i p t n = refl
 other-up (x ∷ ts) zero zero t n = absurd (n refl)
 other-up (x ∷ ts) zero (suc p) t n = refl
 other-up (x ∷ ts) (suc i) zero t n = refl
 other-up (x ∷ ts) (suc i) (suc p) t n = other-up ts i p t (λ e. n (ap suc e))
 
-some-down : (ts : List (Option Talk)) (i p : ℕ) (t : Talk) → up_in p (set ts i (Some t)) ≡ false → up_in p ts ≡ false
+some-down : (ts : List (Option Talk)) (i p : ℕ) (t : Talk) → up_in p (set ts i (Some t)) ≡ false
+    → up_in p ts ≡ false
 some-down [] i p t e = refl
 some-down (x ∷ ts) zero zero t e = absurd (cc)
 some-down (x ∷ ts) zero (suc p) t e = e
 some-down (x ∷ ts) (suc i) zero t e = e
 some-down (x ∷ ts) (suc i) (suc p) t e = some-down ts i p t e
 
-some-up : (ts : List (Option Talk)) (i : ℕ) (t : Talk) → up_in i ts ≡ true → up_in i (set ts i (Some t)) ≡ true
+some-up : (ts : List (Option Talk)) (i : ℕ) (t : Talk) → up_in i ts ≡ true
+    → up_in i (set ts i (Some t)) ≡ true
 some-up [] i t e = absurd (cc)
 some-up (x ∷ ts) zero t e = refl
 some-up (x ∷ ts) (suc i) t e = some-up ts i t e
@@ -60,9 +63,11 @@ place-of place h =
     ap (λ b. if b && nat_lt (place + 1) 9 then Some (place + 1 - 1) else None) low
     ∙ ap (λ b. if b then Some (place + 1 - 1) else None) high ∙ ap (λ n. Some n) same
 
-number_if : (b : Bool) (a i : ℕ) → (nat_lt 0 a ≡ false → b ≡ false) → (if b then Some (a - 1) else None) ≡ Some i → a ≡ i + 1
+number_if : (b : Bool) (a i : ℕ) → (nat_lt 0 a ≡ false → b ≡ false)
+    → (if b then Some (a - 1) else None) ≡ Some i → a ≡ i + 1
 number_if true zero i f e = let absent : true ≡ false = f refl in absurd (cc)
-number_if true (suc a) i f e = let same : suc a - 1 ≡ i = ap (λ (o : Option ℕ). unwrap_or o (suc a - 1)) e in omega (arith, same)
+number_if true (suc a) i f e = let same : suc a - 1 ≡ i =
+    ap (λ (o : Option ℕ). unwrap_or o (suc a - 1)) e in omega (arith, same)
 number_if false a i f e = absurd (cc)
 
 and_false : (a b : Bool) → a ≡ false → (a && b) ≡ false
@@ -70,7 +75,8 @@ and_false true b e = absurd (cc)
 and_false false b e = refl
 
 pub number-of : (a place : ℕ) → place_of a ≡ Some place → a ≡ place + 1
-number-of a place e = number_if (nat_lt 0 a && nat_lt a 9) a place (and_false (nat_lt 0 a) (nat_lt a 9)) e
+number-of a place e =
+    number_if (nat_lt 0 a && nat_lt a 9) a place (and_false (nat_lt 0 a) (nat_lt a 9)) e
 
 -- ---- what keeps the connections
 
@@ -82,32 +88,40 @@ Keeps-refl : (now : ℕ) (s : State) → Keeps now s s
 Keeps-refl now s = record { connections = refl; moment = λ h. h }
 
 Keeps-trans : (now : ℕ) (s t u : State) → Keeps now s t → Keeps now t u → Keeps now s u
-Keeps-trans now s t u a b = record { connections = b.connections ∙ a.connections; moment = λ h. b.moment (a.moment h) }
+Keeps-trans now s t u a b =
+    record { connections = b.connections ∙ a.connections; moment = λ h. b.moment (a.moment h) }
 
 said-keeps : (now a : ℕ) (i : Indication) (d : Done) (later : Done → Heard)
-    → ((e : Done) → Keeps now e.state (later e).done.state) → Keeps now d.state (on_heard now a i d later).done.state
+    → ((e : Done) → Keeps now e.state (later e).done.state)
+    → Keeps now d.state (on_heard now a i d later).done.state
 said-keeps now a (answers octets) d later h = h (with_sent a octets d)
 said-keeps now a (tells terms pdu) d later h =
     let e = said now a terms pdu d in
-    Keeps-trans now d.state e.state (later e).done.state (record { connections = refl; moment = λ h. h }) (h e)
+    Keeps-trans now d.state e.state (later e).done.state
+    (record { connections = refl; moment = λ h. h }) (h e)
 said-keeps now a (releases octets) d later h = Keeps-refl now d.state
 said-keeps now a ends d later h = Keeps-refl now d.state
 said-keeps now a (fails code) d later h = Keeps-refl now d.state
 
-heard-keeps : (choice : Option ℕ) (now a : ℕ) (is : List Indication) (d : Done) → Keeps now d.state (heard choice now a is d).done.state
+heard-keeps : (choice : Option ℕ) (now a : ℕ) (is : List Indication) (d : Done)
+    → Keeps now d.state (heard choice now a is d).done.state
 heard-keeps None now a [] d = Keeps-refl now d.state
-heard-keeps None now a (i ∷ is) d = said-keeps now a i d (heard None now a is) (λ e. heard-keeps None now a is e)
+heard-keeps None now a (i ∷ is) d =
+    said-keeps now a i d (heard None now a is) (λ e. heard-keeps None now a is e)
 heard-keeps (Some zero) now a is d = Keeps-refl now d.state
 heard-keeps (Some (suc n)) now a [] d = Keeps-refl now d.state
-heard-keeps (Some (suc n)) now a (i ∷ is) d = said-keeps now a i d (heard (Some n) now a is) (λ e. heard-keeps (Some n) now a is e)
+heard-keeps (Some (suc n)) now a (i ∷ is) d =
+    said-keeps now a i d (heard (Some n) now a is) (λ e. heard-keeps (Some n) now a is e)
 
 -- ---- a connection that is set
 
-set-far : (o : Option ℕ) (p : ℕ) (t : Option Talk) (s : State) → (o ≡ Some p → ⊥) → up_at p (with_connection o t s) ≡ up_at p s
+set-far : (o : Option ℕ) (p : ℕ) (t : Option Talk) (s : State) → (o ≡ Some p → ⊥)
+    → up_at p (with_connection o t s) ≡ up_at p s
 set-far None p t s n = refl
 set-far (Some i) p t s n = other-up s.connections i p t (λ e. n (ap (λ k. Some k) e))
 
-set-moment : (o : Option ℕ) (t : Option Talk) (s : State) → (with_connection o t s).moment ≡ s.moment
+set-moment : (o : Option ℕ) (t : Option Talk) (s : State)
+    → (with_connection o t s).moment ≡ s.moment
 set-moment None t s = refl
 set-moment (Some i) t s = refl
 
@@ -115,141 +129,196 @@ set-moment (Some i) t s = refl
 abbrev pub NotClosed : ℕ → State → State → Type 0
 NotClosed p s t = up_at p t ≡ false → up_at p s ≡ false
 
-set-open : (o : Option ℕ) (p : ℕ) (t : Talk) (s : State) → up_at p (with_connection o (Some t) s) ≡ false → up_at p s ≡ false
+set-open : (o : Option ℕ) (p : ℕ) (t : Talk) (s : State)
+    → up_at p (with_connection o (Some t) s) ≡ false → up_at p s ≡ false
 set-open None p t s e = e
 set-open (Some i) p t s e = some-down s.connections i p t e
 
 -- ---- moments
 
-open-moment : (now a : ℕ) (s : State) (place : Option ℕ) (talk : Option Talk) → s.moment ≤ now → (open_outcome now a s place talk).after.moment ≤ now
+open-moment : (now a : ℕ) (s : State) (place : Option ℕ) (talk : Option Talk) → s.moment ≤ now
+    → (open_outcome now a s place talk).after.moment ≤ now
 open-moment now a s None talk h = h
 open-moment now a s (Some place) (Some talk) h = h
-open-moment now a s (Some place) None h = let e = set-moment (place_of a) (Some (first_talk a)) (advanced now s) in omega (arith, e)
+open-moment now a s (Some place) None h = let e =
+    set-moment (place_of a) (Some (first_talk a)) (advanced now s) in omega (arith, e)
 
-close-moment : (now a : ℕ) (s : State) (talk : Option Talk) → s.moment ≤ now → (close_outcome now a s talk).after.moment ≤ now
+close-moment : (now a : ℕ) (s : State) (talk : Option Talk) → s.moment ≤ now
+    → (close_outcome now a s talk).after.moment ≤ now
 close-moment now a s None h = h
-close-moment now a s (Some talk) h = let e = set-moment (place_of a) None (without_owner a (advanced now s)) in omega (arith, e)
+close-moment now a s (Some talk) h = let e =
+    set-moment (place_of a) None (without_owner a (advanced now s)) in omega (arith, e)
 
-contact-moment : (now k : ℕ) (position : Dbpos) (s : State) (switch : Option Switch) → s.moment ≤ now → (contact_outcome now k position s switch).after.moment ≤ now
+contact-moment : (now k : ℕ) (position : Dbpos) (s : State) (switch : Option Switch)
+    → s.moment ≤ now → (contact_outcome now k position s switch).after.moment ≤ now
 contact-moment now k position s None h = h
 contact-moment now k position s (Some switch) h = omega arith
 
-input-moment : (now k : ℕ) (value : Bool) (s : State) (before : Option Bool) → s.moment ≤ now → (input_outcome now k value s before).after.moment ≤ now
+input-moment : (now k : ℕ) (value : Bool) (s : State) (before : Option Bool) → s.moment ≤ now
+    → (input_outcome now k value s before).after.moment ≤ now
 input-moment now k value s None h = h
 input-moment now k value s (Some before) h = omega arith
 
-measure-moment : (now k : ℕ) (field : MeterField) (value : ℤ) (s : State) (id : Option (List ℕ)) → s.moment ≤ now → (measure_outcome now k field value s id).after.moment ≤ now
+measure-moment : (now k : ℕ) (field : MeterField) (value : ℤ) (s : State) (id : Option (List ℕ))
+    → s.moment ≤ now → (measure_outcome now k field value s id).after.moment ≤ now
 measure-moment now k field value s None h = h
 measure-moment now k field value s (Some id) h = omega arith
 
-after-moment : (now a : ℕ) (left : Talk) (s : State) (why : Option Why) → s.moment ≤ now → (recv_after a left s why).moment ≤ now
+after-moment : (now a : ℕ) (left : Talk) (s : State) (why : Option Why) → s.moment ≤ now
+    → (recv_after a left s why).moment ≤ now
 after-moment now a left s None h = let e = set-moment (place_of a) (Some left) s in omega (arith, e)
-after-moment now a left s (Some why) h = let e = set-moment (place_of a) None (without_owner a s) in omega (arith, e)
+after-moment now a left s (Some why) h = let e =
+    set-moment (place_of a) None (without_owner a s) in omega (arith, e)
 
-recv-moment : (choice : Option ℕ) (now a : ℕ) (octets : List ℕ) (s : State) (talk : Option Talk) → s.moment ≤ now → (recv_outcome choice now a octets s talk).after.moment ≤ now
+recv-moment : (choice : Option ℕ) (now a : ℕ) (octets : List ℕ) (s : State) (talk : Option Talk)
+    → s.moment ≤ now → (recv_outcome choice now a octets s talk).after.moment ≤ now
 recv-moment choice now a octets s None h = h
 recv-moment choice now a [] s (Some talk) h = omega arith
 recv-moment choice now a (octet ∷ octets) s (Some talk) h =
     let d = nothing_done (advanced now s) in
     let x = heard choice now a (indications talk (octet ∷ octets)) d in
     let keeps = heard-keeps choice now a (indications talk (octet ∷ octets)) d in
-    after-moment now a (left_by talk (octet ∷ octets)) x.done.state x.why (keeps.moment (omega arith))
+    after-moment now a (left_by talk (octet ∷ octets)) x.done.state x.why
+    (keeps.moment (omega arith))
 
-event-moment : (choice : Option ℕ) (now : ℕ) (event : Event) (s : State) → s.moment ≤ now → (event_outcome choice now event s).after.moment ≤ now
-event-moment choice now (Open a) s h = open-moment now a s (place_of a) (connection_at (place_of a) s) h
-event-moment choice now (Recv a octets) s h = recv-moment choice now a octets.now s (connection_at (place_of a) s) h
+event-moment : (choice : Option ℕ) (now : ℕ) (event : Event) (s : State) → s.moment ≤ now
+    → (event_outcome choice now event s).after.moment ≤ now
+event-moment choice now (Open a) s h =
+    open-moment now a s (place_of a) (connection_at (place_of a) s) h
+event-moment choice now (Recv a octets) s h =
+    recv-moment choice now a octets.now s (connection_at (place_of a) s) h
 event-moment choice now (Close a) s h = close-moment now a s (connection_at (place_of a) s) h
-event-moment choice now (Contact k position) s h = contact-moment now k position s (slice_get s.switches k) h
-event-moment choice now (Input k value) s h = input-moment now k value s (slice_get s.input_values k) h
-event-moment choice now (Measure k field value) s h = measure-moment now k field value s (slice_get s.meters k) h
+event-moment choice now (Contact k position) s h =
+    contact-moment now k position s (slice_get s.switches k) h
+event-moment choice now (Input k value) s h =
+    input-moment now k value s (slice_get s.input_values k) h
+event-moment choice now (Measure k field value) s h =
+    measure-moment now k field value s (slice_get s.meters k) h
 event-moment choice now Scan s h = omega arith
 
 -- the last moment is not after an event's
-pub outcome-moment : (choice : Option ℕ) (now : ℕ) (event : Event) (s : State) → s.moment ≤ now → (outcome choice now event s).after.moment ≤ now
-outcome-moment choice now event s h = at_any_moment (λ o. o.after.moment ≤ now) choice now event s (λ f. h) (event-moment choice now event s h)
+pub outcome-moment : (choice : Option ℕ) (now : ℕ) (event : Event) (s : State) → s.moment ≤ now
+    → (outcome choice now event s).after.moment ≤ now
+outcome-moment choice now event s h =
+    at_any_moment (λ o. o.after.moment ≤ now) choice now event s (λ f. h)
+    (event-moment choice now event s h)
 
 -- ---- the process
 
-contact-up : (now k : ℕ) (position : Dbpos) (s : State) (switch : Option Switch) → (contact_outcome now k position s switch).after.connections ≡ s.connections
+contact-up : (now k : ℕ) (position : Dbpos) (s : State) (switch : Option Switch)
+    → (contact_outcome now k position s switch).after.connections ≡ s.connections
 contact-up now k position s None = refl
 contact-up now k position s (Some switch) = refl
 
-input-up : (now k : ℕ) (value : Bool) (s : State) (before : Option Bool) → (input_outcome now k value s before).after.connections ≡ s.connections
+input-up : (now k : ℕ) (value : Bool) (s : State) (before : Option Bool)
+    → (input_outcome now k value s before).after.connections ≡ s.connections
 input-up now k value s None = refl
 input-up now k value s (Some before) = refl
 
-measure-up : (now k : ℕ) (field : MeterField) (value : ℤ) (s : State) (id : Option (List ℕ)) → (measure_outcome now k field value s id).after.connections ≡ s.connections
+measure-up : (now k : ℕ) (field : MeterField) (value : ℤ) (s : State) (id : Option (List ℕ))
+    → (measure_outcome now k field value s id).after.connections ≡ s.connections
 measure-up now k field value s None = refl
 measure-up now k field value s (Some id) = refl
 
-process-up : (choice : Option ℕ) (now p : ℕ) (event : Event) (s : State) → (event_outcome choice now event s).after.connections ≡ s.connections
+process-up : (choice : Option ℕ) (now p : ℕ) (event : Event) (s : State)
+    → (event_outcome choice now event s).after.connections ≡ s.connections
     → up_at p (outcome choice now event s).after ≡ up_at p s
-process-up choice now p event s e = at_any_moment (λ o. up_at p o.after ≡ up_at p s) choice now event s (λ f. refl) (ap (up_in p) e)
+process-up choice now p event s e =
+    at_any_moment (λ o. up_at p o.after ≡ up_at p s) choice now event s (λ f. refl) (ap (up_in p) e)
 
-pub contact-outcome-up : (choice : Option ℕ) (now p k : ℕ) (position : Dbpos) (s : State) → up_at p (outcome choice now (Contact k position) s).after ≡ up_at p s
-contact-outcome-up choice now p k position s = process-up choice now p (Contact k position) s (contact-up now k position s (slice_get s.switches k))
+pub contact-outcome-up : (choice : Option ℕ) (now p k : ℕ) (position : Dbpos) (s : State)
+    → up_at p (outcome choice now (Contact k position) s).after ≡ up_at p s
+contact-outcome-up choice now p k position s =
+    process-up choice now p (Contact k position) s
+    (contact-up now k position s (slice_get s.switches k))
 
-pub input-outcome-up : (choice : Option ℕ) (now p k : ℕ) (value : Bool) (s : State) → up_at p (outcome choice now (Input k value) s).after ≡ up_at p s
-input-outcome-up choice now p k value s = process-up choice now p (Input k value) s (input-up now k value s (slice_get s.input_values k))
+pub input-outcome-up : (choice : Option ℕ) (now p k : ℕ) (value : Bool) (s : State)
+    → up_at p (outcome choice now (Input k value) s).after ≡ up_at p s
+input-outcome-up choice now p k value s =
+    process-up choice now p (Input k value) s (input-up now k value s (slice_get s.input_values k))
 
-pub measure-outcome-up : (choice : Option ℕ) (now p k : ℕ) (field : MeterField) (value : ℤ) (s : State) → up_at p (outcome choice now (Measure k field value) s).after ≡ up_at p s
-measure-outcome-up choice now p k field value s = process-up choice now p (Measure k field value) s (measure-up now k field value s (slice_get s.meters k))
+pub measure-outcome-up : (choice : Option ℕ) (now p k : ℕ) (field : MeterField) (value : ℤ)
+    (s : State) → up_at p (outcome choice now (Measure k field value) s).after ≡ up_at p s
+measure-outcome-up choice now p k field value s =
+    process-up choice now p (Measure k field value) s
+    (measure-up now k field value s (slice_get s.meters k))
 
-pub scan-outcome-up : (choice : Option ℕ) (now p : ℕ) (s : State) → up_at p (outcome choice now Scan s).after ≡ up_at p s
+pub scan-outcome-up : (choice : Option ℕ) (now p : ℕ) (s : State)
+    → up_at p (outcome choice now Scan s).after ≡ up_at p s
 scan-outcome-up choice now p s = process-up choice now p Scan s refl
 
 -- ---- an association is opened
 
-open-up : (now a p : ℕ) (s : State) (place : Option ℕ) (talk : Option Talk) → NotClosed p s (open_outcome now a s place talk).after
+open-up : (now a p : ℕ) (s : State) (place : Option ℕ) (talk : Option Talk)
+    → NotClosed p s (open_outcome now a s place talk).after
 open-up now a p s None talk e = e
 open-up now a p s (Some place) (Some talk) e = e
 open-up now a p s (Some place) None e = set-open (place_of a) p (first_talk a) (advanced now s) e
 
-pub open-outcome-up : (choice : Option ℕ) (now a p : ℕ) (s : State) → NotClosed p s (outcome choice now (Open a) s).after
+pub open-outcome-up : (choice : Option ℕ) (now a p : ℕ) (s : State)
+    → NotClosed p s (outcome choice now (Open a) s).after
 open-outcome-up choice now a p s =
-    at_any_moment (λ o. NotClosed p s o.after) choice now (Open a) s (λ f. λ e. e) (open-up now a p s (place_of a) (connection_at (place_of a) s))
+    at_any_moment (λ o. NotClosed p s o.after) choice now (Open a) s (λ f. λ e. e)
+    (open-up now a p s (place_of a) (connection_at (place_of a) s))
 
 -- ---- an association is closed
 
 other_place : (i p : ℕ) → i ≢ p → place_of (i + 1) ≡ Some p → ⊥
 other_place i p n e = let same : i + 1 ≡ p + 1 = number-of (i + 1) p e in n (omega arith)
 
-close-far : (now i p : ℕ) (s : State) (talk : Option Talk) → i ≢ p → up_at p (close_outcome now (i + 1) s talk).after ≡ up_at p s
+close-far : (now i p : ℕ) (s : State) (talk : Option Talk) → i ≢ p
+    → up_at p (close_outcome now (i + 1) s talk).after ≡ up_at p s
 close-far now i p s None n = refl
-close-far now i p s (Some talk) n = set-far (place_of (i + 1)) p None (without_owner (i + 1) (advanced now s)) (other_place i p n)
+close-far now i p s (Some talk) n =
+    set-far (place_of (i + 1)) p None (without_owner (i + 1) (advanced now s)) (other_place i p n)
 
-pub close-outcome-far : (choice : Option ℕ) (now i p : ℕ) (s : State) → i ≢ p → up_at p (outcome choice now (Close (i + 1)) s).after ≡ up_at p s
+pub close-outcome-far : (choice : Option ℕ) (now i p : ℕ) (s : State) → i ≢ p
+    → up_at p (outcome choice now (Close (i + 1)) s).after ≡ up_at p s
 close-outcome-far choice now i p s n =
-    at_any_moment (λ o. up_at p o.after ≡ up_at p s) choice now (Close (i + 1)) s (λ f. refl) (close-far now i p s (connection_at (place_of (i + 1)) s) n)
+    at_any_moment (λ o. up_at p o.after ≡ up_at p s) choice now (Close (i + 1)) s (λ f. refl)
+    (close-far now i p s (connection_at (place_of (i + 1)) s) n)
 
-in_time : (choice : Option ℕ) (now : ℕ) (event : Event) (s : State) → now ≤ last_moment → s.moment ≤ now
+in_time : (choice : Option ℕ) (now : ℕ) (event : Event) (s : State) → now ≤ last_moment
+    → s.moment ≤ now
     → outcome choice now event s ≡ event_outcome choice now event s
 in_time choice now event s h g =
-    ap (λ b. if b then refused MomentTooLarge s else if nat_lt now s.moment then refused TimeWentBack s else event_outcome choice now event s) (le-ltb last_moment now h)
-    ∙ ap (λ b. if b then refused TimeWentBack s else event_outcome choice now event s) (le-ltb now s.moment g)
+    ap (λ b. if b then refused MomentTooLarge s else if nat_lt now s.moment
+    then refused TimeWentBack s else event_outcome choice now event s)
+    (le-ltb last_moment now h)
+    ∙ ap (λ b. if b then refused TimeWentBack s else event_outcome choice now event s)
+    (le-ltb now s.moment g)
 
 closed-here : (p : ℕ) (s : State) → p < 8 → up_at p (closed (p + 1) s) ≡ false
 closed-here p s h =
     let t : State = without_owner (p + 1) s in
-    ap (λ (o : Option ℕ). up_at p (with_connection o None t)) (place-of p h) ∙ none-down t.connections p
+    ap (λ (o : Option ℕ). up_at p (with_connection o None t)) (place-of p h)
+    ∙ none-down t.connections p
 
-close-here : (now p : ℕ) (s : State) (talk : Option Talk) → p < 8 → connection_at (place_of (p + 1)) s ≡ talk
+close-here : (now p : ℕ) (s : State) (talk : Option Talk) → p < 8
+    → connection_at (place_of (p + 1)) s ≡ talk
     → up_at p (close_outcome now (p + 1) s talk).after ≡ false
-close-here now p s None h e = ap (λ o. is_some (connection_at o s)) (sym (place-of p h)) ∙ ap (λ (t : Option Talk). is_some t) e
+close-here now p s None h e =
+    ap (λ o. is_some (connection_at o s)) (sym (place-of p h))
+    ∙ ap (λ (t : Option Talk). is_some t) e
 close-here now p s (Some talk) h e = closed-here p (advanced now s) h
 
-pub close-outcome-here : (choice : Option ℕ) (now p : ℕ) (s : State) → p < 8 → now ≤ last_moment → s.moment ≤ now
+pub close-outcome-here : (choice : Option ℕ) (now p : ℕ) (s : State) → p < 8 → now ≤ last_moment
+    → s.moment ≤ now
     → up_at p (outcome choice now (Close (p + 1)) s).after ≡ false
 close-outcome-here choice now p s h past before =
-    ap (λ (o : Outcome). up_at p o.after) (in_time choice now (Close (p + 1)) s past before) ∙ close-here now p s (connection_at (place_of (p + 1)) s) h refl
+    ap (λ (o : Outcome). up_at p o.after) (in_time choice now (Close (p + 1)) s past before)
+    ∙ close-here now p s (connection_at (place_of (p + 1)) s) h refl
 
 -- ---- octets of an association
 
-after-far : (now i p : ℕ) (left : Talk) (s : State) (why : Option Why) → i ≢ p → up_at p (recv_after (i + 1) left s why) ≡ up_at p s
+after-far : (now i p : ℕ) (left : Talk) (s : State) (why : Option Why) → i ≢ p
+    → up_at p (recv_after (i + 1) left s why) ≡ up_at p s
 after-far now i p left s None n = set-far (place_of (i + 1)) p (Some left) s (other_place i p n)
-after-far now i p left s (Some why) n = set-far (place_of (i + 1)) p None (without_owner (i + 1) s) (other_place i p n)
+after-far now i p left s (Some why) n =
+    set-far (place_of (i + 1)) p None (without_owner (i + 1) s) (other_place i p n)
 
-recv-far : (choice : Option ℕ) (now i p : ℕ) (octets : List ℕ) (s : State) (talk : Option Talk) → i ≢ p
+recv-far : (choice : Option ℕ) (now i p : ℕ) (octets : List ℕ) (s : State) (talk : Option Talk)
+    → i ≢ p
     → up_at p (recv_outcome choice now (i + 1) octets s talk).after ≡ up_at p s
 recv-far choice now i p octets s None n = refl
 recv-far choice now i p [] s (Some talk) n = refl
@@ -257,12 +326,14 @@ recv-far choice now i p (octet ∷ octets) s (Some talk) n =
     let d = nothing_done (advanced now s) in
     let x = heard choice now (i + 1) (indications talk (octet ∷ octets)) d in
     let keeps = heard-keeps choice now (i + 1) (indications talk (octet ∷ octets)) d in
-    after-far now i p (left_by talk (octet ∷ octets)) x.done.state x.why n ∙ ap (up_in p) keeps.connections
+    after-far now i p (left_by talk (octet ∷ octets)) x.done.state x.why n
+    ∙ ap (up_in p) keeps.connections
 
 pub recv-outcome-far : (choice : Option ℕ) (now i p : ℕ) (octets : List ℕ) (s : State) → i ≢ p
     → up_at p (outcome choice now (Recv (i + 1) (lying octets)) s).after ≡ up_at p s
 recv-outcome-far choice now i p octets s n =
-    at_any_moment (λ o. up_at p o.after ≡ up_at p s) choice now (Recv (i + 1) (lying octets)) s (λ f. refl)
+    at_any_moment (λ o. up_at p o.after ≡ up_at p s) choice now (Recv (i + 1) (lying octets)) s
+    (λ f. refl)
     (recv-far choice now i p octets s (connection_at (place_of (i + 1)) s) n)
 
 -- it is open still, or the answer says that the device has closed it
@@ -274,28 +345,37 @@ abbrev pub HeardOpen : ℕ → Result Step StepFault → State → Type 0
 HeardOpen p (Err fault) s = up_at p s ≡ true
 HeardOpen p (Ok step) s = LeftOpen p step.closed s
 
-after-here : (now p : ℕ) (left : Talk) (ended : Option Sent) (h : Heard) (why : Option Why) → p < 8 → up_at p h.done.state ≡ true → h.why ≡ why
+after-here : (now p : ℕ) (left : Talk) (ended : Option Sent) (h : Heard) (why : Option Why) → p < 8
+    → up_at p h.done.state ≡ true → h.why ≡ why
     → HeardOpen p (recv_done (p + 1) left ended h).answer (recv_done (p + 1) left ended h).after
 after-here now p left ended h None low up e =
     let s : State = h.done.state in
     let open_now : up_at p (with_connection (place_of (p + 1)) (Some left) s) ≡ true =
-    ap (λ (o : Option ℕ). up_at p (with_connection o (Some left) s)) (place-of p low) ∙ some-up s.connections p left up in
+    ap (λ (o : Option ℕ). up_at p (with_connection o (Some left) s)) (place-of p low)
+    ∙ some-up s.connections p left up in
     subst (λ w. LeftOpen p (closed_by (p + 1) w) (recv_after (p + 1) left s w)) (sym e) open_now
 after-here now p left ended h (Some why) low up e =
-    subst (λ w. LeftOpen p (closed_by (p + 1) w) (recv_after (p + 1) left h.done.state w)) (sym e) (closed-here p h.done.state low)
+    subst (λ w. LeftOpen p (closed_by (p + 1) w) (recv_after (p + 1) left h.done.state w)) (sym e)
+    (closed-here p h.done.state low)
 
-recv-here : (choice : Option ℕ) (now p : ℕ) (octets : List ℕ) (s : State) (talk : Option Talk) → p < 8 → up_at p s ≡ true
-    → HeardOpen p (recv_outcome choice now (p + 1) octets s talk).answer (recv_outcome choice now (p + 1) octets s talk).after
+recv-here : (choice : Option ℕ) (now p : ℕ) (octets : List ℕ) (s : State) (talk : Option Talk)
+    → p < 8 → up_at p s ≡ true
+    → HeardOpen p (recv_outcome choice now (p + 1) octets s talk).answer
+    (recv_outcome choice now (p + 1) octets s talk).after
 recv-here choice now p octets s None h up = up
 recv-here choice now p [] s (Some talk) h up = up
 recv-here choice now p (octet ∷ octets) s (Some talk) h up =
     let d = nothing_done (advanced now s) in
     let x = heard choice now (p + 1) (indications talk (octet ∷ octets)) d in
     let keeps = heard-keeps choice now (p + 1) (indications talk (octet ∷ octets)) d in
-    after-here now p (left_by talk (octet ∷ octets)) (ended_at now s) x x.why h (ap (up_in p) keeps.connections ∙ up) refl
+    after-here now p (left_by talk (octet ∷ octets)) (ended_at now s) x x.why h
+    (ap (up_in p) keeps.connections ∙ up) refl
 
-pub recv-outcome-here : (choice : Option ℕ) (now p : ℕ) (octets : List ℕ) (s : State) → p < 8 → up_at p s ≡ true
-    → HeardOpen p (outcome choice now (Recv (p + 1) (lying octets)) s).answer (outcome choice now (Recv (p + 1) (lying octets)) s).after
+pub recv-outcome-here : (choice : Option ℕ) (now p : ℕ) (octets : List ℕ) (s : State) → p < 8
+    → up_at p s ≡ true
+    → HeardOpen p (outcome choice now (Recv (p + 1) (lying octets)) s).answer
+    (outcome choice now (Recv (p + 1) (lying octets)) s).after
 recv-outcome-here choice now p octets s h up =
-    at_any_moment (λ o. HeardOpen p o.answer o.after) choice now (Recv (p + 1) (lying octets)) s (λ f. up)
+    at_any_moment (λ o. HeardOpen p o.answer o.after) choice now (Recv (p + 1) (lying octets)) s
+    (λ f. up)
     (recv-here choice now p octets s (connection_at (place_of (p + 1)) s) h up)

@@ -31,13 +31,16 @@ closing_of place = surely (Close (place + 1))
 -- ---- the events of the parts of a turn
 
 -- each association to which a reply did not fit is closed
-abbrev pub settled_next_events : ℕ → Option ℕ → Turning → (Turning → List ChosenEvent) → List ChosenEvent
+abbrev pub settled_next_events : ℕ → Option ℕ → Turning → (Turning → List ChosenEvent)
+    → List ChosenEvent
 settled_next_events now None s later = []
-settled_next_events now (Some place) s later = closing_of place ∷ later (cut_off now closing.QueueFull place s)
+settled_next_events now (Some place) s later =
+    closing_of place ∷ later (cut_off now closing.QueueFull place s)
 
 abbrev pub settled_in_events : ℕ → ℕ → Turning → List ChosenEvent
 settled_in_events now zero s = []
-settled_in_events now (suc count) s = settled_next_events now (first_full s.noted) s (settled_in_events now count)
+settled_in_events now (suc count) s =
+    settled_next_events now (first_full s.noted) s (settled_in_events now count)
 
 unfoldable pub settled_events : ℕ → Turning → List ChosenEvent
 settled_events now s = settled_in_events now 8 s
@@ -47,17 +50,21 @@ abbrev pub accept_events_at : ℕ → Option ℕ → Option Bool → Turning →
 accept_events_at now None taken s = []
 accept_events_at now (Some place) None s = []
 accept_events_at now (Some place) (Some false) s = []
-accept_events_at now (Some place) (Some true) s = surely (Open (place + 1)) ∷ settled_events now (opened now place s)
+accept_events_at now (Some place) (Some true) s =
+    surely (Open (place + 1)) ∷ settled_events now (opened now place s)
 
 abbrev pub accept_events : ℕ → Option Bool → Turning → List ChosenEvent
 accept_events now taken s = accept_events_at now (free_place s.server) taken s
 
 -- octets of a client come, or it is closed
 abbrev pub heard_events : ℕ → ℕ → Option ℕ → Heard → Turning → List ChosenEvent
-heard_events now place choice (Octets octets) s = (choice, Recv (place + 1) (lying octets)) ∷ settled_events now (taken_in now place choice octets s)
+heard_events now place choice (Octets octets) s =
+    (choice, Recv (place + 1) (lying octets))
+    ∷ settled_events now (taken_in now place choice octets s)
 heard_events now place choice Silence s = []
 heard_events now place choice Over s = closing_of place ∷ settled_events now (hung_up now place s)
-heard_events now place choice Broken s = closing_of place ∷ settled_events now (cut_off now closing.LinkFailed place s)
+heard_events now place choice Broken s =
+    closing_of place ∷ settled_events now (cut_off now closing.LinkFailed place s)
 
 abbrev pub read_events : ℕ → ℕ → Reading → Turning → List ChosenEvent
 read_events now place r s = if is_up place s then heard_events now place r.choice r.heard s else []
@@ -65,7 +72,8 @@ read_events now place r s = if is_up place s then heard_events now place r.choic
 -- what the line tells of happens
 abbrev pub line_events : ℕ → Option NamedData → Turning → List ChosenEvent
 line_events now None s = []
-line_events now (Some named) s = surely (placed_event s.server.device named) ∷ settled_events now (told_of now named s)
+line_events now (Some named) s =
+    surely (placed_event s.server.device named) ∷ settled_events now (told_of now named s)
 
 -- the program runs once
 abbrev pub scan_events : ℕ → Turning → List ChosenEvent
@@ -73,7 +81,9 @@ scan_events now s = surely Scan ∷ settled_events now (stepped now Scan s)
 
 -- an association is closed where a write fails
 abbrev pub failed_events : ℕ → ℕ → Bool → Turning → List ChosenEvent
-failed_events now place failed s = if failed then closing_of place ∷ settled_events now (cut_off now closing.LinkFailed place s) else []
+failed_events now place failed s =
+    if failed then closing_of place ∷ settled_events now (cut_off now closing.LinkFailed place s)
+    else []
 
 abbrev pub offer_events : ℕ → ℕ → Offer → Turning → List ChosenEvent
 offer_events now place o s =
@@ -82,17 +92,21 @@ offer_events now place o s =
 
 -- ---- the events of a turn
 
-abbrev pub events_of_each : {C : Type 0} → (ℕ → C → Turning → Turning) → (ℕ → C → Turning → List ChosenEvent) → ℕ → List C → Turning → List ChosenEvent
+abbrev pub events_of_each : {C : Type 0} → (ℕ → C → Turning → Turning)
+    → (ℕ → C → Turning → List ChosenEvent) → ℕ → List C → Turning → List ChosenEvent
 events_of_each f events place [] s = []
-events_of_each f events place (c ∷ cs) s = events place c s ++ events_of_each f events (place + 1) cs (f place c s)
+events_of_each f events place (c ∷ cs) s =
+    events place c s ++ events_of_each f events (place + 1) cs (f place c s)
 
+-- the events of a turn, in their order
 abbrev pub turn_events : ℕ → Option NamedData → Script → Held → List ChosenEvent
 turn_events now line script h =
     accept_events now script.accepted (begun h)
     ++ events_of_each (read_one now) (read_events now) 0 script.readings (after_accept now script h)
     ++ line_events now line (after_reads now script h)
     ++ scan_events now (after_line now line script h)
-    ++ events_of_each (offer_one now) (offer_events now) 0 script.offers (after_scan now line script h)
+    ++ events_of_each (offer_one now) (offer_events now) 0 script.offers
+    (after_scan now line script h)
 
 -- ---- what they come to
 
@@ -123,6 +137,10 @@ HasNoOctets line = IfSome line (λ named. AreOctets named [])
 
 -- The device after a turn is that of the turn's events, and the commands that are told are those of
 -- their answers.
-pub record IsItsEvents (now : ℕ) (line : Option NamedData) (script : Script) (h : Held) : Type 0 where
-  pub device : (turned now line script h).server.device ≡ (done_at now (turn_events now line script h) h.device).after
-  pub commands : HasNoOctets line → (turned now line script h).noted.commands ≡ commands_of (done_at now (turn_events now line script h) h.device).answers
+pub record IsItsEvents (now : ℕ) (line : Option NamedData) (script : Script) (h : Held)
+    : Type 0 where
+  pub device : (turned now line script h).server.device
+      ≡ (done_at now (turn_events now line script h) h.device).after
+  pub commands : HasNoOctets line
+      → (turned now line script h).noted.commands
+      ≡ commands_of (done_at now (turn_events now line script h) h.device).answers

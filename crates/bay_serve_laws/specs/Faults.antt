@@ -3,6 +3,7 @@ use Rattle.std.specs.Prelude.{ℕ, ◌||◌, Bool, true, false, List, [], ◌∷
 use Rattle.bay_serve.specs.declared.told.Closing.{Closing}
 use Rattle.bay_serve.specs.declared.told.Closing.TheVariants.{Ended, Fault, QueueFull, LinkFailed}
 
+-- it was closed because the link failed
 abbrev pub is_link_failed : Closing → Bool
 is_link_failed Ended = false
 is_link_failed (Fault code) = false

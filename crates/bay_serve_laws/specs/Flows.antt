@@ -26,13 +26,16 @@ taken_of a (call ∷ calls) = taken_by a call ++ taken_of a calls
 
 -- ---- what the device sends
 
+-- the octets that are for an association
 abbrev pub octets_to : ℕ → Sent → List ℕ
 octets_to a sent = if sent.association == a then sent.octets else []
 
+-- of all that is sent
 abbrev pub all_to : ℕ → List Sent → List ℕ
 all_to a [] = []
 all_to a (sent ∷ more) = octets_to a sent ++ all_to a more
 
+-- of what tells of an end
 abbrev pub end_to : ℕ → Option Sent → List ℕ
 end_to a None = []
 end_to a (Some sent) = octets_to a sent
@@ -74,9 +77,11 @@ abbrev pub FlowsAt : ℕ → Option NamedData → Script → Held → ℕ → Ty
 FlowsAt now line script h place =
     Flows (taken_of (place + 1) (turn_calls now line script h)) (queue_at place h)
     (sent_to (place + 1) (done_at now (turn_events now line script h) h.device).answers)
-    (queue_at place (turned now line script h).server) (is_up_in place (turned now line script h).server)
+    (queue_at place (turned now line script h).server)
+    (is_up_in place (turned now line script h).server)
 
 -- So it is for each association, and the server is tidy again.
-pub record LosesNothing (now : ℕ) (line : Option NamedData) (script : Script) (h : Held) : Type 0 where
+pub record LosesNothing (now : ℕ) (line : Option NamedData) (script : Script) (h : Held)
+    : Type 0 where
   pub flows : (place : ℕ) → place < 8 → FlowsAt now line script h place
   pub tidy : IsTidy (turned now line script h).server

@@ -14,8 +14,10 @@ use bay_serve::link::Link;
 /// Of an association it is told that its connection failed only where a call of the link failed:
 /// the link's count of failures rises in such a turn.
 pub fn a_told_failure_is_counted<L: Link>(_link: &L)
-    ensures { (old new : L) (now : ℕ) (line : Option NamedData) (before after : Held) (turn : Turn) →
-        Serves (Called L.does L.failures) old new now line before after turn → tells_failure turn.closed ≡ true →
+    ensures { (old new : L) (now : ℕ) (line : Option NamedData) (before after : Held) (turn : Turn)
+        →
+        Serves (Called L.does L.failures) old new now line before after turn
+        → tells_failure turn.closed ≡ true →
         L.failures old < 2 ^ 64 - 1 → L.failures old < L.failures new }
 {}
 
@@ -25,7 +27,8 @@ pub fn a_told_failure_is_counted<L: Link>(_link: &L)
 /// or it is closed; what the line tells of happens; the program runs; and an association to which a
 /// reply did not fit, or whose connection failed, is closed where that comes.
 pub fn a_turn_is_its_events()
-    ensures events { (now : ℕ) (line : Option NamedData) (script : Script) (h : Held) → IsItsEvents now line script h }
+    ensures events { (now : ℕ) (line : Option NamedData) (script : Script) (h : Held)
+        → IsItsEvents now line script h }
     // The line of a turn that is done has no octets.
     ensures lines { (text : Option (List ℕ)) → HasNoOctets (line_in text) }
 {}
@@ -34,7 +37,8 @@ pub fn a_turn_is_its_events()
 /// queue held and then what the device sent to it in the turn; of an association that is closed
 /// after the turn the link took a front of that, and its queue is empty.
 pub fn octets_are_neither_lost_nor_repeated()
-    ensures octets { (now : ℕ) (line : Option NamedData) (script : Script) (h : Held) → IsTidy h → IsInTime now h → IsOfProcess line →
+    ensures octets { (now : ℕ) (line : Option NamedData) (script : Script) (h : Held) → IsTidy h
+        → IsInTime now h → IsOfProcess line →
         length script.offers ≡ 8 → LosesNothing now line script h }
     // The line of a turn that is done is such a line.
     ensures lines { (text : Option (List ℕ)) → IsOfProcess (line_in text) }

@@ -3,7 +3,7 @@ use Rattle.std.proofs.Common.{◌≡◌, ◌<◌, ◌≤◌, ℕ, zero, suc, Boo
 use Rattle.std.proofs.lemmas.Bool.{leb-true}
 use Rattle.std.specs.Prelude.{pos, is_ok, is_some, option_to_list}
 use Rattle.std.specs.Str.{bytes_eq}
-use Rattle.bay_ber.specs.Options.{◌>>=◌}
+use Rattle.bay_base.specs.Options.{◌>>=◌}
 use Rattle.bay_ber.specs.Spelling.{Spells}
 use Rattle.bay_ber.specs.Tags.{same_tag}
 use Rattle.bay_ber.specs.Values.{Part, SpellAll, under, value, value_in, values_in}
@@ -60,20 +60,27 @@ use Rattle.bay_services.specs.declared.target.Target.{Target}
 
 -- ---- the names of variables stay
 
-named-if : (b : Bool) (r : Row) (v : Leaf) → (cond b (let s : Row = record { name = r.name; leaf = Some v } in s) r).name ≡ r.name
+named-if : (b : Bool) (r : Row) (v : Leaf)
+    → (cond b (let s : Row = record { name = r.name; leaf = Some v } in s) r).name ≡ r.name
 named-if true r v = refl
 named-if false r v = refl
 
-names-with-leaf : (name : List ℕ) (v : Leaf) (rows : List Row) → names_of (with_leaf_of name v rows) ≡ names_of rows
+names-with-leaf : (name : List ℕ) (v : Leaf) (rows : List Row)
+    → names_of (with_leaf_of name v rows) ≡ names_of rows
 names-with-leaf name v [] = refl
-names-with-leaf name v (r ∷ rows) = ap₂ (λ (n : List ℕ) (ns : List (List ℕ)). n ∷ ns) (named-if (bytes_eq r.name name) r v) (names-with-leaf name v rows)
+names-with-leaf name v (r ∷ rows) =
+    ap₂ (λ (n : List ℕ) (ns : List (List ℕ)). n ∷ ns) (named-if (bytes_eq r.name name) r v)
+    (names-with-leaf name v rows)
 
-names-shown : (selected : Option ℕ) (count : ℕ) (rows : List Row) → names_of (shown selected count rows) ≡ names_of rows
+names-shown : (selected : Option ℕ) (count : ℕ) (rows : List Row)
+    → names_of (shown selected count rows) ≡ names_of rows
 names-shown selected zero rows = refl
 names-shown selected (suc k) rows =
-    names-with-leaf ((control_names k).selected) (leaf.Truth (is_selected k selected)) (shown selected k rows) ∙ names-shown selected k rows
+    names-with-leaf ((control_names k).selected) (leaf.Truth (is_selected k selected))
+    (shown selected k rows) ∙ names-shown selected k rows
 
-pub alike-still : (b d : Bay) (controls : State) → AreNamedAlike b d → AreNamedAlike b (with_controls controls d)
+pub alike-still : (b d : Bay) (controls : State) → AreNamedAlike b d
+    → AreNamedAlike b (with_controls controls d)
 alike-still b d controls alike = record {
   domain = alike.domain;
   switches = alike.switches;
@@ -84,18 +91,22 @@ row-alike : (b d : Bay) (name : Naming) → AreNamedAlike b d → row_named d na
 row-alike b d (vmd name) alike = refl
 row-alike b d (domain e item) alike =
     ap (λ (n : List ℕ). cond (bytes_eq e n) (place_of d.rows item) None) alike.domain
-    ∙ ap (λ (o : Option ℕ). cond (bytes_eq e b.domain) o None) (place_of-same d.rows b.rows item alike.names)
+    ∙ ap (λ (o : Option ℕ). cond (bytes_eq e b.domain) o None)
+    (place_of-same d.rows b.rows item alike.names)
 row-alike b d (association name) alike = refl
 
 target-alike : (b d : Bay) (row : Option ℕ) → AreNamedAlike b d → target_at d row ≡ target_at b row
 target-alike b d None alike = refl
 target-alike b d (Some place) alike =
-    ap (λ (switches : List Switch). target_of (length switches) (name_at d.rows place)) alike.switches
+    ap (λ (switches : List Switch). target_of (length switches) (name_at d.rows place))
+    alike.switches
     ∙ ap (target_of (length b.switches)) (name_at-same d.rows b.rows place alike.names)
 
 -- the variable that is named is the same part of a control
-named-target : (b d : Bay) (name : Naming) → AreNamedAlike b d → target_at d (row_named d name) ≡ target_at b (row_named b name)
-named-target b d name alike = ap (target_at d) (row-alike b d name alike) ∙ target-alike b d (row_named b name) alike
+named-target : (b d : Bay) (name : Naming) → AreNamedAlike b d
+    → target_at d (row_named d name) ≡ target_at b (row_named b name)
+named-target b d name alike =
+    ap (target_at d) (row-alike b d name alike) ∙ target-alike b d (row_named b name) alike
 
 -- ---- results are spelled
 
@@ -121,16 +132,27 @@ within-element : (tag : Tag) (content : List ℕ) → length content ≤ length 
 unfolding element
 within-element tag content = omega (arith, length-append (length_octets (length content)) content)
 
-spells-element : (tag : Tag) (content : List ℕ) → tag.number < 31 → length (element tag content) < 4294967296 → Spells (element tag content) tag content
-spells-element tag content small short = element_spells tag content small (omega (arith, within-element tag content))
+spells-element : (tag : Tag) (content : List ℕ) → tag.number < 31
+    → length (element tag content) < 4294967296 → Spells (element tag content) tag content
+spells-element tag content small short =
+    element_spells tag content small (omega (arith, within-element tag content))
 
-spell-one : (tag : Tag) (content : List ℕ) → tag.number < 31 → length (element tag content) < 4294967296 → SpellAll (element tag content) (value tag content ∷ [])
-spell-one tag content small short = (element tag content, [], sym (append-nil (element tag content)), spells-element tag content small short, refl)
+spell-one : (tag : Tag) (content : List ℕ) → tag.number < 31
+    → length (element tag content) < 4294967296
+    → SpellAll (element tag content) (value tag content ∷ [])
+spell-one tag content small short = (
+  element tag content,
+  [],
+  sym (append-nil (element tag content)),
+  spells-element tag content small short,
+  refl,
+)
 
 -- ---- a variable that is read
 
 -- The result of one variable more, which tells what is seen of it.
-record OneRead (c : Client) (asks : Option Act) (asked : Option Call) (r next : Reading) : Type 0 where
+record OneRead (c : Client) (asks : Option Act) (asked : Option Call) (r next : Reading)
+    : Type 0 where
   part : Part
   front : List ℕ
   is : next.results ≡ r.results ++ front
@@ -150,11 +172,13 @@ some-text : (xs ys : List ℕ) → is_some_text (xs ++ (codes "/" ++ ys)) ≡ tr
 some-text [] ys = refl
 some-text (x ∷ xs) ys = refl
 
-granted-by : (b : Bay) (item : List ℕ) (answer : Result (Unit {0}) AddCause) → is_granted (value (context 10) (selected_text (object_of b item) answer)) ≡ is_ok answer
+granted-by : (b : Bay) (item : List ℕ) (answer : Result (Unit {0}) AddCause)
+    → is_granted (value (context 10) (selected_text (object_of b item) answer)) ≡ is_ok answer
 granted-by b item (Ok done) = some-text b.domain item
 granted-by b item (Err why) = refl
 
-read-part-is : (c : Client) (place : ℕ) (r : Reading) (k : ℕ) (part : ControlPart) → OneRead c (read_act c.association k part) (read_call c k part) r (read_part c place r k part)
+read-part-is : (c : Client) (place : ℕ) (r : Reading) (k : ℕ) (part : ControlPart)
+    → OneRead c (read_act c.association k part) (read_call c k part) r (read_part c place r k part)
 read-part-is c place r k Select =
     let o : Outcome = select_outcome c.association k c.now r.bay.controls in
     let text : List ℕ = selected_text (object_of r.bay (name_at r.bay.rows place)) o.answer in
@@ -163,18 +187,22 @@ read-part-is c place r k Select =
       front = text_result text;
       is = refl;
       spelled = spells-element (context 10) text (omega arith);
-      told = ap (λ (granted : Bool). entries_of c.now (Some (act.Select c.association k)) granted) (granted-by r.bay (name_at r.bay.rows place) o.answer);
+      told = ap (λ (granted : Bool). entries_of c.now (Some (act.Select c.association k)) granted)
+          (granted-by r.bay (name_at r.bay.rows place) o.answer);
     }
 read-part-is c place r k SelectWith = data-read c place r
 read-part-is c place r k Operate = data-read c place r
 read-part-is c place r k Cancel = data-read c place r
 
-read-target-is : (c : Client) (place : ℕ) (r : Reading) (target : Option Target) → OneRead c (act_of_read c.association target) (call_of_read c target) r (read_target c place r target)
+read-target-is : (c : Client) (place : ℕ) (r : Reading) (target : Option Target)
+    → OneRead c (act_of_read c.association target) (call_of_read c target) r
+    (read_target c place r target)
 read-target-is c place r None = data-read c place r
 read-target-is c place r (Some t) = read-part-is c place r t.switch t.part
 
 read-row-is : (c : Client) (r : Reading) (row : Option ℕ)
-    → OneRead c (act_of_read c.association (target_at r.bay row)) (call_of_read c (target_at r.bay row)) r (read_row c r row)
+    → OneRead c (act_of_read c.association (target_at r.bay row))
+    (call_of_read c (target_at r.bay row)) r (read_row c r row)
 read-row-is c r None = record {
   part = value (context 0) (integer_octets (pos 10));
   front = failure_result 10;
@@ -185,19 +213,24 @@ read-row-is c r None = record {
 read-row-is c r (Some place) = read-target-is c place r (target_at r.bay (Some place))
 
 -- the bay's names stay
-read-part-alike : (b : Bay) (c : Client) (place : ℕ) (r : Reading) (k : ℕ) (part : ControlPart) → AreNamedAlike b r.bay → AreNamedAlike b (read_part c place r k part).bay
-read-part-alike b c place r k Select alike = alike-still b r.bay (select_outcome c.association k c.now r.bay.controls).after alike
+read-part-alike : (b : Bay) (c : Client) (place : ℕ) (r : Reading) (k : ℕ) (part : ControlPart)
+    → AreNamedAlike b r.bay → AreNamedAlike b (read_part c place r k part).bay
+read-part-alike b c place r k Select alike =
+    alike-still b r.bay (select_outcome c.association k c.now r.bay.controls).after alike
 read-part-alike b c place r k SelectWith alike = alike
 read-part-alike b c place r k Operate alike = alike
 read-part-alike b c place r k Cancel alike = alike
 
-read-target-alike : (b : Bay) (c : Client) (place : ℕ) (r : Reading) (target : Option Target) → AreNamedAlike b r.bay → AreNamedAlike b (read_target c place r target).bay
+read-target-alike : (b : Bay) (c : Client) (place : ℕ) (r : Reading) (target : Option Target)
+    → AreNamedAlike b r.bay → AreNamedAlike b (read_target c place r target).bay
 read-target-alike b c place r None alike = alike
 read-target-alike b c place r (Some t) alike = read-part-alike b c place r t.switch t.part alike
 
-read-row-alike : (b : Bay) (c : Client) (r : Reading) (row : Option ℕ) → AreNamedAlike b r.bay → AreNamedAlike b (read_row c r row).bay
+read-row-alike : (b : Bay) (c : Client) (r : Reading) (row : Option ℕ) → AreNamedAlike b r.bay
+    → AreNamedAlike b (read_row c r row).bay
 read-row-alike b c r None alike = alike
-read-row-alike b c r (Some place) alike = read-target-alike b c place r (target_at r.bay (Some place)) alike
+read-row-alike b c r (Some place) alike =
+    read-target-alike b c place r (target_at r.bay (Some place)) alike
 
 -- ---- all variables that are read
 
@@ -208,35 +241,55 @@ record AllRead (c : Client) (b : Bay) (ns : List Naming) (r : Reading) : Type 0 
   spelled : length more < 4294967296 → SpellAll more parts
   told : read_accepted c.now c.association b ns parts ≡ read_entries c ns r
 
-all-read : (c : Client) (b : Bay) (ns : List Naming) (r : Reading) → AreNamedAlike b r.bay → AllRead c b ns r
-all-read c b [] r alike = record { parts = []; more = []; is = sym (append-nil r.results); spelled = λ short. refl; told = refl }
+all-read : (c : Client) (b : Bay) (ns : List Naming) (r : Reading) → AreNamedAlike b r.bay
+    → AllRead c b ns r
+all-read c b [] r alike =
+    record {
+      parts = [];
+      more = [];
+      is = sym (append-nil r.results);
+      spelled = λ short. refl;
+      told = refl;
+    }
 all-read c b (name ∷ ns) r alike =
     let next : Reading = read_one c name r in
     let target : Option Target = target_at r.bay (row_named r.bay name) in
-    let one : OneRead c (act_of_read c.association target) (call_of_read c target) r next = read-row-is c r (row_named r.bay name) in
-    let rest : AllRead c b ns next = all-read c b ns next (read-row-alike b c r (row_named r.bay name) alike) in
-    let here : entries_of c.now (act_of_read c.association (target_at b (row_named b name))) (is_granted one.part) ≡ seen c r.bay (call_of_read c target) =
-    ap (λ (t : Option Target). entries_of c.now (act_of_read c.association t) (is_granted one.part)) (sym (named-target b r.bay name alike)) ∙ one.told in
+    let one : OneRead c (act_of_read c.association target) (call_of_read c target) r next =
+    read-row-is c r (row_named r.bay name) in
+    let rest : AllRead c b ns next =
+    all-read c b ns next (read-row-alike b c r (row_named r.bay name) alike) in
+    let here : entries_of c.now (act_of_read c.association (target_at b (row_named b name)))
+    (is_granted one.part) ≡ seen c r.bay (call_of_read c target) =
+    ap (λ (t : Option Target). entries_of c.now (act_of_read c.association t) (is_granted one.part))
+    (sym (named-target b r.bay name alike)) ∙ one.told in
     record {
       parts = one.part ∷ rest.parts;
       more = one.front ++ rest.more;
-      is = rest.is ∙ ap (λ (xs : List ℕ). xs ++ rest.more) one.is ∙ append_assoc r.results one.front rest.more;
+      is = rest.is ∙ ap (λ (xs : List ℕ). xs ++ rest.more) one.is
+          ∙ append_assoc r.results one.front rest.more;
       spelled = λ short.
-          let size = length-append one.front rest.more in
-          (one.front, rest.more, refl, one.spelled (omega (arith, size, short)), rest.spelled (omega (arith, size, short)));
+          let size = length-append one.front rest.more in (
+            one.front,
+            rest.more,
+            refl,
+            one.spelled (omega (arith, size, short)),
+            rest.spelled (omega (arith, size, short)),
+          );
       told = ap₂ (λ (xs ys : List Entry). xs ++ ys) here rest.told;
     }
 
 -- ---- a variable that is written
 
-record OneWritten (c : Client) (asks : Option Act) (asked : Option Call) (w next : Writing) : Type 0 where
+record OneWritten (c : Client) (asks : Option Act) (asked : Option Call) (w next : Writing)
+    : Type 0 where
   part : Part
   front : List ℕ
   is : next.results ≡ w.results ++ front
   spelled : length front < 4294967296 → Spells front part.tag part.content
   told : entries_of c.now asks (is_success part) ≡ seen c w.bay asked
 
-nothing-done : (c : Client) (number : ℕ) (w : Writing) → OneWritten c None None w (write_failed number w)
+nothing-done : (c : Client) (number : ℕ) (w : Writing)
+    → OneWritten c None None w (write_failed number w)
 nothing-done c number w = record {
   part = value (context 0) (integer_octets (pos number));
   front = failure_result number;
@@ -249,19 +302,24 @@ decision-part : Result (Unit {0}) AddCause → Part
 decision-part (Ok done) = value (context 1) []
 decision-part (Err why) = value (context 0) (integer_octets (pos 3))
 
-decision-spelled : (answer : Result (Unit {0}) AddCause) → length (decision_result answer) < 4294967296 → Spells (decision_result answer) (decision-part answer).tag (decision-part answer).content
+decision-spelled : (answer : Result (Unit {0}) AddCause)
+    → length (decision_result answer) < 4294967296
+    → Spells (decision_result answer) (decision-part answer).tag (decision-part answer).content
 unfolding decision-part
 decision-spelled (Ok done) short = spells-element (context 1) [] (omega arith) short
-decision-spelled (Err why) short = spells-element (context 0) (integer_octets (pos 3)) (omega arith) short
+decision-spelled (Err why) short =
+    spells-element (context 0) (integer_octets (pos 3)) (omega arith) short
 
-decision-success : (answer : Result (Unit {0}) AddCause) → is_success (decision-part answer) ≡ is_ok answer
+decision-success : (answer : Result (Unit {0}) AddCause)
+    → is_success (decision-part answer) ≡ is_ok answer
 unfolding decision-part
 decision-success (Ok done) = refl
 decision-success (Err why) = refl
 
 -- what a decision answers tells whether it was accepted
 decided-is : (c : Client) (asks : Act) (asked : Call) (w next : Writing) → act_of asked ≡ Some asks
-    → next.results ≡ w.results ++ decision_result (outcome_of asked c.now w.bay.controls).answer → OneWritten c (Some asks) (Some asked) w next
+    → next.results ≡ w.results ++ decision_result (outcome_of asked c.now w.bay.controls).answer
+    → OneWritten c (Some asks) (Some asked) w next
 decided-is c asks asked w next by is =
     let answer : Result (Unit {0}) AddCause = (outcome_of asked c.now w.bay.controls).answer in
     record {
@@ -269,107 +327,172 @@ decided-is c asks asked w next by is =
       front = decision_result answer;
       is = is;
       spelled = decision-spelled answer;
-      told = ap₂ (λ (a : Option Act) (x : Bool). entries_of c.now a x) (sym by) (decision-success answer);
+      told = ap₂ (λ (a : Option Act) (x : Bool). entries_of c.now a x) (sym by)
+          (decision-success answer);
     }
 
-select-with-is : (c : Client) (k : ℕ) (item : List ℕ) (w : Writing) (o : Result asked.Operate ControlFault)
-    → OneWritten c (select_with_act c.association k o) (select_with_call c k o) w (select_with_asked c k item w o)
-select-with-is c k item w (Ok o) = decided-is c (act.SelectWith c.association k (asked_choice (ask_of o))) (call.SelectWith c.association k (ask_of o)) w _ refl refl
+select-with-is : (c : Client) (k : ℕ) (item : List ℕ) (w : Writing)
+    (o : Result asked.Operate ControlFault)
+    → OneWritten c (select_with_act c.association k o) (select_with_call c k o) w
+    (select_with_asked c k item w o)
+select-with-is c k item w (Ok o) =
+    decided-is c (act.SelectWith c.association k (asked_choice (ask_of o)))
+    (call.SelectWith c.association k (ask_of o)) w _ refl refl
 select-with-is c k item w (Err fault) = nothing-done c (control_code_of fault) w
 
-operate-is : (c : Client) (k : ℕ) (item : List ℕ) (w : Writing) (o : Result asked.Operate ControlFault)
-    → OneWritten c (operate_act c.association k o) (operate_call c k w.bay o) w (operate_asked c k item w o)
+operate-is : (c : Client) (k : ℕ) (item : List ℕ) (w : Writing)
+    (o : Result asked.Operate ControlFault)
+    → OneWritten c (operate_act c.association k o) (operate_call c k w.bay o) w
+    (operate_asked c k item w o)
 operate-is c k item w (Ok o) =
-    decided-is c (act.Operate c.association k (asked_choice (ask_of o))) (call.Operate c.association k (ask_of o) (view_of c k w.bay)) w _ refl refl
+    decided-is c (act.Operate c.association k (asked_choice (ask_of o)))
+    (call.Operate c.association k (ask_of o) (view_of c k w.bay)) w _ refl refl
 operate-is c k item w (Err fault) = nothing-done c (control_code_of fault) w
 
 cancel-is : (c : Client) (k : ℕ) (item : List ℕ) (w : Writing) (o : Result Control ControlFault)
     → OneWritten c (cancel_act c.association k o) (cancel_call c k o) w (cancel_asked c k item w o)
-cancel-is c k item w (Ok control) = decided-is c (act.Cancel c.association k) (call.Cancel c.association k) w _ refl refl
+cancel-is c k item w (Ok control) =
+    decided-is c (act.Cancel c.association k) (call.Cancel c.association k) w _ refl refl
 cancel-is c k item w (Err fault) = nothing-done c (control_code_of fault) w
 
-write-part-is : (c : Client) (k : ℕ) (item : List ℕ) (given : Datum) (w : Writing) (part : ControlPart)
-    → OneWritten c (write_act c.association given k part) (write_call c w.bay given k part) w (write_part c k item given w part)
+write-part-is : (c : Client) (k : ℕ) (item : List ℕ) (given : Datum) (w : Writing)
+    (part : ControlPart)
+    → OneWritten c (write_act c.association given k part) (write_call c w.bay given k part) w
+    (write_part c k item given w part)
 write-part-is c k item given w Select = nothing-done c 3 w
 write-part-is c k item given w SelectWith = select-with-is c k item w (operate_in given)
 write-part-is c k item given w Operate = operate-is c k item w (operate_in given)
 write-part-is c k item given w Cancel = cancel-is c k item w (cancel_in given)
 
-write-target-is : (c : Client) (item : List ℕ) (given : Datum) (w : Writing) (target : Option Target)
-    → OneWritten c (act_of_write c.association given target) (call_of_write c w.bay given target) w (write_target c item given w target)
+write-target-is : (c : Client) (item : List ℕ) (given : Datum) (w : Writing)
+    (target : Option Target)
+    → OneWritten c (act_of_write c.association given target) (call_of_write c w.bay given target) w
+    (write_target c item given w target)
 write-target-is c item given w None = nothing-done c 3 w
 write-target-is c item given w (Some t) = write-part-is c t.switch item given w t.part
 
 write-row-is : (c : Client) (given : Datum) (w : Writing) (row : Option ℕ)
-    → OneWritten c (act_of_write c.association given (target_at w.bay row)) (call_of_write c w.bay given (target_at w.bay row)) w (write_row c given w row)
+    → OneWritten c (act_of_write c.association given (target_at w.bay row))
+    (call_of_write c w.bay given (target_at w.bay row)) w (write_row c given w row)
 write-row-is c given w None = nothing-done c 10 w
-write-row-is c given w (Some place) = write-target-is c (name_at w.bay.rows place) given w (target_at w.bay (Some place))
+write-row-is c given w (Some place) =
+    write-target-is c (name_at w.bay.rows place) given w (target_at w.bay (Some place))
 
 -- the bay's names stay
-select-with-alike : (b : Bay) (c : Client) (k : ℕ) (item : List ℕ) (w : Writing) (o : Result asked.Operate ControlFault) → AreNamedAlike b w.bay → AreNamedAlike b (select_with_asked c k item w o).bay
-select-with-alike b c k item w (Ok o) alike = alike-still b w.bay (select_with_outcome c.association k (ask_of o) c.now w.bay.controls).after alike
+select-with-alike : (b : Bay) (c : Client) (k : ℕ) (item : List ℕ) (w : Writing)
+    (o : Result asked.Operate ControlFault) → AreNamedAlike b w.bay
+    → AreNamedAlike b (select_with_asked c k item w o).bay
+select-with-alike b c k item w (Ok o) alike =
+    alike-still b w.bay (select_with_outcome c.association k (ask_of o) c.now w.bay.controls).after
+    alike
 select-with-alike b c k item w (Err fault) alike = alike
 
-operate-alike : (b : Bay) (c : Client) (k : ℕ) (item : List ℕ) (w : Writing) (o : Result asked.Operate ControlFault) → AreNamedAlike b w.bay → AreNamedAlike b (operate_asked c k item w o).bay
-operate-alike b c k item w (Ok o) alike = alike-still b w.bay (operate_outcome c.association k (ask_of o) (view_of c k w.bay) c.now w.bay.controls).after alike
+operate-alike : (b : Bay) (c : Client) (k : ℕ) (item : List ℕ) (w : Writing)
+    (o : Result asked.Operate ControlFault) → AreNamedAlike b w.bay
+    → AreNamedAlike b (operate_asked c k item w o).bay
+operate-alike b c k item w (Ok o) alike =
+    alike-still b w.bay (operate_outcome c.association k (ask_of o) (view_of c k w.bay) c.now
+    w.bay.controls).after alike
 operate-alike b c k item w (Err fault) alike = alike
 
-cancel-alike : (b : Bay) (c : Client) (k : ℕ) (item : List ℕ) (w : Writing) (o : Result Control ControlFault) → AreNamedAlike b w.bay → AreNamedAlike b (cancel_asked c k item w o).bay
-cancel-alike b c k item w (Ok control) alike = alike-still b w.bay (cancel_outcome c.association k c.now w.bay.controls).after alike
+cancel-alike : (b : Bay) (c : Client) (k : ℕ) (item : List ℕ) (w : Writing)
+    (o : Result Control ControlFault) → AreNamedAlike b w.bay
+    → AreNamedAlike b (cancel_asked c k item w o).bay
+cancel-alike b c k item w (Ok control) alike =
+    alike-still b w.bay (cancel_outcome c.association k c.now w.bay.controls).after alike
 cancel-alike b c k item w (Err fault) alike = alike
 
-write-part-alike : (b : Bay) (c : Client) (k : ℕ) (item : List ℕ) (given : Datum) (w : Writing) (part : ControlPart) → AreNamedAlike b w.bay → AreNamedAlike b (write_part c k item given w part).bay
+write-part-alike : (b : Bay) (c : Client) (k : ℕ) (item : List ℕ) (given : Datum) (w : Writing)
+    (part : ControlPart) → AreNamedAlike b w.bay
+    → AreNamedAlike b (write_part c k item given w part).bay
 write-part-alike b c k item given w Select alike = alike
-write-part-alike b c k item given w SelectWith alike = select-with-alike b c k item w (operate_in given) alike
-write-part-alike b c k item given w Operate alike = operate-alike b c k item w (operate_in given) alike
+write-part-alike b c k item given w SelectWith alike =
+    select-with-alike b c k item w (operate_in given) alike
+write-part-alike b c k item given w Operate alike =
+    operate-alike b c k item w (operate_in given) alike
 write-part-alike b c k item given w Cancel alike = cancel-alike b c k item w (cancel_in given) alike
 
-write-target-alike : (b : Bay) (c : Client) (item : List ℕ) (given : Datum) (w : Writing) (target : Option Target) → AreNamedAlike b w.bay → AreNamedAlike b (write_target c item given w target).bay
+write-target-alike : (b : Bay) (c : Client) (item : List ℕ) (given : Datum) (w : Writing)
+    (target : Option Target) → AreNamedAlike b w.bay
+    → AreNamedAlike b (write_target c item given w target).bay
 write-target-alike b c item given w None alike = alike
-write-target-alike b c item given w (Some t) alike = write-part-alike b c t.switch item given w t.part alike
+write-target-alike b c item given w (Some t) alike =
+    write-part-alike b c t.switch item given w t.part alike
 
-write-row-alike : (b : Bay) (c : Client) (given : Datum) (w : Writing) (row : Option ℕ) → AreNamedAlike b w.bay → AreNamedAlike b (write_row c given w row).bay
+write-row-alike : (b : Bay) (c : Client) (given : Datum) (w : Writing) (row : Option ℕ)
+    → AreNamedAlike b w.bay → AreNamedAlike b (write_row c given w row).bay
 write-row-alike b c given w None alike = alike
-write-row-alike b c given w (Some place) alike = write-target-alike b c (name_at w.bay.rows place) given w (target_at w.bay (Some place)) alike
+write-row-alike b c given w (Some place) alike =
+    write-target-alike b c (name_at w.bay.rows place) given w (target_at w.bay (Some place)) alike
 
 -- ---- all variables that are written
 
-record AllWritten (c : Client) (b : Bay) (ns : List Naming) (values : List Datum) (w : Writing) : Type 0 where
+record AllWritten (c : Client) (b : Bay) (ns : List Naming) (values : List Datum) (w : Writing)
+    : Type 0 where
   parts : List Part
   more : List ℕ
   is : (write_all c ns values w).results ≡ w.results ++ more
   spelled : length more < 4294967296 → SpellAll more parts
   told : write_accepted c.now c.association b ns values parts ≡ write_entries c ns values w
 
-all-written : (c : Client) (b : Bay) (ns : List Naming) (values : List Datum) (w : Writing) → AreNamedAlike b w.bay → AllWritten c b ns values w
-all-written c b [] values w alike = record { parts = []; more = []; is = sym (append-nil w.results); spelled = λ short. refl; told = refl }
-all-written c b (name ∷ ns) [] w alike = record { parts = []; more = []; is = sym (append-nil w.results); spelled = λ short. refl; told = refl }
+all-written : (c : Client) (b : Bay) (ns : List Naming) (values : List Datum) (w : Writing)
+    → AreNamedAlike b w.bay → AllWritten c b ns values w
+all-written c b [] values w alike =
+    record {
+      parts = [];
+      more = [];
+      is = sym (append-nil w.results);
+      spelled = λ short. refl;
+      told = refl;
+    }
+all-written c b (name ∷ ns) [] w alike =
+    record {
+      parts = [];
+      more = [];
+      is = sym (append-nil w.results);
+      spelled = λ short. refl;
+      told = refl;
+    }
 all-written c b (name ∷ ns) (given ∷ values) w alike =
     let next : Writing = write_one c name given w in
     let target : Option Target = target_at w.bay (row_named w.bay name) in
-    let one : OneWritten c (act_of_write c.association given target) (call_of_write c w.bay given target) w next = write-row-is c given w (row_named w.bay name) in
-    let rest : AllWritten c b ns values next = all-written c b ns values next (write-row-alike b c given w (row_named w.bay name) alike) in
-    let here : entries_of c.now (act_of_write c.association given (target_at b (row_named b name))) (is_success one.part) ≡ seen c w.bay (call_of_write c w.bay given target) =
-    ap (λ (t : Option Target). entries_of c.now (act_of_write c.association given t) (is_success one.part)) (sym (named-target b w.bay name alike)) ∙ one.told in
+    let one : OneWritten c (act_of_write c.association given target)
+    (call_of_write c w.bay given target) w next =
+    write-row-is c given w (row_named w.bay name) in
+    let rest : AllWritten c b ns values next =
+    all-written c b ns values next (write-row-alike b c given w (row_named w.bay name) alike) in
+    let here : entries_of c.now (act_of_write c.association given (target_at b (row_named b name)))
+    (is_success one.part) ≡ seen c w.bay (call_of_write c w.bay given target) =
+    ap (λ (t : Option Target). entries_of c.now (act_of_write c.association given t)
+    (is_success one.part)) (sym (named-target b w.bay name alike)) ∙ one.told in
     record {
       parts = one.part ∷ rest.parts;
       more = one.front ++ rest.more;
-      is = rest.is ∙ ap (λ (xs : List ℕ). xs ++ rest.more) one.is ∙ append_assoc w.results one.front rest.more;
+      is = rest.is ∙ ap (λ (xs : List ℕ). xs ++ rest.more) one.is
+          ∙ append_assoc w.results one.front rest.more;
       spelled = λ short.
-          let size = length-append one.front rest.more in
-          (one.front, rest.more, refl, one.spelled (omega (arith, size, short)), rest.spelled (omega (arith, size, short)));
+          let size = length-append one.front rest.more in (
+            one.front,
+            rest.more,
+            refl,
+            one.spelled (omega (arith, size, short)),
+            rest.spelled (omega (arith, size, short)),
+          );
       told = ap₂ (λ (xs ys : List Entry). xs ++ ys) here rest.told;
     }
 
 -- ---- the results in a response
 
-service-read : (n id : ℕ) (content : List ℕ) → n < 31 → same_tag (constructed n) (constructed n) ≡ true → length (response.confirmed id (element (constructed n) content)) < 4294967296
+service-read : (n id : ℕ) (content : List ℕ) → n < 31
+    → same_tag (constructed n) (constructed n) ≡ true
+    → length (response.confirmed id (element (constructed n) content)) < 4294967296
     → service_in n (response.confirmed id (element (constructed n) content)) ≡ Some content
 service-read n id content small same short =
     let number : List ℕ = integer_octets (pos id) in
     let inside : List ℕ = element int_tag number ++ element (constructed n) content in
     let outer : value_in (element (constructed 1) inside) ≡ Some (value (constructed 1) inside) =
-    one_read (element (constructed 1) inside) (value (constructed 1) inside) (spell-one (constructed 1) inside (omega arith) short) in
+    one_read (element (constructed 1) inside) (value (constructed 1) inside)
+    (spell-one (constructed 1) inside (omega arith) short) in
     let within = within-element (constructed 1) inside in
     let size = length-append (element int_tag number) (element (constructed n) content) in
     let parts : List Part = value int_tag number ∷ value (constructed n) content ∷ [] in
@@ -380,37 +503,66 @@ service-read n id content small same short =
       spells-element int_tag number (omega arith) (omega (arith, within, size, short)),
       spell-one (constructed n) content small (omega (arith, within, size, short)),
     ) in
-    ap (λ (o : Option Part). o >>= under (constructed 1) >>= values_in >>= behind_id >>= under (constructed n)) outer
+    ap (λ (o : Option Part). o >>= under (constructed 1) >>= values_in >>= behind_id
+    >>= under (constructed n)) outer
     ∙ ap (λ (o : Option (List Part)). o >>= behind_id >>= under (constructed n)) both
     ∙ ap (λ (b : Bool). cond b (Some content) None) same
 
-read-back : (id : ℕ) (results : List ℕ) (parts : List Part) → length (read_text id results) < 4294967296 → SpellAll results parts → read_results (read_text id results) ≡ Some parts
+read-back : (id : ℕ) (results : List ℕ) (parts : List Part)
+    → length (read_text id results) < 4294967296 → SpellAll results parts
+    → read_results (read_text id results) ≡ Some parts
 read-back id results parts short spelled =
     let content : List ℕ = element (constructed 1) results in
-    let inside : List ℕ = element int_tag (integer_octets (pos id)) ++ element (constructed 4) content in
-    let service : service_in 4 (read_text id results) ≡ Some content = service-read 4 id content (omega arith) refl short in
+    let inside : List ℕ =
+    element int_tag (integer_octets (pos id)) ++ element (constructed 4) content in
+    let service : service_in 4 (read_text id results) ≡ Some content =
+    service-read 4 id content (omega arith) refl short in
     let size : length content < 4294967296 =
-    omega (arith, short, within-element (constructed 1) inside, length-append (element int_tag (integer_octets (pos id))) (element (constructed 4) content), within-element (constructed 4) content) in
-    let list : value_in content ≡ Some (value (constructed 1) results) = one_read content (value (constructed 1) results) (spell-one (constructed 1) results (omega arith) size) in
+    omega (
+      arith,
+      short,
+      within-element (constructed 1) inside,
+      length-append (element int_tag (integer_octets (pos id))) (element (constructed 4) content),
+      within-element (constructed 4) content,
+    ) in
+    let list : value_in content ≡ Some (value (constructed 1) results) =
+    one_read content (value (constructed 1) results)
+    (spell-one (constructed 1) results (omega arith) size) in
     ap (λ (o : Option (List ℕ)). o >>= value_in >>= under (constructed 1) >>= values_in) service
     ∙ ap (λ (o : Option Part). o >>= under (constructed 1) >>= values_in) list
     ∙ values_again results parts spelled
 
-write-back : (id : ℕ) (results : List ℕ) (parts : List Part) → length (write_text id results) < 4294967296 → SpellAll results parts → write_results (write_text id results) ≡ Some parts
+write-back : (id : ℕ) (results : List ℕ) (parts : List Part)
+    → length (write_text id results) < 4294967296 → SpellAll results parts
+    → write_results (write_text id results) ≡ Some parts
 write-back id results parts short spelled =
-    ap (λ (o : Option (List ℕ)). o >>= values_in) (service-read 5 id results (omega arith) refl short) ∙ values_again results parts spelled
+    ap (λ (o : Option (List ℕ)). o >>= values_in)
+    (service-read 5 id results (omega arith) refl short) ∙ values_again results parts spelled
 
 -- the results stand in the response
 read-size : (id : ℕ) (results : List ℕ) → length results ≤ length (read_text id results)
 read-size id results =
     let content : List ℕ = element (constructed 1) results in
-    let inside : List ℕ = element int_tag (integer_octets (pos id)) ++ element (constructed 4) content in
-    omega (arith, within-element (constructed 1) inside, length-append (element int_tag (integer_octets (pos id))) (element (constructed 4) content), within-element (constructed 4) content, within-element (constructed 1) results)
+    let inside : List ℕ =
+    element int_tag (integer_octets (pos id)) ++ element (constructed 4) content in
+    omega (
+      arith,
+      within-element (constructed 1) inside,
+      length-append (element int_tag (integer_octets (pos id))) (element (constructed 4) content),
+      within-element (constructed 4) content,
+      within-element (constructed 1) results,
+    )
 
 write-size : (id : ℕ) (results : List ℕ) → length results ≤ length (write_text id results)
 write-size id results =
-    let inside : List ℕ = element int_tag (integer_octets (pos id)) ++ element (constructed 5) results in
-    omega (arith, within-element (constructed 1) inside, length-append (element int_tag (integer_octets (pos id))) (element (constructed 5) results), within-element (constructed 5) results)
+    let inside : List ℕ =
+    element int_tag (integer_octets (pos id)) ++ element (constructed 5) results in
+    omega (
+      arith,
+      within-element (constructed 1) inside,
+      length-append (element int_tag (integer_octets (pos id))) (element (constructed 5) results),
+      within-element (constructed 5) results,
+    )
 
 -- an error has none
 error-short : (id : ℕ) → length (error_text id Resource) < 4294967296
@@ -426,18 +578,26 @@ error-short id =
       length-element (constructed 0) class,
       length-element (constructed 2) (element (constructed 0) class),
       length-element (context 0) number,
-      length-append (element (context 0) number) (element (constructed 2) (element (constructed 0) class)),
-      length-element (constructed 2) (element (context 0) number ++ element (constructed 2) (element (constructed 0) class)),
+      length-append (element (context 0) number)
+          (element (constructed 2) (element (constructed 0) class)),
+      length-element (constructed 2)
+          (element (context 0) number ++ element (constructed 2) (element (constructed 0) class)),
     )
 
 no-service : (n id : ℕ) → service_in n (error_text id Resource) ≡ None
 no-service n id =
-    let inside : List ℕ = element (context 0) (integer_octets (pos id)) ++ element (constructed 2) (element (constructed 0) (class_text Resource)) in
-    ap (λ (o : Option Part). o >>= under (constructed 1) >>= values_in >>= behind_id >>= under (constructed n))
-    (one_read (element (constructed 2) inside) (value (constructed 2) inside) (spell-one (constructed 2) inside (omega arith) (error-short id)))
+    let inside : List ℕ =
+    element (context 0) (integer_octets (pos id))
+    ++ element (constructed 2) (element (constructed 0) (class_text Resource)) in
+    ap (λ (o : Option Part). o >>= under (constructed 1) >>= values_in >>= behind_id
+    >>= under (constructed n))
+    (one_read (element (constructed 2) inside) (value (constructed 2) inside)
+    (spell-one (constructed 2) inside (omega arith) (error-short id)))
 
 no-read : (id : ℕ) → read_results (error_text id Resource) ≡ None
-no-read id = ap (λ (o : Option (List ℕ)). o >>= value_in >>= under (constructed 1) >>= values_in) (no-service 4 id)
+no-read id =
+    ap (λ (o : Option (List ℕ)). o >>= value_in >>= under (constructed 1) >>= values_in)
+    (no-service 4 id)
 
 no-write : (id : ℕ) → write_results (error_text id Resource) ≡ None
 no-write id = ap (λ (o : Option (List ℕ)). o >>= values_in) (no-service 5 id)
@@ -446,7 +606,8 @@ pub none-read : (now a : ℕ) (b : Bay) (ns : List Naming) → read_accepted now
 none-read now a b [] = refl
 none-read now a b (name ∷ ns) = refl
 
-pub none-written : (now a : ℕ) (b : Bay) (ns : List Naming) (values : List Datum) → write_accepted now a b ns values [] ≡ []
+pub none-written : (now a : ℕ) (b : Bay) (ns : List Naming) (values : List Datum)
+    → write_accepted now a b ns values [] ≡ []
 none-written now a b [] values = refl
 none-written now a b (name ∷ ns) [] = refl
 none-written now a b (name ∷ ns) (given ∷ values) = refl
@@ -454,14 +615,19 @@ none-written now a b (name ∷ ns) (given ∷ values) = refl
 -- ---- an answer
 
 -- A PDU that is one value of this tag, none of a report's.
-not-report : (tag : Tag) (content : List ℕ) → tag.number < 31 → same_tag tag (constructed 3) ≡ false → length (element tag content) < 4294967296 → is_report (element tag content) ≡ false
+not-report : (tag : Tag) (content : List ℕ) → tag.number < 31 → same_tag tag (constructed 3) ≡ false
+    → length (element tag content) < 4294967296 → is_report (element tag content) ≡ false
 not-report tag content small other short =
-    ap (λ (o : Option Part). is_some (o >>= under (constructed 3))) (one_read (element tag content) (value tag content) (spell-one tag content small short))
+    ap (λ (o : Option Part). is_some (o >>= under (constructed 3)))
+    (one_read (element tag content) (value tag content) (spell-one tag content small short))
     ∙ ap (λ (b : Bool). is_some (cond b (Some content) None)) other
 
-a-report : (content : List ℕ) → length (element (constructed 3) content) < 4294967296 → is_report (element (constructed 3) content) ≡ true
+a-report : (content : List ℕ) → length (element (constructed 3) content) < 4294967296
+    → is_report (element (constructed 3) content) ≡ true
 a-report content short =
-    ap (λ (o : Option Part). is_some (o >>= under (constructed 3))) (one_read (element (constructed 3) content) (value (constructed 3) content) (spell-one (constructed 3) content (omega arith) short))
+    ap (λ (o : Option Part). is_some (o >>= under (constructed 3)))
+    (one_read (element (constructed 3) content) (value (constructed 3) content)
+    (spell-one (constructed 3) content (omega arith) short))
 
 fits : (n most : ℕ) → nat_le n most ≡ true → n ≤ most
 fits n most is = leb-true n most is
@@ -476,59 +642,85 @@ both-reports [] ys p q = q
 both-reports (x ∷ xs) ys p q = (p.0, both-reports xs ys p.1 q)
 
 -- behind reports stands the response
-behind-reports : (reports later : List (List ℕ)) (pdu : List ℕ) → AreReports reports → is_report pdu ≡ false → first_response true ((reports ++ pdu ∷ []) ++ later) ≡ (pdu, later)
-behind-reports [] later pdu all not = ap (λ (b : Bool). cond b (first_response true later) (pdu, later)) not
+behind-reports : (reports later : List (List ℕ)) (pdu : List ℕ) → AreReports reports
+    → is_report pdu ≡ false → first_response true ((reports ++ pdu ∷ []) ++ later) ≡ (pdu, later)
+behind-reports [] later pdu all not =
+    ap (λ (b : Bool). cond b (first_response true later) (pdu, later)) not
 behind-reports (p ∷ reports) later pdu all not =
-    ap (λ (b : Bool). cond b (first_response true ((reports ++ pdu ∷ []) ++ later)) (p, (reports ++ pdu ∷ []) ++ later)) all.0 ∙ behind-reports reports later pdu all.1 not
+    ap (λ (b : Bool). cond b (first_response true ((reports ++ pdu ∷ []) ++ later))
+    (p, (reports ++ pdu ∷ []) ++ later)) all.0 ∙ behind-reports reports later pdu all.1 not
 
-fitting-if : (fits : Bool) (pdu : List ℕ) → (fits ≡ true → is_report pdu ≡ true) → AreReports (option_to_list (cond fits (Some pdu) None))
+fitting-if : (fits : Bool) (pdu : List ℕ) → (fits ≡ true → is_report pdu ≡ true)
+    → AreReports (option_to_list (cond fits (Some pdu) None))
 fitting-if true pdu is = (is refl, tt)
 fitting-if false pdu is = tt
 
-reports-if : (c : Client) (has : Bool) (pdu : List ℕ) → (nat_le (length pdu) c.size ≡ true → is_report pdu ≡ true) → AreReports (cond has (option_to_list (fitting c.size pdu)) [])
+reports-if : (c : Client) (has : Bool) (pdu : List ℕ)
+    → (nat_le (length pdu) c.size ≡ true → is_report pdu ≡ true)
+    → AreReports (cond has (option_to_list (fitting c.size pdu)) [])
 reports-if c true pdu is = fitting-if (nat_le (length pdu) c.size) pdu is
 reports-if c false pdu is = tt
 
 module _ (c : Client) (small : c.size ≤ 65000) where
-  refusals-are : (k : ℕ) (item : List ℕ) (control : Control) (b : Bay) (answer : Result (Unit {0}) AddCause) → AreReports (refusal_reports c k item control b answer)
+  refusals-are : (k : ℕ) (item : List ℕ) (control : Control) (b : Bay)
+      (answer : Result (Unit {0}) AddCause) → AreReports (refusal_reports c k item control b answer)
   refusals-are k item control b (Ok done) = tt
   refusals-are k item control b (Err why) =
       let report : List ℕ = refusal_report (object_of b item) control why in
-      reports-if c (has_reports b k) report (λ is. let n = fits (length report) c.size is in a-report _ (omega (arith, n, small)))
+      reports-if c (has_reports b k) report
+      (λ is. let n = fits (length report) c.size is in a-report _ (omega (arith, n, small)))
 
-  decided-are : (k : ℕ) (item : List ℕ) (control : Control) (o : Outcome) (w : Writing) → AreReports w.reports → AreReports (decided c k item control o w).reports
-  decided-are k item control o w all = both-reports w.reports (refusal_reports c k item control w.bay o.answer) all (refusals-are k item control w.bay o.answer)
+  decided-are : (k : ℕ) (item : List ℕ) (control : Control) (o : Outcome) (w : Writing)
+      → AreReports w.reports → AreReports (decided c k item control o w).reports
+  decided-are k item control o w all =
+      both-reports w.reports (refusal_reports c k item control w.bay o.answer) all
+      (refusals-are k item control w.bay o.answer)
 
-  select-with-are : (k : ℕ) (item : List ℕ) (w : Writing) (o : Result asked.Operate ControlFault) → AreReports w.reports → AreReports (select_with_asked c k item w o).reports
-  select-with-are k item w (Ok o) all = decided-are k item o.control (select_with_outcome c.association k (ask_of o) c.now w.bay.controls) w all
+  select-with-are : (k : ℕ) (item : List ℕ) (w : Writing) (o : Result asked.Operate ControlFault)
+      → AreReports w.reports → AreReports (select_with_asked c k item w o).reports
+  select-with-are k item w (Ok o) all =
+      decided-are k item o.control
+      (select_with_outcome c.association k (ask_of o) c.now w.bay.controls) w all
   select-with-are k item w (Err fault) all = all
 
-  operate-are : (k : ℕ) (item : List ℕ) (w : Writing) (o : Result asked.Operate ControlFault) → AreReports w.reports → AreReports (operate_asked c k item w o).reports
-  operate-are k item w (Ok o) all = decided-are k item o.control (operate_outcome c.association k (ask_of o) (view_of c k w.bay) c.now w.bay.controls) w all
+  operate-are : (k : ℕ) (item : List ℕ) (w : Writing) (o : Result asked.Operate ControlFault)
+      → AreReports w.reports → AreReports (operate_asked c k item w o).reports
+  operate-are k item w (Ok o) all =
+      decided-are k item o.control
+      (operate_outcome c.association k (ask_of o) (view_of c k w.bay) c.now w.bay.controls) w all
   operate-are k item w (Err fault) all = all
 
-  cancel-are : (k : ℕ) (item : List ℕ) (w : Writing) (o : Result Control ControlFault) → AreReports w.reports → AreReports (cancel_asked c k item w o).reports
-  cancel-are k item w (Ok control) all = decided-are k item control (cancel_outcome c.association k c.now w.bay.controls) w all
+  cancel-are : (k : ℕ) (item : List ℕ) (w : Writing) (o : Result Control ControlFault)
+      → AreReports w.reports → AreReports (cancel_asked c k item w o).reports
+  cancel-are k item w (Ok control) all =
+      decided-are k item control (cancel_outcome c.association k c.now w.bay.controls) w all
   cancel-are k item w (Err fault) all = all
 
-  write-part-are : (k : ℕ) (item : List ℕ) (given : Datum) (w : Writing) (part : ControlPart) → AreReports w.reports → AreReports (write_part c k item given w part).reports
+  write-part-are : (k : ℕ) (item : List ℕ) (given : Datum) (w : Writing) (part : ControlPart)
+      → AreReports w.reports → AreReports (write_part c k item given w part).reports
   write-part-are k item given w Select all = all
   write-part-are k item given w SelectWith all = select-with-are k item w (operate_in given) all
   write-part-are k item given w Operate all = operate-are k item w (operate_in given) all
   write-part-are k item given w Cancel all = cancel-are k item w (cancel_in given) all
 
-  write-target-are : (item : List ℕ) (given : Datum) (w : Writing) (target : Option Target) → AreReports w.reports → AreReports (write_target c item given w target).reports
+  write-target-are : (item : List ℕ) (given : Datum) (w : Writing) (target : Option Target)
+      → AreReports w.reports → AreReports (write_target c item given w target).reports
   write-target-are item given w None all = all
   write-target-are item given w (Some t) all = write-part-are t.switch item given w t.part all
 
-  write-row-are : (given : Datum) (w : Writing) (row : Option ℕ) → AreReports w.reports → AreReports (write_row c given w row).reports
+  write-row-are : (given : Datum) (w : Writing) (row : Option ℕ) → AreReports w.reports
+      → AreReports (write_row c given w row).reports
   write-row-are given w None all = all
-  write-row-are given w (Some place) all = write-target-are (name_at w.bay.rows place) given w (target_at w.bay (Some place)) all
+  write-row-are given w (Some place) all =
+      write-target-are (name_at w.bay.rows place) given w (target_at w.bay (Some place)) all
 
-  writes-are : (ns : List Naming) (values : List Datum) (w : Writing) → AreReports w.reports → AreReports (write_all c ns values w).reports
+  writes-are : (ns : List Naming) (values : List Datum) (w : Writing) → AreReports w.reports
+      → AreReports (write_all c ns values w).reports
   writes-are [] values w all = all
   writes-are (name ∷ ns) [] w all = all
-  writes-are (name ∷ ns) (given ∷ values) w all = writes-are ns values (write_one c name given w) (write-row-are given w (row_named w.bay name) all)
+  writes-are (name ∷ ns) (given ∷ values) w all =
+      writes-are ns values (write_one c name given w)
+      (write-row-are given w (row_named w.bay name) all)
 
 -- ---- the services
 
@@ -537,140 +729,219 @@ Stands false reports response = reports ≡ []
 Stands true reports response = AreReports reports × (is_report response ≡ false)
 
 -- An answer is a response behind reports, and tells what is seen.
-record IsTold (now a : ℕ) (n : Bay) (m : Result Message MmsFault) (sent : List (List ℕ)) (entries : List Entry) : Type 0 where
+record IsTold (now a : ℕ) (n : Bay) (m : Result Message MmsFault) (sent : List (List ℕ))
+    (entries : List Entry) : Type 0 where
   reports : List (List ℕ)
   response : List ℕ
   is : sent ≡ reports ++ response ∷ []
   stands : Stands (may_be_reported m) reports response
   told : message_accepted now a n m response ≡ entries
 
-first-is : (may : Bool) (reports later : List (List ℕ)) (response : List ℕ) → Stands may reports response → first_response may ((reports ++ response ∷ []) ++ later) ≡ (response, later)
-first-is false reports later response none = ap (λ (rs : List (List ℕ)). first_response false ((rs ++ response ∷ []) ++ later)) none
-first-is true reports later response stands = behind-reports reports later response stands.0 stands.1
+first-is : (may : Bool) (reports later : List (List ℕ)) (response : List ℕ)
+    → Stands may reports response
+    → first_response may ((reports ++ response ∷ []) ++ later) ≡ (response, later)
+first-is false reports later response none =
+    ap (λ (rs : List (List ℕ)). first_response false ((rs ++ response ∷ []) ++ later)) none
+first-is true reports later response stands =
+    behind-reports reports later response stands.0 stands.1
 
 -- what is sent of a read and of a write whose responses fit
 abbrev read_sent : ℕ → Reading → Answered
-read_sent id r = record { sent = read_text id r.results ∷ []; commands = []; ending = None; after = r.bay }
+read_sent id r =
+    record { sent = read_text id r.results ∷ []; commands = []; ending = None; after = r.bay }
 
 abbrev write_sent : ℕ → Writing → Answered
-write_sent id w = record { sent = w.reports ++ write_text id w.results ∷ []; commands = w.commands; ending = w.ending; after = w.bay }
+write_sent id w =
+    record {
+      sent = w.reports ++ write_text id w.results ∷ [];
+      commands = w.commands;
+      ending = w.ending;
+      after = w.bay;
+    }
 
 module _ (c : Client) (small : c.size ≤ 65000) (n b : Bay) (alike : AreNamedAlike n b) where
   abbrev Told : Result Message MmsFault → List (List ℕ) → List Entry → Type 0
   Told m sent entries = IsTold c.now c.association n m sent entries
 
-  read-told : (id : ℕ) (ns : List Naming) (within : Bool) → nat_le (length (read_text id (read_all c ns (nothing_read b)).results)) c.size ≡ within
-      → Told (Ok (confirmed id (read ns))) (cond within (read_sent id (read_all c ns (nothing_read b))) (said (error_text id Resource) b)).sent (cond within (read_entries c ns (nothing_read b)) [])
+  read-told : (id : ℕ) (ns : List Naming) (within : Bool)
+      → nat_le (length (read_text id (read_all c ns (nothing_read b)).results)) c.size ≡ within
+      → Told (Ok (confirmed id (read ns)))
+      (cond within (read_sent id (read_all c ns (nothing_read b)))
+      (said (error_text id Resource) b)).sent
+      (cond within (read_entries c ns (nothing_read b)) [])
   read-told id ns true is =
       let all : AllRead c n ns (nothing_read b) = all-read c n ns (nothing_read b) alike in
       let results : List ℕ = (read_all c ns (nothing_read b)).results in
       let size : length (read_text id results) ≤ c.size = fits _ _ is in
       let short : length (read_text id results) < 4294967296 = omega (arith, size, small) in
-      let more : length all.more < 4294967296 = (let same : length results ≡ length all.more = ap (λ (xs : List ℕ). length xs) all.is in omega (arith, same, read-size id results, short)) in
-      let spelled : SpellAll results all.parts = subst (λ (xs : List ℕ). SpellAll xs all.parts) (sym all.is) (all.spelled more) in
+      let more : length all.more < 4294967296 =
+      (let same : length results ≡ length all.more = ap (λ (xs : List ℕ). length xs) all.is in
+      omega (arith, same, read-size id results, short)) in
+      let spelled : SpellAll results all.parts =
+      subst (λ (xs : List ℕ). SpellAll xs all.parts) (sym all.is) (all.spelled more) in
       record {
         reports = [];
         response = read_text id results;
         is = refl;
         stands = refl;
-        told = ap (λ (o : Option (List Part)). read_accepted c.now c.association n ns (unwrap_or o [])) (read-back id results all.parts short spelled) ∙ all.told;
+        told = ap (λ (o : Option (List Part)). read_accepted c.now c.association n ns
+            (unwrap_or o [])) (read-back id results all.parts short spelled) ∙ all.told;
       }
   read-told id ns false is = record {
     reports = [];
     response = error_text id Resource;
     is = refl;
     stands = refl;
-    told = ap (λ (o : Option (List Part)). read_accepted c.now c.association n ns (unwrap_or o [])) (no-read id) ∙ none-read c.now c.association n ns;
+    told = ap (λ (o : Option (List Part)). read_accepted c.now c.association n ns (unwrap_or o []))
+        (no-read id) ∙ none-read c.now c.association n ns;
   }
 
-  write-told : (id : ℕ) (ns : List Naming) (values : List Datum) (within : Bool) → nat_le (length (write_text id (write_all c ns values (nothing_written b)).results)) c.size ≡ within
-      → Told (Ok (confirmed id (write ns values))) (cond within (write_sent id (write_all c ns values (nothing_written b))) (said (error_text id Resource) b)).sent (cond within (write_entries c ns values (nothing_written b)) [])
+  write-told : (id : ℕ) (ns : List Naming) (values : List Datum) (within : Bool)
+      → nat_le (length (write_text id (write_all c ns values (nothing_written b)).results)) c.size
+      ≡ within
+      → Told (Ok (confirmed id (write ns values)))
+      (cond within (write_sent id (write_all c ns values (nothing_written b)))
+      (said (error_text id Resource) b)).sent
+      (cond within (write_entries c ns values (nothing_written b)) [])
   write-told id ns values true is =
-      let all : AllWritten c n ns values (nothing_written b) = all-written c n ns values (nothing_written b) alike in
+      let all : AllWritten c n ns values (nothing_written b) =
+      all-written c n ns values (nothing_written b) alike in
       let w : Writing = write_all c ns values (nothing_written b) in
       let size : length (write_text id w.results) ≤ c.size = fits _ _ is in
       let short : length (write_text id w.results) < 4294967296 = omega (arith, size, small) in
-      let more : length all.more < 4294967296 = (let same : length w.results ≡ length all.more = ap (λ (xs : List ℕ). length xs) all.is in omega (arith, same, write-size id w.results, short)) in
-      let spelled : SpellAll w.results all.parts = subst (λ (xs : List ℕ). SpellAll xs all.parts) (sym all.is) (all.spelled more) in
+      let more : length all.more < 4294967296 =
+      (let same : length w.results ≡ length all.more = ap (λ (xs : List ℕ). length xs) all.is in
+      omega (arith, same, write-size id w.results, short)) in
+      let spelled : SpellAll w.results all.parts =
+      subst (λ (xs : List ℕ). SpellAll xs all.parts) (sym all.is) (all.spelled more) in
       record {
         reports = w.reports;
         response = write_text id w.results;
         is = refl;
-        stands = (writes-are c small ns values (nothing_written b) tt, not-report (constructed 1) _ (omega arith) refl short);
-        told = ap (λ (o : Option (List Part)). write_accepted c.now c.association n ns values (unwrap_or o [])) (write-back id w.results all.parts short spelled) ∙ all.told;
+        stands = (
+          writes-are c small ns values (nothing_written b) tt,
+          not-report (constructed 1) _ (omega arith) refl short,
+        );
+        told = ap (λ (o : Option (List Part)). write_accepted c.now c.association n ns values
+            (unwrap_or o [])) (write-back id w.results all.parts short spelled) ∙ all.told;
       }
   write-told id ns values false is = record {
     reports = [];
     response = error_text id Resource;
     is = refl;
     stands = (tt, not-report (constructed 2) _ (omega arith) refl (error-short id));
-    told = ap (λ (o : Option (List Part)). write_accepted c.now c.association n ns values (unwrap_or o [])) (no-write id) ∙ none-written c.now c.association n ns values;
+    told = ap (λ (o : Option (List Part)). write_accepted c.now c.association n ns values
+        (unwrap_or o [])) (no-write id) ∙ none-written c.now c.association n ns values;
   }
 
   -- what answers with one PDU, and tells of nothing
-  quiet-told : (m : Result Message MmsFault) (within : Bool) (x y : List ℕ) → may_be_reported m ≡ false → ((pdu : List ℕ) → message_accepted c.now c.association n m pdu ≡ []) → Told m (cond within (said x b) (said y b)).sent []
-  quiet-told m true x y mute none = record { reports = []; response = x; is = refl; stands = rw mute refl; told = none x }
-  quiet-told m false x y mute none = record { reports = []; response = y; is = refl; stands = rw mute refl; told = none y }
+  quiet-told : (m : Result Message MmsFault) (within : Bool) (x y : List ℕ)
+      → may_be_reported m ≡ false
+      → ((pdu : List ℕ) → message_accepted c.now c.association n m pdu ≡ [])
+      → Told m (cond within (said x b) (said y b)).sent []
+  quiet-told m true x y mute none =
+      record { reports = []; response = x; is = refl; stands = rw mute refl; told = none x }
+  quiet-told m false x y mute none =
+      record { reports = []; response = y; is = refl; stands = rw mute refl; told = none y }
 
-  attributes-told : (id : ℕ) (name : Naming) (row : Option ℕ) → Told (Ok (confirmed id (attributes name))) (attributes_at c id b row).sent []
-  attributes-told id name None = record { reports = []; response = error_text id NoSuchObject; is = refl; stands = refl; told = refl }
-  attributes-told id name (Some place) = quiet-told (Ok (confirmed id (attributes name))) _ _ _ refl (λ pdu. refl)
+  attributes-told : (id : ℕ) (name : Naming) (row : Option ℕ)
+      → Told (Ok (confirmed id (attributes name))) (attributes_at c id b row).sent []
+  attributes-told id name None =
+      record {
+        reports = [];
+        response = error_text id NoSuchObject;
+        is = refl;
+        stands = refl;
+        told = refl;
+      }
+  attributes-told id name (Some place) =
+      quiet-told (Ok (confirmed id (attributes name))) _ _ _ refl (λ pdu. refl)
 
-  service-told : (id : ℕ) (asking : Asking) → Told (Ok (confirmed id asking)) (served c id b asking).sent (service_entries c id b asking)
+  service-told : (id : ℕ) (asking : Asking)
+      → Told (Ok (confirmed id asking)) (served c id b asking).sent (service_entries c id b asking)
   service-told id identify = quiet-told (Ok (confirmed id identify)) _ _ _ refl (λ pdu. refl)
-  service-told id (names class place after) = quiet-told (Ok (confirmed id (names class place after))) _ _ _ refl (λ pdu. refl)
+  service-told id (names class place after) =
+      quiet-told (Ok (confirmed id (names class place after))) _ _ _ refl (λ pdu. refl)
   service-told id (attributes name) = attributes-told id name (row_named b name)
   service-told id (read ns) = read-told id ns _ refl
   service-told id (write ns values) = write-told id ns values _ refl
 
-  message-told : (m : Result Message MmsFault) → Told m (answer_of c b m).sent (message_entries c b m)
-  message-told (Ok (initiate proposal)) = record { reports = []; response = _; is = refl; stands = refl; told = refl }
-  message-told (Ok conclude) = record { reports = []; response = _; is = refl; stands = refl; told = refl }
+  message-told : (m : Result Message MmsFault)
+      → Told m (answer_of c b m).sent (message_entries c b m)
+  message-told (Ok (initiate proposal)) =
+      record { reports = []; response = _; is = refl; stands = refl; told = refl }
+  message-told (Ok conclude) =
+      record { reports = []; response = _; is = refl; stands = refl; told = refl }
   message-told (Ok (confirmed id asking)) = service-told id asking
-  message-told (Err (BadPdu known)) = record { reports = []; response = _; is = refl; stands = refl; told = refl }
-  message-told (Err (UnknownService id)) = record { reports = []; response = _; is = refl; stands = refl; told = refl }
-  message-told (Err (TooMany id)) = record { reports = []; response = _; is = refl; stands = refl; told = refl }
-  message-told (Err OutOfMemory) = record { reports = []; response = _; is = refl; stands = refl; told = refl }
+  message-told (Err (BadPdu known)) =
+      record { reports = []; response = _; is = refl; stands = refl; told = refl }
+  message-told (Err (UnknownService id)) =
+      record { reports = []; response = _; is = refl; stands = refl; told = refl }
+  message-told (Err (TooMany id)) =
+      record { reports = []; response = _; is = refl; stands = refl; told = refl }
+  message-told (Err OutOfMemory) =
+      record { reports = []; response = _; is = refl; stands = refl; told = refl }
 
 -- The first response among the PDUs of an answer and those behind them tells what is seen, and
 -- leaves those behind them.
-pub response-tells : (c : Client) (pdu : List ℕ) (n b : Bay) (later : List (List ℕ)) → c.size ≤ 65000 → AreNamedAlike n b
-    → (accepted_in c.now c.association pdu n (first_response (may_be_reported (answer_to pdu)) ((answered c pdu b).sent ++ later)).0 ≡ entries_in c pdu b)
-    × ((first_response (may_be_reported (answer_to pdu)) ((answered c pdu b).sent ++ later)).1 ≡ later)
+pub response-tells : (c : Client) (pdu : List ℕ) (n b : Bay) (later : List (List ℕ))
+    → c.size ≤ 65000 → AreNamedAlike n b
+    → (accepted_in c.now c.association pdu n
+    (first_response (may_be_reported (answer_to pdu)) ((answered c pdu b).sent ++ later)).0
+    ≡ entries_in c pdu b)
+    × ((first_response (may_be_reported (answer_to pdu)) ((answered c pdu b).sent ++ later)).1
+    ≡ later)
 response-tells c pdu n b later small alike =
-    let t : IsTold c.now c.association n (answer_to pdu) (answered c pdu b).sent (entries_in c pdu b) = message-told c small n b alike (answer_to pdu) in
-    let first : first_response (may_be_reported (answer_to pdu)) ((answered c pdu b).sent ++ later) ≡ (t.response, later) =
-    ap (λ (sent : List (List ℕ)). first_response (may_be_reported (answer_to pdu)) (sent ++ later)) t.is
-    ∙ first-is (may_be_reported (answer_to pdu)) t.reports later t.response t.stands in
-    (ap (λ (r : (List ℕ) × List (List ℕ)). accepted_in c.now c.association pdu n r.0) first ∙ t.told, ap (λ (r : (List ℕ) × List (List ℕ)). r.1) first)
+    let t : IsTold c.now c.association n (answer_to pdu) (answered c pdu b).sent
+    (entries_in c pdu b) = message-told c small n b alike (answer_to pdu) in
+    let first : first_response (may_be_reported (answer_to pdu)) ((answered c pdu b).sent ++ later)
+    ≡ (t.response, later) =
+    ap (λ (sent : List (List ℕ)). first_response (may_be_reported (answer_to pdu)) (sent ++ later))
+    t.is
+    ∙ first-is (may_be_reported (answer_to pdu)) t.reports later t.response t.stands in (
+      ap (λ (r : (List ℕ) × List (List ℕ)). accepted_in c.now c.association pdu n r.0) first
+          ∙ t.told,
+      ap (λ (r : (List ℕ) × List (List ℕ)). r.1) first,
+    )
 
 -- ---- names behind a PDU
 
-alike-read : (b : Bay) (c : Client) (ns : List Naming) (r : Reading) → AreNamedAlike b r.bay → AreNamedAlike b (read_all c ns r).bay
+alike-read : (b : Bay) (c : Client) (ns : List Naming) (r : Reading) → AreNamedAlike b r.bay
+    → AreNamedAlike b (read_all c ns r).bay
 alike-read b c [] r alike = alike
-alike-read b c (name ∷ ns) r alike = alike-read b c ns (read_one c name r) (read-row-alike b c r (row_named r.bay name) alike)
+alike-read b c (name ∷ ns) r alike =
+    alike-read b c ns (read_one c name r) (read-row-alike b c r (row_named r.bay name) alike)
 
-alike-written : (b : Bay) (c : Client) (ns : List Naming) (values : List Datum) (w : Writing) → AreNamedAlike b w.bay → AreNamedAlike b (write_all c ns values w).bay
+alike-written : (b : Bay) (c : Client) (ns : List Naming) (values : List Datum) (w : Writing)
+    → AreNamedAlike b w.bay → AreNamedAlike b (write_all c ns values w).bay
 alike-written b c [] values w alike = alike
 alike-written b c (name ∷ ns) [] w alike = alike
-alike-written b c (name ∷ ns) (given ∷ values) w alike = alike-written b c ns values (write_one c name given w) (write-row-alike b c given w (row_named w.bay name) alike)
+alike-written b c (name ∷ ns) (given ∷ values) w alike =
+    alike-written b c ns values (write_one c name given w)
+    (write-row-alike b c given w (row_named w.bay name) alike)
 
-alike-if : (n : Bay) (within : Bool) (x y : Answered) → AreNamedAlike n x.after → AreNamedAlike n y.after → AreNamedAlike n (cond within x y).after
+alike-if : (n : Bay) (within : Bool) (x y : Answered) → AreNamedAlike n x.after
+    → AreNamedAlike n y.after → AreNamedAlike n (cond within x y).after
 alike-if n true x y p q = p
 alike-if n false x y p q = q
 
-alike-attributes : (n : Bay) (c : Client) (id : ℕ) (b : Bay) (row : Option ℕ) → AreNamedAlike n b → AreNamedAlike n (attributes_at c id b row).after
+alike-attributes : (n : Bay) (c : Client) (id : ℕ) (b : Bay) (row : Option ℕ) → AreNamedAlike n b
+    → AreNamedAlike n (attributes_at c id b row).after
 alike-attributes n c id b None alike = alike
 alike-attributes n c id b (Some place) alike = alike-if n _ _ _ alike alike
 
-alike-served : (n : Bay) (c : Client) (id : ℕ) (b : Bay) (asking : Asking) → AreNamedAlike n b → AreNamedAlike n (served c id b asking).after
+alike-served : (n : Bay) (c : Client) (id : ℕ) (b : Bay) (asking : Asking) → AreNamedAlike n b
+    → AreNamedAlike n (served c id b asking).after
 alike-served n c id b identify alike = alike-if n _ _ _ alike alike
 alike-served n c id b (names class place after) alike = alike-if n _ _ _ alike alike
 alike-served n c id b (attributes name) alike = alike-attributes n c id b (row_named b name) alike
-alike-served n c id b (read ns) alike = alike-if n _ _ _ (alike-read n c ns (nothing_read b) alike) alike
-alike-served n c id b (write ns values) alike = alike-if n _ _ _ (alike-written n c ns values (nothing_written b) alike) alike
+alike-served n c id b (read ns) alike =
+    alike-if n _ _ _ (alike-read n c ns (nothing_read b) alike) alike
+alike-served n c id b (write ns values) alike =
+    alike-if n _ _ _ (alike-written n c ns values (nothing_written b) alike) alike
 
-alike-answer : (n : Bay) (c : Client) (b : Bay) (m : Result Message MmsFault) → AreNamedAlike n b → AreNamedAlike n (answer_of c b m).after
+alike-answer : (n : Bay) (c : Client) (b : Bay) (m : Result Message MmsFault) → AreNamedAlike n b
+    → AreNamedAlike n (answer_of c b m).after
 alike-answer n c b (Ok (initiate proposal)) alike = alike
 alike-answer n c b (Ok conclude) alike = alike
 alike-answer n c b (Ok (confirmed id asking)) alike = alike-served n c id b asking alike
@@ -679,5 +950,6 @@ alike-answer n c b (Err (UnknownService id)) alike = alike
 alike-answer n c b (Err (TooMany id)) alike = alike
 alike-answer n c b (Err OutOfMemory) alike = alike
 
-pub alike-after : (n : Bay) (c : Client) (pdu : List ℕ) (b : Bay) → AreNamedAlike n b → AreNamedAlike n (answered c pdu b).after
+pub alike-after : (n : Bay) (c : Client) (pdu : List ℕ) (b : Bay) → AreNamedAlike n b
+    → AreNamedAlike n (answered c pdu b).after
 alike-after n c pdu b alike = alike-answer n c b (answer_to pdu) alike

@@ -15,25 +15,43 @@ use Rattle.bay_services.specs.declared.answer.Answer.{Answer}
 use Rattle.bay_services.specs.declared.client.Client.{Client}
 use Rattle.bay_services.proofs.ShortLemmas.{AreShort, answer_end, answer_short}
 
-asked_is : (request : Result Request MmsFault) (held : Result Message MmsFault) → Gives OutOfMemory message request held → request ≢ Err OutOfMemory → held ≡ read_as request
+asked_is : (request : Result Request MmsFault) (held : Result Message MmsFault)
+    → Gives OutOfMemory message request held → request ≢ Err OutOfMemory → held ≡ read_as request
 asked_is (Ok r) held gives known = gives
-asked_is (Err e) held gives known = ⊎_elim (λ (is : e ≡ OutOfMemory). absurd (known (ap Err is))) (λ (is : held ≡ Err e). is) gives
+asked_is (Err e) held gives known =
+    ⊎_elim (λ (is : e ≡ OutOfMemory). absurd (known (ap Err is))) (λ (is : held ≡ Err e). is) gives
 
-pub answered_as : (r : Result Answer AllocError) (c : Client) (old new : Bay) (request : Result Request MmsFault) (held : Result Message MmsFault) → Gives OutOfMemory message request held
-    → IfOk r (λ _. request ≢ Err OutOfMemory) → IfOk r (λ a. AnswersAs a new (answer_of c old (read_as request))) → IfOk r (λ a. AnswersAs a new (answer_of c old held))
+pub answered_as : (r : Result Answer AllocError) (c : Client) (old new : Bay)
+    (request : Result Request MmsFault) (held : Result Message MmsFault)
+    → Gives OutOfMemory message request held
+    → IfOk r (λ _. request ≢ Err OutOfMemory)
+    → IfOk r (λ a. AnswersAs a new (answer_of c old (read_as request)))
+    → IfOk r (λ a. AnswersAs a new (answer_of c old held))
 answered_as (Err e) c old new request held gives known told = tt
-answered_as (Ok a) c old new request held gives known told = subst (λ (x : Result Message MmsFault). AnswersAs a new (answer_of c old x)) (sym (asked_is request held gives known)) told
+answered_as (Ok a) c old new request held gives known told =
+    subst (λ (x : Result Message MmsFault). AnswersAs a new (answer_of c old x))
+    (sym (asked_is request held gives known)) told
 
-pub sent_short : (r : Result Answer AllocError) (c : Client) (old new : Bay) (request : Result Request MmsFault) → c.size ≤ 65000
-    → IfOk r (λ a. AnswersAs a new (answer_of c old (read_as request))) → IfOk r (λ a. AreShort a.sent.items)
+pub sent_short : (r : Result Answer AllocError) (c : Client) (old new : Bay)
+    (request : Result Request MmsFault) → c.size ≤ 65000
+    → IfOk r (λ a. AnswersAs a new (answer_of c old (read_as request)))
+    → IfOk r (λ a. AreShort a.sent.items)
 sent_short (Err e) c old new request most told = tt
-sent_short (Ok a) c old new request most told = subst AreShort (sym told.sent) (answer_short c old (read_as request) most)
+sent_short (Ok a) c old new request most told =
+    subst AreShort (sym told.sent) (answer_short c old (read_as request) most)
 
-pub end_short : (r : Result Answer AllocError) (c : Client) (old new : Bay) (request : Result Request MmsFault) → c.size ≤ 65000
-    → IfOk r (λ a. AnswersAs a new (answer_of c old (read_as request))) → IfOk r (λ a. IsShort a.ending)
+pub end_short : (r : Result Answer AllocError) (c : Client) (old new : Bay)
+    (request : Result Request MmsFault) → c.size ≤ 65000
+    → IfOk r (λ a. AnswersAs a new (answer_of c old (read_as request)))
+    → IfOk r (λ a. IsShort a.ending)
 end_short (Err e) c old new request most told = tt
-end_short (Ok a) c old new request most told = subst IsShort (sym told.ending) (answer_end c old (read_as request) most)
+end_short (Ok a) c old new request most told =
+    subst IsShort (sym told.ending) (answer_end c old (read_as request) most)
 
-pub not_memory : (r : Result Answer AllocError) (request : Result Request MmsFault) (fault : MmsFault) → request ≡ Err fault → IfOk r (λ _. fault ≢ OutOfMemory) → IfOk r (λ _. request ≢ Err OutOfMemory)
-not_memory (Ok a) request fault is other = λ memory. other (let by : ◌≡◌ {A = Result Request MmsFault} (Err fault) (Err OutOfMemory) = sym is ∙ memory in cc)
+pub not_memory : (r : Result Answer AllocError) (request : Result Request MmsFault)
+    (fault : MmsFault) → request ≡ Err fault → IfOk r (λ _. fault ≢ OutOfMemory)
+    → IfOk r (λ _. request ≢ Err OutOfMemory)
+not_memory (Ok a) request fault is other =
+    λ memory. other (let by : ◌≡◌ {A = Result Request MmsFault} (Err fault) (Err OutOfMemory) =
+    sym is ∙ memory in cc)
 not_memory (Err e) request fault is other = tt

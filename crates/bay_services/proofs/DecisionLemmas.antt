@@ -12,19 +12,28 @@ use Rattle.bay_services.proofs.ShownLemmas.{shown_again}
 use Rattle.bay_services.proofs.StandingLemmas.{again}
 
 -- the controls are those of an outcome, and the rows show their selection
-pub decided : (d : ServedBay) (c outcome : State) (tree : List Row) (count : ℕ) → count ≡ length (switches_of d.switches) → tree ≡ shown (selected_switch c.selection) count d.tree → c ≡ outcome
+pub decided : (d : ServedBay) (c outcome : State) (tree : List Row) (count : ℕ)
+    → count ≡ length (switches_of d.switches)
+    → tree ≡ shown (selected_switch c.selection) count d.tree → c ≡ outcome
     → record (bay_view d) { rows = tree; controls = c } ≡ with_controls outcome (bay_view d)
 decided d c outcome tree count sized rows is =
-    let with_rows : List Row → Bay = λ (rs : List Row). record (bay_view d) { rows = rs; controls = c } in
-    ap with_rows rows ∙ ap (λ (n : ℕ). with_rows (shown (selected_switch c.selection) n d.tree)) sized ∙ ap (λ (s : State). with_controls s (bay_view d)) is
+    let with_rows : List Row → Bay =
+    λ (rs : List Row). record (bay_view d) { rows = rs; controls = c } in
+    ap with_rows rows ∙ ap (λ (n : ℕ). with_rows (shown (selected_switch c.selection) n d.tree))
+    sized ∙ ap (λ (s : State). with_controls s (bay_view d)) is
 
-pub undone : (d : ServedBay) (c outcome : State) (tree : List Row) (count : ℕ) (standing : Standing) → count ≡ length (switches_of d.switches) → tree ≡ shown (selected_switch c.selection) count d.tree → c ≡ outcome
+pub undone : (d : ServedBay) (c outcome : State) (tree : List Row) (count : ℕ) (standing : Standing)
+    → count ≡ length (switches_of d.switches)
+    → tree ≡ shown (selected_switch c.selection) count d.tree → c ≡ outcome
     → outcome.controls ≡ d.controls.controls
-    → standing_again standing (record (bay_view d) { rows = tree; controls = c }) ≡ standing_again standing (bay_view d)
+    → standing_again standing (record (bay_view d) { rows = tree; controls = c })
+    ≡ standing_again standing (bay_view d)
 undone d c outcome tree count standing sized rows is same =
-    ap (standing_again standing) (decided d c outcome tree count sized rows is) ∙ again standing outcome (bay_view d) same
+    ap (standing_again standing) (decided d c outcome tree count sized rows is)
+    ∙ again standing outcome (bay_view d) same
 
-pub shows : (c : State) (tree old : List Row) (count total : ℕ) → count ≡ total → tree ≡ shown (selected_switch c.selection) count old → ShowSelection c total tree
+pub shows : (c : State) (tree old : List Row) (count total : ℕ) → count ≡ total
+    → tree ≡ shown (selected_switch c.selection) count old → ShowSelection c total tree
 shows c tree old count total sized rows =
     let selected = selected_switch c.selection in
     let is : tree ≡ shown selected total old = rows ∙ ap (λ (n : ℕ). shown selected n old) sized in
@@ -36,17 +45,28 @@ none_selected : (s : Option Selection) → selected_switch s ≡ None → s ≡ 
 none_selected None is = refl
 none_selected (Some s) is = absurd cc
 
-still : (now : ℕ) (c : State) → selected_switch c.selection ≡ None → selected_switch (advanced now c).selection ≡ selected_switch c.selection
+still : (now : ℕ) (c : State) → selected_switch c.selection ≡ None
+    → selected_switch (advanced now c).selection ≡ selected_switch c.selection
 still now c none =
-    ap (λ (s : Option Selection). selected_switch (advanced now (record c { selection = s })).selection) (none_selected c.selection none) ∙ sym none
+    ap (λ (s : Option Selection). selected_switch
+    (advanced now (record c { selection = s })).selection) (none_selected c.selection none)
+    ∙ sym none
 
-pub idle_shows : (now : ℕ) (c new : State) (count : ℕ) (tree : List Row) → ShowSelection c count tree → selected_switch c.selection ≡ None → new ≡ advanced now c → ShowSelection new count tree
+pub idle_shows : (now : ℕ) (c new : State) (count : ℕ) (tree : List Row)
+    → ShowSelection c count tree → selected_switch c.selection ≡ None → new ≡ advanced now c
+    → ShowSelection new count tree
 idle_shows now c new count tree shows none is =
-    ap (λ (s : State). shown (selected_switch s.selection) count tree) is ∙ ap (λ (o : Option ℕ). shown o count tree) (still now c none) ∙ shows
+    ap (λ (s : State). shown (selected_switch s.selection) count tree) is
+    ∙ ap (λ (o : Option ℕ). shown o count tree) (still now c none) ∙ shows
 
-pub idle : (now : ℕ) (d : ServedBay) (c : State) → ShowSelection d.controls (length (switches_of d.switches)) d.tree → selected_switch d.controls.selection ≡ None → c ≡ advanced now d.controls
+pub idle : (now : ℕ) (d : ServedBay) (c : State)
+    → ShowSelection d.controls (length (switches_of d.switches)) d.tree
+    → selected_switch d.controls.selection ≡ None → c ≡ advanced now d.controls
     → record (bay_view d) { controls = c } ≡ with_controls (advanced now d.controls) (bay_view d)
 idle now d c shows none is =
-    let with_rows : List Row → Bay = λ (rs : List Row). record (bay_view d) { rows = rs; controls = advanced now d.controls } in
+    let with_rows : List Row → Bay =
+    λ (rs : List Row). record (bay_view d) { rows = rs; controls = advanced now d.controls } in
     ap (λ (s : State). record (bay_view d) { controls = s }) is
-    ∙ ap with_rows (sym (ap (λ (o : Option ℕ). shown o (length (switches_of d.switches)) d.tree) (still now d.controls none) ∙ shows))
+    ∙ ap with_rows
+    (sym (ap (λ (o : Option ℕ). shown o (length (switches_of d.switches)) d.tree)
+    (still now d.controls none) ∙ shows))

@@ -34,97 +34,129 @@ module _ (c : Client) (opens : ℕ → Bool) (is_open : opens c.association ≡ 
 
   -- ---- a variable that is read
 
-  read-part-leads : (place : ℕ) (r : Reading) (k : ℕ) (part : ControlPart) → Led (seen c r.bay (read_call c k part)) r.bay.controls (read_part c place r k part).bay.controls
-  read-part-leads place r k Select = one-leads (call.Select c.association k) c.now opens opens r.bay.controls is_open (λ a. refl)
+  read-part-leads : (place : ℕ) (r : Reading) (k : ℕ) (part : ControlPart)
+      → Led (seen c r.bay (read_call c k part)) r.bay.controls
+      (read_part c place r k part).bay.controls
+  read-part-leads place r k Select =
+      one-leads (call.Select c.association k) c.now opens opens r.bay.controls is_open (λ a. refl)
   read-part-leads place r k SelectWith = none-leads opens r.bay.controls
   read-part-leads place r k Operate = none-leads opens r.bay.controls
   read-part-leads place r k Cancel = none-leads opens r.bay.controls
 
-  read-target-leads : (place : ℕ) (r : Reading) (target : Option Target) → Led (seen c r.bay (call_of_read c target)) r.bay.controls (read_target c place r target).bay.controls
+  read-target-leads : (place : ℕ) (r : Reading) (target : Option Target)
+      → Led (seen c r.bay (call_of_read c target)) r.bay.controls
+      (read_target c place r target).bay.controls
   read-target-leads place r None = none-leads opens r.bay.controls
   read-target-leads place r (Some t) = read-part-leads place r t.switch t.part
 
-  read-row-leads : (r : Reading) (row : Option ℕ) → Led (seen c r.bay (call_of_read c (target_at r.bay row))) r.bay.controls (read_row c r row).bay.controls
+  read-row-leads : (r : Reading) (row : Option ℕ)
+      → Led (seen c r.bay (call_of_read c (target_at r.bay row))) r.bay.controls
+      (read_row c r row).bay.controls
   read-row-leads r None = none-leads opens r.bay.controls
   read-row-leads r (Some place) = read-target-leads place r (target_at r.bay (Some place))
 
-  read-leads : (ns : List Naming) (r : Reading) → Led (read_entries c ns r) r.bay.controls (read_all c ns r).bay.controls
+  read-leads : (ns : List Naming) (r : Reading)
+      → Led (read_entries c ns r) r.bay.controls (read_all c ns r).bay.controls
   read-leads [] r = none-leads opens r.bay.controls
   read-leads (name ∷ ns) r =
       let next : Reading = read_one c name r in
-      two-lead (seen c r.bay (call_of_read c (target_at r.bay (row_named r.bay name)))) (read_entries c ns next) opens opens opens
-      r.bay.controls next.bay.controls (read_all c ns next).bay.controls (read-row-leads r (row_named r.bay name)) (read-leads ns next)
+      two-lead (seen c r.bay (call_of_read c (target_at r.bay (row_named r.bay name))))
+      (read_entries c ns next) opens opens opens
+      r.bay.controls next.bay.controls (read_all c ns next).bay.controls
+      (read-row-leads r (row_named r.bay name)) (read-leads ns next)
 
   -- ---- a variable that is written
 
   select-with-leads : (k : ℕ) (item : List ℕ) (w : Writing) (o : Result asked.Operate ControlFault)
-      → Led (seen c w.bay (select_with_call c k o)) w.bay.controls (select_with_asked c k item w o).bay.controls
-  select-with-leads k item w (Ok o) = one-leads (call.SelectWith c.association k (ask_of o)) c.now opens opens w.bay.controls is_open (λ a. refl)
+      → Led (seen c w.bay (select_with_call c k o)) w.bay.controls
+      (select_with_asked c k item w o).bay.controls
+  select-with-leads k item w (Ok o) =
+      one-leads (call.SelectWith c.association k (ask_of o)) c.now opens opens w.bay.controls
+      is_open (λ a. refl)
   select-with-leads k item w (Err fault) = none-leads opens w.bay.controls
 
   operate-leads : (k : ℕ) (item : List ℕ) (w : Writing) (o : Result asked.Operate ControlFault)
-      → Led (seen c w.bay (operate_call c k w.bay o)) w.bay.controls (operate_asked c k item w o).bay.controls
-  operate-leads k item w (Ok o) = one-leads (call.Operate c.association k (ask_of o) (view_of c k w.bay)) c.now opens opens w.bay.controls is_open (λ a. refl)
+      → Led (seen c w.bay (operate_call c k w.bay o)) w.bay.controls
+      (operate_asked c k item w o).bay.controls
+  operate-leads k item w (Ok o) =
+      one-leads (call.Operate c.association k (ask_of o) (view_of c k w.bay)) c.now opens opens
+      w.bay.controls is_open (λ a. refl)
   operate-leads k item w (Err fault) = none-leads opens w.bay.controls
 
   cancel-leads : (k : ℕ) (item : List ℕ) (w : Writing) (o : Result Control ControlFault)
-      → Led (seen c w.bay (cancel_call c k o)) w.bay.controls (cancel_asked c k item w o).bay.controls
-  cancel-leads k item w (Ok control) = one-leads (call.Cancel c.association k) c.now opens opens w.bay.controls is_open (λ a. refl)
+      → Led (seen c w.bay (cancel_call c k o)) w.bay.controls
+      (cancel_asked c k item w o).bay.controls
+  cancel-leads k item w (Ok control) =
+      one-leads (call.Cancel c.association k) c.now opens opens w.bay.controls is_open (λ a. refl)
   cancel-leads k item w (Err fault) = none-leads opens w.bay.controls
 
   write-part-leads : (k : ℕ) (item : List ℕ) (given : Datum) (w : Writing) (part : ControlPart)
-      → Led (seen c w.bay (write_call c w.bay given k part)) w.bay.controls (write_part c k item given w part).bay.controls
+      → Led (seen c w.bay (write_call c w.bay given k part)) w.bay.controls
+      (write_part c k item given w part).bay.controls
   write-part-leads k item given w Select = none-leads opens w.bay.controls
   write-part-leads k item given w SelectWith = select-with-leads k item w (operate_in given)
   write-part-leads k item given w Operate = operate-leads k item w (operate_in given)
   write-part-leads k item given w Cancel = cancel-leads k item w (cancel_in given)
 
   write-target-leads : (item : List ℕ) (given : Datum) (w : Writing) (target : Option Target)
-      → Led (seen c w.bay (call_of_write c w.bay given target)) w.bay.controls (write_target c item given w target).bay.controls
+      → Led (seen c w.bay (call_of_write c w.bay given target)) w.bay.controls
+      (write_target c item given w target).bay.controls
   write-target-leads item given w None = none-leads opens w.bay.controls
   write-target-leads item given w (Some t) = write-part-leads t.switch item given w t.part
 
   write-row-leads : (given : Datum) (w : Writing) (row : Option ℕ)
-      → Led (seen c w.bay (call_of_write c w.bay given (target_at w.bay row))) w.bay.controls (write_row c given w row).bay.controls
+      → Led (seen c w.bay (call_of_write c w.bay given (target_at w.bay row))) w.bay.controls
+      (write_row c given w row).bay.controls
   write-row-leads given w None = none-leads opens w.bay.controls
   write-row-leads given w (Some place) = write-target-leads _ given w (target_at w.bay (Some place))
 
-  write-leads : (ns : List Naming) (values : List Datum) (w : Writing) → Led (write_entries c ns values w) w.bay.controls (write_all c ns values w).bay.controls
+  write-leads : (ns : List Naming) (values : List Datum) (w : Writing)
+      → Led (write_entries c ns values w) w.bay.controls (write_all c ns values w).bay.controls
   write-leads [] values w = none-leads opens w.bay.controls
   write-leads (name ∷ ns) [] w = none-leads opens w.bay.controls
   write-leads (name ∷ ns) (given ∷ values) w =
       let next : Writing = write_one c name given w in
-      two-lead (seen c w.bay (call_of_write c w.bay given (target_at w.bay (row_named w.bay name)))) (write_entries c ns values next) opens opens opens
-      w.bay.controls next.bay.controls (write_all c ns values next).bay.controls (write-row-leads given w (row_named w.bay name)) (write-leads ns values next)
+      two-lead (seen c w.bay (call_of_write c w.bay given (target_at w.bay (row_named w.bay name))))
+      (write_entries c ns values next) opens opens opens
+      w.bay.controls next.bay.controls (write_all c ns values next).bay.controls
+      (write-row-leads given w (row_named w.bay name)) (write-leads ns values next)
 
   -- ---- the services
 
   -- what is too long is undone
-  within-leads : (fits : Bool) (b : Bay) (error : List ℕ) (entries : List Entry) (answer : Answered) → Led entries b.controls answer.after.controls
+  within-leads : (fits : Bool) (b : Bay) (error : List ℕ) (entries : List Entry) (answer : Answered)
+      → Led entries b.controls answer.after.controls
       → Led (cond fits entries []) b.controls (cond fits answer (said error b)).after.controls
   within-leads true b error entries answer leads = leads
   within-leads false b error entries answer leads = none-leads opens b.controls
 
-  quiet-leads : (fits : Bool) (b : Bay) (response error : List ℕ) → Led [] b.controls (cond fits (said response b) (said error b)).after.controls
+  quiet-leads : (fits : Bool) (b : Bay) (response error : List ℕ)
+      → Led [] b.controls (cond fits (said response b) (said error b)).after.controls
   quiet-leads true b response error = none-leads opens b.controls
   quiet-leads false b response error = none-leads opens b.controls
 
-  attributes-lead : (id : ℕ) (b : Bay) (row : Option ℕ) → Led [] b.controls (attributes_at c id b row).after.controls
+  attributes-lead : (id : ℕ) (b : Bay) (row : Option ℕ)
+      → Led [] b.controls (attributes_at c id b row).after.controls
   attributes-lead id b None = none-leads opens b.controls
   attributes-lead id b (Some place) = quiet-leads _ b _ _
 
-  service-leads : (id : ℕ) (b : Bay) (asking : Asking) → Led (service_entries c id b asking) b.controls (served c id b asking).after.controls
+  service-leads : (id : ℕ) (b : Bay) (asking : Asking)
+      → Led (service_entries c id b asking) b.controls (served c id b asking).after.controls
   service-leads id b identify = quiet-leads _ b _ _
   service-leads id b (names class place after) = quiet-leads _ b _ _
   service-leads id b (attributes name) = attributes-lead id b (row_named b name)
   service-leads id b (read ns) =
-      within-leads (nat_le (length (read_text id (read_all c ns (nothing_read b)).results)) c.size) b _ _ _ (read-leads ns (nothing_read b))
+      within-leads (nat_le (length (read_text id (read_all c ns (nothing_read b)).results)) c.size)
+      b _ _ _ (read-leads ns (nothing_read b))
   service-leads id b (write ns values) =
-      within-leads (nat_le (length (write_text id (write_all c ns values (nothing_written b)).results)) c.size) b _ _ _ (write-leads ns values (nothing_written b))
+      within-leads
+      (nat_le (length (write_text id (write_all c ns values (nothing_written b)).results))
+      c.size) b _ _ _ (write-leads ns values (nothing_written b))
 
   -- ---- the PDUs
 
-  message-leads : (b : Bay) (m : Result Message MmsFault) → Led (message_entries c b m) b.controls (answer_of c b m).after.controls
+  message-leads : (b : Bay) (m : Result Message MmsFault)
+      → Led (message_entries c b m) b.controls (answer_of c b m).after.controls
   message-leads b (Ok (initiate proposal)) = none-leads opens b.controls
   message-leads b (Ok conclude) = none-leads opens b.controls
   message-leads b (Ok (confirmed id asking)) = service-leads id b asking
@@ -133,6 +165,7 @@ module _ (c : Client) (opens : ℕ → Bool) (is_open : opens c.association ≡ 
   message-leads b (Err (TooMany id)) = none-leads opens b.controls
   message-leads b (Err OutOfMemory) = none-leads opens b.controls
 
-pub request-leads : (c : Client) (pdu : List ℕ) (b : Bay) (opens : ℕ → Bool) → opens c.association ≡ true
+pub request-leads : (c : Client) (pdu : List ℕ) (b : Bay) (opens : ℕ → Bool)
+    → opens c.association ≡ true
     → Leads (entries_in c pdu b) opens b.controls opens (answered c pdu b).after.controls
 request-leads c pdu b opens is_open = message-leads c opens is_open b (answer_to pdu)

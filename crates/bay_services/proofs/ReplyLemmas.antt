@@ -9,8 +9,8 @@ use Rattle.bay_ber.proofs.SizeLemmas.{length-element-is}
 use Rattle.bay_mms.proofs.PageLemmas.{more_than}
 use Rattle.bay_mms.specs.Tags.{constructed, int_tag}
 use Rattle.bay_mms.specs.Responses.{error_text, read_text, write_text}
-use Rattle.bay_mms.specs.declared.fault.WriteFault.{WriteFault}
-use Rattle.bay_mms.specs.declared.fault.WriteFault.TheVariants.{TooLong, OutOfMemory}
+use Rattle.bay_mms.specs.declared.fault.EncodeFault.{EncodeFault}
+use Rattle.bay_mms.specs.declared.fault.EncodeFault.TheVariants.{TooLong, OutOfMemory}
 use Rattle.bay_mms.specs.declared.response.ErrorClass.TheVariants.{Resource}
 use Rattle.bay_mms.specs.Writing.{Adds, written}
 use Rattle.bay_services.specs.Answers.{Answered, read_done, responded, said, within, write_done}
@@ -24,7 +24,8 @@ use Rattle.bay_services.specs.declared.client.Client.{Client}
 
 -- ---- what fits
 
-fits_if : (b : Bool) (pdu found : List ℕ) → cond b (Some pdu) None ≡ Some found → (b ≡ true) × (found ≡ pdu)
+fits_if : (b : Bool) (pdu found : List ℕ) → cond b (Some pdu) None ≡ Some found
+    → (b ≡ true) × (found ≡ pdu)
 fits_if true pdu found is = (refl, cc)
 fits_if false pdu found is = absurd cc
 
@@ -32,50 +33,72 @@ over_if : (b : Bool) (pdu : List ℕ) → cond b (Some pdu) None ≡ None → b 
 over_if true pdu is = absurd cc
 over_if false pdu is = refl
 
-pub fits : (size : ℕ) (pdu found : List ℕ) → fitting size pdu ≡ Some found → (nat_le (length pdu) size ≡ true) × (found ≡ pdu)
+pub fits : (size : ℕ) (pdu found : List ℕ) → fitting size pdu ≡ Some found
+    → (nat_le (length pdu) size ≡ true) × (found ≡ pdu)
 fits size pdu found is = fits_if (nat_le (length pdu) size) pdu found is
 
 pub over : (size : ℕ) (pdu : List ℕ) → fitting size pdu ≡ None → nat_le (length pdu) size ≡ false
 over size pdu is = over_if (nat_le (length pdu) size) pdu is
 
-pub within_fits : (c : Client) (id : ℕ) (b : Bay) (response found : List ℕ) (answer : Answered) → fitting c.size response ≡ Some found → within c id b response answer ≡ answer
-within_fits c id b response found answer is = ap (λ t. cond t answer (said (error_text id Resource) b)) (fits c.size response found is).0
+pub within_fits : (c : Client) (id : ℕ) (b : Bay) (response found : List ℕ) (answer : Answered)
+    → fitting c.size response ≡ Some found → within c id b response answer ≡ answer
+within_fits c id b response found answer is =
+    ap (λ t. cond t answer (said (error_text id Resource) b)) (fits c.size response found is).0
 
-pub within_over : (c : Client) (id : ℕ) (b : Bay) (response : List ℕ) (answer : Answered) → fitting c.size response ≡ None → within c id b response answer ≡ said (error_text id Resource) b
-within_over c id b response answer is = ap (λ t. cond t answer (said (error_text id Resource) b)) (over c.size response is)
+pub within_over : (c : Client) (id : ℕ) (b : Bay) (response : List ℕ) (answer : Answered)
+    → fitting c.size response ≡ None
+    → within c id b response answer ≡ said (error_text id Resource) b
+within_over c id b response answer is =
+    ap (λ t. cond t answer (said (error_text id Resource) b)) (over c.size response is)
 
 -- ---- answers
 
-pub said_as : (r : Result Answer AllocError) (p : List ℕ) (b : Bay) (x : Answered) → IfOk r (λ a. (d : Bay) → AnswersAs a d (said p d)) → x ≡ said p b → IfOk r (λ a. AnswersAs a b x)
+pub said_as : (r : Result Answer AllocError) (p : List ℕ) (b : Bay) (x : Answered)
+    → IfOk r (λ a. (d : Bay) → AnswersAs a d (said p d)) → x ≡ said p b
+    → IfOk r (λ a. AnswersAs a b x)
 said_as (Ok a) p b x told is = subst (AnswersAs a b) (sym is) (told b)
 said_as (Err e) p b x told is = tt
 
-pub said_alike : (r : Result Answer AllocError) (p q : List ℕ) → p ≡ q → IfOk r (λ a. (d : Bay) → AnswersAs a d (said p d)) → IfOk r (λ a. (d : Bay) → AnswersAs a d (said q d))
-said_alike r p q is told = subst (λ (s : List ℕ). IfOk r (λ a. (d : Bay) → AnswersAs a d (said s d))) is told
+pub said_alike : (r : Result Answer AllocError) (p q : List ℕ) → p ≡ q
+    → IfOk r (λ a. (d : Bay) → AnswersAs a d (said p d))
+    → IfOk r (λ a. (d : Bay) → AnswersAs a d (said q d))
+said_alike r p q is told =
+    subst (λ (s : List ℕ). IfOk r (λ a. (d : Bay) → AnswersAs a d (said s d))) is told
 
-pub responded_fits : (c : Client) (id : ℕ) (b : Bay) (pdu found : List ℕ) (was : Option (List ℕ)) → was ≡ fitting c.size pdu → was ≡ Some found → responded c id b pdu ≡ said found b
+pub responded_fits : (c : Client) (id : ℕ) (b : Bay) (pdu found : List ℕ) (was : Option (List ℕ))
+    → was ≡ fitting c.size pdu → was ≡ Some found → responded c id b pdu ≡ said found b
 responded_fits c id b pdu found was is some =
     let fit = sym is ∙ some in
-    within_fits c id b pdu found (said pdu b) fit ∙ ap (λ p. said p b) (sym (fits c.size pdu found fit).1)
+    within_fits c id b pdu found (said pdu b) fit
+    ∙ ap (λ p. said p b) (sym (fits c.size pdu found fit).1)
 
-pub responded_over : (c : Client) (id : ℕ) (b : Bay) (pdu : List ℕ) (was : Option (List ℕ)) → was ≡ fitting c.size pdu → was ≡ None → responded c id b pdu ≡ said (error_text id Resource) b
+pub responded_over : (c : Client) (id : ℕ) (b : Bay) (pdu : List ℕ) (was : Option (List ℕ))
+    → was ≡ fitting c.size pdu → was ≡ None → responded c id b pdu ≡ said (error_text id Resource) b
 responded_over c id b pdu was is none = within_over c id b pdu (said pdu b) (sym is ∙ none)
 
-pub read_fits : (c : Client) (id : ℕ) (b new : Bay) (r : Reading) (found : List ℕ) (was : Option (List ℕ)) → was ≡ fitting c.size (read_text id r.results) → was ≡ Some found → new ≡ r.bay → read_done c id b r ≡ said found new
+pub read_fits : (c : Client) (id : ℕ) (b new : Bay) (r : Reading) (found : List ℕ)
+    (was : Option (List ℕ)) → was ≡ fitting c.size (read_text id r.results) → was ≡ Some found
+    → new ≡ r.bay → read_done c id b r ≡ said found new
 read_fits c id b new r found was is some at =
     let fit = sym is ∙ some in
     let whole : Bay → Answered = λ (d : Bay). said (read_text id r.results) d in
-    within_fits c id b (read_text id r.results) found _ fit ∙ ap whole (sym at) ∙ ap (λ p. said p new) (sym (fits c.size (read_text id r.results) found fit).1)
+    within_fits c id b (read_text id r.results) found _ fit ∙ ap whole (sym at)
+    ∙ ap (λ p. said p new) (sym (fits c.size (read_text id r.results) found fit).1)
 
-pub read_over : (c : Client) (id : ℕ) (b : Bay) (r : Reading) (was : Option (List ℕ)) → was ≡ fitting c.size (read_text id r.results) → was ≡ None → read_done c id b r ≡ said (error_text id Resource) b
+pub read_over : (c : Client) (id : ℕ) (b : Bay) (r : Reading) (was : Option (List ℕ))
+    → was ≡ fitting c.size (read_text id r.results) → was ≡ None
+    → read_done c id b r ≡ said (error_text id Resource) b
 read_over c id b r was is none = within_over c id b (read_text id r.results) _ (sym is ∙ none)
 
-pub write_over : (c : Client) (id : ℕ) (b : Bay) (w : Writing) (was : Option (List ℕ)) → was ≡ fitting c.size (write_text id w.results) → was ≡ None → write_done c id b w ≡ said (error_text id Resource) b
+pub write_over : (c : Client) (id : ℕ) (b : Bay) (w : Writing) (was : Option (List ℕ))
+    → was ≡ fitting c.size (write_text id w.results) → was ≡ None
+    → write_done c id b w ≡ said (error_text id Resource) b
 write_over c id b w was is none = within_over c id b (write_text id w.results) _ (sym is ∙ none)
 
 -- ---- results of calls
 
-pub both : (r : Result (Unit {0}) AllocError) (P Q R : Type 0) → OnOk r P → OnOk r Q → (P → Q → R) → OnOk r R
+pub both : (r : Result (Unit {0}) AllocError) (P Q R : Type 0) → OnOk r P → OnOk r Q → (P → Q → R)
+    → OnOk r R
 both (Ok done) P Q R p q f = f p q
 both (Err e) P Q R p q f = tt
 
@@ -83,11 +106,13 @@ pub mapped : (r : Result (Unit {0}) AllocError) (P R : Type 0) → OnOk r P → 
 mapped (Ok done) P R p f = f p
 mapped (Err e) P R p f = tt
 
-pub added : (r : Result (Unit {0}) WriteFault) (old new text : List ℕ) (P : Type 0) → Adds old r new text → (new ≡ old ++ text → P) → OnOk r P
+pub added : (r : Result (Unit {0}) EncodeFault) (old new text : List ℕ) (P : Type 0)
+    → Adds old r new text → (new ≡ old ++ text → P) → OnOk r P
 added (Ok done) old new text P adds f = f adds
 added (Err e) old new text P adds f = tt
 
-pub too_long : (r : Result (Unit {0}) WriteFault) (old new text : List ℕ) (P : Type 0) → Adds old r new text → (4294967296 ≤ length text → P) → IfErr r (λ fault. fault ≡ TooLong → P)
+pub too_long : (r : Result (Unit {0}) EncodeFault) (old new text : List ℕ) (P : Type 0)
+    → Adds old r new text → (4294967296 ≤ length text → P) → IfErr r (λ fault. fault ≡ TooLong → P)
 too_long (Ok done) old new text P adds f = tt
 too_long (Err TooLong) old new text P adds f = λ is. f adds
 too_long (Err OutOfMemory) old new text P adds f = λ is. absurd cc
@@ -104,7 +129,8 @@ over_written text long =
     let test : nat_lt (length text) 4294967296 ≡ false = grind (arith, nat_tests) in
     rw test refl
 
-pub fault_told : (e : WriteFault) (text : List ℕ) → (e ≡ TooLong → 4294967296 ≤ length text) → (e ≡ OutOfMemory) ⊎ (written text ≡ Err e)
+pub fault_told : (e : EncodeFault) (text : List ℕ) → (e ≡ TooLong → 4294967296 ≤ length text)
+    → (e ≡ OutOfMemory) ⊎ (written text ≡ Err e)
 fault_told TooLong text long = inr (over_written text (long refl))
 fault_told OutOfMemory text long = inl refl
 
@@ -117,16 +143,24 @@ response_more id results =
     let one = element (constructed 1) results in
     let four = element (constructed 4) one in
     let number = element int_tag (integer_octets (pos id)) in
-    omega (arith, element_more (constructed 1) results, element_more (constructed 4) one, length-append number four, element_more (constructed 1) (number ++ four))
+    omega (
+      arith,
+      element_more (constructed 1) results,
+      element_more (constructed 4) one,
+      length-append number four,
+      element_more (constructed 1) (number ++ four),
+    )
 
-pub done : (r : Result (Vec ℕ Global) WriteFault) (P : Type 0) → is_ok r ≡ true → OnOk r P → P
+pub done : (r : Result (Vec ℕ Global) EncodeFault) (P : Type 0) → is_ok r ≡ true → OnOk r P → P
 done (Ok x) P is p = p
 done (Err e) P is p = absurd cc
 
-pub all_three : (r : Result (Unit {0}) AllocError) (P Q S R : Type 0) → OnOk r P → OnOk r Q → OnOk r S → (P → Q → S → R) → OnOk r R
+pub all_three : (r : Result (Unit {0}) AllocError) (P Q S R : Type 0) → OnOk r P → OnOk r Q
+    → OnOk r S → (P → Q → S → R) → OnOk r R
 all_three (Ok done) P Q S R p q s f = f p q s
 all_three (Err e) P Q S R p q s f = tt
 
-pub answered_from : (r : Result Answer AllocError) (x : Bay → Answered) (b : Bay) (y : Answered) → IfOk r (λ a. (d : Bay) → AnswersAs a d (x d)) → y ≡ x b → IfOk r (λ a. AnswersAs a b y)
+pub answered_from : (r : Result Answer AllocError) (x : Bay → Answered) (b : Bay) (y : Answered)
+    → IfOk r (λ a. (d : Bay) → AnswersAs a d (x d)) → y ≡ x b → IfOk r (λ a. AnswersAs a b y)
 answered_from (Ok a) x b y told is = subst (AnswersAs a b) (sym is) (told b)
 answered_from (Err e) x b y told is = tt

@@ -52,54 +52,78 @@ both_short xs ys a b = All-append (λ (pdu : List ℕ). length pdu ≤ 65000) xs
 error_fits : (id : ℕ) (class : ErrorClass) (b : Bay) → AreShort (said (error_text id class) b).sent
 error_fits id class b = one_short (error_text id class) (omega (arith, error_short id class))
 
-within_if : (c : Client) (id : ℕ) (b : Bay) (response : List ℕ) (answer : Answered) (t : Bool) → (t ≡ true → AreShort answer.sent) → AreShort (cond t answer (said (error_text id Resource) b)).sent
+within_if : (c : Client) (id : ℕ) (b : Bay) (response : List ℕ) (answer : Answered) (t : Bool)
+    → (t ≡ true → AreShort answer.sent)
+    → AreShort (cond t answer (said (error_text id Resource) b)).sent
 within_if c id b response answer true short = short refl
 within_if c id b response answer false short = error_fits id Resource b
 
-fits_size : (size : ℕ) (pdu : List ℕ) → size ≤ 65000 → nat_le (length pdu) size ≡ true → length pdu ≤ 65000
+fits_size : (size : ℕ) (pdu : List ℕ) → size ≤ 65000 → nat_le (length pdu) size ≡ true
+    → length pdu ≤ 65000
 fits_size size pdu most is = grind (arith, nat_tests)
 
-responded_short : (c : Client) (id : ℕ) (b : Bay) (pdu : List ℕ) → c.size ≤ 65000 → AreShort (responded c id b pdu).sent
-responded_short c id b pdu most = within_if c id b pdu (said pdu b) (nat_le (length pdu) c.size) (λ is. one_short pdu (fits_size c.size pdu most is))
+responded_short : (c : Client) (id : ℕ) (b : Bay) (pdu : List ℕ) → c.size ≤ 65000
+    → AreShort (responded c id b pdu).sent
+responded_short c id b pdu most =
+    within_if c id b pdu (said pdu b) (nat_le (length pdu) c.size)
+    (λ is. one_short pdu (fits_size c.size pdu most is))
 
 -- ---- the reports of a write
 
-fitting_if : (size : ℕ) (pdu : List ℕ) (t : Bool) → nat_le (length pdu) size ≡ t → size ≤ 65000 → AreShort (option_to_list (cond t (Some pdu) None))
+fitting_if : (size : ℕ) (pdu : List ℕ) (t : Bool) → nat_le (length pdu) size ≡ t → size ≤ 65000
+    → AreShort (option_to_list (cond t (Some pdu) None))
 fitting_if size pdu true is most = one_short pdu (fits_size size pdu most is)
 fitting_if size pdu false is most = none_long
 
-report_if : (c : Client) (pdu : List ℕ) (t : Bool) → c.size ≤ 65000 → AreShort (cond t (option_to_list (fitting c.size pdu)) [])
+report_if : (c : Client) (pdu : List ℕ) (t : Bool) → c.size ≤ 65000
+    → AreShort (cond t (option_to_list (fitting c.size pdu)) [])
 report_if c pdu true most = fitting_if c.size pdu (nat_le (length pdu) c.size) refl most
 report_if c pdu false most = none_long
 
-refusals_short : (c : Client) (k : ℕ) (item : List ℕ) (control : Control) (b : Bay) (answer : Result (Unit {0}) AddCause) → c.size ≤ 65000 → AreShort (refusal_reports c k item control b answer)
+refusals_short : (c : Client) (k : ℕ) (item : List ℕ) (control : Control) (b : Bay)
+    (answer : Result (Unit {0}) AddCause) → c.size ≤ 65000
+    → AreShort (refusal_reports c k item control b answer)
 refusals_short c k item control b (Ok done) most = none_long
-refusals_short c k item control b (Err why) most = report_if c (refusal_report (object_of b item) control why) (has_reports b k) most
+refusals_short c k item control b (Err why) most =
+    report_if c (refusal_report (object_of b item) control why) (has_reports b k) most
 
-more_short : (c : Client) (k : ℕ) (item : List ℕ) (control : Control) (w : Writing) (answer : Result (Unit {0}) AddCause) → c.size ≤ 65000 → AreShort w.reports → AreShort (w.reports ++ refusal_reports c k item control w.bay answer)
-more_short c k item control w answer most short = both_short w.reports (refusal_reports c k item control w.bay answer) short (refusals_short c k item control w.bay answer most)
+more_short : (c : Client) (k : ℕ) (item : List ℕ) (control : Control) (w : Writing)
+    (answer : Result (Unit {0}) AddCause) → c.size ≤ 65000 → AreShort w.reports
+    → AreShort (w.reports ++ refusal_reports c k item control w.bay answer)
+more_short c k item control w answer most short =
+    both_short w.reports (refusal_reports c k item control w.bay answer) short
+    (refusals_short c k item control w.bay answer most)
 
 -- ---- the reports of an end
 
-fitting_some : (size : ℕ) (pdu : List ℕ) (t : Bool) → nat_le (length pdu) size ≡ t → size ≤ 65000 → IfSome (cond t (Some pdu) None) (λ p. length p ≤ 65000)
+fitting_some : (size : ℕ) (pdu : List ℕ) (t : Bool) → nat_le (length pdu) size ≡ t → size ≤ 65000
+    → IfSome (cond t (Some pdu) None) (λ p. length p ≤ 65000)
 fitting_some size pdu true is most = fits_size size pdu most is
 fitting_some size pdu false is most = tt
 
-ending_short : (c : Client) (item : List ℕ) (o : asked.Operate) (b : Bay) → c.size ≤ 65000 → controls.AreShort (ending_of c item o b)
+ending_short : (c : Client) (item : List ℕ) (o : asked.Operate) (b : Bay) → c.size ≤ 65000
+    → controls.AreShort (ending_of c item o b)
 ending_short c item o b most = record {
-  positive = fitting_some c.size (termination_report b.domain item o) (nat_le (length (termination_report b.domain item o)) c.size) refl most;
-  negative = fitting_some c.size (failed_report (object_of b item) b.domain item o) (nat_le (length (failed_report (object_of b item) b.domain item o)) c.size) refl most;
+  positive =
+      fitting_some c.size (termination_report b.domain item o)
+      (nat_le (length (termination_report b.domain item o)) c.size) refl most;
+  negative =
+      fitting_some c.size (failed_report (object_of b item) b.domain item o)
+      (nat_le (length (failed_report (object_of b item) b.domain item o)) c.size) refl most;
 }
 
-endings_if : (c : Client) (item : List ℕ) (o : asked.Operate) (b : Bay) (t : Bool) → c.size ≤ 65000 → IsShort (cond t (Some (ending_of c item o b)) None)
+endings_if : (c : Client) (item : List ℕ) (o : asked.Operate) (b : Bay) (t : Bool) → c.size ≤ 65000
+    → IsShort (cond t (Some (ending_of c item o b)) None)
 endings_if c item o b true most = ending_short c item o b most
 endings_if c item o b false most = tt
 
-endings_short : (c : Client) (k : ℕ) (item : List ℕ) (o : asked.Operate) (b : Bay) (answer : Result (Unit {0}) AddCause) → c.size ≤ 65000 → IsShort (endings c k item o b answer)
+endings_short : (c : Client) (k : ℕ) (item : List ℕ) (o : asked.Operate) (b : Bay)
+    (answer : Result (Unit {0}) AddCause) → c.size ≤ 65000 → IsShort (endings c k item o b answer)
 endings_short c k item o b (Ok done) most = endings_if c item o b (has_reports b k) most
 endings_short c k item o b (Err why) most = tt
 
-later_short : (before later : Option Ending) → IsShort before → IsShort later → IsShort (later_ending before later)
+later_short : (before later : Option Ending) → IsShort before → IsShort later
+    → IsShort (later_ending before later)
 later_short before None a b = a
 later_short before (Some ending) a b = b
 
@@ -108,58 +132,94 @@ later_short before (Some ending) a b = b
 abbrev IsFit : Writing → Type 0
 IsFit w = AreShort w.reports × IsShort w.ending
 
-select_with_short : (c : Client) (k : ℕ) (item : List ℕ) (w : Writing) (x : Result asked.Operate ControlFault) → c.size ≤ 65000 → IsFit w → IsFit (select_with_asked c k item w x)
+select_with_short : (c : Client) (k : ℕ) (item : List ℕ) (w : Writing)
+    (x : Result asked.Operate ControlFault) → c.size ≤ 65000 → IsFit w
+    → IsFit (select_with_asked c k item w x)
 select_with_short c k item w (Err fault) most short = short
-select_with_short c k item w (Ok o) most short = (more_short c k item o.control w (select_with_outcome c.association k (ask_of o) c.now w.bay.controls).answer most short.0, short.1)
+select_with_short c k item w (Ok o) most short = (
+  more_short c k item o.control w
+      (select_with_outcome c.association k (ask_of o) c.now w.bay.controls).answer most short.0,
+  short.1,
+)
 
-operate_short : (c : Client) (k : ℕ) (item : List ℕ) (w : Writing) (x : Result asked.Operate ControlFault) → c.size ≤ 65000 → IsFit w → IsFit (operate_asked c k item w x)
+operate_short : (c : Client) (k : ℕ) (item : List ℕ) (w : Writing)
+    (x : Result asked.Operate ControlFault) → c.size ≤ 65000 → IsFit w
+    → IsFit (operate_asked c k item w x)
 operate_short c k item w (Err fault) most short = short
 operate_short c k item w (Ok o) most short =
-    let answer = (operate_outcome c.association k (ask_of o) (view_of c k w.bay) c.now w.bay.controls).answer in
-    (more_short c k item o.control w answer most short.0, later_short w.ending (endings c k item o w.bay answer) short.1 (endings_short c k item o w.bay answer most))
+    let answer =
+    (operate_outcome c.association k (ask_of o) (view_of c k w.bay) c.now w.bay.controls).answer
+    in (
+      more_short c k item o.control w answer most short.0,
+      later_short w.ending (endings c k item o w.bay answer) short.1
+          (endings_short c k item o w.bay answer most),
+    )
 
-cancel_short : (c : Client) (k : ℕ) (item : List ℕ) (w : Writing) (x : Result Control ControlFault) → c.size ≤ 65000 → IsFit w → IsFit (cancel_asked c k item w x)
+cancel_short : (c : Client) (k : ℕ) (item : List ℕ) (w : Writing) (x : Result Control ControlFault)
+    → c.size ≤ 65000 → IsFit w → IsFit (cancel_asked c k item w x)
 cancel_short c k item w (Err fault) most short = short
-cancel_short c k item w (Ok control) most short = (more_short c k item control w (cancel_outcome c.association k c.now w.bay.controls).answer most short.0, short.1)
+cancel_short c k item w (Ok control) most short = (
+  more_short c k item control w (cancel_outcome c.association k c.now w.bay.controls).answer most
+      short.0,
+  short.1,
+)
 
-part_short : (c : Client) (k : ℕ) (item : List ℕ) (given : Datum) (w : Writing) (part : ControlPart) → c.size ≤ 65000 → IsFit w → IsFit (write_part c k item given w part)
+part_short : (c : Client) (k : ℕ) (item : List ℕ) (given : Datum) (w : Writing) (part : ControlPart)
+    → c.size ≤ 65000 → IsFit w → IsFit (write_part c k item given w part)
 part_short c k item given w Select most short = short
-part_short c k item given w SelectWith most short = select_with_short c k item w (operate_in given) most short
-part_short c k item given w Operate most short = operate_short c k item w (operate_in given) most short
+part_short c k item given w SelectWith most short =
+    select_with_short c k item w (operate_in given) most short
+part_short c k item given w Operate most short =
+    operate_short c k item w (operate_in given) most short
 part_short c k item given w Cancel most short = cancel_short c k item w (cancel_in given) most short
 
-target_short : (c : Client) (item : List ℕ) (given : Datum) (w : Writing) (t : Option Target) → c.size ≤ 65000 → IsFit w → IsFit (write_target c item given w t)
+target_short : (c : Client) (item : List ℕ) (given : Datum) (w : Writing) (t : Option Target)
+    → c.size ≤ 65000 → IsFit w → IsFit (write_target c item given w t)
 target_short c item given w None most short = short
-target_short c item given w (Some t) most short = part_short c t.switch item given w t.part most short
+target_short c item given w (Some t) most short =
+    part_short c t.switch item given w t.part most short
 
-row_short : (c : Client) (given : Datum) (w : Writing) (place : Option ℕ) → c.size ≤ 65000 → IsFit w → IsFit (write_row c given w place)
+row_short : (c : Client) (given : Datum) (w : Writing) (place : Option ℕ) → c.size ≤ 65000 → IsFit w
+    → IsFit (write_row c given w place)
 row_short c given w None most short = short
-row_short c given w (Some place) most short = target_short c (name_at w.bay.rows place) given w (target_of (length w.bay.switches) (name_at w.bay.rows place)) most short
+row_short c given w (Some place) most short =
+    target_short c (name_at w.bay.rows place) given w
+    (target_of (length w.bay.switches) (name_at w.bay.rows place)) most short
 
-all_short : (c : Client) (ns : List Naming) (values : List Datum) (w : Writing) → c.size ≤ 65000 → IsFit w → IsFit (write_all c ns values w)
+all_short : (c : Client) (ns : List Naming) (values : List Datum) (w : Writing) → c.size ≤ 65000
+    → IsFit w → IsFit (write_all c ns values w)
 all_short c [] values w most short = short
 all_short c (n ∷ ns) [] w most short = short
-all_short c (n ∷ ns) (given ∷ values) w most short = all_short c ns values (write_one c n given w) most (row_short c given w (row_named w.bay n) most short)
+all_short c (n ∷ ns) (given ∷ values) w most short =
+    all_short c ns values (write_one c n given w) most
+    (row_short c given w (row_named w.bay n) most short)
 
 -- ---- all answers
 
-attributes_short : (c : Client) (id : ℕ) (b : Bay) (place : Option ℕ) → c.size ≤ 65000 → AreShort (attributes_at c id b place).sent
+attributes_short : (c : Client) (id : ℕ) (b : Bay) (place : Option ℕ) → c.size ≤ 65000
+    → AreShort (attributes_at c id b place).sent
 attributes_short c id b None most = error_fits id NoSuchObject b
 attributes_short c id b (Some place) most = responded_short c id b _ most
 
-read_short : (c : Client) (id : ℕ) (b : Bay) (ns : List Naming) → c.size ≤ 65000 → AreShort (read_asked c id b ns).sent
+read_short : (c : Client) (id : ℕ) (b : Bay) (ns : List Naming) → c.size ≤ 65000
+    → AreShort (read_asked c id b ns).sent
 read_short c id b ns most =
     let text = read_text id (read_all c ns (nothing_read b)).results in
-    within_if c id b text _ (nat_le (length text) c.size) (λ is. one_short text (fits_size c.size text most is))
+    within_if c id b text _ (nat_le (length text) c.size)
+    (λ is. one_short text (fits_size c.size text most is))
 
-write_short : (c : Client) (id : ℕ) (b : Bay) (ns : List Naming) (values : List Datum) → c.size ≤ 65000 → AreShort (write_asked c id b ns values).sent
+write_short : (c : Client) (id : ℕ) (b : Bay) (ns : List Naming) (values : List Datum)
+    → c.size ≤ 65000 → AreShort (write_asked c id b ns values).sent
 write_short c id b ns values most =
     let w = write_all c ns values (nothing_written b) in
     let text = write_text id w.results in
     within_if c id b text _ (nat_le (length text) c.size)
-    (λ is. both_short w.reports (text ∷ []) (all_short c ns values (nothing_written b) most (none_long, tt)).0 (one_short text (fits_size c.size text most is)))
+    (λ is. both_short w.reports (text ∷ [])
+    (all_short c ns values (nothing_written b) most (none_long, tt)).0
+    (one_short text (fits_size c.size text most is)))
 
-served_short : (c : Client) (id : ℕ) (b : Bay) (x : Asking) → c.size ≤ 65000 → AreShort (served c id b x).sent
+served_short : (c : Client) (id : ℕ) (b : Bay) (x : Asking) → c.size ≤ 65000
+    → AreShort (served c id b x).sent
 served_short c id b identify most = responded_short c id b _ most
 served_short c id b (names class place after) most = responded_short c id b _ most
 served_short c id b (attributes name) most = attributes_short c id b (row_named b name) most
@@ -169,9 +229,11 @@ served_short c id b (write ns values) most = write_short c id b ns values most
 rejected_fits : (id : Option ℕ) (reason : RejectReason) → AreShort (reject_text id reason ∷ [])
 rejected_fits id reason = one_short (reject_text id reason) (omega (arith, reject_short id reason))
 
-pub answer_short : (c : Client) (b : Bay) (x : Result Message MmsFault) → c.size ≤ 65000 → AreShort (answer_of c b x).sent
+pub answer_short : (c : Client) (b : Bay) (x : Result Message MmsFault) → c.size ≤ 65000
+    → AreShort (answer_of c b x).sent
 answer_short c b (Ok (initiate proposal)) most = rejected_fits None InvalidPdu
-answer_short c b (Ok conclude) most = one_short concluded_text (omega (arith, length-element (context 12) []))
+answer_short c b (Ok conclude) most =
+    one_short concluded_text (omega (arith, length-element (context 12) []))
 answer_short c b (Ok (confirmed id x)) most = served_short c id b x most
 answer_short c b (Err (BadPdu known)) most = rejected_fits known InvalidPdu
 answer_short c b (Err (UnknownService id)) most = rejected_fits (Some id) UnrecognizedService
@@ -180,35 +242,43 @@ answer_short c b (Err OutOfMemory) most = rejected_fits None InvalidPdu
 
 -- ---- the ends that all answers tell of
 
-ending_within : (c : Client) (id : ℕ) (b : Bay) (response : List ℕ) (answer : Answered) (t : Bool) → IsShort answer.ending → IsShort (cond t answer (said (error_text id Resource) b)).ending
+ending_within : (c : Client) (id : ℕ) (b : Bay) (response : List ℕ) (answer : Answered) (t : Bool)
+    → IsShort answer.ending → IsShort (cond t answer (said (error_text id Resource) b)).ending
 ending_within c id b response answer true short = short
 ending_within c id b response answer false short = tt
 
-responded_end : (c : Client) (id : ℕ) (b : Bay) (pdu : List ℕ) → IsShort (responded c id b pdu).ending
+responded_end : (c : Client) (id : ℕ) (b : Bay) (pdu : List ℕ)
+    → IsShort (responded c id b pdu).ending
 responded_end c id b pdu = ending_within c id b pdu (said pdu b) (nat_le (length pdu) c.size) tt
 
-attributes_end : (c : Client) (id : ℕ) (b : Bay) (place : Option ℕ) → IsShort (attributes_at c id b place).ending
+attributes_end : (c : Client) (id : ℕ) (b : Bay) (place : Option ℕ)
+    → IsShort (attributes_at c id b place).ending
 attributes_end c id b None = tt
 attributes_end c id b (Some place) = responded_end c id b _
 
-read_end : (c : Client) (id : ℕ) (b : Bay) (ns : List Naming) → IsShort (read_asked c id b ns).ending
+read_end : (c : Client) (id : ℕ) (b : Bay) (ns : List Naming)
+    → IsShort (read_asked c id b ns).ending
 read_end c id b ns =
     let text = read_text id (read_all c ns (nothing_read b)).results in
     ending_within c id b text _ (nat_le (length text) c.size) tt
 
-write_end : (c : Client) (id : ℕ) (b : Bay) (ns : List Naming) (values : List Datum) → c.size ≤ 65000 → IsShort (write_asked c id b ns values).ending
+write_end : (c : Client) (id : ℕ) (b : Bay) (ns : List Naming) (values : List Datum)
+    → c.size ≤ 65000 → IsShort (write_asked c id b ns values).ending
 write_end c id b ns values most =
     let text = write_text id (write_all c ns values (nothing_written b)).results in
-    ending_within c id b text _ (nat_le (length text) c.size) (all_short c ns values (nothing_written b) most (none_long, tt)).1
+    ending_within c id b text _ (nat_le (length text) c.size)
+    (all_short c ns values (nothing_written b) most (none_long, tt)).1
 
-served_end : (c : Client) (id : ℕ) (b : Bay) (x : Asking) → c.size ≤ 65000 → IsShort (served c id b x).ending
+served_end : (c : Client) (id : ℕ) (b : Bay) (x : Asking) → c.size ≤ 65000
+    → IsShort (served c id b x).ending
 served_end c id b identify most = responded_end c id b _
 served_end c id b (names class place after) most = responded_end c id b _
 served_end c id b (attributes name) most = attributes_end c id b (row_named b name)
 served_end c id b (read ns) most = read_end c id b ns
 served_end c id b (write ns values) most = write_end c id b ns values most
 
-pub answer_end : (c : Client) (b : Bay) (x : Result Message MmsFault) → c.size ≤ 65000 → IsShort (answer_of c b x).ending
+pub answer_end : (c : Client) (b : Bay) (x : Result Message MmsFault) → c.size ≤ 65000
+    → IsShort (answer_of c b x).ending
 answer_end c b (Ok (initiate proposal)) most = tt
 answer_end c b (Ok conclude) most = tt
 answer_end c b (Ok (confirmed id x)) most = served_end c id b x most

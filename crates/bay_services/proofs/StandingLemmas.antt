@@ -6,9 +6,15 @@ use Rattle.bay_services.specs.Bay.{Bay, shown, standing_again, with_controls}
 use Rattle.bay_services.proofs.ShownLemmas.{shown_again}
 
 -- controls of the same switches are put back alike
-pub again : (standing : Standing) (c : State) (b : Bay) → c.controls ≡ b.controls.controls → standing_again standing (with_controls c b) ≡ standing_again standing b
+pub again : (standing : Standing) (c : State) (b : Bay) → c.controls ≡ b.controls.controls
+    → standing_again standing (with_controls c b) ≡ standing_again standing b
 again standing c b same =
     let selected = selected_switch standing.selection in
-    let of_controls : State → Bay = λ (s : State). record b { controls = s; rows = shown selected (length b.switches) (with_controls c b).rows } in
-    ap (λ (cs : _). of_controls (record { controls = cs; selection = standing.selection; execution = standing.execution })) same
-    ∙ ap (λ (rows : _). record b { controls = restored standing b.controls; rows = rows }) (shown_again selected (selected_switch c.selection) (length b.switches) b.rows)
+    let of_controls : State → Bay =
+    λ (s : State). record b
+    { controls = s; rows = shown selected (length b.switches) (with_controls c b).rows } in
+    ap (λ (cs : _). of_controls
+    (record { controls = cs; selection = standing.selection; execution = standing.execution }))
+    same
+    ∙ ap (λ (rows : _). record b { controls = restored standing b.controls; rows = rows })
+    (shown_again selected (selected_switch c.selection) (length b.switches) b.rows)

@@ -2,7 +2,7 @@
 -- of it, by the octets of its answer (ISO 9506-2, Read and Write; IEC 61850-8-1). Nothing here
 -- looks at controls.
 use Rattle.std.specs.Prelude.{ℕ, ◌≡◌, Bool, true, false, ◌&&◌, List, [], ◌∷◌, ◌++◌, Option, Some, None, is_some, if◌then◌else◌, unwrap_or, Result, Ok, Err}
-use Rattle.bay_ber.specs.Options.{◌>>=◌}
+use Rattle.bay_base.specs.Options.{◌>>=◌}
 use Rattle.bay_ber.specs.Tags.{same_tag}
 use Rattle.bay_ber.specs.Values.{Part, under, value_in, values_in}
 use Rattle.bay_tree.specs.Rows.{names_of}
@@ -41,6 +41,7 @@ read_act a k SelectWith = None
 read_act a k Operate = None
 read_act a k Cancel = None
 
+-- a read of SBO selects
 abbrev pub act_of_read : ℕ → Option Target → Option Act
 act_of_read a None = None
 act_of_read a (Some t) = read_act a t.switch t.part
@@ -50,14 +51,17 @@ abbrev pub select_with_act : ℕ → ℕ → Result asked.Operate ControlFault �
 select_with_act a k (Ok o) = Some (act.SelectWith a k (asked_choice (ask_of o)))
 select_with_act a k (Err fault) = None
 
+-- a write of Oper operates
 abbrev pub operate_act : ℕ → ℕ → Result asked.Operate ControlFault → Option Act
 operate_act a k (Ok o) = Some (act.Operate a k (asked_choice (ask_of o)))
 operate_act a k (Err fault) = None
 
+-- a write of Cancel gives a selection up
 abbrev pub cancel_act : ℕ → ℕ → Result Control ControlFault → Option Act
 cancel_act a k (Ok control) = Some (act.Cancel a k)
 cancel_act a k (Err fault) = None
 
+-- what a write to a part of a control asks for
 abbrev pub write_act : ℕ → Datum → ℕ → ControlPart → Option Act
 write_act a given k Select = None
 write_act a given k SelectWith = select_with_act a k (operate_in given)
@@ -70,6 +74,7 @@ act_of_write a given (Some t) = write_act a given t.switch t.part
 
 -- ---- what was accepted
 
+-- the text of a select that was accepted is not empty
 abbrev pub is_some_text : List ℕ → Bool
 is_some_text [] = false
 is_some_text (octet ∷ octets) = true
@@ -93,11 +98,15 @@ behind_id (id ∷ service ∷ more ∷ parts) = None
 
 -- what stands under a service's tag in a confirmed response
 abbrev pub service_in : ℕ → List ℕ → Option (List ℕ)
-service_in number pdu = value_in pdu >>= under (constructed 1) >>= values_in >>= behind_id >>= under (constructed number)
+service_in number pdu =
+    value_in pdu >>= under (constructed 1) >>= values_in >>= behind_id
+    >>= under (constructed number)
 
+-- the results of a response to a read
 abbrev pub read_results : List ℕ → Option (List Part)
 read_results pdu = service_in 4 pdu >>= value_in >>= under (constructed 1) >>= values_in
 
+-- the results of a response to a write
 abbrev pub write_results : List ℕ → Option (List Part)
 write_results pdu = service_in 5 pdu >>= values_in
 
@@ -108,27 +117,33 @@ abbrev pub read_accepted : ℕ → ℕ → Bay → List Naming → List Part →
 read_accepted now a b [] results = []
 read_accepted now a b (name ∷ ns) [] = []
 read_accepted now a b (name ∷ ns) (result ∷ results) =
-    entries_of now (act_of_read a (target_at b (row_named b name))) (is_granted result) ++ read_accepted now a b ns results
+    entries_of now (act_of_read a (target_at b (row_named b name))) (is_granted result)
+    ++ read_accepted now a b ns results
 
 abbrev pub write_accepted : ℕ → ℕ → Bay → List Naming → List Datum → List Part → List Entry
 write_accepted now a b [] values results = []
 write_accepted now a b (name ∷ ns) [] results = []
 write_accepted now a b (name ∷ ns) (given ∷ values) [] = []
 write_accepted now a b (name ∷ ns) (given ∷ values) (result ∷ results) =
-    entries_of now (act_of_write a given (target_at b (row_named b name))) (is_success result) ++ write_accepted now a b ns values results
+    entries_of now (act_of_write a given (target_at b (row_named b name))) (is_success result)
+    ++ write_accepted now a b ns values results
 
 -- an answer without results is an error, and then nothing was done
 abbrev pub service_accepted : ℕ → ℕ → Bay → Asking → List ℕ → List Entry
 service_accepted now a b identify response = []
 service_accepted now a b (names class place after) response = []
 service_accepted now a b (attributes name) response = []
-service_accepted now a b (read ns) response = read_accepted now a b ns (unwrap_or (read_results response) [])
-service_accepted now a b (write ns values) response = write_accepted now a b ns values (unwrap_or (write_results response) [])
+service_accepted now a b (read ns) response =
+    read_accepted now a b ns (unwrap_or (read_results response) [])
+service_accepted now a b (write ns values) response =
+    write_accepted now a b ns values (unwrap_or (write_results response) [])
 
+-- what was accepted of a PDU, by its response
 abbrev pub message_accepted : ℕ → ℕ → Bay → Result Message MmsFault → List ℕ → List Entry
 message_accepted now a b (Ok (initiate proposal)) response = []
 message_accepted now a b (Ok conclude) response = []
-message_accepted now a b (Ok (confirmed id asking)) response = service_accepted now a b asking response
+message_accepted now a b (Ok (confirmed id asking)) response =
+    service_accepted now a b asking response
 message_accepted now a b (Err fault) response = []
 
 -- What a PDU of a client asks at a moment, on an association, of the controls of a bay with these
@@ -150,6 +165,7 @@ may_report (attributes name) = false
 may_report (read ns) = false
 may_report (write ns values) = true
 
+-- a command termination or an AddCause may stand before the response to it
 abbrev pub may_be_reported : Result Message MmsFault → Bool
 may_be_reported (Ok (initiate proposal)) = false
 may_be_reported (Ok conclude) = false
@@ -159,4 +175,5 @@ may_be_reported (Err fault) = false
 -- the PDUs of an answer and those behind them: the response to the first, and those behind it
 abbrev pub first_response : Bool → List (List ℕ) → (List ℕ) × List (List ℕ)
 first_response reports [] = ([], [])
-first_response reports (pdu ∷ pdus) = if reports && is_report pdu then first_response reports pdus else (pdu, pdus)
+first_response reports (pdu ∷ pdus) =
+    if reports && is_report pdu then first_response reports pdus else (pdu, pdus)

@@ -38,7 +38,8 @@ said pdu b = record { sent = pdu ∷ []; commands = []; ending = None; after = b
 -- A response of more octets than are agreed is answered by an error of the class resource, and
 -- nothing is done.
 abbrev pub within : Client → ℕ → Bay → List ℕ → Answered → Answered
-within c id b response answer = if nat_le (length response) c.size then answer else said (error_text id Resource) b
+within c id b response answer =
+    if nat_le (length response) c.size then answer else said (error_text id Resource) b
 
 -- a response that does nothing else
 abbrev pub responded : Client → ℕ → Bay → List ℕ → Answered
@@ -47,17 +48,24 @@ responded c id b response = within c id b response (said response b)
 -- ---- the services
 
 abbrev pub identified : Client → ℕ → Bay → Answered
-identified c id b = responded c id b (response.confirmed id (element (constructed 2) (identity_text b.vendor b.model b.revision)))
+identified c id b =
+    responded c id b (response.confirmed id
+    (element (constructed 2) (identity_text b.vendor b.model b.revision)))
 
 -- the type of a variable, which can't be deleted by a client
 abbrev pub attributes_at : Client → ℕ → Bay → Option ℕ → Answered
 attributes_at c id b None = said (error_text id NoSuchObject) b
 attributes_at c id b (Some place) =
-    responded c id b (response.confirmed id (element (constructed 6) (element (context 0) (truth_octets false) ++ element (constructed 2) (type_text (type_at b.rows place)))))
+    responded c id b (response.confirmed id
+    (element (constructed 6)
+    (element (context 0) (truth_octets false)
+    ++ element (constructed 2) (type_text (type_at b.rows place)))))
 
 -- what is read, if its response fits
 abbrev pub read_done : Client → ℕ → Bay → Reading → Answered
-read_done c id b r = within c id b (read_text id r.results) (record { sent = read_text id r.results ∷ []; commands = []; ending = None; after = r.bay })
+read_done c id b r =
+    within c id b (read_text id r.results)
+    (record { sent = read_text id r.results ∷ []; commands = []; ending = None; after = r.bay })
 
 abbrev pub read_asked : Client → ℕ → Bay → List Naming → Answered
 read_asked c id b ns = read_done c id b (read_all c ns (nothing_read b))
@@ -65,12 +73,18 @@ read_asked c id b ns = read_done c id b (read_all c ns (nothing_read b))
 -- what is written, if its response fits; the reports of refusals come before it
 abbrev pub write_done : Client → ℕ → Bay → Writing → Answered
 write_done c id b w = within c id b (write_text id w.results)
-    (record { sent = w.reports ++ write_text id w.results ∷ []; commands = w.commands; ending = w.ending; after = w.bay })
+    (record {
+      sent = w.reports ++ write_text id w.results ∷ [];
+      commands = w.commands;
+      ending = w.ending;
+      after = w.bay;
+    })
 
 abbrev pub write_asked : Client → ℕ → Bay → List Naming → List Datum → Answered
 write_asked c id b ns values =
     write_done c id b (write_all c ns values (nothing_written b))
 
+-- the answer to a confirmed request
 abbrev pub served : Client → ℕ → Bay → Asking → Answered
 served c id b identify = identified c id b
 served c id b (names class place after) = responded c id b (listing c id class place after b)
@@ -91,12 +105,14 @@ asked c b (initiate proposal) = rejected None InvalidPdu b
 asked c b conclude = said concluded_text b
 asked c b (confirmed id asking) = served c id b asking
 
+-- the answer to a PDU that is not taken
 abbrev pub refused : MmsFault → Bay → Answered
 refused (BadPdu known) b = rejected known InvalidPdu b
 refused (UnknownService id) b = rejected (Some id) UnrecognizedService b
 refused (TooMany id) b = said (error_text id Resource) b
 refused OutOfMemory b = rejected None InvalidPdu b
 
+-- the answer to what was read of a PDU
 abbrev pub answer_of : Client → Bay → Result Message MmsFault → Answered
 answer_of c b (Ok message) = asked c b message
 answer_of c b (Err fault) = refused fault b

@@ -26,7 +26,9 @@ is_selected k (Some j) = j == k
 -- the rows with stSeld of each of so many switches: TRUE for the one that is selected
 abbrev pub shown : Option ℕ → ℕ → List Row → List Row
 shown selected zero rows = rows
-shown selected (suc k) rows = with_leaf_of ((control_names k).selected) (leaf.Truth (is_selected k selected)) (shown selected k rows)
+shown selected (suc k) rows =
+    with_leaf_of ((control_names k).selected) (leaf.Truth (is_selected k selected))
+    (shown selected k rows)
 
 -- The rows show which of so many switches is selected.
 abbrev pub ShowSelection : State → ℕ → List Row → Type 0
@@ -34,7 +36,11 @@ ShowSelection controls count rows = shown (selected_switch controls.selection) c
 
 -- a bay with these controls, whose selection its rows show
 abbrev pub with_controls : State → Bay → Bay
-with_controls controls b = record b { controls = controls; rows = shown (selected_switch controls.selection) (length b.switches) b.rows }
+with_controls controls b =
+    record b {
+      controls = controls;
+      rows = shown (selected_switch controls.selection) (length b.switches) b.rows;
+    }
 
 -- a bay with what stood before
 abbrev pub standing_again : Standing → Bay → Bay

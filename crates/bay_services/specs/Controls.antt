@@ -40,7 +40,15 @@ view_of c k b = record {
 
 -- what is asked for by what was written
 abbrev pub ask_of : Operate → Ask
-ask_of o = record { on = o.control.ctl_val; test = o.control.test; origin = record { cat = o.control.origin.or_cat; ident = record { items = o.control.origin.or_ident } } }
+ask_of o =
+    record {
+      on = o.control.ctl_val;
+      test = o.control.test;
+      origin = record {
+        cat = o.control.origin.or_cat;
+        ident = record { items = o.control.origin.or_ident };
+      };
+    }
 
 -- ---- reports
 
@@ -51,20 +59,26 @@ object_of b item = b.domain ++ (codes "/" ++ item)
 -- CntrlObj, Error, which is 0, Origin, ctlNum and AddCause
 abbrev pub error_datum : List ℕ → Control → AddCause → Datum
 error_datum object control why =
-    structure (datum (text object) (datum (integer (pos 0)) (datum (origin_datum control.origin) (datum (unsigned control.ctl_num) (datum (integer (pos (cause.code_of why))) no_data)))))
+    structure (datum (text object)
+    (datum (integer (pos 0))
+    (datum (origin_datum control.origin)
+    (datum (unsigned control.ctl_num) (datum (integer (pos (cause.code_of why))) no_data)))))
 
 -- a control is refused (LastApplError)
 abbrev pub refusal_report : List ℕ → Control → AddCause → List ℕ
-refusal_report object control why = report_text (failure_name ∷ []) (datum (error_datum object control why) no_data)
+refusal_report object control why =
+    report_text (failure_name ∷ []) (datum (error_datum object control why) no_data)
 
 -- a control has done what it was asked for (the positive CommandTermination), or has not done it in
 -- time (the negative one)
 abbrev pub termination_report : List ℕ → List ℕ → Operate → List ℕ
-termination_report domain item o = report_text (item_name domain item ∷ []) (datum (operate_datum o) no_data)
+termination_report domain item o =
+    report_text (item_name domain item ∷ []) (datum (operate_datum o) no_data)
 
 abbrev pub failed_report : List ℕ → List ℕ → List ℕ → Operate → List ℕ
 failed_report object domain item o =
-    report_text (failure_name ∷ item_name domain item ∷ []) (datum (error_datum object o.control TimeLimitOver) (datum (operate_datum o) no_data))
+    report_text (failure_name ∷ item_name domain item ∷ [])
+    (datum (error_datum object o.control TimeLimitOver) (datum (operate_datum o) no_data))
 
 -- with enhanced security a client is told of the end of what it asked for
 abbrev pub has_reports : Bay → ℕ → Bool
@@ -72,9 +86,12 @@ has_reports b k = is_enhanced (control_of b.controls.controls k).model
 
 -- the report that the decision on a control refuses it; none where it does not, and for a switch
 -- without enhanced security
-abbrev pub refusal_reports : Client → ℕ → List ℕ → Control → Bay → Result (Unit {0}) AddCause → List (List ℕ)
+abbrev pub refusal_reports : Client → ℕ → List ℕ → Control → Bay → Result (Unit {0}) AddCause
+    → List (List ℕ)
 refusal_reports c k item control b (Ok done) = []
-refusal_reports c k item control b (Err why) = if has_reports b k then option_to_list (fitting c.size (refusal_report (object_of b item) control why)) else []
+refusal_reports c k item control b (Err why) =
+    if has_reports b k then option_to_list
+    (fitting c.size (refusal_report (object_of b item) control why)) else []
 
 -- the two reports of the end of an operate, each where it fits
 abbrev pub ending_of : Client → List ℕ → Operate → Bay → Ending
@@ -84,7 +101,8 @@ ending_of c item o b = record {
 }
 
 -- those of an accepted operate of a switch with enhanced security
-abbrev pub endings : Client → ℕ → List ℕ → Operate → Bay → Result (Unit {0}) AddCause → Option Ending
+abbrev pub endings : Client → ℕ → List ℕ → Operate → Bay → Result (Unit {0}) AddCause
+    → Option Ending
 endings c k item o b (Ok done) = if has_reports b k then Some (ending_of c item o b) else None
 endings c k item o b (Err why) = None
 

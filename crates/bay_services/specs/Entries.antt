@@ -36,6 +36,7 @@ read_call c k SelectWith = None
 read_call c k Operate = None
 read_call c k Cancel = None
 
+-- what a read of this asks of the controls
 abbrev pub call_of_read : Client → Option Target → Option Call
 call_of_read c None = None
 call_of_read c (Some t) = read_call c t.switch t.part
@@ -54,12 +55,14 @@ abbrev pub cancel_call : Client → ℕ → Result Control ControlFault → Opti
 cancel_call c k (Ok control) = Some (call.Cancel c.association k)
 cancel_call c k (Err fault) = None
 
+-- what a write to a part of a control asks of the controls
 abbrev pub write_call : Client → Bay → Datum → ℕ → ControlPart → Option Call
 write_call c b given k Select = None
 write_call c b given k SelectWith = select_with_call c k (operate_in given)
 write_call c b given k Operate = operate_call c k b (operate_in given)
 write_call c b given k Cancel = cancel_call c k (cancel_in given)
 
+-- what a write of this asks of the controls
 abbrev pub call_of_write : Client → Bay → Datum → Option Target → Option Call
 call_of_write c b given None = None
 call_of_write c b given (Some t) = write_call c b given t.switch t.part
@@ -69,30 +72,39 @@ call_of_write c b given (Some t) = write_call c b given t.switch t.part
 -- what was asked at a moment, and whether the controls accepted it
 abbrev pub seen : Client → Bay → Option Call → List Entry
 seen c b None = []
-seen c b (Some asked) = entries_of c.now (act_of asked) (is_ok (outcome_of asked c.now b.controls).answer)
+seen c b (Some asked) =
+    entries_of c.now (act_of asked) (is_ok (outcome_of asked c.now b.controls).answer)
 
 abbrev pub read_entries : Client → List Naming → Reading → List Entry
 read_entries c [] r = []
-read_entries c (name ∷ ns) r = seen c r.bay (call_of_read c (target_at r.bay (row_named r.bay name))) ++ read_entries c ns (read_one c name r)
+read_entries c (name ∷ ns) r =
+    seen c r.bay (call_of_read c (target_at r.bay (row_named r.bay name)))
+    ++ read_entries c ns (read_one c name r)
 
 abbrev pub write_entries : Client → List Naming → List Datum → Writing → List Entry
 write_entries c [] values w = []
 write_entries c (name ∷ ns) [] w = []
 write_entries c (name ∷ ns) (given ∷ values) w =
-    seen c w.bay (call_of_write c w.bay given (target_at w.bay (row_named w.bay name))) ++ write_entries c ns values (write_one c name given w)
+    seen c w.bay (call_of_write c w.bay given (target_at w.bay (row_named w.bay name)))
+    ++ write_entries c ns values (write_one c name given w)
 
 -- what a response answers that is not too long; the others do nothing
 abbrev pub within_size : Client → List ℕ → List Entry → List Entry
 within_size c response entries = if nat_le (length response) c.size then entries else []
 
+-- what a request asked for, and what was accepted of it
 abbrev pub service_entries : Client → ℕ → Bay → Asking → List Entry
 service_entries c id b identify = []
 service_entries c id b (names class place after) = []
 service_entries c id b (attributes name) = []
-service_entries c id b (read ns) = within_size c (read_text id (read_all c ns (nothing_read b)).results) (read_entries c ns (nothing_read b))
+service_entries c id b (read ns) =
+    within_size c (read_text id (read_all c ns (nothing_read b)).results)
+    (read_entries c ns (nothing_read b))
 service_entries c id b (write ns values) =
-    within_size c (write_text id (write_all c ns values (nothing_written b)).results) (write_entries c ns values (nothing_written b))
+    within_size c (write_text id (write_all c ns values (nothing_written b)).results)
+    (write_entries c ns values (nothing_written b))
 
+-- the same of a PDU
 abbrev pub message_entries : Client → Bay → Result Message MmsFault → List Entry
 message_entries c b (Ok (initiate proposal)) = []
 message_entries c b (Ok conclude) = []

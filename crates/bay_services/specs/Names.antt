@@ -29,12 +29,16 @@ no_names id (Some name) = error_text id NoSuchObject
 -- the one domain
 abbrev pub domain_names : ℕ → Bay → Option (List ℕ) → List ℕ
 domain_names id b None = page_text id (b.domain ∷ []) false
-domain_names id b (Some name) = if bytes_eq name b.domain then page_text id [] false else error_text id NoSuchObject
+domain_names id b (Some name) =
+    if bytes_eq name b.domain then page_text id [] false else error_text id NoSuchObject
 
 -- Class 0 of the domain has the names of its variables, class 9 of the whole device the domain;
 -- there are no others. A domain that is not there is an error.
 abbrev pub listing : Client → ℕ → ℤ → Place → Option (List ℕ) → Bay → List ℕ
-listing c id class whole_vmd after b = if int_eq class (pos 9) then domain_names id b after else no_names id after
+listing c id class whole_vmd after b =
+    if int_eq class (pos 9) then domain_names id b after else no_names id after
 listing c id class (in_domain d) after b =
-    if bytes_eq d b.domain then (if int_eq class (pos 0) then variable_names c id b after else no_names id after) else error_text id NoSuchObject
+    if bytes_eq d b.domain
+    then (if int_eq class (pos 0) then variable_names c id b after else no_names id after)
+    else error_text id NoSuchObject
 listing c id class of_association after b = no_names id after

@@ -23,13 +23,16 @@ part_by rows place =
     else if is_place place rows.cancel then Some Cancel
     else None
 
--- the rows of the switch at a place have its names and their kinds
-pub record IsPlaced (layout : Layout) (switches : List BoundSwitch) (k : ℕ) (bound : BoundSwitch) : Type 0 where
+-- the rows of the switch at a place have its names and their types
+pub record IsPlaced (layout : Layout) (switches : List BoundSwitch) (k : ℕ) (bound : BoundSwitch)
+    : Type 0 where
   pub named : switch_in layout bound.rows ≡ switch_names (switches_of switches) k bound.switch
-  pub kinded : AreSwitchRows layout bound.rows
+  pub leaf_typed : AreSwitchRows layout bound.rows
 
+-- each switch is placed at its place
 abbrev pub ArePlaced : Layout → List BoundSwitch → Type 0
-ArePlaced layout switches = (k : ℕ) (b : BoundSwitch) → slice_get switches k ≡ Some b → IsPlaced layout switches k b
+ArePlaced layout switches =
+    (k : ℕ) (b : BoundSwitch) → slice_get switches k ≡ Some b → IsPlaced layout switches k b
 
 -- a row that a tree gives for its own name
 pub record IsFound (rows : List Row) (row : ℕ) : Type 0 where

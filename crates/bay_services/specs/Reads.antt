@@ -41,7 +41,9 @@ abbrev pub value_read : ℕ → Reading → Reading
 value_read place r = record r { results = r.results ++ datum_text (data_at r.bay.rows place) }
 
 abbrev pub read_part : Client → ℕ → Reading → ℕ → ControlPart → Reading
-read_part c place r k Select = select_done c k (name_at r.bay.rows place) r (select_outcome c.association k c.now r.bay.controls)
+read_part c place r k Select =
+    select_done c k (name_at r.bay.rows place) r
+    (select_outcome c.association k c.now r.bay.controls)
 read_part c place r k SelectWith = value_read place r
 read_part c place r k Operate = value_read place r
 read_part c place r k Cancel = value_read place r
@@ -53,8 +55,10 @@ read_target c place r (Some t) = read_part c place r t.switch t.part
 -- a variable that is not there is refused by 10 (DataAccessError: object-non-existent)
 abbrev pub read_row : Client → Reading → Option ℕ → Reading
 read_row c r None = record r { results = r.results ++ failure_result 10 }
-read_row c r (Some place) = read_target c place r (target_of (length r.bay.switches) (name_at r.bay.rows place))
+read_row c r (Some place) =
+    read_target c place r (target_of (length r.bay.switches) (name_at r.bay.rows place))
 
+-- one variable of a read
 abbrev pub read_one : Client → Naming → Reading → Reading
 read_one c name r = read_row c r (row_named r.bay name)
 

@@ -25,9 +25,13 @@ pub record IsReleased (c : Client) (b : Bay) (command : Command) : Type 0 where
 
 -- No client changes an interlocking value, nor what is operating.
 pub record Leaves (now : ℕ) (before after : Bay) : Type 0 where
-  pub enabled : (k : ℕ) (name : List ℕ) → leaf_of (interlocking_of k ++ name) after.rows ≡ leaf_of (interlocking_of k ++ name) before.rows
-  pub busy : (e : Execution) → (advanced now before.controls).execution ≡ Some e → (advanced now after.controls).execution ≡ Some e
+  pub enabled : (k : ℕ) (name : List ℕ)
+      → leaf_of (interlocking_of k ++ name) after.rows
+      ≡ leaf_of (interlocking_of k ++ name) before.rows
+  pub busy : (e : Execution) → (advanced now before.controls).execution ≡ Some e
+      → (advanced now after.controls).execution ≡ Some e
 
 -- A switch that can be operated takes some time, so what operates it lasts beyond its moment.
 abbrev pub AreTimed : List SwitchControl → Type 0
-AreTimed controls = (k : ℕ) → is_controlled (control_of controls k).model ≡ true → 1 ≤ (control_of controls k).travel_ms
+AreTimed controls = (k : ℕ) → is_controlled (control_of controls k).model ≡ true
+    → 1 ≤ (control_of controls k).travel_ms

@@ -13,6 +13,7 @@ part_name SelectWith names = names.select_with_value
 part_name Operate names = names.operate
 part_name Cancel names = names.cancel
 
+-- the name of a part of the control of the switch at a place
 abbrev pub control_name : ℕ → ControlPart → List ℕ
 control_name k part = part_name part (control_names k)
 
@@ -25,6 +26,7 @@ part_at k name =
     else if bytes_eq (control_name k Cancel) name then Some Cancel
     else None
 
+-- the part of this switch, or what a later one gives
 abbrev pub or_later : ℕ → Option ControlPart → Option Target → Option Target
 or_later k None later = later
 or_later k (Some part) later = Some (record { switch = k; part = part })

@@ -13,6 +13,7 @@ use Rattle.bay_services.specs.declared.answer.Answer.{Answer}
 use Rattle.bay_services.specs.declared.bay.ServedBay.{ServedBay}
 use Rattle.bay_services.specs.declared.writing.Written.{Written}
 
+-- a bay that is served, as definitions see it
 abbrev pub bay_view : ServedBay → Bay
 bay_view b = record {
   domain = b.domain;
@@ -28,7 +29,14 @@ abbrev pub reading : ServedBay → List ℕ → Reading
 reading b results = record { bay = bay_view b; results = results }
 
 abbrev pub writing : ServedBay → Written → Writing
-writing b w = record { bay = bay_view b; results = w.response; reports = w.reports.items; commands = w.commands.items; ending = w.ending }
+writing b w =
+    record {
+      bay = bay_view b;
+      results = w.response;
+      reports = w.reports.items;
+      commands = w.commands.items;
+      ending = w.ending;
+    }
 
 -- The answer, and the bay after it, are these.
 pub record AnswersAs (answer : Answer) (after : Bay) (answered : Answered) : Type 0 where

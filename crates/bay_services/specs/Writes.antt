@@ -63,24 +63,31 @@ abbrev pub later_ending : Option Ending → Option Ending → Option Ending
 later_ending before None = before
 later_ending before (Some ending) = Some ending
 
+-- an operate after its decision
 abbrev pub operated : Client → ℕ → List ℕ → asked.Operate → Outcome → Writing → Writing
 operated c k item o outcome w = record (decided c k item o.control outcome w) {
   commands = w.commands ++ commands_for k o outcome.answer;
   ending = later_ending w.ending (endings c k item o w.bay outcome.answer);
 }
 
-abbrev pub select_with_asked : Client → ℕ → List ℕ → Writing → Result asked.Operate ControlFault → Writing
+abbrev pub select_with_asked : Client → ℕ → List ℕ → Writing → Result asked.Operate ControlFault
+    → Writing
 select_with_asked c k item w (Err fault) = write_failed (control_code_of fault) w
 select_with_asked c k item w (Ok o) =
-    decided c k item o.control (select_with_outcome c.association k (ask_of o) c.now w.bay.controls) w
+    decided c k item o.control (select_with_outcome c.association k (ask_of o) c.now w.bay.controls)
+    w
 
-abbrev pub operate_asked : Client → ℕ → List ℕ → Writing → Result asked.Operate ControlFault → Writing
+abbrev pub operate_asked : Client → ℕ → List ℕ → Writing → Result asked.Operate ControlFault
+    → Writing
 operate_asked c k item w (Err fault) = write_failed (control_code_of fault) w
-operate_asked c k item w (Ok o) = operated c k item o (operate_outcome c.association k (ask_of o) (view_of c k w.bay) c.now w.bay.controls) w
+operate_asked c k item w (Ok o) =
+    operated c k item o (operate_outcome c.association k (ask_of o) (view_of c k w.bay) c.now
+    w.bay.controls) w
 
 abbrev pub cancel_asked : Client → ℕ → List ℕ → Writing → Result Control ControlFault → Writing
 cancel_asked c k item w (Err fault) = write_failed (control_code_of fault) w
-cancel_asked c k item w (Ok control) = decided c k item control (cancel_outcome c.association k c.now w.bay.controls) w
+cancel_asked c k item w (Ok control) =
+    decided c k item control (cancel_outcome c.association k c.now w.bay.controls) w
 
 -- the part of a control that is written, as a whole; SBO is read alone
 abbrev pub write_part : Client → ℕ → List ℕ → Datum → Writing → ControlPart → Writing
@@ -95,8 +102,11 @@ write_target c item given w (Some t) = write_part c t.switch item given w t.part
 
 abbrev pub write_row : Client → Datum → Writing → Option ℕ → Writing
 write_row c given w None = write_failed 10 w
-write_row c given w (Some place) = write_target c (name_at w.bay.rows place) given w (target_of (length w.bay.switches) (name_at w.bay.rows place))
+write_row c given w (Some place) =
+    write_target c (name_at w.bay.rows place) given w
+    (target_of (length w.bay.switches) (name_at w.bay.rows place))
 
+-- one variable of a write
 abbrev pub write_one : Client → Naming → Datum → Writing → Writing
 write_one c name given w = write_row c given w (row_named w.bay name)
 

@@ -46,7 +46,8 @@ pub fn show(tree: &mut Tree, rows: &[ControlRows], selected: Option<usize>)
 /// Lets the tree show which switch is selected.
 fn show_selection(tree: &mut Tree, rows: &Listing<ControlRows>, controls: &Controls)
     requires { AreAllControlRows tree.old rows.now }
-    ensures rows { tree.new ≡ shown (selected_switch controls.now.selection) (length rows.now) tree.old }
+    ensures rows { tree.new ≡ shown (selected_switch controls.now.selection) (length rows.now)
+        tree.old }
     ensures layout { layout_of tree.new ≡ layout_of tree.old }
 {
     show(tree, rows.as_slice(), controls.selected());
@@ -55,10 +56,15 @@ fn show_selection(tree: &mut Tree, rows: &Listing<ControlRows>, controls: &Contr
 impl ServedBay {
     /// Selects a switch with normal security.
     pub(crate) fn select(&mut self, client: Client, switch: usize) -> Result<(), AddCause>
-        ensures answer { result ≡ (select_outcome client.association switch client.now self.old.controls).answer }
-        ensures after { bay_view self.new ≡ with_controls (select_outcome client.association switch client.now self.old.controls).after (bay_view self.old) }
+        ensures answer { result
+            ≡ (select_outcome client.association switch client.now self.old.controls).answer }
+        ensures after { bay_view self.new
+            ≡ with_controls (select_outcome client.association switch client.now
+            self.old.controls).after (bay_view self.old) }
         ensures layout { layout_of self.new.tree ≡ layout_of self.old.tree }
-        ensures back { (standing : Standing) → standing_again standing (bay_view self.new) ≡ standing_again standing (bay_view self.old) }
+        ensures back { (standing : Standing)
+            → standing_again standing (bay_view self.new)
+            ≡ standing_again standing (bay_view self.old) }
         ensures switches { self.new.switches ≡ self.old.switches }
     {
         let answer = self.controls.select(client.association, switch, client.now);
@@ -73,10 +79,16 @@ impl ServedBay {
         switch: usize,
         ask: Ask,
     ) -> Result<(), AddCause>
-        ensures answer { result ≡ (select_with_outcome client.association switch ask client.now self.old.controls).answer }
-        ensures after { bay_view self.new ≡ with_controls (select_with_outcome client.association switch ask client.now self.old.controls).after (bay_view self.old) }
+        ensures answer { result
+            ≡ (select_with_outcome client.association switch ask client.now
+            self.old.controls).answer }
+        ensures after { bay_view self.new
+            ≡ with_controls (select_with_outcome client.association switch ask client.now
+            self.old.controls).after (bay_view self.old) }
         ensures layout { layout_of self.new.tree ≡ layout_of self.old.tree }
-        ensures back { (standing : Standing) → standing_again standing (bay_view self.new) ≡ standing_again standing (bay_view self.old) }
+        ensures back { (standing : Standing)
+            → standing_again standing (bay_view self.new)
+            ≡ standing_again standing (bay_view self.old) }
         ensures switches { self.new.switches ≡ self.old.switches }
     {
         let answer = self
@@ -88,10 +100,15 @@ impl ServedBay {
 
     /// Ends the selection of a switch.
     pub(crate) fn cancel(&mut self, client: Client, switch: usize) -> Result<(), AddCause>
-        ensures answer { result ≡ (cancel_outcome client.association switch client.now self.old.controls).answer }
-        ensures after { bay_view self.new ≡ with_controls (cancel_outcome client.association switch client.now self.old.controls).after (bay_view self.old) }
+        ensures answer { result
+            ≡ (cancel_outcome client.association switch client.now self.old.controls).answer }
+        ensures after { bay_view self.new
+            ≡ with_controls (cancel_outcome client.association switch client.now
+            self.old.controls).after (bay_view self.old) }
         ensures layout { layout_of self.new.tree ≡ layout_of self.old.tree }
-        ensures back { (standing : Standing) → standing_again standing (bay_view self.new) ≡ standing_again standing (bay_view self.old) }
+        ensures back { (standing : Standing)
+            → standing_again standing (bay_view self.new)
+            ≡ standing_again standing (bay_view self.old) }
         ensures switches { self.new.switches ≡ self.old.switches }
     {
         let answer = self.controls.cancel(client.association, switch, client.now);
@@ -121,13 +138,17 @@ impl ServedBay {
         ask: Ask,
     ) -> Result<(), AddCause>
         requires { switch < length self.old.switches }
-        ensures answer { result ≡ (operate_outcome client.association switch ask (view_of client switch (bay_view self.old)) client.now self.old.controls).answer }
+        ensures answer { result
+            ≡ (operate_outcome client.association switch ask
+            (view_of client switch (bay_view self.old)) client.now self.old.controls).answer }
         ensures after { bay_view self.new
             ≡ with_controls (operate_outcome client.association switch ask
             (view_of client switch (bay_view self.old)) client.now self.old.controls).after
             (bay_view self.old) }
         ensures layout { layout_of self.new.tree ≡ layout_of self.old.tree }
-        ensures back { (standing : Standing) → standing_again standing (bay_view self.new) ≡ standing_again standing (bay_view self.old) }
+        ensures back { (standing : Standing)
+            → standing_again standing (bay_view self.new)
+            ≡ standing_again standing (bay_view self.old) }
         ensures switches { self.new.switches ≡ self.old.switches }
     {
         let view = self.view(client, switch);
@@ -158,8 +179,10 @@ impl ServedBay {
 
     /// Ends what has run out at a moment, and gives the switch whose execution has.
     pub fn advance(&mut self, now: u64) -> Option<usize>
-        ensures run_out { result ≡ run_out now self.old.controls.controls self.old.controls.execution }
-        ensures after { bay_view self.new ≡ with_controls (advanced now self.old.controls) (bay_view self.old) }
+        ensures run_out { result
+            ≡ run_out now self.old.controls.controls self.old.controls.execution }
+        ensures after { bay_view self.new
+            ≡ with_controls (advanced now self.old.controls) (bay_view self.old) }
         ensures switches { self.new.switches ≡ self.old.switches }
         ensures layout { layout_of self.new.tree ≡ layout_of self.old.tree }
     {
@@ -173,7 +196,8 @@ impl ServedBay {
 
     /// Ends the selection of an association, which is closed.
     pub fn drop_owner(&mut self, association: u16)
-        ensures after { bay_view self.new ≡ with_controls (dropped association self.old.controls) (bay_view self.old) }
+        ensures after { bay_view self.new
+            ≡ with_controls (dropped association self.old.controls) (bay_view self.old) }
         ensures switches { self.new.switches ≡ self.old.switches }
         ensures layout { layout_of self.new.tree ≡ layout_of self.old.tree }
     {

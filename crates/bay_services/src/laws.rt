@@ -17,17 +17,22 @@ ghost use Rattle.bay_tree.specs.declared.row.Row.{Row};
 
 /// The rows show which switch is selected whatever is written to a row that tells of no selection.
 pub fn selection_stays_shown()
-    ensures { (controls : State) (count : ℕ) (rows : List Row) (name : List ℕ) (value : Leaf) → ((k : ℕ) → bytes_eq name (control_names k).selected ≡ false)
-        → ShowSelection controls count rows → ShowSelection controls count (with_leaf_of name value rows) }
+    ensures { (controls : State) (count : ℕ) (rows : List Row) (name : List ℕ) (value : Leaf)
+        → ((k : ℕ) → bytes_eq name (control_names k).selected ≡ false)
+        → ShowSelection controls count rows
+        → ShowSelection controls count (with_leaf_of name value rows) }
 {}
 
 /// Each command of an answer is one of an operate that was accepted while the last scan was fresh,
 /// the interlocking released it and no switch was operating; where each switch takes some time
 /// there is one at most. No client changes what the interlocking releases, nor what is operating.
 pub fn commands_are_released()
-    ensures released { (c : Client) (pdu : List ℕ) (b : Bay) → All (IsReleased c b) (answered c pdu b).commands }
-    ensures single { (c : Client) (pdu : List ℕ) (b : Bay) → AreTimed b.controls.controls → length (answered c pdu b).commands ≤ 1 }
-    ensures leaves { (c : Client) (pdu : List ℕ) (b : Bay) → Leaves c.now b (answered c pdu b).after }
+    ensures released { (c : Client) (pdu : List ℕ) (b : Bay)
+        → All (IsReleased c b) (answered c pdu b).commands }
+    ensures single { (c : Client) (pdu : List ℕ) (b : Bay) → AreTimed b.controls.controls
+        → length (answered c pdu b).commands ≤ 1 }
+    ensures leaves { (c : Client) (pdu : List ℕ) (b : Bay)
+        → Leaves c.now b (answered c pdu b).after }
 {}
 
 /// What a PDU of an open association asks of the controls leads them from those before it to those
@@ -42,7 +47,11 @@ pub fn requests_lead()
 /// request by a success. The response is the first PDU of an answer, past the reports that come
 /// before that to a write, whatever is sent behind it.
 pub fn answers_tell()
-    ensures { (c : Client) (pdu : List ℕ) (named b : Bay) (later : List (List ℕ)) → c.size ≤ 65000 → AreNamedAlike named b
-        → (accepted_in c.now c.association pdu named (first_response (may_be_reported (answer_to pdu)) ((answered c pdu b).sent ++ later)).0 ≡ entries_in c pdu b)
-        × ((first_response (may_be_reported (answer_to pdu)) ((answered c pdu b).sent ++ later)).1 ≡ later) }
+    ensures { (c : Client) (pdu : List ℕ) (named b : Bay) (later : List (List ℕ)) → c.size ≤ 65000
+        → AreNamedAlike named b
+        → (accepted_in c.now c.association pdu named
+        (first_response (may_be_reported (answer_to pdu)) ((answered c pdu b).sent ++ later)).0
+        ≡ entries_in c pdu b)
+        × ((first_response (may_be_reported (answer_to pdu)) ((answered c pdu b).sent ++ later)).1
+        ≡ later) }
 {}

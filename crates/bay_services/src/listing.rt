@@ -13,7 +13,7 @@ ghost use Rattle.bay_services.specs.Views.{bay_view};
 use crate::bay::ServedBay;
 use crate::client::Client;
 use bay_base::text::Text;
-use bay_mms::fault::WriteFault;
+use bay_mms::fault::EncodeFault;
 use bay_mms::page::write_page;
 use bay_mms::request::Scope;
 use bay_mms::response::{ErrorClass, Response, Service, write_error, write_response};
@@ -26,24 +26,27 @@ const NAMED_VARIABLE: i64 = 0;
 const DOMAIN: i64 = 9;
 
 // The error that there is no such object.
-fn write_unknown(alloc: Global, id: u32) -> Result<Vec<u8>, WriteFault>
-    ensures { Gives WriteFault.OutOfMemory (λ octets. octets.items) result (written (error_text id NoSuchObject)) }
+fn write_unknown(alloc: Global, id: u32) -> Result<Vec<u8>, EncodeFault>
+    ensures { Gives EncodeFault.OutOfMemory (λ octets. octets.items) result
+        (written (error_text id NoSuchObject)) }
 {
     let error = write_error(alloc, id, ErrorClass::NoSuchObject)?;
     Ok(error)
 }
 
 // A list of these names, behind which no more stand.
-fn write_names(alloc: Global, id: u32, names: &[Text]) -> Result<Vec<u8>, WriteFault>
-    ensures { Gives WriteFault.OutOfMemory (λ octets. octets.items) result (written (page_text id names.now false)) }
+fn write_names(alloc: Global, id: u32, names: &[Text]) -> Result<Vec<u8>, EncodeFault>
+    ensures { Gives EncodeFault.OutOfMemory (λ octets. octets.items) result
+        (written (page_text id names.now false)) }
 {
     let service = Service::Names { names, more: false };
     write_response(alloc, &Response::Confirmed { id, service })
 }
 
 // No names.
-fn write_none(alloc: Global, id: u32, after: Option<&[u8]>) -> Result<Vec<u8>, WriteFault>
-    ensures { Gives WriteFault.OutOfMemory (λ octets. octets.items) result (written (no_names id (option_copied after.entry))) }
+fn write_none(alloc: Global, id: u32, after: Option<&[u8]>) -> Result<Vec<u8>, EncodeFault>
+    ensures { Gives EncodeFault.OutOfMemory (λ octets. octets.items) result
+        (written (no_names id (option_copied after.entry))) }
 {
     match after {
         None => write_names(alloc, id, &[]),
@@ -58,8 +61,9 @@ impl ServedBay {
         alloc: Global,
         id: u32,
         after: Option<&[u8]>,
-    ) -> Result<Vec<u8>, WriteFault>
-        ensures { Gives WriteFault.OutOfMemory (λ octets. octets.items) result (written (domain_names id (bay_view self.now) (option_copied after.entry))) }
+    ) -> Result<Vec<u8>, EncodeFault>
+        ensures { Gives EncodeFault.OutOfMemory (λ octets. octets.items) result
+            (written (domain_names id (bay_view self.now) (option_copied after.entry))) }
     {
         match after {
             None => {
@@ -83,15 +87,16 @@ impl ServedBay {
         client: Client,
         id: u32,
         after: Option<&[u8]>,
-    ) -> Result<Vec<u8>, WriteFault>
+    ) -> Result<Vec<u8>, EncodeFault>
         requires least { 256 ≤ client.size }
         requires most { client.size ≤ 65_000 }
-        ensures { Gives WriteFault.OutOfMemory (λ octets. octets.items) result (written (variable_names client id (bay_view self.now) (option_copied after.entry))) }
+        ensures { Gives EncodeFault.OutOfMemory (λ octets. octets.items) result
+            (written (variable_names client id (bay_view self.now) (option_copied after.entry))) }
     {
         match write_page(alloc, id, &self.tree, after, client.size) {
             Ok(page) => Ok(page),
             Err(NamesFault::NoSuchName) => write_unknown(alloc, id),
-            Err(NamesFault::OutOfMemory) => Err(WriteFault::OutOfMemory),
+            Err(NamesFault::OutOfMemory) => Err(EncodeFault::OutOfMemory),
         }
     }
 
@@ -104,10 +109,12 @@ impl ServedBay {
         class: i64,
         domain: &[u8],
         after: Option<&[u8]>,
-    ) -> Result<Vec<u8>, WriteFault>
+    ) -> Result<Vec<u8>, EncodeFault>
         requires least { 256 ≤ client.size }
         requires most { client.size ≤ 65_000 }
-        ensures { Gives WriteFault.OutOfMemory (λ octets. octets.items) result (written (listing client id class (in_domain domain.now) (option_copied after.entry) (bay_view self.now))) }
+        ensures { Gives EncodeFault.OutOfMemory (λ octets. octets.items) result
+            (written (listing client id class (in_domain domain.now) (option_copied after.entry)
+            (bay_view self.now))) }
     {
         if domain != self.domain.as_str().as_bytes() {
             return write_unknown(alloc, id);
@@ -128,10 +135,12 @@ impl ServedBay {
         class: &i64,
         scope: &Scope<'_>,
         after: Option<&[u8]>,
-    ) -> Result<Vec<u8>, WriteFault>
+    ) -> Result<Vec<u8>, EncodeFault>
         requires least { 256 ≤ client.size }
         requires most { client.size ≤ 65_000 }
-        ensures { Gives WriteFault.OutOfMemory (λ octets. octets.items) result (written (listing client id class.now (place scope.now) (option_copied after.entry) (bay_view self.now))) }
+        ensures { Gives EncodeFault.OutOfMemory (λ octets. octets.items) result
+            (written (listing client id class.now (place scope.now) (option_copied after.entry)
+            (bay_view self.now))) }
     {
         let class = *class;
         match scope {

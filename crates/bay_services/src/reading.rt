@@ -2,7 +2,7 @@
 ghost use Rattle.std.specs.Prelude.{◌≡◌, ◌≤◌, ◌<◌, Some, map, length, IfErr, IfSome, OnOk};
 ghost use Rattle.bay_control.specs.declared.selection.Standing.{Standing};
 ghost use Rattle.bay_mms.specs.RequestViews.{naming};
-ghost use Rattle.bay_mms.specs.declared.fault.WriteFault.TheVariants.{TooLong};
+ghost use Rattle.bay_mms.specs.declared.fault.EncodeFault.TheVariants.{TooLong};
 ghost use Rattle.bay_control.specs.Decisions.{select_outcome};
 ghost use Rattle.bay_tree.specs.Rows.{IsHandle, name_at};
 ghost use Rattle.bay_process.specs.Layout.{layout_of};
@@ -17,8 +17,8 @@ ghost use Rattle.bay_services.specs.Views.{bay_view, reading};
 use crate::bay::ServedBay;
 use crate::client::Client;
 use crate::target::{ControlPart, Target, target_at};
-use bay_mms::fault::WriteFault;
-use bay_mms::request::Name;
+use bay_mms::fault::EncodeFault;
+use bay_mms::request::ObjectName;
 use bay_mms::results::ReadResponse;
 use bay_tree::tree::Handle;
 use std::alloc::Global;
@@ -29,26 +29,27 @@ const NO_SUCH_OBJECT: u8 = 10;
 
 impl ServedBay {
     /// The row of the variable of this name, which is named by the bay's domain.
-    pub(crate) fn row_named(&self, name: &Name<'_>) -> Option<Handle>
+    pub(crate) fn row_named(&self, name: &ObjectName<'_>) -> Option<Handle>
         ensures row { result ≡ spec_rows.row_named (bay_view self.now) (naming name.now) }
         ensures found { IfSome result (IsFound self.now.tree) }
     {
         match name {
-            Name::Domain { domain, item } => {
+            ObjectName::Domain { domain, item } => {
                 if *domain == self.domain.as_str().as_bytes() {
                     self.tree.find_octets(item).ok()
                 } else {
                     None
                 }
             }
-            Name::Vmd(_) | Name::Association(_) => None,
+            ObjectName::Vmd(_) | ObjectName::Association(_) => None,
         }
     }
 
     /// The control that a row is a part of.
     pub(crate) fn target(&self, row: Handle) -> Option<Target>
         requires { IsFound self.now.tree row }
-        ensures target { result ≡ target_of (length (bay_view self.now).switches) (name_at self.now.tree row) }
+        ensures target { result
+            ≡ target_of (length (bay_view self.now).switches) (name_at self.now.tree row) }
         ensures there { IfSome result (λ target. target.switch < length self.now.switches) }
     {
         target_at(&self.tree, self.control_rows.as_slice(), row)
@@ -62,7 +63,7 @@ impl ServedBay {
         switch: usize,
         row: Handle,
         response: &mut ReadResponse,
-    ) -> Result<(), WriteFault>
+    ) -> Result<(), EncodeFault>
         requires { IsHandle self.old.tree row }
         ensures ok { OnOk result (reading self.new response.new
             ≡ select_done client switch (name_at self.old.tree row) (reading self.old response.old)
@@ -71,7 +72,9 @@ impl ServedBay {
             → 4294967296 ≤ length (select_done client switch (name_at self.old.tree row)
             (reading self.old response.old)
             (select_outcome client.association switch client.now self.old.controls)).results) }
-        ensures back { (standing : Standing) → standing_again standing (bay_view self.new) ≡ standing_again standing (bay_view self.old) }
+        ensures back { (standing : Standing)
+            → standing_again standing (bay_view self.new)
+            ≡ standing_again standing (bay_view self.old) }
         ensures switches { self.new.switches ≡ self.old.switches }
         ensures layout { layout_of self.new.tree ≡ layout_of self.old.tree }
     {
@@ -91,11 +94,18 @@ impl ServedBay {
         client: Client,
         row: Handle,
         response: &mut ReadResponse,
-    ) -> Result<(), WriteFault>
+    ) -> Result<(), EncodeFault>
         requires { IsFound self.old.tree row }
-        ensures ok { OnOk result (reading self.new response.new ≡ spec.read_row client (reading self.old response.old) (Some row)) }
-        ensures long { IfErr result (λ fault. fault ≡ TooLong → 4294967296 ≤ length (spec.read_row client (reading self.old response.old) (Some row)).results) }
-        ensures back { (standing : Standing) → standing_again standing (bay_view self.new) ≡ standing_again standing (bay_view self.old) }
+        ensures ok { OnOk result
+            (reading self.new response.new
+            ≡ spec.read_row client (reading self.old response.old) (Some row)) }
+        ensures long { IfErr result
+            (λ fault. fault ≡ TooLong
+            → 4294967296 ≤ length (spec.read_row client (reading self.old response.old)
+            (Some row)).results) }
+        ensures back { (standing : Standing)
+            → standing_again standing (bay_view self.new)
+            ≡ standing_again standing (bay_view self.old) }
         ensures switches { self.new.switches ≡ self.old.switches }
         ensures layout { layout_of self.new.tree ≡ layout_of self.old.tree }
     {
@@ -115,12 +125,19 @@ impl ServedBay {
         &mut self,
         alloc: Global,
         client: Client,
-        name: &Name<'_>,
+        name: &ObjectName<'_>,
         response: &mut ReadResponse,
-    ) -> Result<(), WriteFault>
-        ensures ok { OnOk result (reading self.new response.new ≡ spec.read_one client (naming name.now) (reading self.old response.old)) }
-        ensures long { IfErr result (λ fault. fault ≡ TooLong → 4294967296 ≤ length (spec.read_one client (naming name.now) (reading self.old response.old)).results) }
-        ensures back { (standing : Standing) → standing_again standing (bay_view self.new) ≡ standing_again standing (bay_view self.old) }
+    ) -> Result<(), EncodeFault>
+        ensures ok { OnOk result
+            (reading self.new response.new
+            ≡ spec.read_one client (naming name.now) (reading self.old response.old)) }
+        ensures long { IfErr result
+            (λ fault. fault ≡ TooLong
+            → 4294967296 ≤ length (spec.read_one client (naming name.now)
+            (reading self.old response.old)).results) }
+        ensures back { (standing : Standing)
+            → standing_again standing (bay_view self.new)
+            ≡ standing_again standing (bay_view self.old) }
         ensures switches { self.new.switches ≡ self.old.switches }
         ensures layout { layout_of self.new.tree ≡ layout_of self.old.tree }
     {
@@ -135,12 +152,19 @@ impl ServedBay {
         &mut self,
         alloc: Global,
         client: Client,
-        names: &[Name<'_>],
+        names: &[ObjectName<'_>],
         response: &mut ReadResponse,
-    ) -> Result<(), WriteFault>
-        ensures ok { OnOk result (reading self.new response.new ≡ spec.read_all client (map naming names.now) (reading self.old response.old)) }
-        ensures long { IfErr result (λ fault. fault ≡ TooLong → 4294967296 ≤ length (spec.read_all client (map naming names.now) (reading self.old response.old)).results) }
-        ensures back { (standing : Standing) → standing_again standing (bay_view self.new) ≡ standing_again standing (bay_view self.old) }
+    ) -> Result<(), EncodeFault>
+        ensures ok { OnOk result
+            (reading self.new response.new
+            ≡ spec.read_all client (map naming names.now) (reading self.old response.old)) }
+        ensures long { IfErr result
+            (λ fault. fault ≡ TooLong
+            → 4294967296 ≤ length (spec.read_all client (map naming names.now)
+            (reading self.old response.old)).results) }
+        ensures back { (standing : Standing)
+            → standing_again standing (bay_view self.new)
+            ≡ standing_again standing (bay_view self.old) }
         ensures switches { self.new.switches ≡ self.old.switches }
         ensures layout { layout_of self.new.tree ≡ layout_of self.old.tree }
     {

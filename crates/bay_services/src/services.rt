@@ -23,8 +23,8 @@ use crate::reply::fitting;
 use crate::writing::Written;
 use bay_base::listing::Listing;
 use bay_mms::data::Data;
-use bay_mms::fault::{MmsFault, WriteFault};
-use bay_mms::request::{Call, Name, Request, read_request};
+use bay_mms::fault::{EncodeFault, MmsFault};
+use bay_mms::request::{Call, ObjectName, Request, read_request};
 use bay_mms::response::{
     ErrorClass, RejectReason, Response, Service, write_conclude, write_error, write_reject,
     write_response,
@@ -45,7 +45,8 @@ fn said(alloc: Global, pdu: Listing<u8>) -> Result<Answer, AllocError>
 
 // An error, which does nothing.
 fn failed(alloc: Global, id: u32, class: ErrorClass) -> Result<Answer, AllocError>
-    ensures { IfOk result (λ answer. (b : Bay) → AnswersAs answer b (spec.said (error_text id class) b)) }
+    ensures { IfOk result (λ answer. (b : Bay)
+        → AnswersAs answer b (spec.said (error_text id class) b)) }
 {
     let error = write_error(alloc, id, class)?;
     said(alloc, Listing::new(error))
@@ -87,9 +88,11 @@ fn responded(
     alloc: Global,
     client: Client,
     id: u32,
-    response: Result<Vec<u8>, WriteFault>,
+    response: Result<Vec<u8>, EncodeFault>,
 ) -> Result<Answer, AllocError>
-    ensures { (pdu : List ℕ) (b : Bay) → Gives WriteFault.OutOfMemory (λ octets. octets.items) response (written pdu) → IfOk result (λ answer. AnswersAs answer b (spec.responded client id b pdu)) }
+    ensures { (pdu : List ℕ) (b : Bay)
+        → Gives EncodeFault.OutOfMemory (λ octets. octets.items) response (written pdu)
+        → IfOk result (λ answer. AnswersAs answer b (spec.responded client id b pdu)) }
 {
     match fitting(client.size, response)? {
         Some(pdu) => said(alloc, pdu),
@@ -100,7 +103,8 @@ fn responded(
 impl ServedBay {
     // Who made the device, its model and its revision.
     fn identify(&self, alloc: Global, client: Client, id: u32) -> Result<Answer, AllocError>
-        ensures { IfOk result (λ answer. AnswersAs answer (bay_view self.now) (identified client id (bay_view self.now))) }
+        ensures { IfOk result (λ answer. AnswersAs answer (bay_view self.now)
+            (identified client id (bay_view self.now))) }
     {
         let service = Service::Identify {
             vendor: self.vendor.as_str(),
@@ -117,9 +121,11 @@ impl ServedBay {
         alloc: Global,
         client: Client,
         id: u32,
-        name: &Name<'_>,
+        name: &ObjectName<'_>,
     ) -> Result<Answer, AllocError>
-        ensures { IfOk result (λ answer. AnswersAs answer (bay_view self.now) (attributes_at client id (bay_view self.now) (row_named (bay_view self.now) (naming name.now)))) }
+        ensures { IfOk result (λ answer. AnswersAs answer (bay_view self.now)
+            (attributes_at client id (bay_view self.now)
+            (row_named (bay_view self.now) (naming name.now)))) }
     {
         match self.row_named(name) {
             Some(handle) => {
@@ -138,11 +144,17 @@ impl ServedBay {
         alloc: Global,
         client: Client,
         id: u32,
-        names: &[Name<'_>],
-    ) -> Result<Vec<u8>, WriteFault>
-        ensures response { Gives WriteFault.OutOfMemory (λ octets. octets.items) result (written (read_text id (read_all client (map naming names.now) (nothing_read (bay_view self.old))).results)) }
-        ensures after { OnOk result (bay_view self.new ≡ (read_all client (map naming names.now) (nothing_read (bay_view self.old))).bay) }
-        ensures back { (standing : Standing) → standing_again standing (bay_view self.new) ≡ standing_again standing (bay_view self.old) }
+        names: &[ObjectName<'_>],
+    ) -> Result<Vec<u8>, EncodeFault>
+        ensures response { Gives EncodeFault.OutOfMemory (λ octets. octets.items) result
+            (written (read_text id
+            (read_all client (map naming names.now) (nothing_read (bay_view self.old))).results)) }
+        ensures after { OnOk result
+            (bay_view self.new ≡ (read_all client (map naming names.now)
+            (nothing_read (bay_view self.old))).bay) }
+        ensures back { (standing : Standing)
+            → standing_again standing (bay_view self.new)
+            ≡ standing_again standing (bay_view self.old) }
         ensures switches { self.new.switches ≡ self.old.switches }
         ensures layout { layout_of self.new.tree ≡ layout_of self.old.tree }
     {
@@ -158,10 +170,14 @@ impl ServedBay {
         alloc: Global,
         client: Client,
         id: u32,
-        names: &[Name<'_>],
+        names: &[ObjectName<'_>],
     ) -> Result<Answer, AllocError>
-        ensures ok { IfOk result (λ answer. AnswersAs answer (bay_view self.new) (read_asked client id (bay_view self.old) (map naming names.now))) }
-        ensures back { (standing : Standing) → standing_again standing (bay_view self.new) ≡ standing_again standing (bay_view self.old) }
+        ensures ok { IfOk result
+            (λ answer. AnswersAs answer (bay_view self.new)
+            (read_asked client id (bay_view self.old) (map naming names.now))) }
+        ensures back { (standing : Standing)
+            → standing_again standing (bay_view self.new)
+            ≡ standing_again standing (bay_view self.old) }
         ensures switches { self.new.switches ≡ self.old.switches }
         ensures layout { layout_of self.new.tree ≡ layout_of self.old.tree }
     {
@@ -183,11 +199,15 @@ impl ServedBay {
         alloc: Global,
         client: Client,
         id: u32,
-        names: &[Name<'_>],
+        names: &[ObjectName<'_>],
         values: &[Data<'_>],
     ) -> Result<Answer, AllocError>
-        ensures ok { IfOk result (λ answer. AnswersAs answer (bay_view self.new) (write_asked client id (bay_view self.old) (map naming names.now) (data_in values.now))) }
-        ensures back { (standing : Standing) → standing_again standing (bay_view self.new) ≡ standing_again standing (bay_view self.old) }
+        ensures ok { IfOk result
+            (λ answer. AnswersAs answer (bay_view self.new)
+            (write_asked client id (bay_view self.old) (map naming names.now) (data_in values.now))) }
+        ensures back { (standing : Standing)
+            → standing_again standing (bay_view self.new)
+            ≡ standing_again standing (bay_view self.old) }
         ensures switches { self.new.switches ≡ self.old.switches }
         ensures layout { layout_of self.new.tree ≡ layout_of self.old.tree }
     {
@@ -231,8 +251,12 @@ impl ServedBay {
     ) -> Result<Answer, AllocError>
         requires least { 256 ≤ client.size }
         requires most { client.size ≤ 65_000 }
-        ensures ok { IfOk result (λ answer. AnswersAs answer (bay_view self.new) (served client id (bay_view self.old) (asking call.now))) }
-        ensures back { (standing : Standing) → standing_again standing (bay_view self.new) ≡ standing_again standing (bay_view self.old) }
+        ensures ok { IfOk result
+            (λ answer. AnswersAs answer (bay_view self.new)
+            (served client id (bay_view self.old) (asking call.now))) }
+        ensures back { (standing : Standing)
+            → standing_again standing (bay_view self.new)
+            ≡ standing_again standing (bay_view self.old) }
         ensures switches { self.new.switches ≡ self.old.switches }
         ensures layout { layout_of self.new.tree ≡ layout_of self.old.tree }
     {
@@ -261,9 +285,13 @@ impl ServedBay {
     ) -> Result<Answer, AllocError>
         requires least { 256 ≤ client.size }
         requires most { client.size ≤ 65_000 }
-        ensures ok { IfOk result (λ answer. AnswersAs answer (bay_view self.new) (answer_of client (bay_view self.old) (read_as request.entry))) }
+        ensures ok { IfOk result
+            (λ answer. AnswersAs answer (bay_view self.new)
+            (answer_of client (bay_view self.old) (read_as request.entry))) }
         ensures memory { IfOk result (λ _. request.entry ≢ Err MmsFault.OutOfMemory) }
-        ensures back { (standing : Standing) → standing_again standing (bay_view self.new) ≡ standing_again standing (bay_view self.old) }
+        ensures back { (standing : Standing)
+            → standing_again standing (bay_view self.new)
+            ≡ standing_again standing (bay_view self.old) }
         ensures switches { self.new.switches ≡ self.old.switches }
         ensures layout { layout_of self.new.tree ≡ layout_of self.old.tree }
     {
@@ -288,12 +316,16 @@ impl ServedBay {
     ) -> Result<Answer, AllocError>
         requires least { 256 ≤ client.size }
         requires most { client.size ≤ 65_000 }
-        ensures ok { IfOk result (λ answer. AnswersAs answer (bay_view self.new) (answered client pdu.now (bay_view self.old))) }
+        ensures ok { IfOk result
+            (λ answer. AnswersAs answer (bay_view self.new)
+            (answered client pdu.now (bay_view self.old))) }
         ensures short { IfOk result (λ answer. All (λ pdu. length pdu ≤ 65_000) answer.sent.items) }
         ensures ending { IfOk result (λ answer. IsShort answer.ending) }
         ensures err { OnErr result (bay_view self.new ≡ bay_view self.old) }
         // What it did can be undone, where what it is to send finds no memory.
-        ensures back { (standing : Standing) → standing_again standing (bay_view self.new) ≡ standing_again standing (bay_view self.old) }
+        ensures back { (standing : Standing)
+            → standing_again standing (bay_view self.new)
+            ≡ standing_again standing (bay_view self.old) }
         ensures switches { self.new.switches ≡ self.old.switches }
         ensures layout { layout_of self.new.tree ≡ layout_of self.old.tree }
     {

@@ -28,9 +28,9 @@ use bay_control::cause::AddCause;
 use bay_control::request::{Ask, Origin};
 use bay_mms::control::{Cancel, Operate, cancel_of, operate_of};
 use bay_mms::data::Data;
-use bay_mms::fault::WriteFault;
+use bay_mms::fault::EncodeFault;
 use bay_mms::report::{ControlError, write_failed_termination, write_failure, write_termination};
-use bay_mms::request::Name;
+use bay_mms::request::ObjectName;
 use bay_mms::results::WriteResponse;
 use bay_tree::tree::Handle;
 use std::alloc::{AllocError, Global};
@@ -66,8 +66,8 @@ fn succeed(response: &mut WriteResponse) -> Result<(), AllocError>
 {
     match response.success() {
         Ok(()) => Ok(()),
-        Err(WriteFault::OutOfMemory) => Err(AllocError),
-        Err(WriteFault::TooLong) => unreachable!(),
+        Err(EncodeFault::OutOfMemory) => Err(AllocError),
+        Err(EncodeFault::TooLong) => unreachable!(),
     }
 }
 
@@ -77,8 +77,8 @@ fn fail(response: &mut WriteResponse, cause: u8) -> Result<(), AllocError>
 {
     match response.failure(cause) {
         Ok(()) => Ok(()),
-        Err(WriteFault::OutOfMemory) => Err(AllocError),
-        Err(WriteFault::TooLong) => unreachable!(),
+        Err(EncodeFault::OutOfMemory) => Err(AllocError),
+        Err(EncodeFault::TooLong) => unreachable!(),
     }
 }
 
@@ -116,7 +116,8 @@ impl ServedBay {
     /// The object that a row is, as a control is named: its domain, `/` and its item.
     pub(crate) fn object(&self, alloc: Global, row: Handle) -> Result<Text, AllocError>
         requires { IsHandle self.now.tree row }
-        ensures { IfOk result (λ object. object ≡ object_of (bay_view self.now) (name_at self.now.tree row)) }
+        ensures { IfOk result (λ object. object
+            ≡ object_of (bay_view self.now) (name_at self.now.tree row)) }
     {
         let domain = self.domain.as_str();
         let item = self.tree.name(row);
@@ -141,7 +142,9 @@ impl ServedBay {
         reports: &mut Vec<Listing<u8>>,
     ) -> Result<(), AllocError>
         requires { IsHandle self.now.tree part.row }
-        ensures { OnOk result (reports.new.items ≡ reports.old.items ++ refusal_reports client part.switch (name_at self.now.tree part.row) (cancelling control.now) (bay_view self.now) (Err why)) }
+        ensures { OnOk result (reports.new.items
+            ≡ reports.old.items ++ refusal_reports client part.switch
+            (name_at self.now.tree part.row) (cancelling control.now) (bay_view self.now) (Err why)) }
     {
         if !self.has_reports(part.switch) {
             return Ok(());
@@ -170,7 +173,8 @@ impl ServedBay {
         written: &mut Written,
     ) -> Result<(), AllocError>
         requires { IsHandle self.now.tree part.row }
-        ensures response { OnOk result (written.new.response ≡ written.old.response ++ failure_result 3) }
+        ensures response { OnOk result
+            (written.new.response ≡ written.old.response ++ failure_result 3) }
         ensures reports { OnOk result (written.new.reports.items
             ≡ written.old.reports.items ++ refusal_reports client part.switch
             (name_at self.now.tree part.row) (cancelling control.now) (bay_view self.now)
@@ -193,7 +197,8 @@ impl ServedBay {
         written: &mut Written,
     ) -> Result<(), AllocError>
         requires { IsHandle self.now.tree part.row }
-        ensures response { OnOk result (written.new.response ≡ written.old.response ++ decision_result answer) }
+        ensures response { OnOk result
+            (written.new.response ≡ written.old.response ++ decision_result answer) }
         ensures reports { OnOk result (written.new.reports.items
             ≡ written.old.reports.items ++ refusal_reports client part.switch
             (name_at self.now.tree part.row) (cancelling control.now) (bay_view self.now) answer) }
@@ -219,7 +224,9 @@ impl ServedBay {
         ensures ok { OnOk result (writing self.new written.new
             ≡ select_with_asked client part.switch (name_at self.old.tree part.row)
             (writing self.old written.old) (operate_in (datum_of given.now))) }
-        ensures back { (standing : Standing) → standing_again standing (bay_view self.new) ≡ standing_again standing (bay_view self.old) }
+        ensures back { (standing : Standing)
+            → standing_again standing (bay_view self.new)
+            ≡ standing_again standing (bay_view self.old) }
         ensures switches { self.new.switches ≡ self.old.switches }
         ensures layout { layout_of self.new.tree ≡ layout_of self.old.tree }
     {
@@ -241,8 +248,13 @@ impl ServedBay {
         written: &mut Written,
     ) -> Result<(), AllocError>
         requires { IsHandle self.old.tree part.row }
-        ensures ok { OnOk result (writing self.new written.new ≡ cancel_asked client part.switch (name_at self.old.tree part.row) (writing self.old written.old) (cancel_in (datum_of given.now))) }
-        ensures back { (standing : Standing) → standing_again standing (bay_view self.new) ≡ standing_again standing (bay_view self.old) }
+        ensures ok { OnOk result
+            (writing self.new written.new
+            ≡ cancel_asked client part.switch (name_at self.old.tree part.row)
+            (writing self.old written.old) (cancel_in (datum_of given.now))) }
+        ensures back { (standing : Standing)
+            → standing_again standing (bay_view self.new)
+            ≡ standing_again standing (bay_view self.old) }
         ensures switches { self.new.switches ≡ self.old.switches }
         ensures layout { layout_of self.new.tree ≡ layout_of self.old.tree }
     {
@@ -263,7 +275,9 @@ impl ServedBay {
         operate: &Operate<'_>,
     ) -> Result<Ending, AllocError>
         requires { IsHandle self.now.tree row }
-        ensures { IfOk result (λ ending. ending ≡ ending_of client (name_at self.now.tree row) (operating operate.now) (bay_view self.now)) }
+        ensures { IfOk result (λ ending. ending
+            ≡ ending_of client (name_at self.now.tree row) (operating operate.now)
+            (bay_view self.now)) }
     {
         let domain = self.domain.as_str();
         let item = self.tree.name(row);
@@ -292,9 +306,13 @@ impl ServedBay {
         written: &mut Written,
     ) -> Result<(), AllocError>
         requires { IsHandle self.now.tree part.row }
-        ensures response { OnOk result (written.new.response ≡ written.old.response ++ success_result) }
+        ensures response { OnOk result
+            (written.new.response ≡ written.old.response ++ success_result) }
         ensures reports { written.new.reports ≡ written.old.reports }
-        ensures commands { OnOk result (written.new.commands.items ≡ written.old.commands.items ++ commands_for part.switch (operating operate.now) (Ok tt)) }
+        ensures commands { OnOk result
+            (written.new.commands.items
+            ≡ written.old.commands.items
+            ++ commands_for part.switch (operating operate.now) (Ok tt)) }
         ensures ending { OnOk result (written.new.ending
             ≡ later_ending written.old.ending
             (endings client part.switch (name_at self.now.tree part.row) (operating operate.now)
@@ -323,8 +341,13 @@ impl ServedBay {
     ) -> Result<(), AllocError>
         requires there { IsHandle self.old.tree part.row }
         requires switch { part.switch < length self.old.switches }
-        ensures ok { OnOk result (writing self.new written.new ≡ operate_asked client part.switch (name_at self.old.tree part.row) (writing self.old written.old) (operate_in (datum_of given.now))) }
-        ensures back { (standing : Standing) → standing_again standing (bay_view self.new) ≡ standing_again standing (bay_view self.old) }
+        ensures ok { OnOk result
+            (writing self.new written.new
+            ≡ operate_asked client part.switch (name_at self.old.tree part.row)
+            (writing self.old written.old) (operate_in (datum_of given.now))) }
+        ensures back { (standing : Standing)
+            → standing_again standing (bay_view self.new)
+            ≡ standing_again standing (bay_view self.old) }
         ensures switches { self.new.switches ≡ self.old.switches }
         ensures layout { layout_of self.new.tree ≡ layout_of self.old.tree }
     {
@@ -348,8 +371,12 @@ impl ServedBay {
         written: &mut Written,
     ) -> Result<(), AllocError>
         requires { IsFound self.old.tree row }
-        ensures ok { OnOk result (writing self.new written.new ≡ spec.write_row client (datum_of given.now) (writing self.old written.old) (Some row)) }
-        ensures back { (standing : Standing) → standing_again standing (bay_view self.new) ≡ standing_again standing (bay_view self.old) }
+        ensures ok { OnOk result
+            (writing self.new written.new
+            ≡ spec.write_row client (datum_of given.now) (writing self.old written.old) (Some row)) }
+        ensures back { (standing : Standing)
+            → standing_again standing (bay_view self.new)
+            ≡ standing_again standing (bay_view self.old) }
         ensures switches { self.new.switches ≡ self.old.switches }
         ensures layout { layout_of self.new.tree ≡ layout_of self.old.tree }
     {
@@ -374,12 +401,17 @@ impl ServedBay {
         &mut self,
         alloc: Global,
         client: Client,
-        name: &Name<'_>,
+        name: &ObjectName<'_>,
         given: &Data<'_>,
         written: &mut Written,
     ) -> Result<(), AllocError>
-        ensures ok { OnOk result (writing self.new written.new ≡ spec.write_one client (naming name.now) (datum_of given.now) (writing self.old written.old)) }
-        ensures back { (standing : Standing) → standing_again standing (bay_view self.new) ≡ standing_again standing (bay_view self.old) }
+        ensures ok { OnOk result
+            (writing self.new written.new
+            ≡ spec.write_one client (naming name.now) (datum_of given.now)
+            (writing self.old written.old)) }
+        ensures back { (standing : Standing)
+            → standing_again standing (bay_view self.new)
+            ≡ standing_again standing (bay_view self.old) }
         ensures switches { self.new.switches ≡ self.old.switches }
         ensures layout { layout_of self.new.tree ≡ layout_of self.old.tree }
     {
@@ -394,12 +426,17 @@ impl ServedBay {
         &mut self,
         alloc: Global,
         client: Client,
-        names: &[Name<'_>],
+        names: &[ObjectName<'_>],
         values: &[Data<'_>],
         written: &mut Written,
     ) -> Result<(), AllocError>
-        ensures ok { OnOk result (writing self.new written.new ≡ spec.write_all client (map naming names.now) (data_in values.now) (writing self.old written.old)) }
-        ensures back { (standing : Standing) → standing_again standing (bay_view self.new) ≡ standing_again standing (bay_view self.old) }
+        ensures ok { OnOk result
+            (writing self.new written.new
+            ≡ spec.write_all client (map naming names.now) (data_in values.now)
+            (writing self.old written.old)) }
+        ensures back { (standing : Standing)
+            → standing_again standing (bay_view self.new)
+            ≡ standing_again standing (bay_view self.old) }
         ensures switches { self.new.switches ≡ self.old.switches }
         ensures layout { layout_of self.new.tree ≡ layout_of self.old.tree }
     {

@@ -36,17 +36,26 @@ same_parts : (es : List Entry) → entries_parts (entries_of es) ≡ flat_map en
 same_parts [] = refl
 same_parts (e ∷ es) = ap (λ (ps : List Numbered). entry_parts e ++ ps) (same_parts es)
 
-and_end : (ps : List Numbered) → list_all (λ n. n == 1) (map line_of ps) ≡ true → list_all (λ n. n == 1) (map line_of ((ps ++ (1, leaving) ∷ []) ++ [])) ≡ true
+and_end : (ps : List Numbered) → list_all (λ n. n == 1) (map line_of ps) ≡ true
+    → list_all (λ n. n == 1) (map line_of ((ps ++ (1, leaving) ∷ []) ++ [])) ≡ true
 and_end [] e = refl
 and_end (p ∷ ps) e =
     let parts = and_parts (line_of p == 1) (list_all (λ n. n == 1) (map line_of ps)) e in
     both (line_of p == 1) _ parts.0 (and_end ps parts.1)
 
-around : (operator : Operator) (negated : Bool) (a : Action) (es : List Entry) → are_first es ≡ true → are_first (action 1 a ∷ block 1 operator negated (entries_of es) 1 ∷ []) ≡ true
-around operator negated a es e = and_end (entries_parts (entries_of es)) (subst (λ (ps : List Numbered). list_all (λ n. n == 1) (map line_of ps) ≡ true) (sym (same_parts es)) e)
+around : (operator : Operator) (negated : Bool) (a : Action) (es : List Entry) → are_first es ≡ true
+    → are_first (action 1 a ∷ block 1 operator negated (entries_of es) 1 ∷ []) ≡ true
+around operator negated a es e =
+    and_end (entries_parts (entries_of es))
+    (subst (λ (ps : List Numbered). list_all (λ n. n == 1) (map line_of ps) ≡ true)
+    (sym (same_parts es)) e)
 
-pub around_items : (operator : Operator) (negated : Bool) (front : Item) (items : Vec Item Global) (a : Action) → entry_of front ≡ action 1 a → are_first (map entry_of items.items) ≡ true
+pub around_items : (operator : Operator) (negated : Bool) (front : Item) (items : Vec Item Global)
+    (a : Action) → entry_of front ≡ action 1 a → are_first (map entry_of items.items) ≡ true
     → are_first (map entry_of (front ∷ Block 1 operator negated items 1 ∷ [])) ≡ true
 around_items operator negated front items a is e =
-    subst (λ (x : Entry). are_first (x ∷ entry_of (Block 1 operator negated items 1) ∷ []) ≡ true) (sym is)
-    (subst (λ (x : Entry). are_first (action 1 a ∷ x ∷ []) ≡ true) (sym (view_block 1 operator negated items 1)) (around operator negated a (map entry_of items.items) e))
+    subst (λ (x : Entry). are_first (x ∷ entry_of (Block 1 operator negated items 1) ∷ []) ≡ true)
+    (sym is)
+    (subst (λ (x : Entry). are_first (action 1 a ∷ x ∷ []) ≡ true)
+    (sym (view_block 1 operator negated items 1))
+    (around operator negated a (map entry_of items.items) e))

@@ -1,4 +1,5 @@
-// Values, timers, instructions and images, with rows whose values come from the format and the standard.
+// Values, timers, instructions and images, with rows whose values come from the format and the
+// standard.
 use bay_base::types::{ElementaryType, TimerKind};
 use il_image::arithmetic::{Comparison, Operation, Width, compare, compute, connect, widen, wrap};
 use il_image::decode::decode;
@@ -314,7 +315,8 @@ fn numbers_of_faults(rt: HostRuntime) {
     }
 }
 
-/// Whether an instruction is spelled with these octets, and they are it again between a DROP and a HALT.
+/// Whether an instruction is spelled with these octets, and they are it again between a DROP and a
+/// HALT.
 fn is_spelled(alloc: Global, octets: &[u8], instr: Instr) -> Result<bool, AllocError> {
     let mut code = [0x06].to_vec(alloc)?;
     instr.spell(&mut code)?;

@@ -1,6 +1,7 @@
-// Tests of what can't be a line of cases: programs and points that no text gives, values call by call, verdicts that hand an image
-// back, and a replay with readers and writers that fail. They use public calls alone, and stand in a crate of their own, since a
-// crate with tests is proved a second time for them.
+// Tests of what can't be a line of cases: programs and points that no text gives, values call by
+// call, verdicts that hand an image back, and a replay with readers and writers that fail. They use
+// public calls alone, and stand in a crate of their own, since a crate with tests is proved a
+// second time for them.
 //
 // - `bay`: the longest bay file.
 // - `by_hand`: programs that no text gives.

@@ -24,7 +24,8 @@ impl Read for Dripping<'_> {
 
     fn read(&mut self, buf: &mut [u8]) -> io::Result<usize>
         ensures bound { ReadsAtMost result buf.new }
-        ensures bytes { ReadConsumes (Some self.old.rest.now) (Some self.new.rest.now) result buf.new }
+        ensures bytes { ReadConsumes (Some self.old.rest.now) (Some self.new.rest.now) result
+            buf.new }
     {
         self.reads = self.reads.saturating_add(1);
         if self.reads == self.fails_at {
@@ -35,7 +36,8 @@ impl Read for Dripping<'_> {
     }
 }
 
-/// A writer that takes at most three octets at a call, and fails once it is full, or at each flush; it counts its flushes.
+/// A writer that takes at most three octets at a call, and fails once it is full, or at each flush;
+/// it counts its flushes.
 #[derive(Drop)]
 struct Narrow {
     taken: Vec<u8>,
@@ -49,7 +51,8 @@ impl Write for Narrow {
 
     fn write(&mut self, buf: &[u8]) -> io::Result<usize>
         ensures bound { WritesAtMost result buf.now }
-        ensures bytes { WriteAppends (Some self.old.taken.items) (Some self.new.taken.items) result buf.now }
+        ensures bytes { WriteAppends (Some self.old.taken.items) (Some self.new.taken.items) result
+            buf.now }
     {
         let some = buf.len().min(3).min(self.room);
         if some == 0 {
@@ -71,8 +74,8 @@ impl Write for Narrow {
     }
 }
 
-/// What a scenario's replay wrote, its status (255 for a failed write), what is known of reader and writer, and what these counted
-/// themselves.
+/// What a scenario's replay wrote, its status (255 for a failed write), what is known of reader and
+/// writer, and what these counted themselves.
 #[derive(Drop)]
 struct Outcome {
     report: Vec<u8>,

@@ -1,4 +1,5 @@
-// The depth of the stack, how many slots and timers there may be, and what comes back of a refused image.
+// The depth of the stack, how many slots and timers there may be, and what comes back of a refused
+// image.
 use il_image::decode::decode;
 use il_image::encode::encode;
 use il_verify::fault::VerifyFault;

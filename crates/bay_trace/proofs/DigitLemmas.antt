@@ -21,20 +21,25 @@ some-ok (Ok y) x e = let same : y ≡ x = cc in ap Ok same
 some-ok (Err f) x e = absurd cc
 
 -- what writes octets is digits
-pub octets-digits : (word octets : List ℕ) → octets_of word ≡ Some octets → AllPass is_hex_digit word
+pub octets-digits : (word octets : List ℕ) → octets_of word ≡ Some octets
+    → AllPass is_hex_digit word
 octets-digits [] octets e = absurd cc
-octets-digits (b ∷ bs) octets e = (decode_of-ok (b ∷ bs) octets (some-ok (decode_of (b ∷ bs)) octets e)).1
+octets-digits (b ∷ bs) octets e =
+    (decode_of-ok (b ∷ bs) octets (some-ok (decode_of (b ∷ bs)) octets e)).1
 
 pub digit-ascii : (b : ℕ) → is_hex_digit b ≡ true → b < 128
 digit-ascii b e = grind (arith, nat_tests)
 
 pub hex-ascii : (bs : List ℕ) → AllPass is_hex_digit bs → IsAscii bs
 hex-ascii [] h = IsAscii-nil
-hex-ascii (b ∷ bs) h = IsAscii-cons b bs (digit-ascii b (All-head (λ c. is_hex_digit c ≡ true) b bs h)) (hex-ascii bs (All-tail (λ c. is_hex_digit c ≡ true) b bs h))
+hex-ascii (b ∷ bs) h =
+    IsAscii-cons b bs (digit-ascii b (All-head (λ c. is_hex_digit c ≡ true) b bs h))
+    (hex-ascii bs (All-tail (λ c. is_hex_digit c ≡ true) b bs h))
 
 -- ---- which words write octets
 
-by-tests : (u v w : Bool) (x y z : ℕ) → ((u || v) || w) ≡ is_some (cond v (Some x) (cond w (Some y) (cond u (Some z) None)))
+by-tests : (u v w : Bool) (x y z : ℕ)
+    → ((u || v) || w) ≡ is_some (cond v (Some x) (cond w (Some y) (cond u (Some z) None)))
 by-tests true true true x y z = refl
 by-tests true true false x y z = refl
 by-tests true false true x y z = refl
@@ -45,7 +50,9 @@ by-tests false false true x y z = refl
 by-tests false false false x y z = refl
 
 digit-same : (b : ℕ) → is_ascii_hexdigit b ≡ is_hex_digit b
-digit-same b = by-tests (is_in_range 48 57 b) (is_in_range 65 70 b) (is_in_range 97 102 b) (b - 55) (b - 87) (b - 48)
+digit-same b =
+    by-tests (is_in_range 48 57 b) (is_in_range 65 70 b) (is_in_range 97 102 b) (b - 55) (b - 87)
+    (b - 48)
 
 all-digits : (bs : List ℕ) → list_all is_ascii_hexdigit bs ≡ true → AllPass is_hex_digit bs
 all-digits [] e = All-nil (λ c. is_hex_digit c ≡ true)
@@ -56,24 +63,31 @@ all-digits (b ∷ bs) e =
 digits-all : (bs : List ℕ) → AllPass is_hex_digit bs → list_all is_ascii_hexdigit bs ≡ true
 digits-all [] h = refl
 digits-all (b ∷ bs) h =
-    let here : is_ascii_hexdigit b ≡ true = digit-same b ∙ All-head (λ c. is_hex_digit c ≡ true) b bs h in
+    let here : is_ascii_hexdigit b ≡ true =
+    digit-same b ∙ All-head (λ c. is_hex_digit c ≡ true) b bs h in
     let rest = digits-all bs (All-tail (λ c. is_hex_digit c ≡ true) b bs h) in
     rw (here, rest) refl
 
 -- a word of an even number of digits writes octets where each is a digit
-pub octets-even : (word : List ℕ) (v : Bool) → eqb (length word) 0 ≡ false → length word % 2 ≡ 0 → v ≡ list_all is_ascii_hexdigit word → v ≡ is_some (octets_of word)
+pub octets-even : (word : List ℕ) (v : Bool) → eqb (length word) 0 ≡ false → length word % 2 ≡ 0
+    → v ≡ list_all is_ascii_hexdigit word → v ≡ is_some (octets_of word)
 octets-even [] v some even e = absurd cc
 octets-even (b ∷ bs) true some even e =
-    let d = decode_of-digits (b ∷ bs) even (all-digits (b ∷ bs) (sym e)) in sym (ap (λ (r : Result (List ℕ) FromHexError). is_some (result_ok r)) d.1)
+    let d = decode_of-digits (b ∷ bs) even (all-digits (b ∷ bs) (sym e)) in
+    sym (ap (λ (r : Result (List ℕ) FromHexError). is_some (result_ok r)) d.1)
 octets-even (b ∷ bs) false some even e = by_octets (octets_of (b ∷ bs)) refl
   where
-    by_octets : (o : Option (List ℕ)) → octets_of (b ∷ bs) ≡ o → false ≡ is_some (octets_of (b ∷ bs))
+    by_octets : (o : Option (List ℕ)) → octets_of (b ∷ bs) ≡ o
+        → false ≡ is_some (octets_of (b ∷ bs))
     by_octets None is = sym (ap is_some is)
-    by_octets (Some octets) is = let all = digits-all (b ∷ bs) (octets-digits (b ∷ bs) octets is) in absurd cc
+    by_octets (Some octets) is = let all =
+        digits-all (b ∷ bs) (octets-digits (b ∷ bs) octets is) in absurd cc
 
 pub octets-odd : (word : List ℕ) → length word % 2 ≡ 1 → false ≡ is_some (octets_of word)
 octets-odd [] odd = refl
-octets-odd (b ∷ bs) odd = sym (ap (λ (r : Result (List ℕ) FromHexError). is_some (result_ok r)) (decode_of-odd (b ∷ bs) odd))
+octets-odd (b ∷ bs) odd =
+    sym (ap (λ (r : Result (List ℕ) FromHexError). is_some (result_ok r))
+    (decode_of-odd (b ∷ bs) odd))
 
 pub octets-none : (word : List ℕ) → eqb (length word) 0 ≡ true → false ≡ is_some (octets_of word)
 octets-none [] e = refl
@@ -81,7 +95,8 @@ octets-none (b ∷ bs) e = absurd (grind (arith, nat_tests))
 
 -- ---- the octets that digits write
 
-pub octets-known : (word : List ℕ) → is_some (octets_of word) ≡ true → octets_of word ≡ Some (octets_in word)
+pub octets-known : (word : List ℕ) → is_some (octets_of word) ≡ true
+    → octets_of word ≡ Some (octets_in word)
 octets-known word e = by_octets (octets_of word) refl
   where
     by_octets : (o : Option (List ℕ)) → octets_of word ≡ o → octets_of word ≡ Some (octets_in word)
@@ -92,20 +107,29 @@ known-decode : (word octets : List ℕ) → octets_of word ≡ Some octets → d
 known-decode [] octets e = absurd cc
 known-decode (b ∷ bs) octets e = some-ok (decode_of (b ∷ bs)) octets e
 
-pub octets-twice : (word : List ℕ) → is_some (octets_of word) ≡ true → length word ≡ 2 * length (octets_in word)
-octets-twice word e = (decode_of-ok word (octets_in word) (known-decode word (octets_in word) (octets-known word e))).2
+pub octets-twice : (word : List ℕ) → is_some (octets_of word) ≡ true
+    → length word ≡ 2 * length (octets_in word)
+octets-twice word e =
+    (decode_of-ok word (octets_in word)
+    (known-decode word (octets_in word) (octets-known word e))).2
 
-pub octets-half : (word : List ℕ) → is_some (octets_of word) ≡ true → length (octets_in word) ≡ length word / 2
+pub octets-half : (word : List ℕ) → is_some (octets_of word) ≡ true
+    → length (octets_in word) ≡ length word / 2
 octets-half word e = let twice = octets-twice word e in omega arith
 
 -- the front of a front, of a list that stands before another
-pub front-of : (n m : ℕ) (xs ys : List ℕ) → n ≤ length xs → n ≤ m → take n (take m (xs ++ ys)) ≡ take n xs
+pub front-of : (n m : ℕ) (xs ys : List ℕ) → n ≤ length xs → n ≤ m
+    → take n (take m (xs ++ ys)) ≡ take n xs
 front-of n m xs ys fits within = take-take n m (xs ++ ys) within ∙ take-append-le n xs ys fits
 
 -- what digits that write octets are decoded to
-pub decoded : (word : List ℕ) (n : ℕ) (new : List ℕ) (r : Result Unit FromHexError) → is_some (octets_of word) ≡ true → n ≡ length (octets_in word)
-    → MatchResult (decode_sized word n) (λ bytes. (r ≡ Ok tt) × (new ≡ bytes)) (λ e. r ≡ Err e) → new ≡ octets_in word
+pub decoded : (word : List ℕ) (n : ℕ) (new : List ℕ) (r : Result Unit FromHexError)
+    → is_some (octets_of word) ≡ true → n ≡ length (octets_in word)
+    → MatchResult (decode_sized word n) (λ bytes. (r ≡ Ok tt) × (new ≡ bytes)) (λ e. r ≡ Err e)
+    → new ≡ octets_in word
 decoded word n new r e size m =
     let twice : length word ≡ 2 * n = octets-twice word e ∙ ap (λ k. 2 * k) (sym size) in
-    let is : decode_sized word n ≡ Ok (octets_in word) = decode_sized-twice word n twice ∙ known-decode word (octets_in word) (octets-known word e) in
+    let is : decode_sized word n ≡ Ok (octets_in word) =
+    decode_sized-twice word n twice
+    ∙ known-decode word (octets_in word) (octets-known word e) in
     (rw is at m).1

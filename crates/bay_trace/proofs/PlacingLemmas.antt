@@ -8,7 +8,8 @@ use Rattle.bay_trace.specs.Placing.{LineRoom, Takes, Took, anywhere, count_of}
 use Rattle.bay_trace.specs.Trace.{NamedData}
 
 -- where the octets of an event lie is all the same
-pub same-anywhere : (choice : Option ℕ) (now : ℕ) (event : Event) (s : State) → outcome choice now event s ≡ outcome choice now (anywhere event) s
+pub same-anywhere : (choice : Option ℕ) (now : ℕ) (event : Event) (s : State)
+    → outcome choice now event s ≡ outcome choice now (anywhere event) s
 same-anywhere choice now (Open a) s = refl
 same-anywhere choice now (Recv a octets) s = refl
 same-anywhere choice now (Close a) s = refl
@@ -17,10 +18,12 @@ same-anywhere choice now (Input k value) s = refl
 same-anywhere choice now (Measure k field value) s = refl
 same-anywhere choice now Scan s = refl
 
-pub took-not : {X E : Type 0} (event : NamedData) (old new : LineRoom) (r : Result X E) → is_err r ≡ true → Takes event old new r → old.room < count_of event
+pub took-not : {X E : Type 0} (event : NamedData) (old new : LineRoom) (r : Result X E)
+    → is_err r ≡ true → Takes event old new r → old.room < count_of event
 took-not event old new (Ok x) is t = absurd cc
 took-not event old new (Err e) is t = t
 
-pub took : {X E : Type 0} (event : NamedData) (old new : LineRoom) (r : Result X E) → is_err r ≡ false → Takes event old new r → Took event old new
+pub took : {X E : Type 0} (event : NamedData) (old new : LineRoom) (r : Result X E)
+    → is_err r ≡ false → Takes event old new r → Took event old new
 took event old new (Ok x) is t = t
 took event old new (Err e) is t = absurd cc

@@ -21,14 +21,22 @@ abbrev pub IsWord : List ℕ → Type 0
 IsWord bs = slice_split is_space bs ≡ bs ∷ []
 
 position_word : (word : List ℕ) (p : Dbpos) → position_of word ≡ Some p → IsWord word
-position_word word p e = chosen IsWord word (codes "0") _ p _ refl (chosen IsWord word (codes "1") _ p _ refl (chosen IsWord word (codes "2") _ p _ refl (chosen IsWord word (codes "3") _ p _ refl (none-chosen IsWord word p)))) e
+position_word word p e =
+    chosen IsWord word (codes "0") _ p _ refl
+    (chosen IsWord word (codes "1") _ p _ refl
+    (chosen IsWord word (codes "2") _ p _ refl
+    (chosen IsWord word (codes "3") _ p _ refl (none-chosen IsWord word p)))) e
 
 truth_word : (word : List ℕ) (v : Bool) → truth_of word ≡ Some v → IsWord word
-truth_word word v e = chosen IsWord word (codes "0") _ v _ refl (chosen IsWord word (codes "1") _ v _ refl (none-chosen IsWord word v)) e
+truth_word word v e =
+    chosen IsWord word (codes "0") _ v _ refl
+    (chosen IsWord word (codes "1") _ v _ refl (none-chosen IsWord word v)) e
 
 digits_word : (bs : List ℕ) → all_ascii_digits bs ≡ true → IsWord bs
 digits_word [] e = refl
-digits_word (b ∷ bs) e = let both = and_parts (is_ascii_digit b) (all_ascii_digits bs) e in slice_split-cons_no is_space b bs (not_space b both.0) ∙ ap (onto_first b) (digits_word bs both.1)
+digits_word (b ∷ bs) e = let both = and_parts (is_ascii_digit b) (all_ascii_digits bs) e in
+    slice_split-cons_no is_space b bs (not_space b both.0)
+    ∙ ap (onto_first b) (digits_word bs both.1)
 
 number_word : (word : List ℕ) (n : ℕ) → read_number word ≡ Some n → IsWord word
 number_word word n e = by_test (all_ascii_digits word) refl
@@ -41,7 +49,8 @@ integer_word : (word : List ℕ) (z : ℤ) → read_integer word ≡ Some z → 
 integer_word [] z e = absurd cc
 integer_word (b ∷ bs) z e = by_test (eqb b 45) refl
   where
-    read : (f : ℕ → Option ℤ) (ds : List ℕ) → option_and_then f (read_number ds) ≡ Some z → IsWord ds
+    read : (f : ℕ → Option ℤ) (ds : List ℕ) → option_and_then f (read_number ds) ≡ Some z
+        → IsWord ds
     read f ds h = by_number (read_number ds) refl
       where
         by_number : (o : Option ℕ) → read_number ds ≡ o → IsWord ds
@@ -51,7 +60,8 @@ integer_word (b ∷ bs) z e = by_test (eqb b 45) refl
     by_test : (v : Bool) → eqb b 45 ≡ v → IsWord (b ∷ bs)
     by_test true minus =
         let space : is_space b ≡ false = grind (arith, nat_tests) in
-        slice_split-cons_no is_space b bs space ∙ ap (onto_first b) (read negative_of bs (rw minus at e))
+        slice_split-cons_no is_space b bs space
+        ∙ ap (onto_first b) (read negative_of bs (rw minus at e))
     by_test false minus = read positive_of (b ∷ bs) (rw minus at e)
 
 association_word : (word : List ℕ) (a : ℕ) → association_of word ≡ Some a → IsWord word
@@ -66,49 +76,63 @@ hex_word [] h = refl
 hex_word (b ∷ bs) h =
     let digit : is_hex_digit b ≡ true = All-head (λ c. is_hex_digit c ≡ true) b bs h in
     let space : is_space b ≡ false = grind (arith, nat_tests) in
-    slice_split-cons_no is_space b bs space ∙ ap (onto_first b) (hex_word bs (All-tail (λ c. is_hex_digit c ≡ true) b bs h))
+    slice_split-cons_no is_space b bs space
+    ∙ ap (onto_first b) (hex_word bs (All-tail (λ c. is_hex_digit c ≡ true) b bs h))
 
 octets_word : (word octets : List ℕ) → octets_of word ≡ Some octets → IsWord word
 octets_word word octets e = hex_word word (octets-digits word octets e)
 
 -- what says something only of one word says of a text what it says of the word that stands alone
 -- there
-alone-tells : {X : Type 0} (f : List ℕ → Option X) (bs : List ℕ) → ((y : X) → f bs ≡ Some y → IsWord bs) → option_and_then f (only_word (slice_split is_space bs)) ≡ f bs
+alone-tells : {X : Type 0} (f : List ℕ → Option X) (bs : List ℕ)
+    → ((y : X) → f bs ≡ Some y → IsWord bs)
+    → option_and_then f (only_word (slice_split is_space bs)) ≡ f bs
 alone-tells {X = X} f bs word = by_told (f bs) refl
   where
-    by_words : (ws : List (List ℕ)) → slice_split is_space bs ≡ ws → f bs ≡ None → option_and_then f (only_word ws) ≡ f bs
+    by_words : (ws : List (List ℕ)) → slice_split is_space bs ≡ ws → f bs ≡ None
+        → option_and_then f (only_word ws) ≡ f bs
     by_words [] e none = sym none
-    by_words (w ∷ []) e none = ap f (ap (join_with_byte 32) (sym e) ∙ join_with_byte-slice_split 32 bs)
+    by_words (w ∷ []) e none =
+        ap f (ap (join_with_byte 32) (sym e) ∙ join_with_byte-slice_split 32 bs)
     by_words (w ∷ next ∷ ws) e none = sym none
 
-    by_told : (o : Option X) → f bs ≡ o → option_and_then f (only_word (slice_split is_space bs)) ≡ f bs
+    by_told : (o : Option X) → f bs ≡ o
+        → option_and_then f (only_word (slice_split is_space bs)) ≡ f bs
     by_told None told = by_words (slice_split is_space bs) refl told
     by_told (Some y) told = ap (λ ws. option_and_then f (only_word ws)) (word y told)
 
-pub alone-position : (bs : List ℕ) → option_and_then position_of (only_word (slice_split is_space bs)) ≡ position_of bs
+pub alone-position : (bs : List ℕ)
+    → option_and_then position_of (only_word (slice_split is_space bs)) ≡ position_of bs
 alone-position bs = alone-tells position_of bs (position_word bs)
 
-pub alone-truth : (bs : List ℕ) → option_and_then truth_of (only_word (slice_split is_space bs)) ≡ truth_of bs
+pub alone-truth : (bs : List ℕ)
+    → option_and_then truth_of (only_word (slice_split is_space bs)) ≡ truth_of bs
 alone-truth bs = alone-tells truth_of bs (truth_word bs)
 
-pub alone-integer : (bs : List ℕ) → option_and_then read_integer (only_word (slice_split is_space bs)) ≡ read_integer bs
+pub alone-integer : (bs : List ℕ)
+    → option_and_then read_integer (only_word (slice_split is_space bs)) ≡ read_integer bs
 alone-integer bs = alone-tells read_integer bs (integer_word bs)
 
-pub alone-association : (bs : List ℕ) → option_and_then association_of (only_word (slice_split is_space bs)) ≡ association_of bs
+pub alone-association : (bs : List ℕ)
+    → option_and_then association_of (only_word (slice_split is_space bs)) ≡ association_of bs
 alone-association bs = alone-tells association_of bs (association_word bs)
 
-pub alone-octets : (bs : List ℕ) → option_and_then octets_of (only_word (slice_split is_space bs)) ≡ octets_of bs
+pub alone-octets : (bs : List ℕ)
+    → option_and_then octets_of (only_word (slice_split is_space bs)) ≡ octets_of bs
 alone-octets bs = alone-tells octets_of bs (octets_word bs)
 
 -- a text that doesn't begin with a word and a space has another first word
-other : (text word verb rest : List ℕ) → ((r : List ℕ) → text ≢ verb ++ 32 ∷ r) → text ≡ word ++ 32 ∷ rest → bytes_eq word verb ≡ false
+other : (text word verb rest : List ℕ) → ((r : List ℕ) → text ≢ verb ++ 32 ∷ r)
+    → text ≡ word ++ 32 ∷ rest → bytes_eq word verb ≡ false
 other text word verb rest h e = by_test (bytes_eq word verb) refl
   where
     by_test : (v : Bool) → bytes_eq word verb ≡ v → bytes_eq word verb ≡ false
-    by_test true is = absurd (h rest (e ∙ ap (λ w. w ++ 32 ∷ rest) ((bytes_eq-Decides word verb).0 is)))
+    by_test true is =
+        absurd (h rest (e ∙ ap (λ w. w ++ 32 ∷ rest) ((bytes_eq-Decides word verb).0 is)))
     by_test false is = is
 
-unsaid : {X : Type 0} (o : Option (List ℕ)) (f : List ℕ → Option X) → ((name : List ℕ) → f name ≡ None) → option_and_then f o ≡ None
+unsaid : {X : Type 0} (o : Option (List ℕ)) (f : List ℕ → Option X)
+    → ((name : List ℕ) → f name ≡ None) → option_and_then f o ≡ None
 unsaid None f h = refl
 unsaid (Some name) f h = h name
 
@@ -119,7 +143,8 @@ is_not text word h = by_test (bytes_eq text word) refl
     by_test true is = absurd (h ((bytes_eq-Decides text word).0 is))
     by_test false is = is
 
-none_of : {X : Type 0} (u v w : Bool) → ◌≡◌ {A = Option X} (cond u None (cond v None (cond w None None))) None
+none_of : {X : Type 0} (u v w : Bool)
+    → ◌≡◌ {A = Option X} (cond u None (cond v None (cond w None None))) None
 none_of true v w = refl
 none_of false true w = refl
 none_of false false true = refl
@@ -127,44 +152,59 @@ none_of false false false = refl
 
 -- nothing is told of an association by a word alone
 talk_alone : (word : List ℕ) → talk_of word [] ≡ None
-talk_alone word = none_of (bytes_eq word (codes "open")) (bytes_eq word (codes "close")) (bytes_eq word (codes "recv"))
+talk_alone word =
+    none_of (bytes_eq word (codes "open")) (bytes_eq word (codes "close"))
+    (bytes_eq word (codes "recv"))
 
 -- a verb of none of three
-not_of : {X : Type 0} (u v w : Bool) (x y z : Option X) → (u || (v || w)) ≡ false → cond u x (cond v y (cond w z None)) ≡ None
+not_of : {X : Type 0} (u v w : Bool) (x y z : Option X) → (u || (v || w)) ≡ false
+    → cond u x (cond v y (cond w z None)) ≡ None
 not_of true v w x y z e = absurd cc
 not_of false true w x y z e = absurd cc
 not_of false false true x y z e = absurd cc
 not_of false false false x y z e = refl
 
 no_talk : (verb : List ℕ) (words : List (List ℕ)) → is_talk verb ≡ false → talk_of verb words ≡ None
-no_talk verb words e = not_of (bytes_eq verb (codes "open")) (bytes_eq verb (codes "close")) (bytes_eq verb (codes "recv")) _ _ _ e
+no_talk verb words e =
+    not_of (bytes_eq verb (codes "open")) (bytes_eq verb (codes "close"))
+    (bytes_eq verb (codes "recv")) _ _ _ e
 
 -- a text that isn't `scan`, and that begins with no verb before a name and a space, says what it
 -- says of an association
-pub no_verb : (text : List ℕ) → ((r : List ℕ) → text ≢ codes "contact " ++ r) → ((r : List ℕ) → text ≢ codes "input " ++ r) → ((r : List ℕ) → text ≢ codes "measure " ++ r) → text ≢ codes "scan"
+pub no_verb : (text : List ℕ) → ((r : List ℕ) → text ≢ codes "contact " ++ r)
+    → ((r : List ℕ) → text ≢ codes "input " ++ r) → ((r : List ℕ) → text ≢ codes "measure " ++ r)
+    → text ≢ codes "scan"
     → event_of (slice_split is_space text) ≡ talk_in (slice_split is_space text)
-no_verb text no_contact no_input no_measure no_scan = by_words (slice_split is_space text) (join_with_byte-slice_split 32 text)
+no_verb text no_contact no_input no_measure no_scan =
+    by_words (slice_split is_space text) (join_with_byte-slice_split 32 text)
   where
     by_words : (ws : List (List ℕ)) → join_with_byte 32 ws ≡ text → event_of ws ≡ talk_in ws
     by_words [] e = refl
     by_words (word ∷ []) e =
-        ap (λ w. cond (bytes_eq w (codes "scan")) (Some scan) None) e ∙ ap (λ v. cond v (Some scan) None) (is_not text (codes "scan") no_scan) ∙ sym (talk_alone word)
+        ap (λ w. cond (bytes_eq w (codes "scan")) (Some scan) None) e
+        ∙ ap (λ v. cond v (Some scan) None) (is_not text (codes "scan") no_scan)
+        ∙ sym (talk_alone word)
     by_words (verb ∷ word ∷ values) e = by_test (is_talk verb) refl
       where
-        by_test : (v : Bool) → is_talk verb ≡ v → event_of (verb ∷ word ∷ values) ≡ talk_of verb (word ∷ values)
+        by_test : (v : Bool) → is_talk verb ≡ v
+            → event_of (verb ∷ word ∷ values) ≡ talk_of verb (word ∷ values)
         by_test true is = rw is refl
         by_test false is =
             let rest = join_with_byte 32 (word ∷ values) in
             let a = other text verb (codes "contact") rest no_contact (sym e) in
             let b = other text verb (codes "input") rest no_input (sym e) in
             let d = other text verb (codes "measure") rest no_measure (sym e) in
-            ap (λ v. cond v (talk_of verb (word ∷ values)) (option_and_then (λ name. named_of verb name values) (name_of word))) is
-            ∙ unsaid (name_of word) (λ name. named_of verb name values) (λ name. rw (a, b, d) refl) ∙ sym (no_talk verb (word ∷ values) is)
+            ap (λ v. cond v (talk_of verb (word ∷ values))
+            (option_and_then (λ name. named_of verb name values) (name_of word))) is
+            ∙ unsaid (name_of word) (λ name. named_of verb name values) (λ name. rw (a, b, d) refl)
+            ∙ sym (no_talk verb (word ∷ values) is)
 
 -- a text that begins with no verb before an association and a space says nothing of one
-pub no_talk_verb : (text : List ℕ) → ((r : List ℕ) → text ≢ codes "recv " ++ r) → ((r : List ℕ) → text ≢ codes "open " ++ r) → ((r : List ℕ) → text ≢ codes "close " ++ r)
+pub no_talk_verb : (text : List ℕ) → ((r : List ℕ) → text ≢ codes "recv " ++ r)
+    → ((r : List ℕ) → text ≢ codes "open " ++ r) → ((r : List ℕ) → text ≢ codes "close " ++ r)
     → talk_in (slice_split is_space text) ≡ None
-no_talk_verb text no_recv no_open no_close = by_words (slice_split is_space text) (join_with_byte-slice_split 32 text)
+no_talk_verb text no_recv no_open no_close =
+    by_words (slice_split is_space text) (join_with_byte-slice_split 32 text)
   where
     by_words : (ws : List (List ℕ)) → join_with_byte 32 ws ≡ text → talk_in ws ≡ None
     by_words [] e = refl
@@ -177,11 +217,17 @@ no_talk_verb text no_recv no_open no_close = by_words (slice_split is_space text
         rw (a, b, d) refl
 
 -- what is told behind `open`, and behind `close`
-pub open-told : (text word : List ℕ) (o : Option ℕ) → text ≡ codes "open " ++ word → o ≡ association_of word → option_map connects o ≡ talk_in (slice_split is_space text)
-open-told text word o e told = sym (ap (λ t. talk_in (slice_split is_space t)) e ∙ ap (option_map connects) (alone-association word ∙ sym told))
+pub open-told : (text word : List ℕ) (o : Option ℕ) → text ≡ codes "open " ++ word
+    → o ≡ association_of word → option_map connects o ≡ talk_in (slice_split is_space text)
+open-told text word o e told =
+    sym (ap (λ t. talk_in (slice_split is_space t)) e
+    ∙ ap (option_map connects) (alone-association word ∙ sym told))
 
-pub close-told : (text word : List ℕ) (o : Option ℕ) → text ≡ codes "close " ++ word → o ≡ association_of word → option_map disconnects o ≡ talk_in (slice_split is_space text)
-close-told text word o e told = sym (ap (λ t. talk_in (slice_split is_space t)) e ∙ ap (option_map disconnects) (alone-association word ∙ sym told))
+pub close-told : (text word : List ℕ) (o : Option ℕ) → text ≡ codes "close " ++ word
+    → o ≡ association_of word → option_map disconnects o ≡ talk_in (slice_split is_space text)
+close-told text word o e told =
+    sym (ap (λ t. talk_in (slice_split is_space t)) e
+    ∙ ap (option_map disconnects) (alone-association word ∙ sym told))
 
 pub differs : (xs ys : List ℕ) → bytes_eq xs ys ≡ false → xs ≢ ys
 differs xs ys other e = let yes = (bytes_eq-Decides xs ys).1 e in absurd cc

@@ -19,20 +19,25 @@ pub take_rest : (xs : List ℕ) (n : ℕ) → take (length xs - n) (drop n xs) �
 take_rest xs n = take_all (length xs - n) (drop n xs) (grind (arith, common_steps))
 
 -- a text with a space is the word before it and what follows
-pub some_space : (bs : List ℕ) (at : ℕ) → position is_space bs ≡ Some at → slice_split is_space bs ≡ take at bs ∷ slice_split is_space (drop (at + 1) bs)
+pub some_space : (bs : List ℕ) (at : ℕ) → position is_space bs ≡ Some at
+    → slice_split is_space bs ≡ take at bs ∷ slice_split is_space (drop (at + 1) bs)
 some_space bs at e = by_test (nat_lt (position_or_len is_space bs) (length bs)) refl
   where
-    by_test : (v : Bool) → nat_lt (position_or_len is_space bs) (length bs) ≡ v → slice_split is_space bs ≡ take at bs ∷ slice_split is_space (drop (at + 1) bs)
+    by_test : (v : Bool) → nat_lt (position_or_len is_space bs) (length bs) ≡ v
+        → slice_split is_space bs ≡ take at bs ∷ slice_split is_space (drop (at + 1) bs)
     by_test true l =
-        let is : position_or_len is_space bs ≡ at = let some : Some (position_or_len is_space bs) ≡ Some at = rw l at e in cc in
-        subst (λ k. slice_split is_space bs ≡ take k bs ∷ slice_split is_space (drop (k + 1) bs)) is (slice_split_first is_space bs 0 (grind (arith, nat_tests)))
+        let is : position_or_len is_space bs ≡ at =
+        let some : Some (position_or_len is_space bs) ≡ Some at = rw l at e in cc in
+        subst (λ k. slice_split is_space bs ≡ take k bs ∷ slice_split is_space (drop (k + 1) bs)) is
+        (slice_split_first is_space bs 0 (grind (arith, nat_tests)))
     by_test false l = let none : None ≡ Some at = rw l at e in absurd cc
 
 alone : (bs : List ℕ) → length bs ≤ position_or_len is_space bs → slice_split is_space bs ≡ bs ∷ []
 alone [] l = refl
 alone (b ∷ bs) l = by_test (λ h. alone bs h) (is_space b) refl
   where
-    by_test : (length bs ≤ position_or_len is_space bs → slice_split is_space bs ≡ bs ∷ []) → (v : Bool) → is_space b ≡ v → slice_split is_space (b ∷ bs) ≡ (b ∷ bs) ∷ []
+    by_test : (length bs ≤ position_or_len is_space bs → slice_split is_space bs ≡ bs ∷ [])
+        → (v : Bool) → is_space b ≡ v → slice_split is_space (b ∷ bs) ≡ (b ∷ bs) ∷ []
     by_test rest true e = absurd (let le : suc (length bs) ≤ 0 = rw e at l in omega (arith, le))
     by_test rest false e =
         let le : suc (length bs) ≤ 1 + position_or_len is_space bs = rw e at l in
@@ -42,22 +47,28 @@ alone (b ∷ bs) l = by_test (λ h. alone bs h) (is_space b) refl
 pub no_space : (bs : List ℕ) → position is_space bs ≡ None → slice_split is_space bs ≡ bs ∷ []
 no_space bs e = by_test (nat_lt (position_or_len is_space bs) (length bs)) refl
   where
-    by_test : (v : Bool) → nat_lt (position_or_len is_space bs) (length bs) ≡ v → slice_split is_space bs ≡ bs ∷ []
+    by_test : (v : Bool) → nat_lt (position_or_len is_space bs) (length bs) ≡ v
+        → slice_split is_space bs ≡ bs ∷ []
     by_test true l = let some : Some (position_or_len is_space bs) ≡ None = rw l at e in absurd cc
     by_test false l = alone bs (grind (arith, nat_tests))
 
 -- the number that decimal digits write behind those of a number, below 2 ^ 64
 abbrev pub number_from : ℕ → List ℕ → Option ℕ
-number_from n ds = if all_ascii_digits ds && nat_lt (digits_value_after 10 n ds) (2 ^ 64) then Some (digits_value_after 10 n ds) else None
+number_from n ds =
+    if all_ascii_digits ds && nat_lt (digits_value_after 10 n ds) (2 ^ 64)
+    then Some (digits_value_after 10 n ds) else None
 
-without_true : (o : Option ℕ) (u v w : Bool) → v ≡ true → cond (u && v && w) o None ≡ cond (u && w) o None
+without_true : (o : Option ℕ) (u v w : Bool) → v ≡ true
+    → cond (u && v && w) o None ≡ cond (u && w) o None
 without_true o u false w e = absurd cc
 without_true o false true w e = refl
 without_true o true true false e = refl
 without_true o true true true e = refl
 
 pub read_number-some : (bs : List ℕ) → eqb (length bs) 0 ≡ false → read_number bs ≡ number_from 0 bs
-read_number-some bs some = without_true _ (all_ascii_digits bs) (nat_lt 0 (length bs)) (nat_lt (digits_value_after 10 0 bs) (2 ^ 64)) (grind (arith, nat_tests))
+read_number-some bs some =
+    without_true _ (all_ascii_digits bs) (nat_lt 0 (length bs))
+    (nat_lt (digits_value_after 10 0 bs) (2 ^ 64)) (grind (arith, nat_tests))
 
 pub digit_value-digit : (b : ℕ) → is_ascii_digit b ≡ true → digit_value b ≡ b - 48
 digit_value-digit b is = omega (arith, digit_value_digit b (grind (arith, nat_tests)))
@@ -75,9 +86,11 @@ abbrev pub AddsDigit : ℕ → ℕ → ℕ → Type 0
 AddsDigit n b m = (is_ascii_digit b ≡ true) × (m ≡ n * 10 + (b - 48)) × (m < 2 ^ 64)
 
 pub with_digit-some : (n b m : ℕ) → with_digit n b ≡ Some m → AddsDigit n b m
-with_digit-some n b m e = by_tests (is_ascii_digit b) (nat_lt (n * 10 + (b - 48)) (2 ^ 64)) refl refl
+with_digit-some n b m e =
+    by_tests (is_ascii_digit b) (nat_lt (n * 10 + (b - 48)) (2 ^ 64)) refl refl
   where
-    by_tests : (u v : Bool) → is_ascii_digit b ≡ u → nat_lt (n * 10 + (b - 48)) (2 ^ 64) ≡ v → AddsDigit n b m
+    by_tests : (u v : Bool) → is_ascii_digit b ≡ u → nat_lt (n * 10 + (b - 48)) (2 ^ 64) ≡ v
+        → AddsDigit n b m
     by_tests false v d f = let none : None ≡ Some m = rw d at e in absurd cc
     by_tests true false d f = let none : None ≡ Some m = rw (d, f) at e in absurd cc
     by_tests true true d f =
@@ -85,22 +98,30 @@ with_digit-some n b m e = by_tests (is_ascii_digit b) (nat_lt (n * 10 + (b - 48)
         let same : n * 10 + (b - 48) ≡ m = cc in
         (d, cc, subst (λ k. k < 2 ^ 64) same (grind (arith, nat_tests)))
 
-pub number_from-step : (n b : ℕ) (bs : List ℕ) (m : ℕ) → with_digit n b ≡ Some m → number_from n (b ∷ bs) ≡ number_from m bs
-number_from-step n b bs m e = let is = with_digit-some n b m e in rw (is.0, digit_value-digit b is.0, is.1) refl
+pub number_from-step : (n b : ℕ) (bs : List ℕ) (m : ℕ) → with_digit n b ≡ Some m
+    → number_from n (b ∷ bs) ≡ number_from m bs
+number_from-step n b bs m e = let is =
+    with_digit-some n b m e in rw (is.0, digit_value-digit b is.0, is.1) refl
 
-pub number_from-none : (n b : ℕ) (bs : List ℕ) → with_digit n b ≡ None → number_from n (b ∷ bs) ≡ None
-number_from-none n b bs e = by_tests (is_ascii_digit b) (nat_lt (n * 10 + (b - 48)) (2 ^ 64)) refl refl
+pub number_from-none : (n b : ℕ) (bs : List ℕ) → with_digit n b ≡ None
+    → number_from n (b ∷ bs) ≡ None
+number_from-none n b bs e =
+    by_tests (is_ascii_digit b) (nat_lt (n * 10 + (b - 48)) (2 ^ 64)) refl refl
   where
-    by_tests : (u v : Bool) → is_ascii_digit b ≡ u → nat_lt (n * 10 + (b - 48)) (2 ^ 64) ≡ v → number_from n (b ∷ bs) ≡ None
+    by_tests : (u v : Bool) → is_ascii_digit b ≡ u → nat_lt (n * 10 + (b - 48)) (2 ^ 64) ≡ v
+        → number_from n (b ∷ bs) ≡ None
     by_tests false v d f = rw d refl
     by_tests true false d f =
-        let over : nat_lt (digits_value_after 10 (n * 10 + (b - 48)) bs) (2 ^ 64) ≡ false = let ge = after_ge (n * 10 + (b - 48)) bs in grind (arith, nat_tests) in
+        let over : nat_lt (digits_value_after 10 (n * 10 + (b - 48)) bs) (2 ^ 64) ≡ false = let ge =
+        after_ge (n * 10 + (b - 48)) bs in grind (arith, nat_tests) in
         rw (d, digit_value-digit b d) (no_more (all_ascii_digits bs) over)
       where
-        no_more : {v : Bool} (u : Bool) → v ≡ false → cond (u && v) (Some (digits_value_after 10 (n * 10 + (b - 48)) bs)) None ≡ None
+        no_more : {v : Bool} (u : Bool) → v ≡ false
+            → cond (u && v) (Some (digits_value_after 10 (n * 10 + (b - 48)) bs)) None ≡ None
         no_more true e = rw e refl
         no_more false e = refl
-    by_tests true true d f = let none : Some (n * 10 + (b - 48)) ≡ None = rw (d, f) at e in absurd cc
+    by_tests true true d f = let none : Some (n * 10 + (b - 48)) ≡ None =
+        rw (d, f) at e in absurd cc
 
 -- a list that isn't empty
 abbrev HasFirst : List (List ℕ) → Type 0
@@ -121,20 +142,26 @@ number_behind n [] = None
 number_behind n (word ∷ []) = None
 number_behind n (word ∷ next ∷ words) = option_map (λ m. (m, next ∷ words)) (number_from n word)
 
-behind-some : (n b m : ℕ) (ws : List (List ℕ)) → with_digit n b ≡ Some m → number_behind n (onto_first b ws) ≡ number_behind m ws
+behind-some : (n b m : ℕ) (ws : List (List ℕ)) → with_digit n b ≡ Some m
+    → number_behind n (onto_first b ws) ≡ number_behind m ws
 behind-some n b m [] e = refl
 behind-some n b m (word ∷ []) e = refl
-behind-some n b m (word ∷ next ∷ ws) e = ap (option_map (λ k. (k, next ∷ ws))) (number_from-step n b word m e)
+behind-some n b m (word ∷ next ∷ ws) e =
+    ap (option_map (λ k. (k, next ∷ ws))) (number_from-step n b word m e)
 
-behind-none : (n b : ℕ) (ws : List (List ℕ)) → with_digit n b ≡ None → number_behind n (onto_first b ws) ≡ None
+behind-none : (n b : ℕ) (ws : List (List ℕ)) → with_digit n b ≡ None
+    → number_behind n (onto_first b ws) ≡ None
 behind-none n b [] e = refl
 behind-none n b (word ∷ []) e = refl
-behind-none n b (word ∷ next ∷ ws) e = ap (option_map (λ k. (k, next ∷ ws))) (number_from-none n b word e)
+behind-none n b (word ∷ next ∷ ws) e =
+    ap (option_map (λ k. (k, next ∷ ws))) (number_from-none n b word e)
 
-first-behind : (b : ℕ) (ws : List (List ℕ)) → first_number (onto_first b ws) ≡ number_behind 0 (onto_first b ws)
+first-behind : (b : ℕ) (ws : List (List ℕ))
+    → first_number (onto_first b ws) ≡ number_behind 0 (onto_first b ws)
 first-behind b [] = refl
 first-behind b (word ∷ []) = refl
-first-behind b (word ∷ next ∷ ws) = ap (option_map (λ k. (k, next ∷ ws))) (read_number-some (b ∷ word) (grind (arith, nat_tests)))
+first-behind b (word ∷ next ∷ ws) =
+    ap (option_map (λ k. (k, next ∷ ws))) (read_number-some (b ∷ word) (grind (arith, nat_tests)))
 
 no_digit_first : (ws : List (List ℕ)) → first_number ([] ∷ ws) ≡ None
 no_digit_first [] = refl
@@ -144,42 +171,60 @@ pub not_space : (b : ℕ) → is_ascii_digit b ≡ true → is_space b ≡ false
 not_space b h = grind (arith, nat_tests)
 
 -- the first octet of a text is the first digit of its number, or there is no number
-pub first_number-some : (b m : ℕ) (bs : List ℕ) → with_digit 0 b ≡ Some m → first_number (slice_split is_space (b ∷ bs)) ≡ number_behind m (slice_split is_space bs)
+pub first_number-some : (b m : ℕ) (bs : List ℕ) → with_digit 0 b ≡ Some m
+    → first_number (slice_split is_space (b ∷ bs)) ≡ number_behind m (slice_split is_space bs)
 first_number-some b m bs e =
     let no = slice_split-cons_no is_space b bs (not_space b (with_digit-some 0 b m e).0) in
-    ap first_number no ∙ first-behind b (slice_split is_space bs) ∙ behind-some 0 b m (slice_split is_space bs) e
+    ap first_number no ∙ first-behind b (slice_split is_space bs)
+    ∙ behind-some 0 b m (slice_split is_space bs) e
 
-pub first_number-none : (b : ℕ) (bs : List ℕ) → with_digit 0 b ≡ None → first_number (slice_split is_space (b ∷ bs)) ≡ None
+pub first_number-none : (b : ℕ) (bs : List ℕ) → with_digit 0 b ≡ None
+    → first_number (slice_split is_space (b ∷ bs)) ≡ None
 first_number-none b bs e = by_test (is_space b) refl
   where
     by_test : (v : Bool) → is_space b ≡ v → first_number (slice_split is_space (b ∷ bs)) ≡ None
-    by_test true s = ap first_number (slice_split-cons_yes is_space b bs s) ∙ no_digit_first (slice_split is_space bs)
-    by_test false s = ap first_number (slice_split-cons_no is_space b bs s) ∙ first-behind b (slice_split is_space bs) ∙ behind-none 0 b (slice_split is_space bs) e
+    by_test true s =
+        ap first_number (slice_split-cons_yes is_space b bs s)
+        ∙ no_digit_first (slice_split is_space bs)
+    by_test false s =
+        ap first_number (slice_split-cons_no is_space b bs s)
+        ∙ first-behind b (slice_split is_space bs) ∙ behind-none 0 b (slice_split is_space bs) e
 
 -- a later octet is a digit, the space, or neither
-pub behind-digit : (n b m : ℕ) (bs : List ℕ) → is_space b ≡ false → with_digit n b ≡ Some m → number_behind n (slice_split is_space (b ∷ bs)) ≡ number_behind m (slice_split is_space bs)
-behind-digit n b m bs s e = ap (number_behind n) (slice_split-cons_no is_space b bs s) ∙ behind-some n b m (slice_split is_space bs) e
+pub behind-digit : (n b m : ℕ) (bs : List ℕ) → is_space b ≡ false → with_digit n b ≡ Some m
+    → number_behind n (slice_split is_space (b ∷ bs)) ≡ number_behind m (slice_split is_space bs)
+behind-digit n b m bs s e =
+    ap (number_behind n) (slice_split-cons_no is_space b bs s)
+    ∙ behind-some n b m (slice_split is_space bs) e
 
-pub behind-other : (n : ℕ) (bs : List ℕ) → 0 < length bs → get_or bs 0 0 ≢ 32 → with_digit n (get_or bs 0 0) ≡ None → number_behind n (slice_split is_space bs) ≡ None
+pub behind-other : (n : ℕ) (bs : List ℕ) → 0 < length bs → get_or bs 0 0 ≢ 32
+    → with_digit n (get_or bs 0 0) ≡ None → number_behind n (slice_split is_space bs) ≡ None
 behind-other n [] l other e = absurd (omega (arith, l))
-behind-other n (b ∷ bs) l other e = ap (number_behind n) (slice_split-cons_no is_space b bs (grind (arith, nat_tests))) ∙ behind-none n b (slice_split is_space bs) e
+behind-other n (b ∷ bs) l other e =
+    ap (number_behind n) (slice_split-cons_no is_space b bs (grind (arith, nat_tests)))
+    ∙ behind-none n b (slice_split is_space bs) e
 
-pub behind-space : (n b : ℕ) (bs : List ℕ) → n < 2 ^ 64 → is_space b ≡ true → number_behind n (slice_split is_space (b ∷ bs)) ≡ Some (n, slice_split is_space bs)
-behind-space n b bs lt s = ap (number_behind n) (slice_split-cons_yes is_space b bs s) ∙ by_words (some_word bs)
+pub behind-space : (n b : ℕ) (bs : List ℕ) → n < 2 ^ 64 → is_space b ≡ true
+    → number_behind n (slice_split is_space (b ∷ bs)) ≡ Some (n, slice_split is_space bs)
+behind-space n b bs lt s =
+    ap (number_behind n) (slice_split-cons_yes is_space b bs s) ∙ by_words (some_word bs)
   where
-    by_words : HasFirst (slice_split is_space bs) → number_behind n ([] ∷ slice_split is_space bs) ≡ Some (n, slice_split is_space bs)
+    by_words : HasFirst (slice_split is_space bs)
+        → number_behind n ([] ∷ slice_split is_space bs) ≡ Some (n, slice_split is_space bs)
     by_words h = rw h.2 (ap (option_map (λ k. (k, h.0 ∷ h.1))) (number_from-end n lt))
 
 -- what says something of a word only where it is this text, or where something is said further on,
 -- says it of what has the text's property
-pub chosen : {X : Type 0} (P : List ℕ → Type 0) (word text : List ℕ) (x y : X) (rest : Option X) → P text → (rest ≡ Some y → P word) → cond (bytes_eq word text) (Some x) rest ≡ Some y → P word
+pub chosen : {X : Type 0} (P : List ℕ → Type 0) (word text : List ℕ) (x y : X) (rest : Option X)
+    → P text → (rest ≡ Some y → P word) → cond (bytes_eq word text) (Some x) rest ≡ Some y → P word
 chosen P word text x y rest has more e = by_test (bytes_eq word text) refl
   where
     by_test : (v : Bool) → bytes_eq word text ≡ v → P word
     by_test true is = subst P (sym ((bytes_eq-Decides word text).0 is)) has
     by_test false is = more (rw is at e)
 
-pub none-chosen : {X : Type 0} (P : List ℕ → Type 0) (word : List ℕ) (y : X) → None ≡ Some y → P word
+pub none-chosen : {X : Type 0} (P : List ℕ → Type 0) (word : List ℕ) (y : X) → None ≡ Some y
+    → P word
 none-chosen P word y e = absurd cc
 
 pub is_utf8_false : (bs : List ℕ) → ¬ (IsUtf8 bs) → is_utf8 bs ≡ false
@@ -191,14 +236,16 @@ is_utf8_false bs bad = by_test (is_utf8 bs) refl
 
 pub name_of-text : (bs : List ℕ) → eqb (length bs) 0 ≡ false → IsUtf8 bs → name_of bs ≡ Some bs
 name_of-text [] e text = absurd (grind (arith, nat_tests))
-name_of-text (b ∷ bs) e text = ap (λ v. cond v (Some (b ∷ bs)) None) (is_utf8-from_IsUtf8 (b ∷ bs) text)
+name_of-text (b ∷ bs) e text =
+    ap (λ v. cond v (Some (b ∷ bs)) None) (is_utf8-from_IsUtf8 (b ∷ bs) text)
 
 pub name_of-no_text : (bs : List ℕ) → eqb (length bs) 0 ≡ false → ¬ (IsUtf8 bs) → name_of bs ≡ None
 name_of-no_text [] e bad = absurd (grind (arith, nat_tests))
 name_of-no_text (b ∷ bs) e bad = ap (λ v. cond v (Some (b ∷ bs)) None) (is_utf8_false (b ∷ bs) bad)
 
 -- what doesn't begin with `-` and is no number is no integer
-pub read_integer-none : (bs : List ℕ) → ((rest : List ℕ) → bs ≢ 45 ∷ rest) → read_number bs ≡ None → read_integer bs ≡ None
+pub read_integer-none : (bs : List ℕ) → ((rest : List ℕ) → bs ≢ 45 ∷ rest) → read_number bs ≡ None
+    → read_integer bs ≡ None
 read_integer-none [] h none = refl
 read_integer-none (b ∷ bs) h none = by_test (eqb b 45) refl
   where

@@ -18,9 +18,12 @@ abbrev pub placed_event : State → NamedData → Event
 placed_event s (connects a) = Open a
 placed_event s (receives a octets) = Recv a (lying octets)
 placed_event s (disconnects a) = Close a
-placed_event s (contact id position) = Contact (unwrap_or (switch_place s id) (length s.switches)) position
-placed_event s (input name value) = Input (unwrap_or (input_place s name) (length s.input_values)) value
-placed_event s (measure id field value) = Measure (unwrap_or (meter_place s id) (length s.meters)) field value
+placed_event s (contact id position) =
+    Contact (unwrap_or (switch_place s id) (length s.switches)) position
+placed_event s (input name value) =
+    Input (unwrap_or (input_place s name) (length s.input_values)) value
+placed_event s (measure id field value) =
+    Measure (unwrap_or (meter_place s id) (length s.meters)) field value
 placed_event s scan = Scan
 
 -- an event with its octets lying anywhere
@@ -63,6 +66,7 @@ pub record Took (event : NamedData) (old new : LineRoom) : Type 0 where
   pub octets : AreOctets event new.octets
   pub room : new.room ≡ max old.room (count_of event)
 
+-- what taking the octets of an event answers and leaves
 abbrev pub Takes : {X E : Type 0} → NamedData → LineRoom → LineRoom → Result X E → Type 0
 Takes event old new (Ok x) = Took event old new
 Takes event old new (Err e) = old.room < count_of event

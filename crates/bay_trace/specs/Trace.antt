@@ -26,6 +26,7 @@ pub data LineData : Type 0 where
   blank : LineData
   at_moment : ℕ → NamedData → LineData
 
+-- a blank
 abbrev pub is_space : ℕ → Bool
 is_space b = b == 32
 
@@ -42,12 +43,17 @@ only_word (word ∷ next ∷ others) = None
 
 -- a number with one more decimal digit behind its own, below 2 ^ 64
 abbrev pub with_digit : ℕ → ℕ → Option ℕ
-with_digit n b = if is_ascii_digit b && nat_lt (n * 10 + (b - 48)) (2 ^ 64) then Some (n * 10 + (b - 48)) else None
+with_digit n b =
+    if is_ascii_digit b && nat_lt (n * 10 + (b - 48)) (2 ^ 64) then Some (n * 10 + (b - 48))
+    else None
 
 -- the number that decimal digits write, below 2 ^ 64
 abbrev pub read_number : List ℕ → Option ℕ
 read_number digits =
-    if all_ascii_digits digits && nat_lt 0 (length digits) && nat_lt (digits_value 10 digits) (2 ^ 64) then Some (digits_value 10 digits) else None
+    if all_ascii_digits digits && nat_lt 0 (length digits)
+    && nat_lt (digits_value 10 digits) (2 ^ 64)
+    then Some (digits_value 10 digits)
+    else None
 
 -- the number that the first of several words is, and the words behind it
 abbrev pub first_number : List (List ℕ) → Option (ℕ × List (List ℕ))
@@ -65,7 +71,9 @@ negative_of n = if nat_le n (2 ^ 31) then Some (neg_ℤ (pos n)) else None
 -- the number that decimal digits write, before which a `-` may stand
 abbrev pub read_integer : List ℕ → Option ℤ
 read_integer [] = None
-read_integer (b ∷ bs) = if b == 45 then option_and_then negative_of (read_number bs) else option_and_then positive_of (read_number (b ∷ bs))
+read_integer (b ∷ bs) =
+    if b == 45 then option_and_then negative_of (read_number bs)
+    else option_and_then positive_of (read_number (b ∷ bs))
 
 -- 0 intermediate, 1 off, 2 on, 3 bad
 abbrev pub position_of : List ℕ → Option Dbpos
@@ -83,6 +91,7 @@ truth_of word =
     else if bytes_eq word (codes "1") then Some true
     else None
 
+-- the field of a meter that a word names
 abbrev pub field_of : List ℕ → Option MeterField
 field_of word =
     if bytes_eq word (codes "TOTW") then Some TotW
@@ -97,7 +106,8 @@ field_of word =
 abbrev pub measure_of : List ℕ → List (List ℕ) → Option NamedData
 measure_of id [] = None
 measure_of id (field ∷ value) =
-    option_and_then (λ f. option_map (measure id f) (option_and_then read_integer (only_word value))) (field_of field)
+    option_and_then (λ f. option_map (measure id f)
+    (option_and_then read_integer (only_word value))) (field_of field)
 
 -- a word that is a name: it is UTF-8, and not empty
 abbrev pub name_of : List ℕ → Option (List ℕ)
@@ -108,27 +118,33 @@ name_of (b ∷ bs) = if is_utf8 (b ∷ bs) then Some (b ∷ bs) else None
 -- field and its value
 abbrev pub named_of : List ℕ → List ℕ → List (List ℕ) → Option NamedData
 named_of verb name values =
-    if bytes_eq verb (codes "contact") then option_map (contact name) (option_and_then position_of (only_word values))
-    else if bytes_eq verb (codes "input") then option_map (input name) (option_and_then truth_of (only_word values))
+    if bytes_eq verb (codes "contact")
+    then option_map (contact name) (option_and_then position_of (only_word values))
+    else if bytes_eq verb (codes "input")
+    then option_map (input name) (option_and_then truth_of (only_word values))
     else if bytes_eq verb (codes "measure") then measure_of name values
     else None
 
 -- the number of an association, below 2 ^ 16
 abbrev pub association_of : List ℕ → Option ℕ
-association_of word = option_and_then (λ n. if nat_lt n (2 ^ 16) then Some n else None) (read_number word)
+association_of word =
+    option_and_then (λ n. if nat_lt n (2 ^ 16) then Some n else None) (read_number word)
 
 -- an association, and octets of its client
 abbrev pub received_of : List (List ℕ) → Option NamedData
 received_of [] = None
 received_of (word ∷ octets) =
-    option_and_then (λ a. option_map (receives a) (option_and_then octets_of (only_word octets))) (association_of word)
+    option_and_then (λ a. option_map (receives a) (option_and_then octets_of (only_word octets)))
+    (association_of word)
 
 -- what is told of an association: `open` and `close` stand before it alone, `recv` before it and
 -- octets
 abbrev pub talk_of : List ℕ → List (List ℕ) → Option NamedData
 talk_of verb words =
-    if bytes_eq verb (codes "open") then option_map connects (option_and_then association_of (only_word words))
-    else if bytes_eq verb (codes "close") then option_map disconnects (option_and_then association_of (only_word words))
+    if bytes_eq verb (codes "open")
+    then option_map connects (option_and_then association_of (only_word words))
+    else if bytes_eq verb (codes "close")
+    then option_map disconnects (option_and_then association_of (only_word words))
     else if bytes_eq verb (codes "recv") then received_of words
     else None
 
@@ -137,8 +153,10 @@ abbrev pub talk_in : List (List ℕ) → Option NamedData
 talk_in [] = None
 talk_in (verb ∷ words) = talk_of verb words
 
+-- the word of a line that tells of an association
 abbrev pub is_talk : List ℕ → Bool
-is_talk verb = bytes_eq verb (codes "open") || (bytes_eq verb (codes "close") || bytes_eq verb (codes "recv"))
+is_talk verb =
+    bytes_eq verb (codes "open") || (bytes_eq verb (codes "close") || bytes_eq verb (codes "recv"))
 
 -- `scan` stands alone; the other verbs stand before an association, or before a name and what is
 -- told
@@ -146,11 +164,14 @@ abbrev pub event_of : List (List ℕ) → Option NamedData
 event_of [] = None
 event_of (verb ∷ []) = if bytes_eq verb (codes "scan") then Some scan else None
 event_of (verb ∷ word ∷ values) =
-    if is_talk verb then talk_of verb (word ∷ values) else option_and_then (λ name. named_of verb name values) (name_of word)
+    if is_talk verb
+    then talk_of verb (word ∷ values)
+    else option_and_then (λ name. named_of verb name values) (name_of word)
 
 -- a moment, and what happens then
 abbrev pub words_line : List (List ℕ) → Option LineData
-words_line words = option_and_then (λ cut. option_map (at_moment cut.0) (event_of cut.1)) (first_number words)
+words_line words =
+    option_and_then (λ cut. option_map (at_moment cut.0) (event_of cut.1)) (first_number words)
 
 -- an empty line says nothing; the words of another are read by their forms, in which all but a name
 -- are ASCII

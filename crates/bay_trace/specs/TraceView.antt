@@ -6,6 +6,7 @@ use Rattle.bay_trace.specs.declared.trace.TraceLine.TheVariants.{Blank, At}
 use Rattle.bay_trace.specs.Digits.{octets_in}
 use Rattle.bay_trace.specs.Trace.{NamedData, LineData, connects, receives, disconnects, contact, input, measure, scan, blank, at_moment}
 
+-- what happens, without where its texts lie
 abbrev pub named_view : NamedEvent → NamedData
 named_view (Open a) = connects a
 named_view (Recv a digits) = receives a (octets_in digits.text.now)
@@ -15,6 +16,7 @@ named_view (Input name value) = input name.now value
 named_view (Measure id field value) = measure id.now field value
 named_view Scan = scan
 
+-- a line, without where its texts lie
 abbrev pub line_view : TraceLine → LineData
 line_view Blank = blank
 line_view (At moment event) = at_moment moment (named_view event)

@@ -81,7 +81,8 @@ impl LineOctets {
 
     /// Makes room for so many octets, if there is less.
     fn make_room(&mut self, count: usize) -> Result<(), AllocError>
-        ensures made { OnOk result ((length self.new.octets ≡ count) × (self.new.room ≡ max self.old.room count)) }
+        ensures made { OnOk result
+            ((length self.new.octets ≡ count) × (self.new.room ≡ max self.old.room count)) }
         ensures refused { OnErr result (self.old.room < count) }
     {
         if self.room.len() < count {
@@ -94,7 +95,8 @@ impl LineOctets {
     /// Takes the octets that digits write, in the place of those of the line before.
     pub fn read(&mut self, digits: Digits<'_>) -> Result<(), AllocError>
         ensures octets { OnOk result (self.new.octets ≡ octets_in digits.entry.text.now) }
-        ensures room { OnOk result (self.new.room ≡ max self.old.room (length (octets_in digits.entry.text.now))) }
+        ensures room { OnOk result
+            (self.new.room ≡ max self.old.room (length (octets_in digits.entry.text.now))) }
         ensures refused { OnErr result (self.old.room < length (octets_in digits.entry.text.now)) }
     {
         let count = digits.text.len() / 2;

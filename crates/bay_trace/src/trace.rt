@@ -60,7 +60,8 @@ const ROOM_FOR_A_DIGIT: u64 = 1_000_000_000_000_000_000;
 
 /// The first word of a text, and what follows the space after it.
 fn cut_word(text: &[u8]) -> (&[u8], Option<&[u8]>)
-    ensures { slice_split is_space text.now ≡ result.0.now ∷ rest_words (option_map (λ rest. rest.now) result.1) }
+    ensures { slice_split is_space text.now
+        ≡ result.0.now ∷ rest_words (option_map (λ rest. rest.now) result.1) }
 {
     match text.iter().position(|octet| *octet == b' ') {
         Some(at) => (&text[..at], Some(&text[at + 1..])),
@@ -193,7 +194,8 @@ fn name(word: &[u8]) -> Option<&str>
 
 /// What is told of a switch: its position.
 fn contact(text: &[u8]) -> Option<NamedEvent<'_>>
-    ensures { option_map named_view result ≡ event_of (codes "contact" ∷ slice_split is_space text.now) }
+    ensures { option_map named_view result
+        ≡ event_of (codes "contact" ∷ slice_split is_space text.now) }
 {
     let (id, told) = cut_word(text);
     let id = name(id)?;
@@ -203,7 +205,8 @@ fn contact(text: &[u8]) -> Option<NamedEvent<'_>>
 
 /// What is told of an input: its value.
 fn input(text: &[u8]) -> Option<NamedEvent<'_>>
-    ensures { option_map named_view result ≡ event_of (codes "input" ∷ slice_split is_space text.now) }
+    ensures { option_map named_view result
+        ≡ event_of (codes "input" ∷ slice_split is_space text.now) }
 {
     let (id, told) = cut_word(text);
     let name = name(id)?;
@@ -213,7 +216,8 @@ fn input(text: &[u8]) -> Option<NamedEvent<'_>>
 
 /// What is told of the meter with this id: a field and its value.
 fn measured<'a>(id: &'a str, told: &[u8]) -> Option<NamedEvent<'a>>
-    ensures { option_map named_view result ≡ measure_of id.entry.now (slice_split is_space told.now) }
+    ensures { option_map named_view result
+        ≡ measure_of id.entry.now (slice_split is_space told.now) }
 {
     let (name, rest) = cut_word(told);
     let field = field(name)?;
@@ -223,7 +227,8 @@ fn measured<'a>(id: &'a str, told: &[u8]) -> Option<NamedEvent<'a>>
 
 /// What is told of a meter: a field and its value.
 fn measure(text: &[u8]) -> Option<NamedEvent<'_>>
-    ensures { option_map named_view result ≡ event_of (codes "measure" ∷ slice_split is_space text.now) }
+    ensures { option_map named_view result
+        ≡ event_of (codes "measure" ∷ slice_split is_space text.now) }
 {
     let (id, told) = cut_word(text);
     measured(name(id)?, told?)
@@ -286,7 +291,8 @@ fn event(text: &[u8]) -> Option<NamedEvent<'_>>
 
 /// The number before the first space, and what follows that space.
 fn cut_number(text: &[u8]) -> Option<(u64, &[u8])>
-    ensures { option_map (λ cut. (cut.0, slice_split is_space cut.1.now)) result ≡ first_number (slice_split is_space text.now) }
+    ensures { option_map (λ cut. (cut.0, slice_split is_space cut.1.now)) result
+        ≡ first_number (slice_split is_space text.now) }
 {
     let [first, others @ ..] = text else {
         return None;

@@ -22,8 +22,10 @@ of_length_whole n have k e =
     elim (cases_lt n 7) [
       | inl small ↦ absurd (let f : NoFrame ≡ Whole k = rw (lt-ltb n 7 small) at e in cc)
       | inr some ↦ elim (cases_lt have n) [
-        | inl few ↦ absurd (let f : Begun ≡ Whole k = rw (le-ltb n 7 some, lt-ltb have n few) at e in cc)
-        | inr all ↦ let f : Whole n ≡ Whole k = rw (le-ltb n 7 some, le-ltb have n all) at e in let g : n ≡ k = cc in (sym g, some, all)
+        | inl few ↦ absurd (let f : Begun ≡ Whole k =
+            rw (le-ltb n 7 some, lt-ltb have n few) at e in cc)
+        | inr all ↦ let f : Whole n ≡ Whole k = rw (le-ltb n 7 some, le-ltb have n all) at e in
+            let g : n ≡ k = cc in (sym g, some, all)
       ]
     ]
 
@@ -40,14 +42,24 @@ is_whole (v ∷ r ∷ h ∷ l ∷ tpdu) k e =
       | inl is ↦
           let f : of_length (pair_of h l) (length tpdu + 4) ≡ Whole k = rw is at e in
           let w = of_length_whole (pair_of h l) (length tpdu + 4) k f in
-          record { reserved = r; high = h; low = l; tpdu = tpdu; spelled = rw is refl; counted = w.0; some = omega arith; there = omega arith }
+          record {
+            reserved = r;
+            high = h;
+            low = l;
+            tpdu = tpdu;
+            spelled = rw is refl;
+            counted = w.0;
+            some = omega arith;
+            there = omega arith;
+          }
       | inr ne ↦ absurd (let f : NoFrame ≡ Whole k = rw (ne_eqb v 3 ne) at e in cc)
     ]
 
 pub whole_front : (octets : List ℕ) (k : ℕ) → IsWhole octets k → front_of octets ≡ Whole k
 whole_front octets k w =
     let counted = w.counted in
-    rw w.spelled (whole_of_length (pair_of w.high w.low) (length w.tpdu + 4) (omega arith) (omega arith) ∙ ap (λ (n : ℕ). Whole n) (sym counted))
+    rw w.spelled (whole_of_length (pair_of w.high w.low) (length w.tpdu + 4) (omega arith)
+    (omega arith) ∙ ap (λ (n : ℕ). Whole n) (sym counted))
 
 pub whole_within : (octets : List ℕ) (k : ℕ) → IsWhole octets k → k ≤ length octets
 whole_within octets k w = rw w.spelled (let h = w.there in omega arith)
@@ -64,8 +76,10 @@ whole_append octets more k w = record {
   there = let h = w.there in omega (arith, length-append w.tpdu more);
 }
 
-pub front_append : (octets more : List ℕ) (k : ℕ) → front_of octets ≡ Whole k → front_of (octets ++ more) ≡ Whole k
-front_append octets more k e = whole_front (octets ++ more) k (whole_append octets more k (is_whole octets k e))
+pub front_append : (octets more : List ℕ) (k : ℕ) → front_of octets ≡ Whole k
+    → front_of (octets ++ more) ≡ Whole k
+front_append octets more k e =
+    whole_front (octets ++ more) k (whole_append octets more k (is_whole octets k e))
 
 bad_first : (v : ℕ) (octets : List ℕ) → (v ≡ 3 → ⊥) → front_of (v ∷ octets) ≡ NoFrame
 bad_first v [] ne = rw (ne_eqb v 3 ne) refl
@@ -78,13 +92,16 @@ of_length_none n have more e =
     elim (cases_lt n 7) [
       | inl small ↦ rw (lt-ltb n 7 small) refl
       | inr some ↦ elim (cases_lt have n) [
-        | inl few ↦ absurd (let f : Begun ≡ NoFrame = rw (le-ltb n 7 some, lt-ltb have n few) at e in cc)
-        | inr all ↦ absurd (let f : Whole n ≡ NoFrame = rw (le-ltb n 7 some, le-ltb have n all) at e in cc)
+        | inl few ↦ absurd (let f : Begun ≡ NoFrame =
+            rw (le-ltb n 7 some, lt-ltb have n few) at e in cc)
+        | inr all ↦ absurd (let f : Whole n ≡ NoFrame =
+            rw (le-ltb n 7 some, le-ltb have n all) at e in cc)
       ]
     ]
 
 -- octets that no frame begins with stay so
-pub none_append : (octets more : List ℕ) → front_of octets ≡ NoFrame → front_of (octets ++ more) ≡ NoFrame
+pub none_append : (octets more : List ℕ) → front_of octets ≡ NoFrame
+    → front_of (octets ++ more) ≡ NoFrame
 none_append [] more e = absurd (cc)
 none_append (v ∷ []) more e =
     elim (cases_eq v 3) [
@@ -110,11 +127,17 @@ none_append (v ∷ r ∷ h ∷ l ∷ tpdu) more e =
     ]
 
 -- less than a whole frame is the beginning of one
-pub front_part : (octets more : List ℕ) (k : ℕ) → IsWhole (octets ++ more) k → length octets < k → front_of octets ≡ Begun
+pub front_part : (octets more : List ℕ) (k : ℕ) → IsWhole (octets ++ more) k → length octets < k
+    → front_of octets ≡ Begun
 front_part [] more k w few = refl
-front_part (v ∷ []) more k w few = let s : v ∷ more ≡ 3 ∷ w.reserved ∷ w.high ∷ w.low ∷ w.tpdu = w.spelled in let e : v ≡ 3 = cc in rw e refl
-front_part (v ∷ r ∷ []) more k w few = let s : v ∷ r ∷ more ≡ 3 ∷ w.reserved ∷ w.high ∷ w.low ∷ w.tpdu = w.spelled in let e : v ≡ 3 = cc in rw e refl
-front_part (v ∷ r ∷ h ∷ []) more k w few = let s : v ∷ r ∷ h ∷ more ≡ 3 ∷ w.reserved ∷ w.high ∷ w.low ∷ w.tpdu = w.spelled in let e : v ≡ 3 = cc in rw e refl
+front_part (v ∷ []) more k w few = let s : v ∷ more ≡ 3 ∷ w.reserved ∷ w.high ∷ w.low ∷ w.tpdu =
+    w.spelled in let e : v ≡ 3 = cc in rw e refl
+front_part (v ∷ r ∷ []) more k w few =
+    let s : v ∷ r ∷ more ≡ 3 ∷ w.reserved ∷ w.high ∷ w.low ∷ w.tpdu = w.spelled in let e : v ≡ 3 =
+    cc in rw e refl
+front_part (v ∷ r ∷ h ∷ []) more k w few =
+    let s : v ∷ r ∷ h ∷ more ≡ 3 ∷ w.reserved ∷ w.high ∷ w.low ∷ w.tpdu =
+    w.spelled in let e : v ≡ 3 = cc in rw e refl
 front_part (v ∷ r ∷ h ∷ l ∷ tpdu) more k w few =
     let s : v ∷ r ∷ h ∷ l ∷ (tpdu ++ more) ≡ 3 ∷ w.reserved ∷ w.high ∷ w.low ∷ w.tpdu = w.spelled in
     let e : v ≡ 3 = cc in
@@ -122,9 +145,14 @@ front_part (v ∷ r ∷ h ∷ l ∷ tpdu) more k w few =
     let el : l ≡ w.low = cc in
     let counted : k ≡ pair_of h l = rw (eh, el) w.counted in
     let some = w.some in
-    rw (e, le-ltb (pair_of h l) 7 (omega arith), lt-ltb (length tpdu + 4) (pair_of h l) (omega arith)) refl
+    rw (
+      e,
+      le-ltb (pair_of h l) 7 (omega arith),
+      lt-ltb (length tpdu + 4) (pair_of h l) (omega arith),
+    ) refl
 
-pub whole_length : (v r h l k : ℕ) (tpdu : List ℕ) → IsWhole (v ∷ r ∷ h ∷ l ∷ tpdu) k → k ≡ pair_of h l
+pub whole_length : (v r h l k : ℕ) (tpdu : List ℕ) → IsWhole (v ∷ r ∷ h ∷ l ∷ tpdu) k
+    → k ≡ pair_of h l
 whole_length v r h l k tpdu w =
     let s : v ∷ r ∷ h ∷ l ∷ tpdu ≡ 3 ∷ w.reserved ∷ w.high ∷ w.low ∷ w.tpdu = w.spelled in
     let eh : h ≡ w.high = cc in
@@ -132,7 +160,8 @@ whole_length v r h l k tpdu w =
     rw (eh, el) w.counted
 
 -- a frame that is whole within a front of the octets stands there
-pub whole_part : (octets more : List ℕ) (k : ℕ) → IsWhole (octets ++ more) k → k ≤ length octets → front_of octets ≡ Whole k
+pub whole_part : (octets more : List ℕ) (k : ℕ) → IsWhole (octets ++ more) k → k ≤ length octets
+    → front_of octets ≡ Whole k
 whole_part [] more k w all = let some = w.some in absurd (omega arith)
 whole_part (v ∷ []) more k w all = let some = w.some in absurd (omega arith)
 whole_part (v ∷ r ∷ []) more k w all = let some = w.some in absurd (omega arith)
@@ -143,7 +172,17 @@ whole_part (v ∷ r ∷ h ∷ l ∷ tpdu) more k w all =
     let eh : h ≡ w.high = cc in
     let el : l ≡ w.low = cc in
     let counted : k ≡ pair_of h l = rw (eh, el) w.counted in
-    whole_front (v ∷ r ∷ h ∷ l ∷ tpdu) k (record { reserved = r; high = h; low = l; tpdu = tpdu; spelled = rw e refl; counted = counted; some = w.some; there = omega arith })
+    whole_front (v ∷ r ∷ h ∷ l ∷ tpdu) k
+    (record {
+      reserved = r;
+      high = h;
+      low = l;
+      tpdu = tpdu;
+      spelled = rw e refl;
+      counted = counted;
+      some = w.some;
+      there = omega arith;
+    })
 
 -- ---- cutting
 
@@ -159,19 +198,23 @@ first_cut frame later = record { frames = frame ∷ later.frames; rest = later.r
 
 pub drop_less : (k x : ℕ) (octets : List ℕ) → 0 < k → drop k (x ∷ octets) ≡ drop (k - 1) octets
 drop_less zero x octets some = absurd (omega arith)
-drop_less (suc k) x octets some = let e : k ≡ suc k - 1 = omega arith in ap (λ (n : ℕ). drop n octets) e
+drop_less (suc k) x octets some = let e : k ≡ suc k - 1 =
+    omega arith in ap (λ (n : ℕ). drop n octets) e
 
-cut_whole_at : (x : ℕ) (octets : List ℕ) (k : ℕ) → 7 ≤ k → front_of (x ∷ octets) ≡ Whole k → cut (x ∷ octets) ≡ first_cut (take k (x ∷ octets)) (cut (drop k (x ∷ octets)))
+cut_whole_at : (x : ℕ) (octets : List ℕ) (k : ℕ) → 7 ≤ k → front_of (x ∷ octets) ≡ Whole k
+    → cut (x ∷ octets) ≡ first_cut (take k (x ∷ octets)) (cut (drop k (x ∷ octets)))
 cut_whole_at x octets k some e =
     let some : 0 < k = omega arith in
     rw (e, cut_behind-is (k - 1) octets, drop_less k x octets some) refl
 
-pub cut_whole : (octets : List ℕ) (k : ℕ) → IsWhole octets k → cut octets ≡ first_cut (take k octets) (cut (drop k octets))
+pub cut_whole : (octets : List ℕ) (k : ℕ) → IsWhole octets k
+    → cut octets ≡ first_cut (take k octets) (cut (drop k octets))
 cut_whole [] k w = absurd (let s : [] ≡ 3 ∷ w.reserved ∷ w.high ∷ w.low ∷ w.tpdu = w.spelled in cc)
 cut_whole (x ∷ octets) k w = cut_whole_at x octets k w.some (whole_front (x ∷ octets) k w)
 
 -- octets that begin with no whole frame are all rest
-pub cut_rest : (f : Front) (octets : List ℕ) → front_of octets ≡ f → ((k : ℕ) → f ≡ Whole k → ⊥) → cut octets ≡ record { frames = []; rest = octets }
+pub cut_rest : (f : Front) (octets : List ℕ) → front_of octets ≡ f → ((k : ℕ) → f ≡ Whole k → ⊥)
+    → cut octets ≡ record { frames = []; rest = octets }
 cut_rest f [] e none = refl
 cut_rest Begun (x ∷ octets) e none = rw e refl
 cut_rest NoFrame (x ∷ octets) e none = rw e refl
@@ -179,10 +222,15 @@ cut_rest (Whole k) (x ∷ octets) e none = absurd (none k refl)
 
 -- what is cut first, and then what the rest gives with more octets
 abbrev pub cut_then : Cut → List ℕ → Cut
-cut_then first more = record { frames = first.frames ++ (cut (first.rest ++ more)).frames; rest = (cut (first.rest ++ more)).rest }
+cut_then first more =
+    record {
+      frames = first.frames ++ (cut (first.rest ++ more)).frames;
+      rest = (cut (first.rest ++ more)).rest;
+    }
 
 cut_append_at : (f : Front) (x : ℕ) (octets more : List ℕ) → front_of (x ∷ octets) ≡ f
-    → ((k : ℕ) → k ≤ length octets → cut_behind k (octets ++ more) ≡ cut_then (cut_behind k octets) more)
+    → ((k : ℕ) → k ≤ length octets
+    → cut_behind k (octets ++ more) ≡ cut_then (cut_behind k octets) more)
     → cut (x ∷ (octets ++ more)) ≡ cut_then (cut (x ∷ octets)) more
 cut_append_at Begun x octets more e ih = rw e refl
 cut_append_at NoFrame x octets more e ih = rw e refl
@@ -191,13 +239,16 @@ cut_append_at (Whole k) x octets more e ih =
     let some = w.some in
     let within = whole_within (x ∷ octets) k w in
     let f : front_of (x ∷ (octets ++ more)) ≡ Whole k = front_append (x ∷ octets) more k e in
-    let t : take k (x ∷ (octets ++ more)) ≡ take k (x ∷ octets) = take-append-le k (x ∷ octets) more within in
+    let t : take k (x ∷ (octets ++ more)) ≡ take k (x ∷ octets) =
+    take-append-le k (x ∷ octets) more within in
     rw (e, f, ih (k - 1) (omega arith), t) refl
 
-cut_append_behind : (k : ℕ) (octets more : List ℕ) → k ≤ length octets → cut_behind k (octets ++ more) ≡ cut_then (cut_behind k octets) more
+cut_append_behind : (k : ℕ) (octets more : List ℕ) → k ≤ length octets
+    → cut_behind k (octets ++ more) ≡ cut_then (cut_behind k octets) more
 cut_append_behind zero [] more within = refl
 cut_append_behind (suc k) [] more within = absurd (omega arith)
-cut_append_behind zero (x ∷ octets) more within = cut_append_at (front_of (x ∷ octets)) x octets more refl (λ k. cut_append_behind k octets more)
+cut_append_behind zero (x ∷ octets) more within =
+    cut_append_at (front_of (x ∷ octets)) x octets more refl (λ k. cut_append_behind k octets more)
 cut_append_behind (suc k) (x ∷ octets) more within = cut_append_behind k octets more (omega arith)
 
 pub cut-append : (octets more : List ℕ) → cut (octets ++ more) ≡ cut_then (cut octets) more
@@ -214,13 +265,15 @@ frame_whole frame more is = whole_append frame more (length frame) (record {
   spelled = is.spelled;
   counted = is.counted;
   some = is.some;
-  there = let e : length frame ≡ length is.tpdu + 4 = ap length is.spelled ∙ omega arith in omega arith;
+  there = let e : length frame ≡ length is.tpdu + 4 =
+      ap length is.spelled ∙ omega arith in omega arith;
 })
 
 four_more : (k : ℕ) → 7 ≤ k → k ≡ suc (suc (suc (suc (k - 4))))
 four_more k some = omega arith
 
-take_four : (k a b d e : ℕ) (octets : List ℕ) → 7 ≤ k → take k (a ∷ b ∷ d ∷ e ∷ octets) ≡ a ∷ b ∷ d ∷ e ∷ take (k - 4) octets
+take_four : (k a b d e : ℕ) (octets : List ℕ) → 7 ≤ k
+    → take k (a ∷ b ∷ d ∷ e ∷ octets) ≡ a ∷ b ∷ d ∷ e ∷ take (k - 4) octets
 take_four k a b d e octets some = ap (λ (n : ℕ). take n (a ∷ b ∷ d ∷ e ∷ octets)) (four_more k some)
 
 pub is_frame : (octets : List ℕ) (k : ℕ) → IsWhole octets k → IsFrame (take k octets)
@@ -237,15 +290,20 @@ is_frame octets k w =
       some = omega arith;
     }
 
-no_whole : (f : Front) (octets : List ℕ) → front_of octets ≡ f → ((k : ℕ) → f ≡ Whole k → ⊥) → (frame more : List ℕ) → IsFrame frame → octets ≡ frame ++ more → ⊥
+no_whole : (f : Front) (octets : List ℕ) → front_of octets ≡ f → ((k : ℕ) → f ≡ Whole k → ⊥)
+    → (frame more : List ℕ) → IsFrame frame → octets ≡ frame ++ more → ⊥
 no_whole f octets e none frame more is parts =
-    let w : front_of octets ≡ Whole (length frame) = rw parts (whole_front (frame ++ more) (length frame) (frame_whole frame more is)) in
+    let w : front_of octets ≡ Whole (length frame) =
+    rw parts (whole_front (frame ++ more) (length frame) (frame_whole frame more is)) in
     none (length frame) (sym e ∙ w)
 
 is_cut_at : (f : Front) (x : ℕ) (octets : List ℕ) → front_of (x ∷ octets) ≡ f
-    → ((k : ℕ) → k ≤ length octets → IsCut (drop k octets) (cut_behind k octets)) → IsCut (x ∷ octets) (cut (x ∷ octets))
-is_cut_at Begun x octets e ih = rw e (record { whole = tt; parts = refl; ended = no_whole Begun (x ∷ octets) e (λ k h. cc) })
-is_cut_at NoFrame x octets e ih = rw e (record { whole = tt; parts = refl; ended = no_whole NoFrame (x ∷ octets) e (λ k h. cc) })
+    → ((k : ℕ) → k ≤ length octets → IsCut (drop k octets) (cut_behind k octets))
+    → IsCut (x ∷ octets) (cut (x ∷ octets))
+is_cut_at Begun x octets e ih =
+    rw e (record { whole = tt; parts = refl; ended = no_whole Begun (x ∷ octets) e (λ k h. cc) })
+is_cut_at NoFrame x octets e ih =
+    rw e (record { whole = tt; parts = refl; ended = no_whole NoFrame (x ∷ octets) e (λ k h. cc) })
 is_cut_at (Whole k) x octets e ih =
     let w = is_whole (x ∷ octets) k e in
     let some = w.some in
@@ -255,14 +313,21 @@ is_cut_at (Whole k) x octets e ih =
     rw e (record {
       whole = (is_frame (x ∷ octets) k w, later.whole);
       parts =
-          sym (take-append-drop k (x ∷ octets)) ∙ ap (λ (ys : List ℕ). take k (x ∷ octets) ++ ys) (drop_less k x octets positive ∙ later.parts) ∙ sym (append_assoc (take k (x ∷ octets)) (joined (cut_behind (k - 1) octets).frames) (cut_behind (k - 1) octets).rest);
+          sym (take-append-drop k (x ∷ octets))
+          ∙ ap (λ (ys : List ℕ). take k (x ∷ octets) ++ ys)
+          (drop_less k x octets positive ∙ later.parts)
+          ∙ sym (append_assoc (take k (x ∷ octets)) (joined (cut_behind (k - 1) octets).frames)
+          (cut_behind (k - 1) octets).rest);
       ended = later.ended;
     })
 
-is_cut_behind : (k : ℕ) (octets : List ℕ) → k ≤ length octets → IsCut (drop k octets) (cut_behind k octets)
-is_cut_behind zero [] within = record { whole = tt; parts = refl; ended = no_whole Begun [] refl (λ k h. cc) }
+is_cut_behind : (k : ℕ) (octets : List ℕ) → k ≤ length octets
+    → IsCut (drop k octets) (cut_behind k octets)
+is_cut_behind zero [] within =
+    record { whole = tt; parts = refl; ended = no_whole Begun [] refl (λ k h. cc) }
 is_cut_behind (suc k) [] within = absurd (omega arith)
-is_cut_behind zero (x ∷ octets) within = is_cut_at (front_of (x ∷ octets)) x octets refl (λ k. is_cut_behind k octets)
+is_cut_behind zero (x ∷ octets) within =
+    is_cut_at (front_of (x ∷ octets)) x octets refl (λ k. is_cut_behind k octets)
 is_cut_behind (suc k) (x ∷ octets) within = is_cut_behind k octets (omega arith)
 
 pub is_cut : (octets : List ℕ) → IsCut octets (cut octets)
@@ -274,21 +339,33 @@ frame_taken frame more = take_at frame more (length frame) refl
 frame_dropped : (frame more : List ℕ) → drop (length frame) (frame ++ more) ≡ more
 frame_dropped frame more = drop_at frame more (length frame) refl
 
-pub cut-frame : (frame more : List ℕ) → IsFrame frame → cut (frame ++ more) ≡ first_cut frame (cut more)
+pub cut-frame : (frame more : List ℕ) → IsFrame frame
+    → cut (frame ++ more) ≡ first_cut frame (cut more)
 cut-frame frame more is =
-    cut_whole (frame ++ more) (length frame) (frame_whole frame more is) ∙ rw (frame_taken frame more, frame_dropped frame more) refl
+    cut_whole (frame ++ more) (length frame) (frame_whole frame more is)
+    ∙ rw (frame_taken frame more, frame_dropped frame more) refl
 
-cut_of_rest : (f : Front) (rest : List ℕ) → front_of rest ≡ f → ((frame more : List ℕ) → IsFrame frame → rest ≡ frame ++ more → ⊥) → cut rest ≡ record { frames = []; rest = rest }
+cut_of_rest : (f : Front) (rest : List ℕ) → front_of rest ≡ f
+    → ((frame more : List ℕ) → IsFrame frame → rest ≡ frame ++ more → ⊥)
+    → cut rest ≡ record { frames = []; rest = rest }
 cut_of_rest Begun rest e ended = cut_rest Begun rest e (λ k h. cc)
 cut_of_rest NoFrame rest e ended = cut_rest NoFrame rest e (λ k h. cc)
 cut_of_rest (Whole k) rest e ended =
-    absurd (ended (take k rest) (drop k rest) (is_frame rest k (is_whole rest k e)) (sym (take-append-drop k rest)))
+    absurd (ended (take k rest) (drop k rest) (is_frame rest k (is_whole rest k e))
+    (sym (take-append-drop k rest)))
 
-only_frames : (frames : List (List ℕ)) (rest : List ℕ) → AreFrames frames → ((frame more : List ℕ) → IsFrame frame → rest ≡ frame ++ more → ⊥)
+only_frames : (frames : List (List ℕ)) (rest : List ℕ) → AreFrames frames
+    → ((frame more : List ℕ) → IsFrame frame → rest ≡ frame ++ more → ⊥)
     → cut (joined frames ++ rest) ≡ record { frames = frames; rest = rest }
 only_frames [] rest whole ended = cut_of_rest (front_of rest) rest refl ended
 only_frames (frame ∷ frames) rest whole ended =
-    rw (append_assoc frame (joined frames) rest, cut-frame frame (joined frames ++ rest) whole.0, only_frames frames rest whole.1 ended) refl
+    rw (
+      append_assoc frame (joined frames) rest,
+      cut-frame frame (joined frames ++ rest) whole.0,
+      only_frames frames rest whole.1 ended,
+    ) refl
 
 pub only_cut : (octets : List ℕ) (c d : Cut) → IsCut octets c → IsCut octets d → c ≡ d
-only_cut octets c d a b = sym (only_frames c.frames c.rest a.whole a.ended) ∙ ap cut (sym a.parts ∙ b.parts) ∙ only_frames d.frames d.rest b.whole b.ended
+only_cut octets c d a b =
+    sym (only_frames c.frames c.rest a.whole a.ended) ∙ ap cut (sym a.parts ∙ b.parts)
+    ∙ only_frames d.frames d.rest b.whole b.ended

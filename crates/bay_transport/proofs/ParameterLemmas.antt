@@ -15,8 +15,10 @@ pub record Spells (k : ℕ) (octets : List ℕ) (ps : List Parameter) : Type 0 w
   pub within : k ≤ length octets
   pub is : drop k octets ≡ spelled ps
 
-spells_one : (code : ℕ) (octets : List ℕ) (ps : List Parameter) (o : Option (List Parameter)) → with_parameter code octets o ≡ Some ps
-    → ((later : List Parameter) → o ≡ Some later → Spells (suc (length_octet octets)) octets later) → code ∷ octets ≡ spelled ps
+spells_one : (code : ℕ) (octets : List ℕ) (ps : List Parameter) (o : Option (List Parameter))
+    → with_parameter code octets o ≡ Some ps
+    → ((later : List Parameter) → o ≡ Some later → Spells (suc (length_octet octets)) octets later)
+    → code ∷ octets ≡ spelled ps
 spells_one code octets ps None e ih = absurd (cc)
 spells_one code [] ps (Some later) e ih = absurd (cc)
 spells_one code (n ∷ behind) ps (Some later) e ih =
@@ -24,26 +26,35 @@ spells_one code (n ∷ behind) ps (Some later) e ih =
     let w = s.within in
     let t : length (take n behind) ≡ n = length-take-le n behind (omega arith) in
     let p : record { code = code; value = take n behind } ∷ later ≡ ps = cc in
-    let parts : take n behind ++ spelled later ≡ behind = ap (λ (ys : List ℕ). take n behind ++ ys) (sym s.is) ∙ take-append-drop n behind in
+    let parts : take n behind ++ spelled later ≡ behind =
+    ap (λ (ys : List ℕ). take n behind ++ ys) (sym s.is) ∙ take-append-drop n behind in
     sym (ap spelled (sym p) ∙ rw (t, parts) refl)
 
-spells_behind : (k : ℕ) (octets : List ℕ) (ps : List Parameter) → parameters_behind k octets ≡ Some ps → Spells k octets ps
-spells_behind zero [] ps e = record { within = omega arith; is = let p : [] ≡ ps = cc in ap spelled p }
+spells_behind : (k : ℕ) (octets : List ℕ) (ps : List Parameter)
+    → parameters_behind k octets ≡ Some ps → Spells k octets ps
+spells_behind zero [] ps e =
+    record { within = omega arith; is = let p : [] ≡ ps = cc in ap spelled p }
 spells_behind (suc k) [] ps e = absurd (cc)
 spells_behind zero (code ∷ octets) ps e = record {
   within = omega arith;
-  is = spells_one code octets ps (parameters_behind (suc (length_octet octets)) octets) e (λ later f. spells_behind (suc (length_octet octets)) octets later f);
+  is = spells_one code octets ps (parameters_behind (suc (length_octet octets)) octets) e
+      (λ later f. spells_behind (suc (length_octet octets)) octets later f);
 }
-spells_behind (suc k) (x ∷ octets) ps e = let s = spells_behind k octets ps e in let w = s.within in record { within = omega arith; is = s.is }
+spells_behind (suc k) (x ∷ octets) ps e = let s = spells_behind k octets ps e in let w =
+    s.within in record { within = omega arith; is = s.is }
 
-pub spelled_read : (octets : List ℕ) (ps : List Parameter) → parameters_of octets ≡ Some ps → octets ≡ spelled ps
+pub spelled_read : (octets : List ℕ) (ps : List Parameter) → parameters_of octets ≡ Some ps
+    → octets ≡ spelled ps
 spelled_read octets ps e = (spells_behind 0 octets ps e).is
 
 pub read_spelled : (ps : List Parameter) → parameters_of (spelled ps) ≡ Some ps
 read_spelled [] = refl
 read_spelled (p ∷ ps) =
-    let within : length p.value ≤ length (p.value ++ spelled ps) = omega (arith, length-append p.value (spelled ps)) in
-    let rest : parameters_behind (length p.value) (p.value ++ spelled ps) ≡ Some ps = parameters_behind-is (length p.value) (p.value ++ spelled ps) within ∙ ap parameters_of (drop_at p.value (spelled ps) (length p.value) refl) ∙ read_spelled ps in
+    let within : length p.value ≤ length (p.value ++ spelled ps) =
+    omega (arith, length-append p.value (spelled ps)) in
+    let rest : parameters_behind (length p.value) (p.value ++ spelled ps) ≡ Some ps =
+    parameters_behind-is (length p.value) (p.value ++ spelled ps) within
+    ∙ ap parameters_of (drop_at p.value (spelled ps) (length p.value) refl) ∙ read_spelled ps in
     rw (rest, take_at p.value (spelled ps) (length p.value) refl) refl
 
 -- ---- lengths
@@ -55,13 +66,16 @@ part code ps = length (where_there code (last_value code ps))
 abbrev pub its_own : ℕ → Parameter → ℕ
 its_own code p = cond (eqb p.code code) (length p.value + 2) 0
 
-part_at : (code : ℕ) (b : Bool) (later : Option (List ℕ)) (value : List ℕ) → length (where_there code (or_else later (cond b (Some value) None))) ≤ length (where_there code later) + cond b (length value + 2) 0
+part_at : (code : ℕ) (b : Bool) (later : Option (List ℕ)) (value : List ℕ)
+    → length (where_there code (or_else later (cond b (Some value) None)))
+    ≤ length (where_there code later) + cond b (length value + 2) 0
 part_at code true None value = omega arith
 part_at code false None value = omega arith
 part_at code true (Some x) value = omega arith
 part_at code false (Some x) value = omega arith
 
-part_more : (code : ℕ) (p : Parameter) (ps : List Parameter) → part code (p ∷ ps) ≤ part code ps + its_own code p
+part_more : (code : ℕ) (p : Parameter) (ps : List Parameter)
+    → part code (p ∷ ps) ≤ part code ps + its_own code p
 part_more code p ps = part_at code (eqb p.code code) (last_value code ps) p.value
 
 own_one : (p : Parameter) → its_own 192 p + its_own 194 p + its_own 193 p ≤ length p.value + 2
@@ -77,7 +91,8 @@ own_one p =
       ]
     ]
 
-pub parts_within : (ps : List Parameter) → part 192 ps + part 194 ps + part 193 ps ≤ length (spelled ps)
+pub parts_within : (ps : List Parameter)
+    → part 192 ps + part 194 ps + part 193 ps ≤ length (spelled ps)
 parts_within [] = omega arith
 parts_within (p ∷ ps) =
     let a = part_more 192 p ps in
@@ -90,48 +105,76 @@ parts_within (p ∷ ps) =
 some_is : {A : Type 0} {x y : A} → Some x ≡ Some y → x ≡ y
 some_is e = cc
 
-size_part : (v : Option (List ℕ)) (power : Option ℕ) (size : ℕ) → size_of v ≡ Some (power, size) → length (where_there 192 (size_value power)) ≡ length (where_there 192 v)
-size_part None power size e = let p : None ≡ power = ap (λ (s : Option ℕ × ℕ). s.0) (some_is e) in rw (← p) refl
+size_part : (v : Option (List ℕ)) (power : Option ℕ) (size : ℕ) → size_of v ≡ Some (power, size)
+    → length (where_there 192 (size_value power)) ≡ length (where_there 192 v)
+size_part None power size e = let p : None ≡ power =
+    ap (λ (s : Option ℕ × ℕ). s.0) (some_is e) in rw (← p) refl
 size_part (Some []) power size e = absurd (cc)
 size_part (Some (x ∷ [])) power size e =
     elim (cases_lt x 7) [
       | inl few ↦ absurd (let f : None ≡ Some (power, size) = rw (lt-ltb x 7 few) at e in cc)
-      | inr some ↦ let f = rw (le-ltb x 7 some) at e in let p : Some (min x 13) ≡ power = ap (λ (s : Option ℕ × ℕ). s.0) (some_is f) in rw (← p) refl
+      | inr some ↦ let f = rw (le-ltb x 7 some) at e in let p : Some (min x 13) ≡ power =
+          ap (λ (s : Option ℕ × ℕ). s.0) (some_is f) in rw (← p) refl
     ]
 size_part (Some (x ∷ y ∷ more)) power size e = absurd (cc)
 
 -- ---- the answer
 
-read_value : (code : ℕ) (ps : List Parameter) (value : Option (List ℕ)) → option_map (last_value code) (Some ps) ≡ Some value → last_value code ps ≡ value
+read_value : (code : ℕ) (ps : List Parameter) (value : Option (List ℕ))
+    → option_map (last_value code) (Some ps) ≡ Some value → last_value code ps ≡ value
 read_value code ps value e = some_is e
 
 -- the answer's parameters take no more octets than the request's
-pub answered_within : (octets : List ℕ) (o : Option (List Parameter)) (size called calling : Option (List ℕ)) (power : Option ℕ) (limit : ℕ) → parameters_of octets ≡ o → option_map (last_value 192) o ≡ Some size → option_map (last_value 194) o ≡ Some called → option_map (last_value 193) o ≡ Some calling
+pub answered_within : (octets : List ℕ) (o : Option (List Parameter))
+    (size called calling : Option (List ℕ)) (power : Option ℕ) (limit : ℕ)
+    → parameters_of octets ≡ o → option_map (last_value 192) o ≡ Some size
+    → option_map (last_value 194) o ≡ Some called → option_map (last_value 193) o ≡ Some calling
     → size_of size ≡ Some (power, limit) → length (answered power called calling) ≤ length octets
 answered_within octets None size called calling power limit e s d g w = absurd (cc)
 answered_within octets (Some ps) size called calling power limit e s d g w =
     let n : length octets ≡ length (spelled ps) = ap length (spelled_read octets ps e) in
     let all = parts_within ps in
-    let a : part 192 ps ≡ length (where_there 192 size) = ap (λ (v : Option (List ℕ)). length (where_there 192 v)) (read_value 192 ps size s) in
-    let b : part 194 ps ≡ length (where_there 194 called) = ap (λ (v : Option (List ℕ)). length (where_there 194 v)) (read_value 194 ps called d) in
-    let f : part 193 ps ≡ length (where_there 193 calling) = ap (λ (v : Option (List ℕ)). length (where_there 193 v)) (read_value 193 ps calling g) in
+    let a : part 192 ps ≡ length (where_there 192 size) =
+    ap (λ (v : Option (List ℕ)). length (where_there 192 v)) (read_value 192 ps size s) in
+    let b : part 194 ps ≡ length (where_there 194 called) =
+    ap (λ (v : Option (List ℕ)). length (where_there 194 v)) (read_value 194 ps called d) in
+    let f : part 193 ps ≡ length (where_there 193 calling) =
+    ap (λ (v : Option (List ℕ)). length (where_there 193 v)) (read_value 193 ps calling g) in
     let h = size_part size power limit w in
-    let l : length (answered power called calling) ≡ length (where_there 192 (size_value power)) + length (where_there 194 called) + length (where_there 193 calling) = length-append (where_there 192 (size_value power) ++ where_there 194 called) (where_there 193 calling) ∙ ap (λ (k : ℕ). k + length (where_there 193 calling)) (length-append (where_there 192 (size_value power)) (where_there 194 called)) in
+    let l : length (answered power called calling)
+    ≡ length (where_there 192 (size_value power)) + length (where_there 194 called)
+    + length (where_there 193 calling) =
+    length-append (where_there 192 (size_value power) ++ where_there 194 called)
+    (where_there 193 calling)
+    ∙ ap (λ (k : ℕ). k + length (where_there 193 calling))
+    (length-append (where_there 192 (size_value power)) (where_there 194 called)) in
     omega arith
 
 -- what the last values give
-pub with_values : (number high low limit : ℕ) (o : Option (List Parameter)) (size called calling : Option (List ℕ)) (power : Option ℕ) → option_map (last_value 192) o ≡ Some size → option_map (last_value 194) o ≡ Some called → option_map (last_value 193) o ≡ Some calling
-    → size_of size ≡ Some (power, limit) → with_parameters number high low o ≡ Ok (record { size = limit; reply = confirm number high low (answered power called calling) })
+pub with_values : (number high low limit : ℕ) (o : Option (List Parameter))
+    (size called calling : Option (List ℕ)) (power : Option ℕ)
+    → option_map (last_value 192) o ≡ Some size → option_map (last_value 194) o ≡ Some called
+    → option_map (last_value 193) o ≡ Some calling
+    → size_of size ≡ Some (power, limit)
+    → with_parameters number high low o
+    ≡ Ok (record {
+      size = limit;
+      reply = confirm number high low (answered power called calling);
+    })
 with_values number high low limit None size called calling power s d g w = absurd (cc)
 with_values number high low limit (Some ps) size called calling power s d g w =
-    rw (read_value 192 ps size s, w) (rw (read_value 194 ps called d, read_value 193 ps calling g) refl)
+    rw (read_value 192 ps size s, w)
+    (rw (read_value 194 ps called d, read_value 193 ps calling g) refl)
 
-pub without_size : (number high low : ℕ) (o : Option (List Parameter)) (size : Option (List ℕ)) → option_map (last_value 192) o ≡ Some size → size_of size ≡ None → with_parameters number high low o ≡ Err BadCotp
+pub without_size : (number high low : ℕ) (o : Option (List Parameter)) (size : Option (List ℕ))
+    → option_map (last_value 192) o ≡ Some size → size_of size ≡ None
+    → with_parameters number high low o ≡ Err BadCotp
 without_size number high low None size s w = refl
 without_size number high low (Some ps) size s w = rw (read_value 192 ps size s, w) refl
 
 -- the frame of the confirmation, up to its parameters
-pub confirm_parts : (number high low n : ℕ) (ps : List ℕ) → n ≡ length ps → confirm number high low ps ≡ frame_header (n + 7) ++ confirm_front number high low n ++ ps
+pub confirm_parts : (number high low n : ℕ) (ps : List ℕ) → n ≡ length ps
+    → confirm number high low ps ≡ frame_header (n + 7) ++ confirm_front number high low n ++ ps
 confirm_parts number high low n ps is =
     let e : length (confirm_front number high low (length ps) ++ ps) ≡ n + 7 = omega arith in
     rw (e, ← is) refl

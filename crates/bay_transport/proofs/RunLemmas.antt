@@ -5,78 +5,127 @@ use Rattle.bay_transport.specs.declared.frame.Front.{Front}
 use Rattle.bay_transport.specs.declared.frame.Front.TheVariants.{Begun, NoFrame, Whole}
 use Rattle.bay_transport.specs.declared.fault.TransportFault.TheVariants.{BadTpkt}
 use Rattle.bay_transport.specs.Frame.{front_of, cut}
-use Rattle.bay_transport.specs.Doings.{Fails, Link, Left, Going, Over, Broken, Run, Event, Joins, Completes, Agrees, Closes, Refuses, event_of, link_after, on_event, at_rest, frames_run, alone, run, and_then, Stream, doings, after}
+use Rattle.bay_transport.specs.Doings.{Fails, TransportConnection, Left, Going, Over, Broken, Run, TpduEffect, Joins, Finishes, Agrees, Closes, Refuses, effect_of, connection_after, on_effect, at_rest, frames_run, alone, run, and_then, Stream, doings, after}
 use Rattle.bay_transport.proofs.FrameLemmas.{is_whole, none_append, front_part, cut_rest, cut_whole, cut-append}
 
-rest_run : (f : Front) (number : ℕ) (link : Link) (rest more : List ℕ) → front_of rest ≡ f
-    → frames_run number link (cut (rest ++ more)).frames (cut (rest ++ more)).rest ≡ and_then number (at_rest (front_of rest) link rest) more
-rest_run Begun number link rest more e = rw e refl
-rest_run (Whole k) number link rest more e = rw e refl
-rest_run NoFrame number link rest more e =
+rest_run : (f : Front) (number : ℕ) (connection : TransportConnection) (rest more : List ℕ)
+    → front_of rest ≡ f
+    → frames_run number connection (cut (rest ++ more)).frames (cut (rest ++ more)).rest
+    ≡ and_then number (at_rest (front_of rest) connection rest) more
+rest_run Begun number connection rest more e = rw e refl
+rest_run (Whole k) number connection rest more e = rw e refl
+rest_run NoFrame number connection rest more e =
     let n : front_of (rest ++ more) ≡ NoFrame = none_append rest more e in
     rw (e, cut_rest NoFrame (rest ++ more) n (λ k h. cc), n) refl
 
-event_run : (event : Event) (number : ℕ) (later longer : Run) (more : List ℕ) → longer ≡ and_then number later more → on_event event longer ≡ and_then number (on_event event later) more
-event_run (Joins group) number later longer more e = e
-event_run (Completes group) number later longer more e = rw e refl
-event_run (Agrees size reply) number later longer more e = rw e refl
-event_run Closes number later longer more e = refl
-event_run (Refuses fault) number later longer more e = refl
+effect_run : (effect : TpduEffect) (number : ℕ) (later longer : Run) (more : List ℕ)
+    → longer ≡ and_then number later more
+    → on_effect effect longer ≡ and_then number (on_effect effect later) more
+effect_run (Joins group) number later longer more e = e
+effect_run (Finishes group) number later longer more e = rw e refl
+effect_run (Agrees size reply) number later longer more e = rw e refl
+effect_run Closes number later longer more e = refl
+effect_run (Refuses fault) number later longer more e = refl
 
-frames_run-append : (number : ℕ) (link : Link) (frames : List (List ℕ)) (rest more : List ℕ)
-    → frames_run number link (frames ++ (cut (rest ++ more)).frames) (cut (rest ++ more)).rest ≡ and_then number (frames_run number link frames rest) more
-frames_run-append number link [] rest more = rest_run (front_of rest) number link rest more refl
-frames_run-append number link (frame ∷ frames) rest more =
-    event_run (event_of number link frame) number _ _ more (frames_run-append number (link_after (event_of number link frame) link) frames rest more)
+frames_run-append : (number : ℕ) (connection : TransportConnection) (frames : List (List ℕ))
+    (rest more : List ℕ)
+    → frames_run number connection (frames ++ (cut (rest ++ more)).frames) (cut (rest ++ more)).rest
+    ≡ and_then number (frames_run number connection frames rest) more
+frames_run-append number connection [] rest more =
+    rest_run (front_of rest) number connection rest more refl
+frames_run-append number connection (frame ∷ frames) rest more =
+    effect_run (effect_of number connection frame) number _ _ more
+    (frames_run-append number (connection_after (effect_of number connection frame) connection)
+    frames rest more)
 
-pub run-append : (number : ℕ) (left : Left) (octets more : List ℕ) → run number left (octets ++ more) ≡ and_then number (run number left octets) more
-run-append number (Going link rest) octets more =
-    rw (← append_assoc rest octets more, cut-append (rest ++ octets) more) (frames_run-append number link (cut (rest ++ octets)).frames (cut (rest ++ octets)).rest more)
+pub run-append : (number : ℕ) (left : Left) (octets more : List ℕ)
+    → run number left (octets ++ more) ≡ and_then number (run number left octets) more
+run-append number (Going connection rest) octets more =
+    rw (← append_assoc rest octets more, cut-append (rest ++ octets) more)
+    (frames_run-append number connection (cut (rest ++ octets)).frames
+    (cut (rest ++ octets)).rest more)
 run-append number Over octets more = refl
 run-append number Broken octets more = refl
 
 -- ---- one frame
 
-pub run-begun : (number : ℕ) (link : Link) (rest octets : List ℕ) → front_of (rest ++ octets) ≡ Begun → run number (Going link rest) octets ≡ record { doings = []; left = Going link (rest ++ octets) }
-run-begun number link rest octets e = rw (cut_rest Begun (rest ++ octets) e (λ k h. cc), e) refl
+pub run-begun : (number : ℕ) (connection : TransportConnection) (rest octets : List ℕ)
+    → front_of (rest ++ octets) ≡ Begun
+    → run number (Going connection rest) octets
+    ≡ record { doings = []; left = Going connection (rest ++ octets) }
+run-begun number connection rest octets e =
+    rw (cut_rest Begun (rest ++ octets) e (λ k h. cc), e) refl
 
-pub run-none : (number : ℕ) (link : Link) (rest octets more : List ℕ) → front_of (rest ++ octets) ≡ NoFrame → run number (Going link rest) (octets ++ more) ≡ record { doings = Fails BadTpkt ∷ []; left = Broken }
-run-none number link rest octets more e =
+pub run-none : (number : ℕ) (connection : TransportConnection) (rest octets more : List ℕ)
+    → front_of (rest ++ octets) ≡ NoFrame
+    → run number (Going connection rest) (octets ++ more)
+    ≡ record { doings = Fails BadTpkt ∷ []; left = Broken }
+run-none number connection rest octets more e =
     let n : front_of ((rest ++ octets) ++ more) ≡ NoFrame = none_append (rest ++ octets) more e in
-    rw (← append_assoc rest octets more, cut_rest NoFrame ((rest ++ octets) ++ more) n (λ k h. cc), n) refl
+    rw (
+      ← append_assoc rest octets more,
+      cut_rest NoFrame ((rest ++ octets) ++ more) n (λ k h. cc),
+      n,
+    ) refl
 
-pub run-whole : (number : ℕ) (link : Link) (rest octets : List ℕ) → front_of (rest ++ octets) ≡ Whole (length (rest ++ octets)) → run number (Going link rest) octets ≡ alone (event_of number link (rest ++ octets)) link
-run-whole number link rest octets e =
+pub run-whole : (number : ℕ) (connection : TransportConnection) (rest octets : List ℕ)
+    → front_of (rest ++ octets) ≡ Whole (length (rest ++ octets))
+    → run number (Going connection rest) octets
+    ≡ alone (effect_of number connection (rest ++ octets)) connection
+run-whole number connection rest octets e =
     let frame = rest ++ octets in
-    rw (cut_whole frame (length frame) (is_whole frame (length frame) e), take_all (length frame) frame (omega arith), drop_all (length frame) frame (omega arith)) refl
+    rw (
+      cut_whole frame (length frame) (is_whole frame (length frame) e),
+      take_all (length frame) frame (omega arith),
+      drop_all (length frame) frame (omega arith),
+    )
+    refl
 
 -- less than the frame comes to nothing
-pub run-part : (number : ℕ) (link : Link) (rest octets more : List ℕ) → front_of (rest ++ (octets ++ more)) ≡ Whole (length (rest ++ (octets ++ more))) → 0 < length more → (run number (Going link rest) octets).doings ≡ []
-run-part number link rest octets more e some =
+pub run-part : (number : ℕ) (connection : TransportConnection) (rest octets more : List ℕ)
+    → front_of (rest ++ (octets ++ more)) ≡ Whole (length (rest ++ (octets ++ more)))
+    → 0 < length more → (run number (Going connection rest) octets).doings ≡ []
+run-part number connection rest octets more e some =
     let w = is_whole (rest ++ (octets ++ more)) (length (rest ++ (octets ++ more))) e in
-    let few : length (rest ++ octets) < length (rest ++ (octets ++ more)) = omega (arith, length-append {A = ℕ}) in
-    let begun : front_of (rest ++ octets) ≡ Begun = front_part (rest ++ octets) more (length (rest ++ (octets ++ more))) (rw (append_assoc rest octets more) w) few in
-    rw (run-begun number link rest octets begun) refl
+    let few : length (rest ++ octets) < length (rest ++ (octets ++ more)) =
+    omega (arith, length-append {A = ℕ}) in
+    let begun : front_of (rest ++ octets) ≡ Begun =
+    front_part (rest ++ octets) more (length (rest ++ (octets ++ more)))
+    (rw (append_assoc rest octets more) w) few in
+    rw (run-begun number connection rest octets begun) refl
 
 nil_front : {A : Type 0} (xs ys : List A) → xs ++ ys ≡ [] → xs ≡ []
 nil_front [] ys e = refl
 nil_front (x ∷ xs) ys e = absurd (cc)
 
 -- what comes to nothing came to nothing before
-pub run-front : (number : ℕ) (left : Left) (octets more : List ℕ) → (run number left (octets ++ more)).doings ≡ [] → (run number left octets).doings ≡ []
+pub run-front : (number : ℕ) (left : Left) (octets more : List ℕ)
+    → (run number left (octets ++ more)).doings ≡ [] → (run number left octets).doings ≡ []
 run-front number left octets more e =
-    nil_front (run number left octets).doings (run number (run number left octets).left more).doings (rw (run-append number left octets more) at e)
+    nil_front (run number left octets).doings (run number (run number left octets).left more).doings
+    (rw (run-append number left octets more) at e)
 
 -- ---- streams
 
-pub doings-append : (s : Stream) (octets more : List ℕ) → doings s (octets ++ more) ≡ doings s octets ++ doings (after s octets) more
+pub doings-append : (s : Stream) (octets more : List ℕ)
+    → doings s (octets ++ more) ≡ doings s octets ++ doings (after s octets) more
 doings-append s octets more = ap (λ (r : Run). r.doings) (run-append s.number s.left octets more)
 
-pub after-append : (s : Stream) (octets more : List ℕ) → after s (octets ++ more) ≡ after (after s octets) more
-after-append s octets more = ap (λ (r : Run). let t : Stream = record { number = s.number; left = r.left } in t) (run-append s.number s.left octets more)
+pub after-append : (s : Stream) (octets more : List ℕ)
+    → after s (octets ++ more) ≡ after (after s octets) more
+after-append s octets more =
+    ap (λ (r : Run). let t : Stream = record { number = s.number; left = r.left } in t)
+    (run-append s.number s.left octets more)
 
-pub doings-take : (s : Stream) (octets : List ℕ) (used : ℕ) → doings s octets ≡ doings s (take used octets) ++ doings (after s (take used octets)) (drop used octets)
-doings-take s octets used = ap (doings s) (sym (take-append-drop used octets)) ∙ doings-append s (take used octets) (drop used octets)
+pub doings-take : (s : Stream) (octets : List ℕ) (used : ℕ)
+    → doings s octets ≡ doings s (take used octets)
+    ++ doings (after s (take used octets)) (drop used octets)
+doings-take s octets used =
+    ap (doings s) (sym (take-append-drop used octets))
+    ∙ doings-append s (take used octets) (drop used octets)
 
-pub after-take : (s : Stream) (octets : List ℕ) (used : ℕ) → after s octets ≡ after (after s (take used octets)) (drop used octets)
-after-take s octets used = ap (after s) (sym (take-append-drop used octets)) ∙ after-append s (take used octets) (drop used octets)
+pub after-take : (s : Stream) (octets : List ℕ) (used : ℕ)
+    → after s octets ≡ after (after s (take used octets)) (drop used octets)
+after-take s octets used =
+    ap (after s) (sym (take-append-drop used octets))
+    ∙ after-append s (take used octets) (drop used octets)

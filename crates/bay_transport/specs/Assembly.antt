@@ -7,17 +7,19 @@ use Rattle.bay_transport.specs.declared.assembly.Assembly.{Assembly}
 use Rattle.bay_transport.specs.declared.fed.Got.{Got}
 use Rattle.bay_transport.specs.declared.fed.Got.TheVariants.{More, Answer, Tsdu, Ended}
 use Rattle.bay_transport.specs.Frame.{front_of}
-use Rattle.bay_transport.specs.Doings.{Doing, Answers, Delivers, Ends, Link, Left, Going, Over, Run, run}
+use Rattle.bay_transport.specs.Doings.{Doing, Answers, Delivers, Ends, TransportConnection, Left, Going, Over, Run, run}
 
 -- the octets of the unfinished group stand first in the buffer, and then the rest
-abbrev pub link_of : Assembly → Link
-link_of a = record { size = a.size; group = take a.group a.buffer.items }
+abbrev pub connection_of : Assembly → TransportConnection
+connection_of a = record { size = a.size; group = take a.group a.buffer.items }
 
+-- the beginning of a frame, behind the group
 abbrev pub rest_of : Assembly → List ℕ
 rest_of a = drop a.group a.buffer.items
 
+-- an assembly holds what its octets leave, as long as they go on.
 abbrev pub left_of : Assembly → Left
-left_of a = Going (link_of a) (rest_of a)
+left_of a = Going (connection_of a) (rest_of a)
 
 -- The sizes that a request can agree.
 pub record IsSize (size : ℕ) : Type 0 where
@@ -52,12 +54,14 @@ pub record HasNoRoom (a : Assembly) : Type 0 where
 abbrev pub body_of : Assembly → List ℕ
 body_of a = drop (a.group + 6) a.buffer.items
 
+-- what was completed, with the octets that are shown
 abbrev pub doings_for : Got → Assembly → List Doing
 doings_for More a = []
 doings_for Answer a = Answers (unwrap_or a.size 0) a.shown.items ∷ []
 doings_for Tsdu a = Delivers a.shown.items ∷ []
 doings_for Ended a = Ends ∷ []
 
+-- what is left where the answer is of this kind: after an end nothing
 abbrev pub left_for : Got → Left → Left
 left_for More left = left
 left_for Answer left = left
@@ -79,14 +83,16 @@ FailsWhere OutOfMemory P = Unit {0}
 
 -- So many octets of the piece are taken: they do what is answered, and those before the last of
 -- them nothing.
-pub record Takes (old : Assembly) (piece : List ℕ) (used : ℕ) (kind : Got) (new : Assembly) : Type 0 where
+pub record Takes (old : Assembly) (piece : List ℕ) (used : ℕ) (kind : Got) (new : Assembly)
+    : Type 0 where
   pub within : used ≤ length piece
   pub moves : 0 < length piece → 0 < used
   pub does : run old.number (left_of old) (take used piece) ≡ run_for kind new
   pub quiet : (run old.number (left_of old) (take (used - 1) piece)).doings ≡ []
 
 -- The same up to the end of the TPDU that completes something, or of the piece.
-pub record Reaches (old : Assembly) (piece : List ℕ) (used : ℕ) (kind : Got) (new : Assembly) : Type 0 where
+pub record Reaches (old : Assembly) (piece : List ℕ) (used : ℕ) (kind : Got) (new : Assembly)
+    : Type 0 where
   pub within : used ≤ length piece
   pub all : kind ≡ More → used ≡ length piece
   pub moves : (kind ≡ More → ⊥) → 0 < used

@@ -14,25 +14,31 @@ abbrev pub spelled : List Parameter → List ℕ
 spelled [] = []
 spelled (p ∷ ps) = p.code ∷ length p.value ∷ (p.value ++ spelled ps)
 
+-- the number of a value's octets stands at the front, behind the code
 abbrev pub length_octet : List ℕ → ℕ
 length_octet [] = 0
 length_octet (octets ∷ behind) = octets
 
+-- a parameter with this code and the octets behind it, and then the later ones
 abbrev pub with_parameter : ℕ → List ℕ → Option (List Parameter) → Option (List Parameter)
 with_parameter code behind None = None
 with_parameter code [] (Some later) = None
-with_parameter code (octets ∷ behind) (Some later) = Some (record { code = code; value = take octets behind } ∷ later)
+with_parameter code (octets ∷ behind) (Some later) =
+    Some (record { code = code; value = take octets behind } ∷ later)
 
 -- the parameters that the octets behind so many others spell, if they spell any
 abbrev pub parameters_behind : ℕ → List ℕ → Option (List Parameter)
 parameters_behind zero [] = Some []
 parameters_behind (suc skipped) [] = None
-parameters_behind zero (code ∷ octets) = with_parameter code octets (parameters_behind (suc (length_octet octets)) octets)
+parameters_behind zero (code ∷ octets) =
+    with_parameter code octets (parameters_behind (suc (length_octet octets)) octets)
 parameters_behind (suc skipped) (x ∷ octets) = parameters_behind skipped octets
 
+-- the parameters that octets spell
 abbrev pub parameters_of : List ℕ → Option (List Parameter)
 parameters_of octets = parameters_behind 0 octets
 
+-- the first, or where there is none the other
 abbrev pub or_else : Option (List ℕ) → Option (List ℕ) → Option (List ℕ)
 or_else (Some x) other = Some x
 or_else None other = other
@@ -40,7 +46,8 @@ or_else None other = other
 -- the value of the last parameter with the code
 abbrev pub last_value : ℕ → List Parameter → Option (List ℕ)
 last_value code [] = None
-last_value code (p ∷ ps) = or_else (last_value code ps) (if p.code == code then Some p.value else None)
+last_value code (p ∷ ps) =
+    or_else (last_value code ps) (if p.code == code then Some p.value else None)
 
 -- The size of a TPDU in octets is 2 to the power of the parameter C0, which is 7 or more, and at
 -- most 2 ^ 13 (X.224 13.3.4); without the parameter it is 65,531, what a frame holds. A pair is the
@@ -48,7 +55,8 @@ last_value code (p ∷ ps) = or_else (last_value code ps) (if p.code == code the
 abbrev pub size_of : Option (List ℕ) → Option (Option ℕ × ℕ)
 size_of None = Some (None, 65531)
 size_of (Some []) = None
-size_of (Some (power ∷ [])) = if nat_lt power 7 then None else Some (Some (min power 13), 2 ^ min power 13)
+size_of (Some (power ∷ [])) =
+    if nat_lt power 7 then None else Some (Some (min power 13), 2 ^ min power 13)
 size_of (Some (power ∷ more ∷ octets)) = None
 
 -- what stands before a TPDU of so many octets in its frame: the version, a reserved octet and the
@@ -65,35 +73,50 @@ abbrev pub where_there : ℕ → Option (List ℕ) → List ℕ
 where_there code None = []
 where_there code (Some value) = code ∷ length value ∷ value
 
+-- the value of the size parameter: the power alone
 abbrev pub size_value : Option ℕ → Option (List ℕ)
 size_value None = None
 size_value (Some power) = Some (power ∷ [])
 
 -- the parameters of the answer: the size, the called and the calling selector, each where it came
 abbrev pub answered : Option ℕ → Option (List ℕ) → Option (List ℕ) → List ℕ
-answered power called calling = where_there 0xC0 (size_value power) ++ where_there 0xC2 called ++ where_there 0xC1 calling
+answered power called calling =
+    where_there 0xC0 (size_value power) ++ where_there 0xC2 called ++ where_there 0xC1 calling
 
 -- a confirmation up to its parameters, which take so many octets: its length indicator, D0, the
 -- reference of the one who asked, the reference of the association, and class 0 (X.224 13.4)
 abbrev pub confirm_front : ℕ → ℕ → ℕ → ℕ → List ℕ
-confirm_front number high low count = (count + 6) ∷ 0xD0 ∷ high ∷ low ∷ (number / 256) ∷ (number % 256) ∷ 0 ∷ []
+confirm_front number high low count =
+    (count + 6) ∷ 0xD0 ∷ high ∷ low ∷ (number / 256) ∷ (number % 256) ∷ 0 ∷ []
 
 -- the confirmation in its frame
 abbrev pub confirm : ℕ → ℕ → ℕ → List ℕ → List ℕ
-confirm number high low parameters = framed (confirm_front number high low (length parameters) ++ parameters)
+confirm number high low parameters =
+    framed (confirm_front number high low (length parameters) ++ parameters)
 
--- a connection: the size of its TPDUs in octets, and the frame that answers the request
-pub record Connection : Type 0 where
+-- the confirmation of a connection: the size of its TPDUs in octets, and the frame that is the
+-- answer
+pub record Confirmation : Type 0 where
   pub size : ℕ
   pub reply : List ℕ
 
-abbrev pub with_size : ℕ → ℕ → ℕ → List Parameter → Option (Option ℕ × ℕ) → Result Connection TransportFault
+-- the confirmation of a request with these parameters, which agrees the size
+abbrev pub with_size : ℕ → ℕ → ℕ → List Parameter → Option (Option ℕ × ℕ)
+    → Result Confirmation TransportFault
 with_size number high low ps None = Err BadCotp
-with_size number high low ps (Some size) = Ok (record { size = size.1; reply = confirm number high low (answered size.0 (last_value 0xC2 ps) (last_value 0xC1 ps)) })
+with_size number high low ps (Some size) =
+    Ok (record {
+      size = size.1;
+      reply = confirm number high low (answered size.0 (last_value 0xC2 ps) (last_value 0xC1 ps));
+    })
 
-abbrev pub with_parameters : ℕ → ℕ → ℕ → Option (List Parameter) → Result Connection TransportFault
+-- the confirmation of a request with these parameters; BadCotp where there are none or the size is
+-- not one
+abbrev pub with_parameters : ℕ → ℕ → ℕ → Option (List Parameter)
+    → Result Confirmation TransportFault
 with_parameters number high low None = Err BadCotp
-with_parameters number high low (Some ps) = with_size number high low ps (size_of (last_value 0xC0 ps))
+with_parameters number high low (Some ps) =
+    with_size number high low ps (size_of (last_value 0xC0 ps))
 
 -- A length indicator counts the octets of its TPDU behind it: six and the parameters. 255 is
 -- reserved (X.224 13.2.1).
@@ -104,10 +127,11 @@ is_counted indicator octets = if indicator == 255 then false else indicator == l
 -- and the octets stand behind its code: two references of two octets, the class with the options,
 -- and the parameters. The length indicator counts them all and the code, a second request is
 -- refused, and then a class other than 0.
-abbrev pub connect : ℕ → Bool → ℕ → List ℕ → Result Connection TransportFault
+abbrev pub connect : ℕ → Bool → ℕ → List ℕ → Result Confirmation TransportFault
 connect number again indicator (to_high ∷ to_low ∷ from_high ∷ from_low ∷ class ∷ octets) =
     if is_counted indicator octets
     then (if again then Err BadCotp
-    else (if class / 16 == 0 then with_parameters number from_high from_low (parameters_of octets) else Err ClassRefused))
+    else (if class / 16 == 0 then with_parameters number from_high from_low (parameters_of octets)
+    else Err ClassRefused))
     else Err BadCotp
 connect number again indicator octets = Err BadCotp

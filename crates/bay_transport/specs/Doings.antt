@@ -7,7 +7,7 @@ use Rattle.bay_transport.specs.declared.frame.Front.TheVariants.{Begun, NoFrame,
 use Rattle.bay_transport.specs.declared.frame.Tpdu.{Tpdu}
 use Rattle.bay_transport.specs.declared.frame.Tpdu.TheVariants.{Request, Data, Release, Unknown}
 use Rattle.bay_transport.specs.Frame.{tpdu_of, front_of, cut}
-use Rattle.bay_transport.specs.Connect.{Connection, connect}
+use Rattle.bay_transport.specs.Connect.{Confirmation, connect}
 
 -- one thing that octets come to: a size of TPDUs is agreed, with the answer to the request for it;
 -- a TSDU; the end; a fault
@@ -19,101 +19,125 @@ pub data Doing : Type 0 where
 
 -- what whole TPDUs leave: the size agreed, if a request came, and the joined data of an unfinished
 -- group
-pub record Link : Type 0 where
+pub record TransportConnection : Type 0 where
   pub size : Option ℕ
   pub group : List ℕ
 
 -- what octets leave: what their whole TPDUs leave, and the rest behind these; or that they ended or
 -- failed
 pub data Left : Type 0 where
-  Going : Link → List ℕ → Left
+  Going : TransportConnection → List ℕ → Left
   Over : Left
   Broken : Left
 
+-- what octets come to in turn, and what they leave
 pub record Run : Type 0 where
   pub doings : List Doing
   pub left : Left
 
 -- what one TPDU comes to: its data join the group, or complete it; a size is agreed, and the
 -- request answered; the stream ends, or is refused
-pub data Event : Type 0 where
-  Joins : List ℕ → Event
-  Completes : List ℕ → Event
-  Agrees : ℕ → List ℕ → Event
-  Closes : Event
-  Refuses : TransportFault → Event
+pub data TpduEffect : Type 0 where
+  Joins : List ℕ → TpduEffect
+  Finishes : List ℕ → TpduEffect
+  Agrees : ℕ → List ℕ → TpduEffect
+  Closes : TpduEffect
+  Refuses : TransportFault → TpduEffect
 
-abbrev pub connected : Result Connection TransportFault → Event
+-- what a request for a connection comes to, by its confirmation
+abbrev pub connected : Result Confirmation TransportFault → TpduEffect
 connected (Ok c) = Agrees c.size c.reply
 connected (Err fault) = Refuses fault
 
 -- A data TPDU whose data make the group this, and whose third octet is `mark`: at most 70,000
 -- octets are joined, and bit 8 of the mark stands on the last of a group (X.224 13.7).
-abbrev pub gathered : ℕ → List ℕ → Event
-gathered mark group = if nat_lt 70000 (length group) then Refuses TsduTooLong else (if (mark / 128) % 2 == 1 then Completes group else Joins group)
+abbrev pub gathered : ℕ → List ℕ → TpduEffect
+gathered mark group =
+    if nat_lt 70000 (length group) then Refuses TsduTooLong
+    else (if (mark / 128) % 2 == 1 then Finishes group else Joins group)
 
 -- a data TPDU behind its code: it comes after the request, its length indicator is 2, and its data
 -- fill the frame
-abbrev pub data_event : Link → ℕ → List ℕ → Event
-data_event link indicator [] = Refuses BadCotp
-data_event link indicator (mark ∷ octets) =
-    if indicator == 2 then (if is_some link.size then gathered mark (link.group ++ octets) else Refuses BadCotp) else Refuses BadCotp
+abbrev pub data_effect : TransportConnection → ℕ → List ℕ → TpduEffect
+data_effect connection indicator [] = Refuses BadCotp
+data_effect connection indicator (mark ∷ octets) =
+    if indicator == 2
+    then (if is_some connection.size then gathered mark (connection.group ++ octets)
+    else Refuses BadCotp)
+    else Refuses BadCotp
 
 -- a TPDU of a kind, behind its code
-abbrev pub kind_event : ℕ → Link → Tpdu → ℕ → List ℕ → Event
-kind_event number link Request indicator octets = connected (connect number (is_some link.size) indicator octets)
-kind_event number link Data indicator octets = data_event link indicator octets
-kind_event number link Release indicator octets = Closes
-kind_event number link Unknown indicator octets = Refuses BadCotp
+abbrev pub kind_effect : ℕ → TransportConnection → Tpdu → ℕ → List ℕ → TpduEffect
+kind_effect number connection Request indicator octets =
+    connected (connect number (is_some connection.size) indicator octets)
+kind_effect number connection Data indicator octets = data_effect connection indicator octets
+kind_effect number connection Release indicator octets = Closes
+kind_effect number connection Unknown indicator octets = Refuses BadCotp
 
-abbrev pub tpdu_event : ℕ → Link → List ℕ → Event
-tpdu_event number link [] = Refuses BadCotp
-tpdu_event number link (indicator ∷ []) = Refuses BadCotp
-tpdu_event number link (indicator ∷ code ∷ octets) = kind_event number link (tpdu_of code) indicator octets
+-- a TPDU: its length indicator, its code, and what stands behind them (X.224 13.2)
+abbrev pub tpdu_effect : ℕ → TransportConnection → List ℕ → TpduEffect
+tpdu_effect number connection [] = Refuses BadCotp
+tpdu_effect number connection (indicator ∷ []) = Refuses BadCotp
+tpdu_effect number connection (indicator ∷ code ∷ octets) =
+    kind_effect number connection (tpdu_of code) indicator octets
 
 -- a frame holds its TPDU behind four octets
-abbrev pub event_of : ℕ → Link → List ℕ → Event
-event_of number link frame = tpdu_event number link (drop 4 frame)
+abbrev pub effect_of : ℕ → TransportConnection → List ℕ → TpduEffect
+effect_of number connection frame = tpdu_effect number connection (drop 4 frame)
 
-abbrev pub link_after : Event → Link → Link
-link_after (Joins group) link = record { size = link.size; group = group }
-link_after (Completes group) link = record { size = link.size; group = [] }
-link_after (Agrees size reply) link = record { size = Some size; group = link.group }
-link_after Closes link = link
-link_after (Refuses fault) link = link
+-- what a TPDU with this effect leaves
+abbrev pub connection_after : TpduEffect → TransportConnection → TransportConnection
+connection_after (Joins group) connection = record { size = connection.size; group = group }
+connection_after (Finishes group) connection = record { size = connection.size; group = [] }
+connection_after (Agrees size reply) connection =
+    record { size = Some size; group = connection.group }
+connection_after Closes connection = connection
+connection_after (Refuses fault) connection = connection
 
--- what an event does, before what comes later; nothing comes after an end or a refusal
-abbrev pub on_event : Event → Run → Run
-on_event (Joins group) later = later
-on_event (Completes group) later = record { doings = Delivers group ∷ later.doings; left = later.left }
-on_event (Agrees size reply) later = record { doings = Answers size reply ∷ later.doings; left = later.left }
-on_event Closes later = record { doings = Ends ∷ []; left = Over }
-on_event (Refuses fault) later = record { doings = Fails fault ∷ []; left = Broken }
+-- the doing of a TPDU with this effect, before what comes later; nothing comes after an end or a
+-- refusal
+abbrev pub on_effect : TpduEffect → Run → Run
+on_effect (Joins group) later = later
+on_effect (Finishes group) later =
+    record { doings = Delivers group ∷ later.doings; left = later.left }
+on_effect (Agrees size reply) later =
+    record { doings = Answers size reply ∷ later.doings; left = later.left }
+on_effect Closes later = record { doings = Ends ∷ []; left = Over }
+on_effect (Refuses fault) later = record { doings = Fails fault ∷ []; left = Broken }
 
-abbrev pub at_rest : Front → Link → List ℕ → Run
-at_rest Begun link rest = record { doings = []; left = Going link rest }
-at_rest NoFrame link rest = record { doings = Fails BadTpkt ∷ []; left = Broken }
-at_rest (Whole frame) link rest = record { doings = []; left = Going link rest }
+-- what the rest behind the last whole frame comes to, by what stands at its front
+abbrev pub at_rest : Front → TransportConnection → List ℕ → Run
+at_rest Begun connection rest = record { doings = []; left = Going connection rest }
+at_rest NoFrame connection rest = record { doings = Fails BadTpkt ∷ []; left = Broken }
+at_rest (Whole frame) connection rest = record { doings = []; left = Going connection rest }
 
 -- what whole frames and a rest come to: the rest is refused as soon as it begins no frame
-abbrev pub frames_run : ℕ → Link → List (List ℕ) → List ℕ → Run
-frames_run number link [] rest = at_rest (front_of rest) link rest
-frames_run number link (frame ∷ frames) rest =
-    on_event (event_of number link frame) (frames_run number (link_after (event_of number link frame) link) frames rest)
+abbrev pub frames_run : ℕ → TransportConnection → List (List ℕ) → List ℕ → Run
+frames_run number connection [] rest = at_rest (front_of rest) connection rest
+frames_run number connection (frame ∷ frames) rest =
+    on_effect (effect_of number connection frame)
+    (frames_run number (connection_after (effect_of number connection frame) connection) frames
+    rest)
 
 -- What octets come to, from what was left: the octets behind the rest are cut into frames anew.
 abbrev pub run : ℕ → Left → List ℕ → Run
-run number (Going link rest) octets = frames_run number link (cut (rest ++ octets)).frames (cut (rest ++ octets)).rest
+run number (Going connection rest) octets =
+    frames_run number connection (cut (rest ++ octets)).frames (cut (rest ++ octets)).rest
 run number Over octets = record { doings = []; left = Over }
 run number Broken octets = record { doings = []; left = Broken }
 
 -- what a frame comes to that stands alone
-abbrev pub alone : Event → Link → Run
-alone event link = on_event event (record { doings = []; left = Going (link_after event link) [] })
+abbrev pub alone : TpduEffect → TransportConnection → Run
+alone effect connection =
+    on_effect effect (record { doings = []; left = Going (connection_after effect connection) [] })
 
 -- a run, and then what more octets come to
 abbrev pub and_then : ℕ → Run → List ℕ → Run
-and_then number first octets = record { doings = first.doings ++ (run number first.left octets).doings; left = (run number first.left octets).left }
+and_then number first octets =
+    record {
+      doings = first.doings ++ (run number first.left octets).doings;
+      left = (run number first.left octets).left;
+    }
 
 -- a stream on the association of this number, after some octets
 pub record Stream : Type 0 where
@@ -124,8 +148,10 @@ pub record Stream : Type 0 where
 abbrev pub start : Left
 start = Going (record { size = None; group = [] }) []
 
+-- what the octets come to, from what the stream left
 abbrev pub doings : Stream → List ℕ → List Doing
 doings s octets = (run s.number s.left octets).doings
 
+-- the stream that the octets leave
 abbrev pub after : Stream → List ℕ → Stream
 after s octets = record { number = s.number; left = (run s.number s.left octets).left }

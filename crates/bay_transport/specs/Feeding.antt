@@ -12,7 +12,7 @@ use Rattle.bay_transport.specs.Doings.{Doing, Answers, Delivers, Ends, Fails, Le
 use Rattle.bay_transport.specs.Assembly.{left_of, IsSound, HasNoRoom}
 
 -- The octets that are taken do this and nothing else, and those before the last of them nothing.
-pub record Completes (s : Stream) (piece : List ℕ) (used : ℕ) (doing : Doing) : Type 0 where
+pub record CompletesDoing (s : Stream) (piece : List ℕ) (used : ℕ) (doing : Doing) : Type 0 where
   pub moves : 0 < used
   pub within : used ≤ length piece
   pub quiet : doings s (take (used - 1) piece) ≡ []
@@ -21,11 +21,12 @@ pub record Completes (s : Stream) (piece : List ℕ) (used : ℕ) (doing : Doing
 -- So many octets of the piece are taken, and this is answered, or nothing yet: the first doing of
 -- the piece. After an end, no octet is taken and the end is answered again.
 abbrev pub FeedsFrom : Left → Stream → List ℕ → ℕ → Option Doing → Type 0
-FeedsFrom (Going link rest) s piece used None = (used ≡ length piece) × (doings s piece ≡ [])
-FeedsFrom (Going link rest) s piece used (Some doing) = Completes s piece used doing
+FeedsFrom (Going connection rest) s piece used None = (used ≡ length piece) × (doings s piece ≡ [])
+FeedsFrom (Going connection rest) s piece used (Some doing) = CompletesDoing s piece used doing
 FeedsFrom Over s piece used answer = (used ≡ 0) × (answer ≡ Some Ends)
 FeedsFrom Broken s piece used answer = ⊥
 
+-- The same for a stream: what it left decides.
 abbrev pub Feeds : Stream → List ℕ → ℕ → Option Doing → Type 0
 Feeds s piece used answer = FeedsFrom s.left s piece used answer
 
@@ -33,8 +34,9 @@ Feeds s piece used answer = FeedsFrom s.left s piece used answer
 abbrev pub GoesOn : Stream → Stream → List ℕ → ℕ → Doing → Type 0
 GoesOn old new piece used doing = doings old piece ≡ doing ∷ doings new (drop used piece)
 
+-- Octets are still taken.
 abbrev pub IsGoing : Left → Type 0
-IsGoing (Going link rest) = Unit {0}
+IsGoing (Going connection rest) = Unit {0}
 IsGoing Over = ⊥
 IsGoing Broken = ⊥
 
@@ -50,10 +52,11 @@ RefusesPiece s piece OutOfMemory = IsGoing s.left
 
 -- the size agreed, where octets are still taken and a request came
 abbrev pub agreed_from : Left → Option ℕ
-agreed_from (Going link rest) = link.size
+agreed_from (Going connection rest) = connection.size
 agreed_from Over = None
 agreed_from Broken = None
 
+-- the size agreed on a stream
 abbrev pub agreed : Stream → Option ℕ
 agreed s = agreed_from s.left
 
@@ -80,10 +83,12 @@ size_after size (Fails fault ∷ doings) = None
 -- What is kept is within the limits: 70,000 octets of a group, less than the longest frame, and
 -- 70,000 octets of what was completed last; and nothing after an end or a refusal.
 abbrev pub KeepsWithin : Left → List ℕ → Type 0
-KeepsWithin (Going link rest) shown = (length link.group ≤ 70000) × (length rest < 65535) × (length shown ≤ 70000)
+KeepsWithin (Going connection rest) shown =
+    (length connection.group ≤ 70000) × (length rest < 65535) × (length shown ≤ 70000)
 KeepsWithin Over shown = shown ≡ []
 KeepsWithin Broken shown = shown ≡ []
 
+-- What a transport keeps is within the limits.
 abbrev pub IsWithinLimits : Received → Type 0
 IsWithinLimits r = KeepsWithin r.stream.left r.shown
 
@@ -96,14 +101,17 @@ broken s = record { number = s.number; left = Broken }
 
 -- ---- what the fields mean
 
+-- what octets left: an assembly while the reader is open
 abbrev pub left_in : ReaderState → Assembly → Left
 left_in Open a = left_of a
 left_in Closed a = Over
 left_in Refused a = Broken
 
+-- the stream that a reader has read
 abbrev pub stream_of : Reader → Stream
 stream_of r = record { number = r.assembly.number; left = left_in r.state r.assembly }
 
+-- what a reader has received
 abbrev pub received_of : Reader → Received
 received_of r = record { stream = stream_of r; shown = r.assembly.shown.items }
 
@@ -113,6 +121,7 @@ ReleasedUnlessOpen Open a = Unit {0}
 ReleasedUnlessOpen Closed a = HasNoRoom a
 ReleasedUnlessOpen Refused a = HasNoRoom a
 
+-- What holds of a reader between pieces.
 pub record IsKept (r : Reader) : Type 0 where
   pub sound : IsSound r.assembly
   pub room : ReleasedUnlessOpen r.state r.assembly

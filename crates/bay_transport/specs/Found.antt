@@ -1,8 +1,8 @@
 -- What the code finds of a request, against the definition.
 use Rattle.std.specs.Prelude.{ℕ, ◌≡◌, ◌==◌, List, Option, Some, if◌then◌else◌}
 use Rattle.std.specs.Option.{option_copied, option_map}
-use Rattle.bay_transport.specs.declared.request.Values.{Values}
-use Rattle.bay_transport.specs.declared.request.Request.{Request}
+use Rattle.bay_transport.specs.declared.request.ParameterValues.{ParameterValues}
+use Rattle.bay_transport.specs.declared.request.ConnectRequest.{ConnectRequest}
 use Rattle.bay_transport.specs.Connect.{parameters_of, last_value, answered}
 
 -- what is found of a code once a parameter has been read
@@ -10,11 +10,14 @@ abbrev pub found_then : ℕ → ℕ → List ℕ → Option (List ℕ) → Optio
 found_then wanted code value found = if code == wanted then Some value else found
 
 -- The octets are parameters, of which the last with each code has this value.
-pub record HaveValues (octets : List ℕ) (values : Values) : Type 0 where
+pub record HaveValues (octets : List ℕ) (values : ParameterValues) : Type 0 where
   pub size : option_map (last_value 0xC0) (parameters_of octets) ≡ Some (option_copied values.size)
-  pub called : option_map (last_value 0xC2) (parameters_of octets) ≡ Some (option_copied values.called)
-  pub calling : option_map (last_value 0xC1) (parameters_of octets) ≡ Some (option_copied values.calling)
+  pub called : option_map (last_value 0xC2) (parameters_of octets)
+      ≡ Some (option_copied values.called)
+  pub calling : option_map (last_value 0xC1) (parameters_of octets)
+      ≡ Some (option_copied values.calling)
 
 -- the parameters of the answer to a request
-abbrev pub answered_to : Request → List ℕ
-answered_to request = answered request.power (option_copied request.called) (option_copied request.calling)
+abbrev pub answered_to : ConnectRequest → List ℕ
+answered_to request =
+    answered request.power (option_copied request.called) (option_copied request.calling)

@@ -11,7 +11,10 @@ pair_of high low = high * 256 + low
 
 -- the TPDU by its code, the whole second octet (X.224 13.1): CR E0, DT F0, DR 80, ER 70
 abbrev pub tpdu_of : ℕ → Tpdu
-tpdu_of code = if code == 0xE0 then Request else (if code == 0xF0 then Data else (if code == 0x80 then Release else (if code == 0x70 then Release else Unknown)))
+tpdu_of code =
+    if code == 0xE0 then Request
+    else (if code == 0xF0 then Data
+    else (if code == 0x80 then Release else (if code == 0x70 then Release else Unknown)))
 
 -- A frame is 03, any octet, the number of its octets in two octets, which is 7 or more, and the
 -- octets of one TPDU.
@@ -24,6 +27,7 @@ pub record IsFrame (frame : List ℕ) : Type 0 where
   pub counted : length frame ≡ pair_of high low
   pub some : 7 ≤ length frame
 
+-- Each of the lists is one frame.
 abbrev pub AreFrames : List (List ℕ) → Type 0
 AreFrames [] = Unit {0}
 AreFrames (frame ∷ frames) = IsFrame frame × AreFrames frames
@@ -46,8 +50,10 @@ pub record IsCut (octets : List ℕ) (cut : Cut) : Type 0 where
 
 -- ---- cutting, which the law above ties to the frames
 
+-- a frame whose length field says so many octets, of which so many have come
 abbrev pub of_length : ℕ → ℕ → Front
-of_length frame have = if nat_lt frame 7 then NoFrame else (if nat_lt have frame then Begun else Whole frame)
+of_length frame have =
+    if nat_lt frame 7 then NoFrame else (if nat_lt have frame then Begun else Whole frame)
 
 -- what stands at the front of the octets: a first octet other than 03 and a length below 7 begin no
 -- frame
@@ -56,7 +62,8 @@ front_of [] = Begun
 front_of (version ∷ []) = if version == 3 then Begun else NoFrame
 front_of (version ∷ reserved ∷ []) = if version == 3 then Begun else NoFrame
 front_of (version ∷ reserved ∷ high ∷ []) = if version == 3 then Begun else NoFrame
-front_of (version ∷ reserved ∷ high ∷ low ∷ octets) = if version == 3 then of_length (pair_of high low) (length octets + 4) else NoFrame
+front_of (version ∷ reserved ∷ high ∷ low ∷ octets) =
+    if version == 3 then of_length (pair_of high low) (length octets + 4) else NoFrame
 
 -- how many octets can follow the beginning of a frame before more has to be known
 abbrev pub wanted : List ℕ → ℕ
@@ -72,16 +79,20 @@ behind Begun = 0
 behind NoFrame = 0
 behind (Whole frame) = frame - 1
 
+-- the frame at the front, if a whole one stands there, and then the later cut
 abbrev pub with_front : Front → List ℕ → Cut → Cut
 with_front Begun octets later = record { frames = []; rest = octets }
 with_front NoFrame octets later = record { frames = []; rest = octets }
-with_front (Whole frame) octets later = record { frames = take frame octets ∷ later.frames; rest = later.rest }
+with_front (Whole frame) octets later =
+    record { frames = take frame octets ∷ later.frames; rest = later.rest }
 
 -- the cut of the octets that stand behind so many others
 abbrev pub cut_behind : ℕ → List ℕ → Cut
 cut_behind skipped [] = record { frames = []; rest = [] }
-cut_behind zero (x ∷ xs) = with_front (front_of (x ∷ xs)) (x ∷ xs) (cut_behind (behind (front_of (x ∷ xs))) xs)
+cut_behind zero (x ∷ xs) =
+    with_front (front_of (x ∷ xs)) (x ∷ xs) (cut_behind (behind (front_of (x ∷ xs))) xs)
 cut_behind (suc skipped) (x ∷ xs) = cut_behind skipped xs
 
+-- the cut of octets into whole frames and the rest
 abbrev pub cut : List ℕ → Cut
 cut octets = cut_behind 0 octets

@@ -11,7 +11,8 @@ data_frame is_last octets = framed (2 ∷ 0xF0 ∷ (if is_last then 0x80 else 0x
 -- so many data TPDUs that are full, and then the last
 abbrev pub data_frames : ℕ → ℕ → List ℕ → List ℕ
 data_frames room zero octets = data_frame true octets
-data_frames room (suc full) octets = data_frame false (take room octets) ++ data_frames room full (drop room octets)
+data_frames room (suc full) octets =
+    data_frame false (take room octets) ++ data_frames room full (drop room octets)
 
 -- how many data TPDUs come before the last, where each has room for so many octets
 abbrev pub full_before : ℕ → List ℕ → ℕ
@@ -30,5 +31,8 @@ AreWithin size (frame ∷ frames) = (length frame ≤ size + 4) × AreWithin siz
 -- has no unfinished group.
 pub record Carries (size : ℕ) (tsdu octets : List ℕ) : Type 0 where
   pub does : (number : ℕ) → run number (Going (record { size = Some size; group = [] }) []) octets
-      ≡ record { doings = Delivers tsdu ∷ []; left = Going (record { size = Some size; group = [] }) [] }
+      ≡ record {
+        doings = Delivers tsdu ∷ [];
+        left = Going (record { size = Some size; group = [] }) [];
+      }
   pub within : AreWithin size (cut octets).frames

@@ -2,8 +2,8 @@
 ghost use Rattle.std.specs.Prelude.{◌≡◌, ◌+◌, ◌-◌, ◌<◌, ◌≤◌, Ok, Err, [], ◌∷◌, length, take, drop, ◌++◌, IfOk, IfErr, OnOk, IfSome, is_some};
 ghost use Rattle.bay_transport.specs.Frame.{wanted};
 ghost use Rattle.bay_transport.specs.Connect as spec;
-ghost use Rattle.bay_transport.specs.Doings.{Fails, Refuses, event_of, data_event, connected, alone, run};
-ghost use Rattle.bay_transport.specs.Assembly.{link_of, rest_of, left_of, body_of, IsSound, HoldsFrame, HasNoRoom, run_for, FailsWhere, Takes, Reaches};
+ghost use Rattle.bay_transport.specs.Doings.{Fails, Refuses, effect_of, data_effect, connected, alone, run};
+ghost use Rattle.bay_transport.specs.Assembly.{connection_of, rest_of, left_of, body_of, IsSound, HoldsFrame, HasNoRoom, run_for, FailsWhere, Takes, Reaches};
 
 use crate::fault::TransportFault;
 use crate::fed::Got;
@@ -79,8 +79,14 @@ impl Assembly {
         requires { HoldsFrame self.old }
         ensures sound { OnOk result (IsSound self.new) }
         ensures number { self.new.number ≡ self.old.number }
-        ensures ok { IfOk result (λ kind. alone (connected (spec.connect self.old.number (is_some self.old.size) indicator (body_of self.old))) (link_of self.old) ≡ run_for kind self.new) }
-        ensures err { IfErr result (λ fault. FailsWhere fault (spec.connect self.old.number (is_some self.old.size) indicator (body_of self.old) ≡ Err fault)) }
+        ensures ok { IfOk result
+            (λ kind. alone (connected
+            (spec.connect self.old.number (is_some self.old.size) indicator (body_of self.old)))
+            (connection_of self.old) ≡ run_for kind self.new) }
+        ensures err { IfErr result
+            (λ fault. FailsWhere fault
+            (spec.connect self.old.number (is_some self.old.size) indicator (body_of self.old)
+            ≡ Err fault)) }
     {
         let body = &self.buffer[self.group + 6..];
         let size = answer(
@@ -100,8 +106,12 @@ impl Assembly {
         requires { HoldsFrame self.old }
         ensures sound { OnOk result (IsSound self.new) }
         ensures number { self.new.number ≡ self.old.number }
-        ensures ok { IfOk result (λ kind. alone (data_event (link_of self.old) indicator (body_of self.old)) (link_of self.old) ≡ run_for kind self.new) }
-        ensures err { IfErr result (λ fault. FailsWhere fault (data_event (link_of self.old) indicator (body_of self.old) ≡ Refuses fault)) }
+        ensures ok { IfOk result
+            (λ kind. alone (data_effect (connection_of self.old) indicator (body_of self.old))
+            (connection_of self.old) ≡ run_for kind self.new) }
+        ensures err { IfErr result
+            (λ fault. FailsWhere fault
+            (data_effect (connection_of self.old) indicator (body_of self.old) ≡ Refuses fault)) }
     {
         if indicator != 2 || self.size.is_none() {
             return Err(TransportFault::BadCotp);
@@ -126,8 +136,13 @@ impl Assembly {
         requires { HoldsFrame self.old }
         ensures sound { OnOk result (IsSound self.new) }
         ensures number { self.new.number ≡ self.old.number }
-        ensures ok { IfOk result (λ kind. alone (event_of self.old.number (link_of self.old) (rest_of self.old)) (link_of self.old) ≡ run_for kind self.new) }
-        ensures err { IfErr result (λ fault. FailsWhere fault (event_of self.old.number (link_of self.old) (rest_of self.old) ≡ Refuses fault)) }
+        ensures ok { IfOk result
+            (λ kind. alone (effect_of self.old.number (connection_of self.old) (rest_of self.old))
+            (connection_of self.old) ≡ run_for kind self.new) }
+        ensures err { IfErr result
+            (λ fault. FailsWhere fault
+            (effect_of self.old.number (connection_of self.old) (rest_of self.old)
+            ≡ Refuses fault)) }
     {
         let indicator = self.buffer[self.group + 4];
         match tpdu_of(self.buffer[self.group + 5]) {
@@ -147,8 +162,9 @@ impl Assembly {
         ensures within { IfOk result (λ taken. taken ≤ length piece.now) }
         ensures moves { IfOk result (λ taken. 0 < length piece.now → 0 < taken) }
         ensures few { IfOk result (λ taken. taken ≤ wanted (rest_of self.old)) }
-        ensures rest { IfOk result (λ taken. rest_of self.new ≡ rest_of self.old ++ take taken piece.now) }
-        ensures link { link_of self.new ≡ link_of self.old }
+        ensures rest { IfOk result
+            (λ taken. rest_of self.new ≡ rest_of self.old ++ take taken piece.now) }
+        ensures connection { connection_of self.new ≡ connection_of self.old }
         ensures number { self.new.number ≡ self.old.number }
         ensures group { self.new.group ≡ self.old.group }
         ensures bounds { self.new.group ≤ length self.new.buffer.items }
@@ -165,7 +181,9 @@ impl Assembly {
         ensures sound { OnOk result (IsSound self.new) }
         ensures number { self.new.number ≡ self.old.number }
         ensures ok { IfOk result (λ taken. Takes self.old piece.now taken.0 taken.1 self.new) }
-        ensures err { IfErr result (λ fault. FailsWhere fault ((run self.old.number (left_of self.old) piece.now).doings ≡ Fails fault ∷ [])) }
+        ensures err { IfErr result
+            (λ fault. FailsWhere fault
+            ((run self.old.number (left_of self.old) piece.now).doings ≡ Fails fault ∷ [])) }
     {
         let taken = self.extend(piece)?;
         match front_of(&self.buffer[self.group..]) {
@@ -185,7 +203,9 @@ impl Assembly {
         ensures sound { OnOk result (IsSound self.new) }
         ensures number { self.new.number ≡ self.old.number }
         ensures ok { IfOk result (λ taken. Reaches self.old piece.now taken.0 taken.1 self.new) }
-        ensures err { IfErr result (λ fault. FailsWhere fault ((run self.old.number (left_of self.old) piece.now).doings ≡ Fails fault ∷ [])) }
+        ensures err { IfErr result
+            (λ fault. FailsWhere fault
+            ((run self.old.number (left_of self.old) piece.now).doings ≡ Fails fault ∷ [])) }
     {
         let mut used = 0;
         while used < piece.len() {

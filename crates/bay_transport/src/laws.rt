@@ -3,44 +3,54 @@ ghost use Rattle.std.specs.Prelude.{◌≡◌, ◌++◌, ◌∷◌, [], ◌↔�
 ghost use Rattle.bay_transport.specs.Frame.{Cut, IsCut, cut};
 ghost use Rattle.bay_transport.specs.Connect.{Parameter, spelled, parameters_of};
 ghost use Rattle.bay_transport.specs.Doings.{Doing, Delivers, Left, Stream, run, and_then, doings, after};
-ghost use Rattle.bay_transport.specs.Feeding.{Completes, GoesOn, IsGoing, agreed, size_after};
+ghost use Rattle.bay_transport.specs.Feeding.{CompletesDoing, GoesOn, IsGoing, agreed, size_after};
 
 /// A list of octets is whole frames followed by a rest that begins with no whole frame, in one way
 /// (RFC 1006 6).
 pub fn one_cutting()
     ensures cut { (octets : List ℕ) → IsCut octets (cut octets) }
-    ensures only { (octets : List ℕ) (first second : Cut) → IsCut octets first → IsCut octets second → first ≡ second }
+    ensures only { (octets : List ℕ) (first second : Cut) → IsCut octets first → IsCut octets second
+        → first ≡ second }
 {}
 
 /// What octets come to does not hang on how they are cut into pieces: the doings of a list and a
 /// piece are the list's, and then the piece's from what the list leaves.
 pub fn any_cutting()
-    ensures run { (number : ℕ) (left : Left) (octets piece : List ℕ) → run number left (octets ++ piece) ≡ and_then number (run number left octets) piece }
-    ensures doings { (s : Stream) (octets piece : List ℕ) → doings s (octets ++ piece) ≡ doings s octets ++ doings (after s octets) piece }
-    ensures after { (s : Stream) (octets piece : List ℕ) → after s (octets ++ piece) ≡ after (after s octets) piece }
+    ensures run { (number : ℕ) (left : Left) (octets piece : List ℕ)
+        → run number left (octets ++ piece) ≡ and_then number (run number left octets) piece }
+    ensures doings { (s : Stream) (octets piece : List ℕ)
+        → doings s (octets ++ piece) ≡ doings s octets ++ doings (after s octets) piece }
+    ensures after { (s : Stream) (octets piece : List ℕ)
+        → after s (octets ++ piece) ≡ after (after s octets) piece }
 {}
 
 /// The octets of a piece that a feeding did not take do the rest of the piece's doings, from what
 /// is left then.
 pub fn feeding_goes_on()
-    ensures doings { (old new : Stream) (piece : List ℕ) (used : ℕ) (doing : Doing) → new ≡ after old (take used piece)
-        → Completes old piece used doing → GoesOn old new piece used doing }
-    ensures after { (old new : Stream) (piece : List ℕ) (used : ℕ) → new ≡ after old (take used piece) → after old piece ≡ after new (drop used piece) }
+    ensures doings { (old new : Stream) (piece : List ℕ) (used : ℕ) (doing : Doing)
+        → new ≡ after old (take used piece)
+        → CompletesDoing old piece used doing → GoesOn old new piece used doing }
+    ensures after { (old new : Stream) (piece : List ℕ) (used : ℕ)
+        → new ≡ after old (take used piece) → after old piece ≡ after new (drop used piece) }
 {}
 
 /// The size of a TPDU is agreed by an answer and stays until the connection ends or fails, and a
 /// TSDU comes only where one is agreed.
 pub fn one_size()
-    ensures after { (s : Stream) (octets : List ℕ) → agreed (after s octets) ≡ size_after (agreed s) (doings s octets) }
-    ensures delivers { (s : Stream) (octets tsdu : List ℕ) (later : List Doing) → doings s octets ≡ Delivers tsdu ∷ later → IsSome (agreed s) }
+    ensures after { (s : Stream) (octets : List ℕ)
+        → agreed (after s octets) ≡ size_after (agreed s) (doings s octets) }
+    ensures delivers { (s : Stream) (octets tsdu : List ℕ) (later : List Doing)
+        → doings s octets ≡ Delivers tsdu ∷ later → IsSome (agreed s) }
 {}
 
 /// Octets that come to nothing leave a stream that goes on.
 pub fn quiet_goes_on()
-    ensures { (s : Stream) (octets : List ℕ) → IsGoing s.left → doings s octets ≡ [] → IsGoing (after s octets).left }
+    ensures { (s : Stream) (octets : List ℕ) → IsGoing s.left → doings s octets ≡ []
+        → IsGoing (after s octets).left }
 {}
 
 /// Octets are parameters in one way: just those that spell them (X.224 13.2.3).
 pub fn one_reading()
-    ensures { (octets : List ℕ) (ps : List Parameter) → (parameters_of octets ≡ Some ps) ↔ (octets ≡ spelled ps) }
+    ensures { (octets : List ℕ) (ps : List Parameter) → (parameters_of octets ≡ Some ps)
+        ↔ (octets ≡ spelled ps) }
 {}

@@ -31,7 +31,8 @@ impl Reader {
     /// A reader to which nothing has come.
     pub(crate) fn new(alloc: Global, number: u16) -> Reader
         ensures kept { IsKept result }
-        ensures received { received_of result ≡ record { stream = record { number = number; left = start }; shown = [] } }
+        ensures received { received_of result
+            ≡ record { stream = record { number = number; left = start }; shown = [] } }
     {
         Reader {
             state: ReaderState::Open,
@@ -53,7 +54,8 @@ impl Reader {
     /// Takes no more octets, as after an end.
     pub(crate) fn end(&mut self)
         ensures kept { IsKept self.new }
-        ensures ended { received_of self.new ≡ record { stream = ended (stream_of self.old); shown = [] } }
+        ensures ended { received_of self.new
+            ≡ record { stream = ended (stream_of self.old); shown = [] } }
     {
         self.stop(ReaderState::Closed);
     }
@@ -65,9 +67,13 @@ impl Reader {
         ensures kept { IsKept self.new }
         ensures limits { IsWithinLimits (received_of self.new) }
         ensures within { IfOk result (λ fed. fed.used ≤ length piece.now) }
-        ensures after { IfOk result (λ fed. stream_of self.new ≡ after (stream_of self.old) (take fed.used piece.now)) }
-        ensures fed { IfOk result (λ fed. Feeds (stream_of self.old) piece.now fed.used (doing_for fed.got (received_of self.new))) }
-        ensures refused { IfErr result (λ fault. RefusesPiece (stream_of self.old) piece.now fault) }
+        ensures after { IfOk result
+            (λ fed. stream_of self.new ≡ after (stream_of self.old) (take fed.used piece.now)) }
+        ensures fed { IfOk result
+            (λ fed. Feeds (stream_of self.old) piece.now fed.used
+            (doing_for fed.got (received_of self.new))) }
+        ensures refused { IfErr result
+            (λ fault. RefusesPiece (stream_of self.old) piece.now fault) }
         ensures broken { OnErr result (stream_of self.new ≡ broken (stream_of self.old)) }
     {
         match self.state {

@@ -20,7 +20,7 @@ const CALLED: u8 = 0xC2;
 
 // The values of the parameters that are looked at, of each code the last one's, where it came.
 #[derive(Clone, Copy)]
-struct Values<'a> {
+struct ParameterValues<'a> {
     size: Option<&'a [u8]>,
     called: Option<&'a [u8]>,
     calling: Option<&'a [u8]>,
@@ -33,17 +33,19 @@ fn found_then<'a>(
     value: &'a [u8],
     found: Option<&'a [u8]>,
 ) -> Option<&'a [u8]>
-    ensures { option_copied result ≡ spec_found.found_then wanted code value.now (option_copied found.entry) }
+    ensures { option_copied result
+        ≡ spec_found.found_then wanted code value.now (option_copied found.entry) }
 {
     if code == wanted { Some(value) } else { found }
 }
 
 // The values that the parameters in these octets have; BadCotp where the octets are no parameters.
-fn values_of(octets: &[u8]) -> Result<Values<'_>, TransportFault>
+fn values_of(octets: &[u8]) -> Result<ParameterValues<'_>, TransportFault>
     ensures ok { IfOk result (λ values. HaveValues octets.now values) }
-    ensures err { IfErr result (λ fault. (fault ≡ TransportFault.BadCotp) × (parameters_of octets.now ≡ None)) }
+    ensures err { IfErr result
+        (λ fault. (fault ≡ TransportFault.BadCotp) × (parameters_of octets.now ≡ None)) }
 {
-    let mut values = Values {
+    let mut values = ParameterValues {
         size: None,
         called: None,
         calling: None,
@@ -59,7 +61,7 @@ fn values_of(octets: &[u8]) -> Result<Values<'_>, TransportFault>
         }
         let code = octets[at];
         let value = &octets[at + 2..at + 2 + count];
-        values = Values {
+        values = ParameterValues {
             size: found_then(SIZE, code, value, values.size),
             called: found_then(CALLED, code, value, values.called),
             calling: found_then(CALLING, code, value, values.calling),
@@ -73,7 +75,9 @@ fn values_of(octets: &[u8]) -> Result<Values<'_>, TransportFault>
 fn size_of(value: Option<&[u8]>) -> Result<(Option<u8>, usize), TransportFault>
     ensures ok { IfOk result (λ size. spec.size_of (option_copied value.entry) ≡ Some size) }
     ensures size { IfOk result (λ size. IsSize size.1) }
-    ensures err { IfErr result (λ fault. (fault ≡ TransportFault.BadCotp) × (spec.size_of (option_copied value.entry) ≡ None)) }
+    ensures err { IfErr result
+        (λ fault. (fault ≡ TransportFault.BadCotp)
+        × (spec.size_of (option_copied value.entry) ≡ None)) }
 {
     match value {
         None => Ok((None, 65_531)),
@@ -98,7 +102,8 @@ fn length_of(value: Option<&[u8]>) -> usize
 // Appends a parameter, where it is there.
 fn append(out: &mut Vec<u8>, code: u8, value: Option<&[u8]>) -> Result<(), AllocError>
     requires { IfSome value (λ octets. length octets.now < 256) }
-    ensures { OnOk result (out.new.items ≡ out.old.items ++ where_there code (option_copied value.entry)) }
+    ensures { OnOk result (out.new.items
+        ≡ out.old.items ++ where_there code (option_copied value.entry)) }
 {
     if let Some(octets) = value {
         out.push(code)?;
@@ -127,7 +132,8 @@ fn begin(
     parameters: usize,
 ) -> Result<(), AllocError>
     requires { parameters ≤ 249 }
-    ensures { OnOk result (reply.new.items ≡ spec.frame_header (parameters + 7) ++ confirm_front number high low parameters) }
+    ensures { OnOk result (reply.new.items
+        ≡ spec.frame_header (parameters + 7) ++ confirm_front number high low parameters) }
 {
     let [number_high, number_low] = number.to_be_bytes();
     reply.clear();
@@ -146,7 +152,7 @@ fn begin(
 
 // What a request asks for.
 #[derive(Clone, Copy)]
-struct Request<'a> {
+struct ConnectRequest<'a> {
     // The reference of the one who asks, high octet and low octet.
     high: u8,
     low: u8,
@@ -157,9 +163,11 @@ struct Request<'a> {
 }
 
 // Writes the confirmation.
-fn confirm(reply: &mut Vec<u8>, number: u16, request: Request<'_>) -> Result<(), AllocError>
+fn confirm(reply: &mut Vec<u8>, number: u16, request: ConnectRequest<'_>) -> Result<(), AllocError>
     requires { length (answered_to request) ≤ 249 }
-    ensures reply { OnOk result (reply.new.items ≡ spec.confirm number request.entry.high request.entry.low (answered_to request.entry)) }
+    ensures reply { OnOk result
+        (reply.new.items ≡ spec.confirm number request.entry.high request.entry.low
+        (answered_to request.entry)) }
     ensures short { OnOk result (length reply.new.items ≤ 260) }
 {
     let size = if request.power.is_some() { 3 } else { 0 };
@@ -180,14 +188,18 @@ fn respond(
     parameters: &[u8],
 ) -> Result<usize, TransportFault>
     requires { length parameters.now ≤ 249 }
-    ensures ok { IfOk result (λ size. with_parameters number high low (parameters_of parameters.now) ≡ Ok (record { size = size; reply = reply.new.items })) }
+    ensures ok { IfOk result
+        (λ size. with_parameters number high low (parameters_of parameters.now)
+        ≡ Ok (record { size = size; reply = reply.new.items })) }
     ensures size { IfOk result IsSize }
     ensures short { OnOk result (length reply.new.items ≤ 260) }
-    ensures err { IfErr result (λ fault. FailsWhere fault (with_parameters number high low (parameters_of parameters.now) ≡ Err fault)) }
+    ensures err { IfErr result
+        (λ fault. FailsWhere fault
+        (with_parameters number high low (parameters_of parameters.now) ≡ Err fault)) }
 {
     let values = values_of(parameters)?;
     let (power, size) = size_of(values.size)?;
-    let request = Request {
+    let request = ConnectRequest {
         high,
         low,
         power,
@@ -208,10 +220,13 @@ pub(crate) fn answer(
     indicator: u8,
     body: &[u8],
 ) -> Result<usize, TransportFault>
-    ensures ok { IfOk result (λ size. connect number again indicator body.now ≡ Ok (record { size = size; reply = reply.new.items })) }
+    ensures ok { IfOk result
+        (λ size. connect number again indicator body.now
+        ≡ Ok (record { size = size; reply = reply.new.items })) }
     ensures size { IfOk result IsSize }
     ensures short { OnOk result (length reply.new.items ≤ 260) }
-    ensures err { IfErr result (λ fault. FailsWhere fault (connect number again indicator body.now ≡ Err fault)) }
+    ensures err { IfErr result
+        (λ fault. FailsWhere fault (connect number again indicator body.now ≡ Err fault)) }
 {
     match body {
         [_, _, high, low, class, parameters @ ..] => {

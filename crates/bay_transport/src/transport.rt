@@ -32,7 +32,10 @@ impl Transport {
     /// A connection before its first octet. The number is sent as the reference of this side (X.224
     /// 13.4).
     pub fn new(alloc: Global, number: u16) -> Transport
-        ensures { result ≡ record { stream = record { number = number; left = start }; shown = [] } }
+        ensures { result ≡ record {
+          stream = record { number = number; left = start };
+          shown = [];
+        } }
     {
         Transport {
             reader: Reader::new(alloc, number),
@@ -53,10 +56,12 @@ impl Transport {
         ensures within { IfOk result (λ fed. fed.used ≤ length piece.now) }
         // What is answered is the first doing of the piece, and a refusal is the fault that the
         // octets show.
-        ensures fed { IfOk result (λ fed. Feeds self.old.stream piece.now fed.used (doing_for fed.got self.new)) }
+        ensures fed { IfOk result
+            (λ fed. Feeds self.old.stream piece.now fed.used (doing_for fed.got self.new)) }
         ensures refused { IfErr result (λ fault. RefusesPiece self.old.stream piece.now fault) }
         // What is left is what the octets that were taken leave, or a stream that failed.
-        ensures after { IfOk result (λ fed. self.new.stream ≡ after self.old.stream (take fed.used piece.now)) }
+        ensures after { IfOk result
+            (λ fed. self.new.stream ≡ after self.old.stream (take fed.used piece.now)) }
         ensures broken { OnErr result (self.new.stream ≡ broken self.old.stream) }
         ensures limits { IsWithinLimits self.new }
     {
@@ -101,8 +106,12 @@ impl Transport {
         requires agreed { IsSome (agreed self.now.stream) }
         requires front { length front.now ≤ 125 }
         requires short { length front.now + length rest.now ≤ 70_000 }
-        ensures exact { IfOk result (λ octets. IfSome (agreed self.now.stream) (λ size. octets.items ≡ wrapped size (front.now ++ rest.now))) }
-        ensures carries { IfOk result (λ octets. IfSome (agreed self.now.stream) (λ size. Carries size (front.now ++ rest.now) octets.items)) }
+        ensures exact { IfOk result
+            (λ octets. IfSome (agreed self.now.stream)
+            (λ size. octets.items ≡ wrapped size (front.now ++ rest.now))) }
+        ensures carries { IfOk result
+            (λ octets. IfSome (agreed self.now.stream)
+            (λ size. Carries size (front.now ++ rest.now) octets.items)) }
     {
         match self.agreed_size() {
             Some(size) => wrap(self.reader.assembly.alloc, size, front, rest),

@@ -12,7 +12,8 @@ const BEFORE_DATA: usize = 7;
 // Appends one data TPDU in its frame, whose data are the front and then the rest.
 fn append(out: &mut Vec<u8>, is_last: bool, front: &[u8], rest: &[u8]) -> Result<(), AllocError>
     requires { length front.now + length rest.now ≤ 65_528 }
-    ensures { OnOk result (out.new.items ≡ out.old.items ++ data_frame is_last (front.now ++ rest.now)) }
+    ensures { OnOk result (out.new.items
+        ≡ out.old.items ++ data_frame is_last (front.now ++ rest.now)) }
 {
     let mark = if is_last { 0x80 } else { 0x00 };
     let [version, reserved, high, low] = frame_header(front.len() + rest.len() + 3);

@@ -14,31 +14,45 @@ use Rattle.bay_tree.specs.Rows.{name_at, names_of, place_of, IsHandle, IsTree}
 use Rattle.bay_tree.proofs.NamedLemmas.{AreApart, other_text}
 
 -- the place found is a row's, and that row has the name
-pub place_of-found : (rows : List Row) (name : List ℕ) (place : ℕ) → place_of rows name ≡ Some place → IsHandle rows place × (name_at rows place ≡ name)
+pub place_of-found : (rows : List Row) (name : List ℕ) (place : ℕ) → place_of rows name ≡ Some place
+    → IsHandle rows place × (name_at rows place ≡ name)
 place_of-found rows name place h =
-    let found = position-Some (λ (row : Row). bytes_eq row.name name) rows place (record { name = []; leaf = None }) h in
+    let found =
+    position-Some (λ (row : Row). bytes_eq row.name name) rows place
+    (record { name = []; leaf = None }) h in
     (found.0, (bytes_eq-Decides (name_at rows place) name).0 found.1)
 
-none_either : (test : Row → Bool) (row : Row) (rows : List Row) (start : ℕ) (here : Bool) → test row ≡ here → cond here (Some start) (position_from test (start + 1) rows) ≡ None → (position_from test (start + 1) rows ≡ None → (k : ℕ) (d : Row) → k < length rows → test (get_or rows k d) ≡ false) → (k : ℕ) (d : Row) → k < length (row ∷ rows) → test (get_or (row ∷ rows) k d) ≡ false
+none_either : (test : Row → Bool) (row : Row) (rows : List Row) (start : ℕ) (here : Bool)
+    → test row ≡ here → cond here (Some start) (position_from test (start + 1) rows) ≡ None
+    → (position_from test (start + 1) rows ≡ None → (k : ℕ) (d : Row) → k < length rows
+    → test (get_or rows k d) ≡ false) → (k : ℕ) (d : Row) → k < length (row ∷ rows)
+    → test (get_or (row ∷ rows) k d) ≡ false
 none_either test row rows start true is none later k d lt = absurd cc
 none_either test row rows start false is none later zero d lt = is
 none_either test row rows start false is none later (suc k) d lt = later none k d (omega arith)
 
 -- a search that finds nothing has missed no row
-position_from-none : (test : Row → Bool) (rows : List Row) (start : ℕ) → position_from test start rows ≡ None → (k : ℕ) (d : Row) → k < length rows → test (get_or rows k d) ≡ false
+position_from-none : (test : Row → Bool) (rows : List Row) (start : ℕ)
+    → position_from test start rows ≡ None → (k : ℕ) (d : Row) → k < length rows
+    → test (get_or rows k d) ≡ false
 position_from-none test [] start none k d lt = absurd (omega arith)
 position_from-none test (row ∷ rows) start none k d lt =
-    none_either test row rows start (test row) refl none (position_from-none test rows (start + 1)) k d lt
+    none_either test row rows start (test row) refl none (position_from-none test rows (start + 1))
+    k d lt
 
 -- where no place is found, no row has the name
-pub place_of-none : (rows : List Row) (name : List ℕ) → place_of rows name ≡ None → All (λ (row : Row). row.name ≢ name) rows
+pub place_of-none : (rows : List Row) (name : List ℕ) → place_of rows name ≡ None
+    → All (λ (row : Row). row.name ≢ name) rows
 place_of-none rows name none = λ k d lt same.
-    let missed = position_from-none (λ (row : Row). bytes_eq row.name name) rows 0 (sym (position_from-zero (λ (row : Row). bytes_eq row.name name) rows) ∙ none) k d lt in
+    let missed =
+    position_from-none (λ (row : Row). bytes_eq row.name name) rows 0
+    (sym (position_from-zero (λ (row : Row). bytes_eq row.name name) rows) ∙ none) k d lt in
     let passes = (bytes_eq-Decides (get_or rows k d).name name).1 same in
     cc
 
 -- where a place is found, some row has the name
-pub place_of-some : (rows : List Row) (name : List ℕ) (place : ℕ) → place_of rows name ≡ Some place → All (λ (row : Row). row.name ≢ name) rows → ⊥
+pub place_of-some : (rows : List Row) (name : List ℕ) (place : ℕ) → place_of rows name ≡ Some place
+    → All (λ (row : Row). row.name ≢ name) rows → ⊥
 place_of-some rows name place h lacking =
     let found = place_of-found rows name place h in
     lacking place (record { name = []; leaf = None }) found.0 found.1
@@ -47,65 +61,89 @@ start_with : (place : Option ℕ) → option_map (λ p. p + 1) place ≡ None �
 start_with None h = refl
 start_with (Some p) h = absurd cc
 
-started_with : (place : Option ℕ) (start : ℕ) → option_map (λ p. p + 1) place ≡ Some start → (p : ℕ) × (place ≡ Some p)
+started_with : (place : Option ℕ) (start : ℕ) → option_map (λ p. p + 1) place ≡ Some start
+    → (p : ℕ) × (place ≡ Some p)
 started_with None start h = absurd cc
 started_with (Some p) start h = (p, refl)
 
-pub start_after-none : (rows : List Row) (name : Option (List ℕ)) → start_after rows name ≡ None → IsUnknown rows name
+pub start_after-none : (rows : List Row) (name : Option (List ℕ)) → start_after rows name ≡ None
+    → IsUnknown rows name
 start_after-none rows None h = cc
 start_after-none rows (Some name) h = place_of-none rows name (start_with (place_of rows name) h)
 
-pub start_after-some : (rows : List Row) (name : Option (List ℕ)) (start : ℕ) → start_after rows name ≡ Some start → IsUnknown rows name → ⊥
+pub start_after-some : (rows : List Row) (name : Option (List ℕ)) (start : ℕ)
+    → start_after rows name ≡ Some start → IsUnknown rows name → ⊥
 start_after-some rows None start h unknown = unknown
 start_after-some rows (Some name) start h unknown =
     let found = started_with (place_of rows name) start h in
     place_of-some rows name found.0 found.1 unknown
 
-no_text : (rows : List Row) (name : List ℕ) (place : Option ℕ) → AreTexts rows → ¬ IsUtf8 name → place_of rows name ≡ place → place ≡ None
+no_text : (rows : List Row) (name : List ℕ) (place : Option ℕ) → AreTexts rows → ¬ IsUtf8 name
+    → place_of rows name ≡ place → place ≡ None
 no_text rows name None texts bad is = refl
 no_text rows name (Some place) texts bad is =
     let found = place_of-found rows name place is in
     absurd (bad (subst IsUtf8 found.1 (texts place found.0)))
 
 -- what is no text names no row
-pub place_of-no_text : (rows : List Row) (name : List ℕ) → AreTexts rows → ¬ IsUtf8 name → place_of rows name ≡ None
+pub place_of-no_text : (rows : List Row) (name : List ℕ) → AreTexts rows → ¬ IsUtf8 name
+    → place_of rows name ≡ None
 place_of-no_text rows name texts bad = no_text rows name (place_of rows name) texts bad refl
 
 -- a look-up that is refused has found no row
-pub not_found : (rows : List Row) (name : List ℕ) (fault other : TreeFault) (place : Option ℕ) → place_of rows name ≡ place → Err fault ≡ ok_or place other → place_of rows name ≡ None
+pub not_found : (rows : List Row) (name : List ℕ) (fault other : TreeFault) (place : Option ℕ)
+    → place_of rows name ≡ place → Err fault ≡ ok_or place other → place_of rows name ≡ None
 not_found rows name fault other None is h = is
 not_found rows name fault other (Some place) is h = absurd cc
 
 -- A row that stands in a tree is the first of its name: a search that counts from `start` ends
 -- there.
-own-place : (rows : List Row) (place start : ℕ) (name : List ℕ) → AreApart rows → place < length rows → name_at rows place ≡ name → position_from (λ (r : Row). bytes_eq r.name name) start rows ≡ Some (start + place)
+own-place : (rows : List Row) (place start : ℕ) (name : List ℕ) → AreApart rows
+    → place < length rows → name_at rows place ≡ name
+    → position_from (λ (r : Row). bytes_eq r.name name) start rows ≡ Some (start + place)
 own-place [] place start name apart within named = absurd (omega arith)
 own-place (r ∷ rows) zero start name apart within named =
     let none : start ≡ start + 0 = omega arith in
-    ap (λ b. cond b (Some start) (position_from (λ (r : Row). bytes_eq r.name name) (start + 1) rows)) ((bytes_eq-Decides r.name name).1 named) ∙ ap Some none
+    ap (λ b. cond b (Some start)
+    (position_from (λ (r : Row). bytes_eq r.name name) (start + 1) rows))
+    ((bytes_eq-Decides r.name name).1 named) ∙ ap Some none
 own-place (r ∷ rows) (suc place) start name apart within named =
-    let other : bytes_eq r.name name ≡ false = other_text r.name name (λ same. apart zero (suc place) (omega arith) within (same ∙ sym named)) in
+    let other : bytes_eq r.name name ≡ false =
+    other_text r.name name (λ same. apart zero (suc place) (omega arith) within
+    (same ∙ sym named)) in
     let more : start + 1 + place ≡ start + suc place = omega arith in
-    ap (λ b. cond b (Some start) (position_from (λ (r : Row). bytes_eq r.name name) (start + 1) rows)) other
-    ∙ own-place rows place (start + 1) name (λ i j lt in_rows. apart (suc i) (suc j) (omega arith) (omega arith)) (omega arith) named
+    ap (λ b. cond b (Some start)
+    (position_from (λ (r : Row). bytes_eq r.name name) (start + 1) rows)) other
+    ∙ own-place rows place (start + 1) name
+    (λ i j lt in_rows. apart (suc i) (suc j) (omega arith) (omega arith)) (omega arith) named
     ∙ ap Some more
 
-pub place_of-named : (rows : List Row) (place : ℕ) (name : List ℕ) → IsTree rows → IsHandle rows place → name_at rows place ≡ name → place_of rows name ≡ Some place
+pub place_of-named : (rows : List Row) (place : ℕ) (name : List ℕ) → IsTree rows
+    → IsHandle rows place → name_at rows place ≡ name → place_of rows name ≡ Some place
 place_of-named rows place name tree within named =
     let zero_more : 0 + place ≡ place = omega arith in
-    position_from-zero (λ (r : Row). bytes_eq r.name name) rows ∙ own-place rows place 0 name tree.distinct within named ∙ ap Some zero_more
+    position_from-zero (λ (r : Row). bytes_eq r.name name) rows
+    ∙ own-place rows place 0 name tree.distinct within named ∙ ap Some zero_more
 
 -- where a name is follows from the names
-place-by_names : (before after : List Row) (start : ℕ) (name : List ℕ) → names_of before ≡ names_of after → position_from (λ (r : Row). bytes_eq r.name name) start before ≡ position_from (λ (r : Row). bytes_eq r.name name) start after
+place-by_names : (before after : List Row) (start : ℕ) (name : List ℕ)
+    → names_of before ≡ names_of after
+    → position_from (λ (r : Row). bytes_eq r.name name) start before
+    ≡ position_from (λ (r : Row). bytes_eq r.name name) start after
 place-by_names [] [] start name same = refl
 place-by_names [] (a ∷ after) start name same = absurd cc
 place-by_names (b ∷ before) [] start name same = absurd cc
 place-by_names (b ∷ before) (a ∷ after) start name same =
     let head : b.name ≡ a.name = cc in
     let rest : names_of before ≡ names_of after = cc in
-    ap (λ n. cond (bytes_eq n name) (Some start) (position_from (λ (r : Row). bytes_eq r.name name) (start + 1) before)) head
-    ∙ ap (λ o. cond (bytes_eq a.name name) (Some start) o) (place-by_names before after (start + 1) name rest)
+    ap (λ n. cond (bytes_eq n name) (Some start)
+    (position_from (λ (r : Row). bytes_eq r.name name) (start + 1) before)) head
+    ∙ ap (λ o. cond (bytes_eq a.name name) (Some start) o)
+    (place-by_names before after (start + 1) name rest)
 
-pub place_of-stays : (before after : List Row) (name : List ℕ) → names_of before ≡ names_of after → place_of before name ≡ place_of after name
+pub place_of-stays : (before after : List Row) (name : List ℕ) → names_of before ≡ names_of after
+    → place_of before name ≡ place_of after name
 place_of-stays before after name same =
-    position_from-zero (λ (r : Row). bytes_eq r.name name) before ∙ place-by_names before after 0 name same ∙ sym (position_from-zero (λ (r : Row). bytes_eq r.name name) after)
+    position_from-zero (λ (r : Row). bytes_eq r.name name) before
+    ∙ place-by_names before after 0 name same
+    ∙ sym (position_from-zero (λ (r : Row). bytes_eq r.name name) after)

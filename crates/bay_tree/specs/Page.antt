@@ -13,7 +13,11 @@ rows_after rows (Some name) = after_first (λ row. bytes_eq row.name name) rows
 
 -- the first names that follow, and whether there are more
 abbrev pub page_after : List Row → Option (List ℕ) → ℕ → Names
-page_after rows name count = record { names = names_of (take count (rows_after rows name)); more = nat_lt count (length (rows_after rows name)) }
+page_after rows name count =
+    record {
+      names = names_of (take count (rows_after rows name));
+      more = nat_lt count (length (rows_after rows name));
+    }
 
 -- a name is given, and no row has it
 abbrev pub IsUnknown : List Row → Option (List ℕ) → Type 0

@@ -5,17 +5,19 @@ use Rattle.std.specs.List.{position_from}
 use Rattle.std.specs.Str.{bytes_eq}
 use Rattle.bay_tree.specs.declared.row.Row.{Row}
 use Rattle.bay_tree.specs.declared.leaf.Leaf.{Leaf}
-use Rattle.bay_tree.specs.declared.leaf.Kind.{Kind}
-use Rattle.bay_tree.specs.Kinds.{kind_of}
+use Rattle.bay_tree.specs.declared.leaf.LeafType.{LeafType}
+use Rattle.bay_tree.specs.LeafTypes.{leaf_type_of}
 use Rattle.bay_tree.specs.Names.{parent_of, is_below}
 
 -- the row at a place; past the last place a structure without a name
 abbrev pub row_at : List Row → ℕ → Row
 row_at rows place = slice_index_or rows place (record { name = []; leaf = None })
 
+-- the name of the row at a place; empty where there is no row
 abbrev pub name_at : List Row → ℕ → List ℕ
 name_at rows place = (row_at rows place).name
 
+-- the value of the row at a place; a structure has none
 abbrev pub leaf_at : List Row → ℕ → Option Leaf
 leaf_at rows place = (row_at rows place).leaf
 
@@ -27,7 +29,9 @@ pub record IsStructureNamed (name : List ℕ) (row : Row) : Type 0 where
 -- names are distinct, and each name's parent is a structure before it
 pub record IsTree (rows : List Row) : Type 0 where
   pub distinct : (i j : ℕ) → i < j → j < length rows → name_at rows i ≢ name_at rows j
-  pub parents : (k : ℕ) → k < length rows → IfSome (parent_of (name_at rows k)) (λ parent. (j : ℕ) × (j < k) × IsStructureNamed parent (row_at rows j))
+  pub parents : (k : ℕ) → k < length rows
+      → IfSome (parent_of (name_at rows k))
+      (λ parent. (j : ℕ) × (j < k) × IsStructureNamed parent (row_at rows j))
 
 -- a handle is a row's place
 abbrev pub IsHandle : List Row → ℕ → Type 0
@@ -43,15 +47,19 @@ leaves_at rows handles = map (leaf_at rows) handles
 
 -- a row's name has no parent, or the first row with the parent's name is a structure before the row
 abbrev pub IsBelowStructure : List Row → ℕ → Type 0
-IsBelowStructure rows place = IfSome (parent_of (name_at rows place)) (λ parent. IsSomeAnd (place_of rows parent) (λ above. (above < place) × (leaf_at rows above ≡ None)))
+IsBelowStructure rows place =
+    IfSome (parent_of (name_at rows place))
+    (λ parent. IsSomeAnd (place_of rows parent)
+    (λ above. (above < place) × (leaf_at rows above ≡ None)))
 
--- the kind of a row's value; a structure has none
-abbrev pub kind_at : List Row → ℕ → Option Kind
-kind_at rows place = option_map kind_of (leaf_at rows place)
+-- the type of a row's value; a structure has none
+abbrev pub leaf_type_at : List Row → ℕ → Option LeafType
+leaf_type_at rows place = option_map leaf_type_of (leaf_at rows place)
 
 -- the rows with another value at a place
 abbrev pub with_leaf : List Row → ℕ → Leaf → List Row
-with_leaf rows place leaf = slice_set rows place (record { name = name_at rows place; leaf = Some leaf })
+with_leaf rows place leaf =
+    slice_set rows place (record { name = name_at rows place; leaf = Some leaf })
 
 -- the value of the row of a name
 abbrev pub leaf_of : List ℕ → List Row → Option Leaf
@@ -59,15 +67,17 @@ leaf_of name rows = option_and_then (λ row. row.leaf) (find (λ row. bytes_eq r
 
 -- the rows with another value at a name
 abbrev pub with_leaf_of : List ℕ → Leaf → List Row → List Row
-with_leaf_of name value rows = map (λ row. if bytes_eq row.name name then record { name = row.name; leaf = Some value } else row) rows
+with_leaf_of name value rows =
+    map (λ row. if bytes_eq row.name name then record { name = row.name; leaf = Some value }
+    else row) rows
 
 -- the names of the rows, in order
 abbrev pub names_of : List Row → List (List ℕ)
 names_of rows = map (λ row. row.name) rows
 
--- the kinds of their values, in order
-abbrev pub kinds_of : List Row → List (Option Kind)
-kinds_of rows = map (λ row. option_map kind_of row.leaf) rows
+-- the types of their values, in order
+abbrev pub leaf_types_of : List Row → List (Option LeafType)
+leaf_types_of rows = map (λ row. option_map leaf_type_of row.leaf) rows
 
 -- the rows below a structure: those named by its name, `$` and one word, in order
 abbrev pub rows_below : List Row → List ℕ → List Row
@@ -93,7 +103,9 @@ next_beside rows place = next_below rows place (parent_of (name_at rows place))
 -- the places of the rows below a structure, where the list begins at that place
 abbrev pub places_below_from : ℕ → List Row → List ℕ → List ℕ
 places_below_from start [] parent = []
-places_below_from start (row ∷ rows) parent = if is_below parent row.name then start ∷ places_below_from (start + 1) rows parent else places_below_from (start + 1) rows parent
+places_below_from start (row ∷ rows) parent =
+    if is_below parent row.name then start ∷ places_below_from (start + 1) rows parent
+    else places_below_from (start + 1) rows parent
 
 -- the places of the rows below a structure, in order
 abbrev pub places_below : List Row → List ℕ → List ℕ

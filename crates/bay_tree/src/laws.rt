@@ -7,15 +7,22 @@ ghost use Rattle.bay_tree.specs.Rows.{IsTree, IsHandle, leaf_at, leaves_at, name
 /// A value that is written to a row is that row's, and each other row keeps its own: so do the rows
 /// of any handles among which the written row's is not. No name changes.
 pub fn a_write_is_to_one_row()
-    ensures own { (rows : List Row) (row : ℕ) (leaf : Leaf) → IsHandle rows row → leaf_at (with_leaf rows row leaf) row ≡ Some leaf }
-    ensures other { (rows : List Row) (row other : ℕ) (leaf : Leaf) → other ≢ row → leaf_at (with_leaf rows row leaf) other ≡ leaf_at rows other }
-    ensures others { (rows : List Row) (row : ℕ) (leaf : Leaf) (others : List ℕ) → All (λ other. other ≢ row) others → leaves_at (with_leaf rows row leaf) others ≡ leaves_at rows others }
-    ensures names { (rows : List Row) (row other : ℕ) (leaf : Leaf) → IsHandle rows row → name_at (with_leaf rows row leaf) other ≡ name_at rows other }
+    ensures own { (rows : List Row) (row : ℕ) (leaf : Leaf) → IsHandle rows row
+        → leaf_at (with_leaf rows row leaf) row ≡ Some leaf }
+    ensures other { (rows : List Row) (row other : ℕ) (leaf : Leaf) → other ≢ row
+        → leaf_at (with_leaf rows row leaf) other ≡ leaf_at rows other }
+    ensures others { (rows : List Row) (row : ℕ) (leaf : Leaf) (others : List ℕ)
+        → All (λ other. other ≢ row) others
+        → leaves_at (with_leaf rows row leaf) others ≡ leaves_at rows others }
+    ensures names { (rows : List Row) (row other : ℕ) (leaf : Leaf) → IsHandle rows row
+        → name_at (with_leaf rows row leaf) other ≡ name_at rows other }
 {}
 
 /// A name is at the handle of a row exactly where it is that row's name. Where a name is follows
 /// from the names of the rows, so it stays so with each new value.
 pub fn a_row_stands_at_its_name()
-    ensures named { (rows : List Row) (row : ℕ) (name : List ℕ) → IsTree rows → IsHandle rows row → (place_of rows name ≡ Some row) ↔ (name_at rows row ≡ name) }
-    ensures stays { (before after : List Row) (name : List ℕ) → names_of before ≡ names_of after → place_of before name ≡ place_of after name }
+    ensures named { (rows : List Row) (row : ℕ) (name : List ℕ) → IsTree rows → IsHandle rows row
+        → (place_of rows name ≡ Some row) ↔ (name_at rows row ≡ name) }
+    ensures stays { (before after : List Row) (name : List ℕ) → names_of before ≡ names_of after
+        → place_of before name ≡ place_of after name }
 {}

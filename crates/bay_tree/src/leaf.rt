@@ -1,6 +1,6 @@
 // The values that a leaf may hold.
 ghost use Rattle.std.specs.Prelude.{◌≡◌};
-ghost use Rattle.bay_tree.specs.Kinds.{kind_of};
+ghost use Rattle.bay_tree.specs.LeafTypes.{leaf_type_of};
 
 use bay_base::listing::Listing;
 use bay_base::text::Text;
@@ -50,7 +50,7 @@ pub enum Leaf {
 
 /// The type of a leaf's value, which never changes.
 #[derive(Clone, Copy, Debug, PartialEq, Eq)]
-pub enum Kind {
+pub enum LeafType {
     Truth,
     Dbpos,
     Quality,
@@ -67,21 +67,21 @@ pub enum Kind {
 impl Leaf {
     /// The type of this value.
     #[inline(always)]
-    pub fn kind(&self) -> Kind
-        ensures { result ≡ kind_of self.now }
+    pub fn leaf_type(&self) -> LeafType
+        ensures { result ≡ leaf_type_of self.now }
     {
         match self {
-            Leaf::Truth(_) => Kind::Truth,
-            Leaf::Dbpos(_) => Kind::Dbpos,
-            Leaf::Quality(_) => Kind::Quality,
-            Leaf::Int8(_) => Kind::Int8,
-            Leaf::Int32(_) => Kind::Int32,
-            Leaf::Unsigned8(_) => Kind::Unsigned8,
-            Leaf::Unsigned32(_) => Kind::Unsigned32,
-            Leaf::Octets(_) => Kind::Octets,
-            Leaf::Reference(_) => Kind::Reference,
-            Leaf::Text(_) => Kind::Text,
-            Leaf::Utc(_) => Kind::Utc,
+            Leaf::Truth(_) => LeafType::Truth,
+            Leaf::Dbpos(_) => LeafType::Dbpos,
+            Leaf::Quality(_) => LeafType::Quality,
+            Leaf::Int8(_) => LeafType::Int8,
+            Leaf::Int32(_) => LeafType::Int32,
+            Leaf::Unsigned8(_) => LeafType::Unsigned8,
+            Leaf::Unsigned32(_) => LeafType::Unsigned32,
+            Leaf::Octets(_) => LeafType::Octets,
+            Leaf::Reference(_) => LeafType::Reference,
+            Leaf::Text(_) => LeafType::Text,
+            Leaf::Utc(_) => LeafType::Utc,
         }
     }
 }

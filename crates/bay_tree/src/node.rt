@@ -42,7 +42,8 @@ pub fn nodes_of(alloc: Global, rows: Vec<Row>) -> Result<Vec<Node>, AllocError>
 fn place_above(nodes: &[Node], index: &Index, place: usize) -> Option<usize>
     requires within { place < length nodes.now }
     requires indexed { IsIndex (rows_of nodes.now) index.now }
-    ensures above { result ≡ option_and_then (place_of (rows_of nodes.now)) (parent_of (name_at (rows_of nodes.now) place)) }
+    ensures above { result ≡ option_and_then (place_of (rows_of nodes.now))
+        (parent_of (name_at (rows_of nodes.now) place)) }
 {
     let above = parent(nodes[place].name.as_str())?;
     index.get(above).copied()
@@ -53,8 +54,12 @@ fn put_below(nodes: &mut [Node], place: usize, above: usize)
     requires place { place < length nodes.old }
     requires above { above < length nodes.old }
     ensures rows { rows_of nodes.new ≡ rows_of nodes.old }
-    ensures below { (k : ℕ) → k < length nodes.old → (node_at nodes.new k).below ≡ (if above == k then Some place else (node_at nodes.old k).below) }
-    ensures beside { (k : ℕ) → k < length nodes.old → (node_at nodes.new k).beside ≡ (if place == k then (node_at nodes.old above).below else (node_at nodes.old k).beside) }
+    ensures below { (k : ℕ) → k < length nodes.old
+        → (node_at nodes.new k).below
+        ≡ (if above == k then Some place else (node_at nodes.old k).below) }
+    ensures beside { (k : ℕ) → k < length nodes.old
+        → (node_at nodes.new k).beside
+        ≡ (if place == k then (node_at nodes.old above).below else (node_at nodes.old k).beside) }
 {
     nodes[place].beside = nodes[above].below;
     nodes[above].below = Some(place);

@@ -2,15 +2,15 @@
 ghost use Rattle.std.specs.Prelude.{ℕ, ◌+◌, ◌≡◌, ◌≢◌, ◌<◌, All, ◌≤◌, ◌↔◌, length, drop, map, Some, Ok, Err, IfOk, IsOk, OnOk, OnErr, IfErr, IfSome, IsTrue};
 ghost use Rattle.std.specs.Option.{ok_or, option_copied};
 ghost use Rattle.bay_tree.specs.Names.{IsNamed, parent_of, word_of};
-ghost use Rattle.bay_tree.specs.Rows.{IsTree, IsHandle, place_of, name_at, leaf_at, leaf_of, kind_at, names_of, kinds_of, with_leaf, with_leaf_of, first_below_from, first_below, next_beside, places_below, places_behind, places_since};
-ghost use Rattle.bay_tree.specs.Kinds.{kind_of};
+ghost use Rattle.bay_tree.specs.Rows.{IsTree, IsHandle, place_of, name_at, leaf_at, leaf_of, leaf_type_at, names_of, leaf_types_of, with_leaf, with_leaf_of, first_below_from, first_below, next_beside, places_below, places_behind, places_since};
+ghost use Rattle.bay_tree.specs.LeafTypes.{leaf_type_of};
 ghost use Rattle.bay_tree.specs.Order.{place_if};
 ghost use Rattle.bay_tree.specs.Page.{page_after, IsUnknown};
 ghost use Rattle.bay_tree.specs.Page as spec;
 
 use crate::fault::{NamesFault, TreeFault};
 use crate::index::{Index, index_of};
-use crate::leaf::{Kind, Leaf};
+use crate::leaf::{Leaf, LeafType};
 use crate::node::{Node, link, nodes_of};
 use crate::page::{Names, first_names};
 use crate::row::Row;
@@ -99,9 +99,12 @@ impl Tree {
     /// The handle of the row with this name.
     pub fn find(&self, name: &str) -> Result<Handle, TreeFault>
         ensures place { result ≡ ok_or (place_of self.now name.now) TreeFault.NoSuchName }
-        ensures found { IfOk result (λ handle. IsHandle self.now handle × (name_at self.now handle ≡ name.now)) }
-        ensures value { IfOk result (λ handle. leaf_at self.now handle ≡ leaf_of name.now self.now) }
-        ensures unknown { (result ≡ Err TreeFault.NoSuchName) ↔ All (λ row. row.name ≢ name.now) self.now }
+        ensures found { IfOk result
+            (λ handle. IsHandle self.now handle × (name_at self.now handle ≡ name.now)) }
+        ensures value { IfOk result
+            (λ handle. leaf_at self.now handle ≡ leaf_of name.now self.now) }
+        ensures unknown { (result ≡ Err TreeFault.NoSuchName)
+            ↔ All (λ row. row.name ≢ name.now) self.now }
     {
         match self.index.get(name) {
             Some(index) => Ok(Handle { index: *index }),
@@ -112,9 +115,12 @@ impl Tree {
     /// The handle of the row with this name, as octets: what is no text names nothing.
     pub fn find_octets(&self, name: &[u8]) -> Result<Handle, TreeFault>
         ensures place { result ≡ ok_or (place_of self.now name.now) TreeFault.NoSuchName }
-        ensures found { IfOk result (λ handle. IsHandle self.now handle × (name_at self.now handle ≡ name.now)) }
-        ensures value { IfOk result (λ handle. leaf_at self.now handle ≡ leaf_of name.now self.now) }
-        ensures unknown { (result ≡ Err TreeFault.NoSuchName) ↔ All (λ row. row.name ≢ name.now) self.now }
+        ensures found { IfOk result
+            (λ handle. IsHandle self.now handle × (name_at self.now handle ≡ name.now)) }
+        ensures value { IfOk result
+            (λ handle. leaf_at self.now handle ≡ leaf_of name.now self.now) }
+        ensures unknown { (result ≡ Err TreeFault.NoSuchName)
+            ↔ All (λ row. row.name ≢ name.now) self.now }
     {
         // That each row's name is a text is known of the tree's parts alone.
         let _ = &self.nodes;
@@ -134,14 +140,14 @@ impl Tree {
         self.nodes[handle.index].leaf.as_ref()
     }
 
-    /// Whether a row has a value of this kind.
+    /// Whether a row has a value of this type.
     #[inline(always)]
-    fn has_kind(&self, handle: Handle, kind: Kind) -> bool
+    fn has_leaf_type(&self, handle: Handle, leaf_type: LeafType) -> bool
         requires { IsHandle self.now handle }
-        ensures { IsTrue result ↔ (kind_at self.now handle ≡ Some kind) }
+        ensures { IsTrue result ↔ (leaf_type_at self.now handle ≡ Some leaf_type) }
     {
         match self.get(handle) {
-            Some(leaf) => leaf.kind() == kind,
+            Some(leaf) => leaf.leaf_type() == leaf_type,
             None => false,
         }
     }
@@ -150,18 +156,20 @@ impl Tree {
     #[inline(always)]
     pub fn set(&mut self, handle: Handle, leaf: Leaf) -> Result<(), TreeFault>
         requires { IsHandle self.old handle }
-        ensures accepted { IsOk result ↔ (kind_at self.old handle ≡ Some (kind_of leaf)) }
+        ensures accepted { IsOk result ↔ (leaf_type_at self.old handle ≡ Some (leaf_type_of leaf)) }
         ensures ok { OnOk result (self.new ≡ with_leaf self.old handle leaf) }
-        ensures named { OnOk result (self.new ≡ with_leaf_of (name_at self.old handle) leaf self.old) }
-        ensures err { IfErr result (λ fault. (fault ≡ TreeFault.WrongType) × (self.new ≡ self.old)) }
+        ensures named { OnOk result
+            (self.new ≡ with_leaf_of (name_at self.old handle) leaf self.old) }
+        ensures err { IfErr result
+            (λ fault. (fault ≡ TreeFault.WrongType) × (self.new ≡ self.old)) }
 
         // Handles stay good: each row keeps its place, its name and its value's type.
         ensures good { (row : ℕ) → IsHandle self.old row → IsHandle self.new row }
         ensures handles { length self.new ≡ length self.old }
         ensures names { names_of self.new ≡ names_of self.old }
-        ensures kinds { kinds_of self.new ≡ kinds_of self.old }
+        ensures leaf_types { leaf_types_of self.new ≡ leaf_types_of self.old }
     {
-        if !self.has_kind(handle, leaf.kind()) {
+        if !self.has_leaf_type(handle, leaf.leaf_type()) {
             return Err(TreeFault::WrongType);
         }
         put_leaf(&mut self.nodes[handle.index].leaf, leaf);
@@ -172,7 +180,8 @@ impl Tree {
     pub fn below(&self, handle: Handle) -> Option<Handle>
         requires { IsHandle self.now handle }
         ensures first { result ≡ first_below self.now handle }
-        ensures rows { places_below self.now (name_at self.now handle) ≡ places_since self.now (name_at self.now handle) result }
+        ensures rows { places_below self.now (name_at self.now handle)
+            ≡ places_since self.now (name_at self.now handle) result }
         ensures after { IfSome result (λ row. (handle < row) × IsHandle self.now row) }
     {
         let index = self.nodes[handle.index].below?;
@@ -184,7 +193,8 @@ impl Tree {
     pub fn beside(&self, handle: Handle) -> Option<Handle>
         requires { IsHandle self.now handle }
         ensures next { result ≡ next_beside self.now handle }
-        ensures rows { IfSome (parent_of (name_at self.now handle)) (λ parent. places_behind self.now parent handle ≡ places_since self.now parent result) }
+        ensures rows { IfSome (parent_of (name_at self.now handle))
+            (λ parent. places_behind self.now parent handle ≡ places_since self.now parent result) }
         ensures after { IfSome result (λ row. (handle < row) × IsHandle self.now row) }
     {
         let index = self.nodes[handle.index].beside?;
@@ -230,7 +240,8 @@ impl Tree {
     pub fn word(&self, handle: Handle) -> &str
         requires { IsHandle self.now handle }
         ensures word { result.now ≡ word_of (name_at self.now handle) }
-        ensures named { IsNamed (parent_of (name_at self.now handle)) result.now (name_at self.now handle) }
+        ensures named { IsNamed (parent_of (name_at self.now handle)) result.now
+            (name_at self.now handle) }
     {
         self.nodes[handle.index].name.word()
     }
@@ -238,8 +249,10 @@ impl Tree {
     /// The first names that follow a row's, or the first of all where no name is given, and whether
     /// there are more. Want of memory changes nothing.
     pub fn names_after(&self, after: Option<&str>, count: usize) -> Result<Names, NamesFault>
-        ensures page { IfOk result (λ page. page ≡ page_after self.now (option_copied after.entry) count) }
-        ensures unknown { (result ≡ Err NamesFault.NoSuchName) ↔ IsUnknown self.now (option_copied after.entry) }
+        ensures page { IfOk result
+            (λ page. page ≡ page_after self.now (option_copied after.entry) count) }
+        ensures unknown { (result ≡ Err NamesFault.NoSuchName)
+            ↔ IsUnknown self.now (option_copied after.entry) }
     {
         let start = match self.start_after(after) {
             Some(start) => start,
@@ -259,8 +272,10 @@ impl Tree {
         after: Option<&[u8]>,
         count: usize,
     ) -> Result<Names, NamesFault>
-        ensures page { IfOk result (λ page. page ≡ page_after self.now (option_copied after.entry) count) }
-        ensures unknown { (result ≡ Err NamesFault.NoSuchName) ↔ IsUnknown self.now (option_copied after.entry) }
+        ensures page { IfOk result
+            (λ page. page ≡ page_after self.now (option_copied after.entry) count) }
+        ensures unknown { (result ≡ Err NamesFault.NoSuchName)
+            ↔ IsUnknown self.now (option_copied after.entry) }
     {
         let name = match after {
             None => return self.names_after(None, count),

@@ -1,13 +1,14 @@
-// Runs the command lines that come on standard input, over files of its own folder, and prints each that comes out otherwise than it
-// says, and how many do.
+// Runs the command lines that come on standard input, over files of its own folder, and prints each
+// that comes out otherwise than it says, and how many do.
 //
-// The cases are sections, each with a head `== NAME`. `file NAME` and `octets NAME` make a file, of a text or of octets in hexadecimal
-// digits; `input` is what the next commands read. `run STATUS WORDS` is a case: the command of these words prints this text, and ends
-// with this status. Behind it `complaint` is what the last command writes to standard error, `holds NAME` what a file then holds, in
-// hexadecimal digits, and `gone NAME` a file that is not there. `note` is none.
+// The cases are sections, each with a head `== NAME`. `file NAME` and `octets NAME` make a file, of
+// a text or of octets in hexadecimal digits; `input` is what the next commands read. `run STATUS
+// WORDS` is a case: the command of these words prints this text, and ends with this status. Behind
+// it `complaint` is what the last command writes to standard error, `holds NAME` what a file then
+// holds, in hexadecimal digits, and `gone NAME` a file that is not there. `note` is none.
 #![tactic(auto)]
 
-use anyhow::{Context, Result, bail};
+use anyhow::{Result, bail};
 use bay_io::reader::WatchedReader;
 use bay_io::writer::WatchedWriter;
 use bay_main::commands::obey;
@@ -15,7 +16,8 @@ use bay_main::ending::Ended;
 use bay_main::files::SystemFiles;
 use bay_main::host::SystemHost;
 use cases::octets::{is_spelled, octets_of};
-use cases::told::Told;
+use cases::sections::{BETWEEN, head_and_body, sections_of};
+use cases::told::{Told, check_answer, outcome_of};
 use cases::words::first_word;
 use std::alloc::Global;
 use std::fs;
@@ -103,11 +105,7 @@ impl<'a> Before<'a> {
 
     /// Whether the last command complained so.
     fn complains(&self, wanted: &str) -> Result<bool> {
-        let found = self.complaint.as_str().trim_end();
-        if found != wanted {
-            bail!("it is {found}");
-        }
-        Ok(true)
+        outcome_of(check_answer(self.complaint.as_str().trim_end(), wanted))
     }
 
     /// Whether a file holds these octets.
@@ -154,16 +152,14 @@ fn run<R: Runtime<A = Global> + Net<Listener = TcpListener, Stream = TcpStream>>
     alloc: Global,
     text: &str,
 ) -> Result<String> {
-    let text = text.strip_prefix("== ").context("no section")?;
-    let text = text.strip_suffix("\n").unwrap_or(text);
     let mut before = Before {
         alloc,
         input: "",
         complaint: String::new(alloc),
     };
     let mut told = Told::new(alloc);
-    for section in text.split("\n== ") {
-        let (head, body) = section.split_once("\n").unwrap_or((section, ""));
+    for section in sections_of(text)?.split(BETWEEN) {
+        let (head, body) = head_and_body(section);
         let (kind, rest) = first_word(head);
         match kind {
             "note" => {}

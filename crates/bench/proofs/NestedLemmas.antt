@@ -18,17 +18,32 @@ pub record Stands (front : List ℕ) (value lists : ℕ) (octets : List ℕ) : T
   pub is : octets ≡ front ++ nested (integer value) lists
   pub few : length (nested (integer value) lists) ≤ 6 * lists + 15
 
-pub stands_first : (front octets : List ℕ) (value : ℕ) → octets ≡ front ++ element int_tag (integer_octets (pos value)) → Stands front value 0 octets
+pub stands_first : (front octets : List ℕ) (value : ℕ)
+    → octets ≡ front ++ element int_tag (integer_octets (pos value)) → Stands front value 0 octets
 unfolding nested integer
-stands_first front octets value is = record { is = is; few = omega (arith, length-element int_tag (integer_octets (pos value)), length-integer_octets (pos value)) }
+stands_first front octets value is =
+    record {
+      is = is;
+      few = omega (
+        arith,
+        length-element int_tag (integer_octets (pos value)),
+        length-integer_octets (pos value),
+      );
+    }
 
-pub stands_short : (front octets : List ℕ) (value lists start : ℕ) → start ≡ length front → lists < 65536 → Stands front value lists octets → (start ≤ length octets) × (length octets < start + 2 ^ 32)
+pub stands_short : (front octets : List ℕ) (value lists start : ℕ) → start ≡ length front
+    → lists < 65536 → Stands front value lists octets
+    → (start ≤ length octets) × (length octets < start + 2 ^ 32)
 stands_short front octets value lists start size few s =
-    let n : length octets ≡ length front + length (nested (integer value) lists) = ap length s.is ∙ length-append front (nested (integer value) lists) in
+    let n : length octets ≡ length front + length (nested (integer value) lists) =
+    ap length s.is ∙ length-append front (nested (integer value) lists) in
     let f = s.few in
     (omega arith, omega arith)
 
-pub stands_more : (front octets new : List ℕ) (value lists start : ℕ) → start ≡ length front → Stands front value lists octets → new ≡ take start octets ++ element list_tag (drop start octets) → Stands front value (lists + 1) new
+pub stands_more : (front octets new : List ℕ) (value lists start : ℕ) → start ≡ length front
+    → Stands front value lists octets
+    → new ≡ take start octets ++ element list_tag (drop start octets)
+    → Stands front value (lists + 1) new
 unfolding nested
 stands_more front octets new value lists start size s made =
     let around = nested (integer value) lists in
@@ -40,6 +55,7 @@ stands_more front octets new value lists start size s made =
       few = rw add-one (omega (arith, length-element list_tag around));
     }
 
-pub chains_more : (chain octets all : List ℕ) (count : ℕ) → octets ≡ chains chain count → all ≡ octets ++ chain → all ≡ chains chain (count + 1)
+pub chains_more : (chain octets all : List ℕ) (count : ℕ) → octets ≡ chains chain count
+    → all ≡ octets ++ chain → all ≡ chains chain (count + 1)
 unfolding chains
 chains_more chain octets all count is more = rw (add-one, more, is) refl

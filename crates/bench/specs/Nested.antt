@@ -5,12 +5,15 @@ use Rattle.bay_ber.specs.Writing.{element, integer_octets}
 
 -- an integer
 unfoldable pub integer : ℕ → List ℕ
-integer value = element (record { class = Universal; constructed = false; number = 2 }) (integer_octets (pos value))
+integer value =
+    element (record { class = Universal; constructed = false; number = 2 })
+    (integer_octets (pos value))
 
 -- octets inside so many lists
 unfoldable pub nested : List ℕ → ℕ → List ℕ
 nested octets zero = octets
-nested octets (suc lists) = element (record { class = Universal; constructed = true; number = 16 }) (nested octets lists)
+nested octets (suc lists) =
+    element (record { class = Universal; constructed = true; number = 16 }) (nested octets lists)
 
 -- so many chains one after another
 unfoldable pub chains : List ℕ → ℕ → List ℕ

@@ -5,18 +5,20 @@
 // in hexadecimal digits, or `@` for all that follows the line.
 //
 //     ber-read ROUNDS OCTETS     lists of BER elements inside one another are read
-//     ber-write LISTS ROUNDS     10,000 elements are written, chains of an integer inside so many lists
-//     transport SIZE MIB         data TPDUs are fed to a transport in pieces of so many octets
-//     request ROUNDS OCTETS      a read request of MMS is read, from its frame
+//     ber-write LISTS ROUNDS     10,000 elements are written, chains of an integer inside so many
+//     lists transport SIZE MIB         data TPDUs are fed to a transport in pieces of so many
+//     octets request ROUNDS OCTETS      a read request of MMS is read, from its frame
 //     names ROUNDS OCTETS        a response with names, one a line, is written and sent
 //     node ROUNDS OCTETS         a logical node of a bay is read, and the response sent
-//     find ROUNDS OCTETS         each row of a bay's tree is found by its name; in `nodes` each logical node is read, in `pages` all
+//     find ROUNDS OCTETS         each row of a bay's tree is found by its name; in `nodes` each
+//     logical node is read, in `pages` all
 //                                names are listed, and `rows` prints them
 //     text ROUNDS OCTETS         a program's text is read
-//     read ROUNDS OCTETS         likewise; in `check` what is read is checked, in `compile` that is compiled, in `verify` that is verified
-//     decode ROUNDS OCTETS       an image is read; in `encode` it is read once and written
-//     budget ROUNDS OCTETS       an image without points is read and verified
-//     scan ROUNDS OCTETS         it is read and verified once, and scanned, each time 1 ms after the last
+//     read ROUNDS OCTETS         likewise; in `check` what is read is checked, in `compile` that is
+//     compiled, in `verify` that is verified decode ROUNDS OCTETS       an image is read; in
+//     `encode` it is read once and written budget ROUNDS OCTETS       an image without points is
+//     read and verified scan ROUNDS OCTETS         it is read and verified once, and scanned, each
+//     time 1 ms after the last
 #![tactic(auto)]
 
 mod feeder;

@@ -3,7 +3,7 @@ use anyhow::{Context, Result, bail};
 use bay_base::text::Text;
 use bay_connection::connection::Connection;
 use bay_connection::heard::Heard;
-use bay_mms::request::{Call, Name, Request, read_request};
+use bay_mms::request::{Call, ObjectName, Request, read_request};
 use bay_mms::response::{Response, Service, write_response};
 use cases::octets::octets_of;
 use std::alloc::Global;
@@ -36,11 +36,11 @@ fn weight_of(text: &[u8]) -> u64 {
 }
 
 /// The weights of the texts of a name.
-fn weight_of_name(name: &Name<'_>) -> u64 {
+fn weight_of_name(name: &ObjectName<'_>) -> u64 {
     match name {
-        Name::Vmd(text) => weight_of(text),
-        Name::Association(text) => weight_of(text),
-        Name::Domain { domain, item } => weight_of(domain).wrapping_add(weight_of(item)),
+        ObjectName::Vmd(text) => weight_of(text),
+        ObjectName::Association(text) => weight_of(text),
+        ObjectName::Domain { domain, item } => weight_of(domain).wrapping_add(weight_of(item)),
     }
 }
 

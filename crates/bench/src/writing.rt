@@ -43,7 +43,8 @@ fn write(alloc: Global, lists: u16, value: u8) -> Result<Vec<u8>, AllocError>
 /// Writes 10,000 elements so many times, in chains of an integer inside so many lists; the integer
 /// is the number of the round, less whole multiples of 128.
 pub fn write_often(alloc: Global, lists: u16, rounds: u32) -> Result<Sum, AllocError>
-    ensures { 0 < rounds → IfOk result (λ all. all.octets ≡ length (written lists ((rounds - 1) % 128))) }
+    ensures { 0 < rounds → IfOk result
+        (λ all. all.octets ≡ length (written lists ((rounds - 1) % 128))) }
 {
     let mut all = Sum { octets: 0, sum: 0 };
     for round in 0..rounds {

@@ -2,6 +2,20 @@
 use anyhow::{Result, bail};
 use std::alloc::Global;
 
+/// Fails where an answer isn't the one that is wanted.
+pub fn check_answer(found: &str, wanted: &str) -> Result<()> {
+    if found != wanted {
+        bail!("it is {found}");
+    }
+    Ok(())
+}
+
+/// What came of a case that fails where it is not as it says.
+pub fn outcome_of(checked: Result<()>) -> Result<bool> {
+    checked?;
+    Ok(true)
+}
+
 /// How many cases there were, how many came out otherwise than they say, and a line for each of
 /// those.
 #[derive(Drop)]

@@ -1,4 +1,5 @@
-// What is read of a bay, line by line: its fields, the names of its nodes, the points of its program, and the rows of its tree.
+// What is read of a bay, line by line: its fields, the names of its nodes, the points of its
+// program, and the rows of its tree.
 use crate::words::{after, check_end};
 use anyhow::Result;
 use bay_config::bay::{Bay, Point};
@@ -54,7 +55,8 @@ fn check_fields(alloc: Global, bay: &Bay, wanted: &str) -> Result<()> {
     check_end(after(rest, lists.as_str())?)
 }
 
-/// The names of the logical nodes of the switches come first, a line for each switch, and what follows them.
+/// The names of the logical nodes of the switches come first, a line for each switch, and what
+/// follows them.
 fn after_switch_nodes<'a>(alloc: Global, bay: &Bay, wanted: &'a str) -> Result<&'a str> {
     let mut rest = wanted;
     for place in 0..bay.switches.as_slice().len() {
@@ -72,7 +74,8 @@ fn after_switch_nodes<'a>(alloc: Global, bay: &Bay, wanted: &'a str) -> Result<&
     Ok(rest)
 }
 
-/// The names of the logical nodes are these: a line for each switch with three, and a line for each meter.
+/// The names of the logical nodes are these: a line for each switch with three, and a line for each
+/// meter.
 fn check_nodes(alloc: Global, bay: &Bay, wanted: &str) -> Result<()> {
     let mut rest = after_switch_nodes(alloc, bay, wanted)?;
     for place in 0..bay.meters.as_slice().len() {

@@ -7,7 +7,8 @@ use bay_main::words::{WordsFault, job_of};
 use cases::octets::octets_of;
 use std::alloc::{AllocError, Global};
 
-/// The job that words ask for, which are parted by spaces, as Rust's `{:?}` prints it, or `refused`.
+/// The job that words ask for, which are parted by spaces, as Rust's `{:?}` prints it, or
+/// `refused`.
 pub fn job_text(alloc: Global, words: &str) -> Result<String, AllocError> {
     let words: Vec<&str> = words.split(" ").collect(alloc)?;
     match job_of(alloc, words.as_slice()) {
@@ -32,8 +33,8 @@ fn loaded_text(alloc: Global, loaded: &Result<Device, LoadFault>) -> Result<Stri
     }
 }
 
-/// What the octets of an image load to, in hexadecimal digits: the size of its program, and the octets that the device gives; or
-/// why they are refused.
+/// What the octets of an image load to, in hexadecimal digits: the size of its program, and the
+/// octets that the device gives; or why they are refused.
 pub fn image_text(alloc: Global, bay: &str, octets: &str) -> Result<String> {
     let octets = octets_of(alloc, octets)?;
     loaded_text(alloc, &load_image(alloc, bay, octets.as_slice()))

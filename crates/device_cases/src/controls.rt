@@ -1,11 +1,15 @@
 // A bay's controls, call by call.
 //
-// Questions are `MS select A K`, `MS select-with A K ASK`, `MS operate A K ASK VIEW` and `MS cancel A K`, whose answer is `ok` or the
-// number of the cause; `MS advance`, whose answer is the place of the switch whose execution ran out, or `none`; `contact K POSITION`,
-// whether it ends the execution; `close A`, which ends the association's selection; `selected`, the place of the selected switch, or
-// `none`; `keep`, which takes what stands, and `restore`, which puts it back; and `cause NUMBER`, what that cause is.
+// Questions are `MS select A K`, `MS select-with A K ASK`, `MS operate A K ASK VIEW` and `MS cancel
+// A K`, whose answer is `ok` or the number of the cause; `MS advance`, whose answer is the place of
+// the switch whose execution ran out, or `none`; `contact K POSITION`, whether it ends the
+// execution; `close A`, which ends the association's selection; `selected`, the place of the
+// selected switch, or
+// `none`; `keep`, which takes what stands, and `restore`, which puts it back; and `cause NUMBER`,
+// what that cause is.
 //
-// An ASK is `POSITION,CATEGORY/IDENTITY` with `on` or `off` and the identity's octets, and `,test` for a test. A VIEW is the position,
+// An ASK is `POSITION,CATEGORY/IDENTITY` with `on` or `off` and the identity's octets, and `,test`
+// for a test. A VIEW is the position,
 // `fresh` or `stale`, and EnaOpn and EnaCls, as `01`.
 use anyhow::{Context, Result, bail};
 use arrayvec::ArrayVec;

@@ -1,18 +1,26 @@
-// Runs the cases of the device that come on standard input, and prints each that comes out otherwise than it says, and how many do.
+// Runs the cases of the device that come on standard input, and prints each that comes out
+// otherwise than it says, and how many do.
 //
-// The cases are sections, each with a head `== NAME`. `bay`, `frame`, `logic` and `trace` are texts, which stand until
-// another takes their place; the logic follows the frame. `report STATUS [NAME]` is a case: the scenario of these texts ends
-// with this status and this report. `fields`, `nodes` (names of logical nodes), `points` and `rows` are what is read of
-// the bay, and `names` those of a tree, which lists them in pages. Values are spelled as Rust's `{:?}` prints them. `note` is none.
+// The cases are sections, each with a head `== NAME`. `bay`, `frame`, `logic` and `trace` are
+// texts, which stand until another takes their place; the logic follows the frame. `report STATUS
+// [NAME]` is a case: the scenario of these texts ends with this status and this report. `fields`,
+// `nodes` (names of logical nodes), `points` and `rows` are what is read of the bay, and `names`
+// those of a tree, which lists them in pages. Values are spelled as Rust's `{:?}` prints them.
+// `note` is none.
 //
-// In the other sections each line is a case. In `octets` it is `SCENARIO -> STATUS REPORT`, octet by octet. Else it is
-// `QUESTION -> ANSWER`: in `bays` a part of the bay file that is replaced and what by, `OLD|NEW`, and what becomes of that file; in `many` how many switches, inputs and meters a bay file has, and its last line; in `trees` the names of rows; in `images` the octets of an
-// image for the bay, in hexadecimal digits; in `controls` what controls are asked (`controls` says how; a line may be a note behind
-// `#`, or `bay` with the control of each switch, whose controls are asked from then on: `status`, `direct/TRAVEL`, `sbo/TIMEOUT/TRAVEL`
-// or `sbo-enhanced/TIMEOUT/TRAVEL`, with milliseconds); in `jobs` the words of a command line; in `messages` a fault; in `endings` the
-// answer of a replay.
+// In the other sections each line is a case. In `octets` it is `SCENARIO -> STATUS REPORT`, octet
+// by octet. Else it is
+// `QUESTION -> ANSWER`: in `bays` a part of the bay file that is replaced and what by, `OLD|NEW`,
+// and what becomes of that file; in `many` how many switches, inputs and meters a bay file has, and
+// its last line; in `trees` the names of rows; in `images` the octets of an image for the bay, in
+// hexadecimal digits; in `controls` what controls are asked (`controls` says how; a line may be a
+// note behind
+// `#`, or `bay` with the control of each switch, whose controls are asked from then on: `status`,
+// `direct/TRAVEL`, `sbo/TIMEOUT/TRAVEL` or `sbo-enhanced/TIMEOUT/TRAVEL`, with milliseconds); in
+// `jobs` the words of a command line; in `messages` a fault; in `endings` the answer of a replay.
 //
-// The sections behind `== note examples` are those of examples/, as `tools/examples_stdin` makes them of the examples' files.
+// The sections behind `== note examples` are those of examples/, as `tools/examples_stdin` makes
+// them of the examples' files.
 #![tactic(auto)]
 
 mod bay;
@@ -26,21 +34,14 @@ mod words;
 
 use anyhow::{Context, Result, bail};
 use bay::check_bay;
-use cases::told::Told;
+use cases::sections::{BETWEEN, head_and_body, sections_of};
+use cases::told::{Told, check_answer, outcome_of};
 use cases::words::{first_word, is_case};
 use controls::Session;
 use names::check_names;
 use scenario::{Texts, check_octets, check_report};
 use std::alloc::Global;
 use std::io::Read;
-
-/// Fails where an answer isn't the one that is wanted.
-fn check_answer(found: &str, wanted: &str) -> Result<()> {
-    if found != wanted {
-        bail!("it is {found}");
-    }
-    Ok(())
-}
 
 /// The answer to a question that no device is asked, by the section that it stands in.
 fn answer(alloc: Global, texts: &Texts, head: &str, question: &str) -> Result<String> {
@@ -63,12 +64,6 @@ fn check_line(alloc: Global, texts: &Texts, head: &str, line: &str) -> Result<()
     }
     let (question, wanted) = line.split_once(" -> ").context("no answer")?;
     check_answer(answer(alloc, texts, head, question)?.as_str(), wanted)
-}
-
-/// What came of a case that fails where it is not as it says.
-fn outcome_of(checked: Result<()>) -> Result<bool> {
-    checked?;
-    Ok(true)
 }
 
 /// The cases of a section with a case in each line.
@@ -124,12 +119,10 @@ fn tell_section(
 
 /// What is told of the cases of all sections.
 fn run(alloc: Global, text: &str) -> Result<String> {
-    let text = text.strip_prefix("== ").context("no section")?;
-    let text = text.strip_suffix("\n").unwrap_or(text);
     let mut texts = Texts::new();
     let mut told = Told::new(alloc);
-    for section in text.split("\n== ") {
-        let (head, body) = section.split_once("\n").unwrap_or((section, ""));
+    for section in sections_of(text)?.split(BETWEEN) {
+        let (head, body) = head_and_body(section);
         match head {
             "bay" => texts.bay = body,
             "frame" => texts.frame = body,

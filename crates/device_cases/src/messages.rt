@@ -72,7 +72,8 @@ fn load_message(alloc: Global, code: Option<u8>, line: &str) -> Result<String> {
     Ok(format!(in alloc; "{fault}")?)
 }
 
-/// The message of a fault: `bay`, `step`, `tree`, `names` or `load` with its number, or with `memory`, and for a load the line; or `write`.
+/// The message of a fault: `bay`, `step`, `tree`, `names` or `load` with its number, or with
+/// `memory`, and for a load the line; or `write`.
 pub fn message(alloc: Global, question: &str) -> Result<String> {
     let (family, rest) = first_word(question);
     let (number, line) = first_word(rest);
@@ -91,7 +92,8 @@ pub fn message(alloc: Global, question: &str) -> Result<String> {
     }
 }
 
-/// How a program ends by a replay's status, or by a failed write where there is no number: its status and its complaint.
+/// How a program ends by a replay's status, or by a failed write where there is no number: its
+/// status and its complaint.
 pub fn ending(alloc: Global, question: &str) -> Result<String> {
     let answer = match question.parse::<u8>() {
         Ok(status) => Ok(status),

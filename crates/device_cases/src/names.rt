@@ -1,4 +1,5 @@
-// Which rows make a tree, and the names of one. A structure has `$` behind its name; other rows are FALSE.
+// Which rows make a tree, and the names of one. A structure has `$` behind its name; other rows are
+// FALSE.
 use anyhow::{Result, bail};
 use bay_base::text::Text;
 use bay_tree::leaf::Leaf;

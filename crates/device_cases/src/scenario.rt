@@ -32,7 +32,8 @@ fn program_of(alloc: Global, texts: &Texts) -> Result<String, AllocError> {
     format!(in alloc; "{}\n{}\n", texts.frame, texts.logic)
 }
 
-/// Replays a scenario, and fails where it ends with another report or status, or where the report isn't flushed.
+/// Replays a scenario, and fails where it ends with another report or status, or where the report
+/// isn't flushed.
 fn check(alloc: Global, scenario: &[u8], report: &[u8], status: u8) -> Result<()> {
     let mut reader = WatchedReader::new(scenario);
     let mut taken = Vec::new(alloc);
@@ -54,7 +55,8 @@ pub fn check_report(alloc: Global, texts: &Texts, status: &str, report: &str) ->
     check(alloc, scenario.as_bytes(), report.as_bytes(), status)
 }
 
-/// What a name stands for: a line's end, an octet that no UTF-8 has, the bay, or a part of the program.
+/// What a name stands for: a line's end, an octet that no UTF-8 has, the bay, or a part of the
+/// program.
 fn octets_named<'a>(texts: &'a Texts, name: &str) -> Option<&'a [u8]> {
     match name {
         "LF" => Some(b"\n"),
@@ -76,7 +78,8 @@ fn push_piece(octets: &mut Vec<u8>, texts: &Texts, piece: &str) -> Result<()> {
     Ok(octets.extend_from_slice(rest.as_bytes())?)
 }
 
-/// The octets of a text in which `<LF>`, `<CR>`, `<FF>`, `<bay>`, `<frame>` and `<logic>` stand for others.
+/// The octets of a text in which `<LF>`, `<CR>`, `<FF>`, `<bay>`, `<frame>` and `<logic>` stand for
+/// others.
 fn octets_of(alloc: Global, texts: &Texts, text: &str) -> Result<Vec<u8>> {
     let mut octets = Vec::new(alloc);
     for piece in text.split("<") {

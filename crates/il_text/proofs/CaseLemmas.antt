@@ -11,7 +11,7 @@ use Rattle.bay_base.specs.Names.{same_name}
 use Rattle.il_text.specs.declared.literal.LiteralFault.{LiteralFault}
 use Rattle.il_text.specs.declared.program.Literal.TheVariants.{Lint}
 use Rattle.bay_base.proofs.NameLemmas.{same-upper}
-use Rattle.il_text.specs.Literals.{is_underscore, is_hash, is_integer, number, halves, base_of, decimal, based, integer, Signed, signed, truth_of, number_or_truth, bool_or_truth, typed_number, bool_literal, int_literal, dint_literal, time_literal, typed_bool, typed_int, typed_dint, typed_lint, typed_time, Duration, number_len, unit_len, number_of_part, with_part, part, total_of, milliseconds, prefixed}
+use Rattle.il_text.specs.Literals.{is_underscore, is_hash, is_integer, number, halves, base_of, decimal, based, integer, Signed, signed, truth_of, number_or_truth, bool_or_truth, typed_number, bool_literal, int_literal, dint_literal, time_literal, typed_bool, typed_int, typed_dint, typed_lint, typed_time, Duration, number_len, unit_len, number_of_part, with_part, part, parts, total_of, milliseconds, prefixed}
 
 abbrev pub up : ℕ → ℕ
 up = to_ascii_uppercase
@@ -201,7 +201,7 @@ total-up o None e = rw e refl
 total-up o (Some d) e = rw (e, length-up d.rest) refl
 
 milliseconds-up : (w : List ℕ) → milliseconds (map up w) ≡ milliseconds w
-unfolding milliseconds
+unfolding milliseconds parts
 milliseconds-up w =
     let start : Duration = record { rest = w; total = 0; begun = false } in
     total-up _ _ (then-up _ 1 _ _

@@ -13,7 +13,7 @@ use Rattle.std.proofs.lemmas.List.{take-append-drop, nil_from_length}
 use Rattle.std.proofs.lemmas.List.Sums.{sum_by-append}
 use Rattle.std.specs.List.{flat_map, sum_by, prefix_len}
 use Rattle.bay_base.specs.Names.{same_name}
-use Rattle.il_text.specs.Literals.{is_underscore, is_integer, number, Duration, number_len, unit_len, number_of_part, with_part, part, total_of, milliseconds}
+use Rattle.il_text.specs.Literals.{is_underscore, is_integer, number, Duration, number_len, unit_len, number_of_part, with_part, part, parts, total_of, milliseconds}
 use Rattle.il_text.specs.Falling.{Unit, days, hours, minutes, seconds, thousandths, letters, size, Part, spelling, value, IsPart, Fall, IsDuration, DurationsFall}
 
 -- the parts of these units are taken, one unit behind the other
@@ -153,7 +153,7 @@ abbrev start : List ℕ → Duration
 start w = record { rest = w; total = 0; begun = false }
 
 as_run : (w : List ℕ) → milliseconds w ≡ option_and_then total_of (run units (Some (start w)))
-unfolding milliseconds
+unfolding milliseconds parts
 as_run w = refl
 
 total_if : (b : Bool) (d : Duration) (ms : ℕ)

@@ -19,4 +19,5 @@ pub mod ProductionLemmas
 pub mod ReadLemmas
 pub mod RespellingLemmas
 pub mod TextLemmas
+pub mod TokenLemmas
 pub mod UniqueLemmas

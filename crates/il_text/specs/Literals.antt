@@ -183,14 +183,17 @@ unfoldable pub total_of : Duration → Option ℕ
 total_of d = if d.begun && length d.rest == 0 then Some d.total else None
 
 -- parts in falling units: days, hours, minutes, seconds, milliseconds
-unfoldable pub milliseconds : List ℕ → Option ℕ
-milliseconds w =
-    option_and_then total_of
-    (option_and_then (part (codes "ms") 1)
+unfoldable pub parts : List ℕ → Option Duration
+parts w =
+    option_and_then (part (codes "ms") 1)
     (option_and_then (part (codes "s") 1000)
     (option_and_then (part (codes "m") 60000)
     (option_and_then (part (codes "h") 3600000)
-    (part (codes "d") 86400000 (record { rest = w; total = 0; begun = false }))))))
+    (part (codes "d") 86400000 (record { rest = w; total = 0; begun = false })))))
+
+-- the milliseconds of a duration's parts
+unfoldable pub milliseconds : List ℕ → Option ℕ
+milliseconds w = option_and_then total_of (parts w)
 
 -- a TIME is of 2,147,483,647 milliseconds at most
 abbrev pub time_literal : Option ℕ → Result Literal LiteralFault

@@ -3,12 +3,11 @@
 // one form, and the first faulty line is the refusal.
 //
 // Handed out: `read` (a text becomes a program, or its first faulty line), `program` (what that
-// is),
-// `fault`, the types of which the definitions speak in `token` (words and marks), `form` (the end
-// of a declaration) and `literal` (why a word is none), and `laws` (that a text is read in one way,
-// by productions, how it may be respelled, and what a duration is). Inside: `piece` (what stands at
-// a place of the text), `lexeme` (a token, with `literal`, `reserved` and `character`), `form` (the
-// forms of lines) and `listing` (what the lines make).
+// is), `fault`, the types of which the definitions speak in `token` (words and marks), `form` (the
+// end of a declaration) and `literal` (why a word is none), and `laws` (that a text is read in one
+// way, by productions, how it may be respelled, and what a duration is). Inside: `piece` (what
+// stands at a place of the text), `lexeme` (a token, with `literal`, `reserved` and `character`),
+// `form` (the forms of lines) and `listing` (what the lines make).
 #![tactic(auto)]
 
 mod character;

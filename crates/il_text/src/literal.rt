@@ -309,10 +309,9 @@ fn part<'a>(duration: Option<Duration<'a>>, unit: &[u8], factor: u64) -> Option<
     })
 }
 
-/// The milliseconds of a duration: parts in falling units, of which the first may pass the next
-/// unit.
-fn milliseconds(word: &[u8]) -> Option<u64>
-    ensures { result ≡ capped_time (spec.milliseconds word.now) }
+/// The parts of a duration in falling units, of which the first may pass the next unit.
+fn parts(word: &[u8]) -> Option<Duration<'_>>
+    ensures { capped_duration (spec.parts word.now) ≡ option_map seen result }
 {
     let whole = Duration {
         rest: word,
@@ -323,7 +322,14 @@ fn milliseconds(word: &[u8]) -> Option<u64>
     let hours = part(days, b"h", 3_600_000);
     let minutes = part(hours, b"m", 60_000);
     let seconds = part(minutes, b"s", 1_000);
-    let Some(last) = part(seconds, b"ms", 1) else {
+    part(seconds, b"ms", 1)
+}
+
+/// The milliseconds of a duration: at least one part, and nothing behind the parts.
+fn milliseconds(word: &[u8]) -> Option<u64>
+    ensures { result ≡ capped_time (spec.milliseconds word.now) }
+{
+    let Some(last) = parts(word) else {
         return None;
     };
     if last.begun && last.rest.is_empty() {

@@ -1,7 +1,7 @@
 // What faults are told as.
 use anyhow::{Result, bail};
 use bay_ber::fault::BerFault;
-use bay_mms::fault::{MmsFault, WriteFault};
+use bay_mms::fault::{EncodeFault, MmsFault};
 use bay_transport::fault::TransportFault;
 use cases::words::first_word;
 use std::alloc::Global;
@@ -63,8 +63,8 @@ fn mms_message(alloc: Global, code: Option<u8>) -> Result<String> {
 /// The message of a response that is not written: it is too long, or there is no memory.
 fn write_message(alloc: Global, word: &str) -> Result<String> {
     match word {
-        "long" => Ok(format!(in alloc; "{}", WriteFault::TooLong)?),
-        "memory" => Ok(format!(in alloc; "{}", WriteFault::OutOfMemory)?),
+        "long" => Ok(format!(in alloc; "{}", EncodeFault::TooLong)?),
+        "memory" => Ok(format!(in alloc; "{}", EncodeFault::OutOfMemory)?),
         _ => bail!("no such fault"),
     }
 }

@@ -27,7 +27,8 @@ mod words;
 
 use anyhow::{Context, Result, bail};
 use bay_device::device::Device;
-use cases::told::Told;
+use cases::sections::{BETWEEN, head_and_body, sections_of};
+use cases::told::{Told, check_answer, outcome_of};
 use eight::check_eight;
 use fronts::check_fronts;
 use replaced::{Trial, check_images};
@@ -35,20 +36,11 @@ use std::alloc::Global;
 use std::io::Read;
 use texts::{Texts, device_of};
 
-/// What came of a case that fails where it is not as it says.
-fn outcome_of(checked: Result<()>) -> Result<bool> {
-    checked?;
-    Ok(true)
-}
-
 /// A line of what a device is asked or does.
 fn check_step(alloc: Global, device: &mut Device, line: &str) -> Result<()> {
     let (question, wanted) = line.split_once(" -> ").context("no answer")?;
     let found = device::answer(alloc, device, question)?;
-    if found.as_str() != wanted {
-        bail!("it is {found}");
-    }
-    Ok(())
+    check_answer(found.as_str(), wanted)
 }
 
 /// The lines of what a device is asked or does.
@@ -114,12 +106,10 @@ fn tell_section(
 
 /// What is told of the cases of all sections.
 fn run(alloc: Global, text: &str) -> Result<String> {
-    let text = text.strip_prefix("== ").context("no section")?;
-    let text = text.strip_suffix("\n").unwrap_or(text);
     let mut texts = Texts::new();
     let mut told = Told::new(alloc);
-    for section in text.split("\n== ") {
-        let (head, body) = section.split_once("\n").unwrap_or((section, ""));
+    for section in sections_of(text)?.split(BETWEEN) {
+        let (head, body) = head_and_body(section);
         match head {
             "bay" => texts.bay = body,
             "logic" => texts.logic = body,

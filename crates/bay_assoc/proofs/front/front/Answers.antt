@@ -6,6 +6,19 @@ use Rattle.bay_assoc.proofs.front.front.Goals as goal
 
 pub returns-clause-text : goal.returns-clause-text
 returns-clause-text c value counted =
-    let carried : c.id_length.result + c.element_length.result ≡ length (element int_tag (integer_octets (pos c.args.id))) + element_length c.args.count = rw (c.id_length.ensures.length, c.element_length.ensures) refl in
-    rw (c.push_header-3.ensures.text, c.push_id.ensures.text, c.push_header-2.ensures.text, c.push_header.ensures.text, c.push-4.ensures.items, c.push-3.ensures.items, c.push-2.ensures.items, c.push.ensures.items, c.new-out.ensures)
-    (front_is c.args.id c.args.count (c.id_length.result + c.element_length.result) c.element_length-listed.result value counted carried c.element_length-listed.ensures)
+    let carried : c.id_length.result + c.element_length.result
+    ≡ length (element int_tag (integer_octets (pos c.args.id))) + element_length c.args.count =
+    rw (c.id_length.ensures.length, c.element_length.ensures) refl in
+    rw (
+      c.push_header-3.ensures.text,
+      c.push_id.ensures.text,
+      c.push_header-2.ensures.text,
+      c.push_header.ensures.text,
+      c.push-4.ensures.items,
+      c.push-3.ensures.items,
+      c.push-2.ensures.items,
+      c.push.ensures.items,
+      c.new-out.ensures,
+    )
+    (front_is c.args.id c.args.count (c.id_length.result + c.element_length.result)
+    c.element_length-listed.result value counted carried c.element_length-listed.ensures)

@@ -6,7 +6,9 @@ pub returns-in-0-to-127-clause-length : goal.returns-in-0-to-127-clause-length
 returns-in-0-to-127-clause-length c = sym (ap length (one_octet c.args.id (omega arith)))
 
 pub returns-in-128-to-32767-clause-length : goal.returns-in-128-to-32767-clause-length
-returns-in-128-to-32767-clause-length c = sym (ap length (two_octets c.args.id (omega arith) (omega arith)))
+returns-in-128-to-32767-clause-length c =
+    sym (ap length (two_octets c.args.id (omega arith) (omega arith)))
 
 pub returns-in-32768-to-65535-clause-length : goal.returns-in-32768-to-65535-clause-length
-returns-in-32768-to-65535-clause-length c = sym (ap length (three_octets c.args.id (omega arith) (omega arith)))
+returns-in-32768-to-65535-clause-length c =
+    sym (ap length (three_octets c.args.id (omega arith) (omega arith)))

@@ -9,9 +9,15 @@ use Rattle.bay_assoc.proofs.presentation.read_contexts.Goals as goal
 pub returns-in-None : goal.returns-in-None
 returns-in-None c =
     let step = rw c.in-Ok-Some.field-0-is at c.in-Ok-Some.ensures.exact in
-    inr (ap (wanted BadPresentation) (passed_bad context_as c.args.octets.now c.loop-value.values c.next_value.new.self c.loop-value.contexts.items (part_of c.in-Ok-Some.value) c.loop-value.invariant step (sym c.in-None.ensures)))
+    inr (ap (wanted BadPresentation)
+    (passed_bad context_as c.args.octets.now c.loop-value.values c.next_value.new.self
+    c.loop-value.contexts.items (part_of c.in-Ok-Some.value) c.loop-value.invariant step
+    (sym c.in-None.ensures)))
 
 pub loop-value-preserved : goal.loop-value-preserved
 loop-value-preserved c =
     let step = rw c.in-Ok-Some.field-0-is at c.in-Ok-Some.ensures.exact in
-    rw c.in_ok-push_context-in-Some.ensures (passed_more context_as c.args.octets.now c.loop-value.values c.next_value.new.self c.loop-value.contexts.items (part_of c.in-Ok-Some.value) c.in-Some.one c.loop-value.invariant step (sym c.in-Some.ensures))
+    rw c.in_ok-push_context-in-Some.ensures
+    (passed_more context_as c.args.octets.now c.loop-value.values c.next_value.new.self
+    c.loop-value.contexts.items (part_of c.in-Ok-Some.value) c.in-Some.one
+    c.loop-value.invariant step (sym c.in-Some.ensures))

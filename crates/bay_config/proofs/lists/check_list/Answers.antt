@@ -14,19 +14,22 @@ pub returns-then-not-are_tables : goal.returns-then-not-are_tables
 returns-then-not-are_tables c =
     let vs = c.args.values.now in
     let same = count-items vs in
-    let none : are_tables (items_view vs) ≡ false = sym (are_tables-map vs) ∙ sym c.are_tables.ensures ∙ c.if-not-are_tables.true in
+    let none : are_tables (items_view vs) ≡ false =
+    sym (are_tables-map vs) ∙ sym c.are_tables.ensures ∙ c.if-not-are_tables.true in
     no_tables c.args.least c.args.most (items_view vs) (omega arith) none
 
 pub returns-then-values-most : goal.returns-then-values-most
 returns-then-values-most c =
     let vs = c.args.values.now in
     let same = count-items vs in
-    let tables : are_tables (items_view vs) ≡ true = sym (are_tables-map vs) ∙ sym c.are_tables.ensures ∙ c.if-not-are_tables.false in
+    let tables : are_tables (items_view vs) ≡ true =
+    sym (are_tables-map vs) ∙ sym c.are_tables.ensures ∙ c.if-not-are_tables.false in
     too_many c.args.least c.args.most (items_view vs) (omega arith) tables (omega arith)
 
 pub returns : goal.returns
 returns c =
     let vs = c.args.values.now in
     let same = count-items vs in
-    let tables : are_tables (items_view vs) ≡ true = sym (are_tables-map vs) ∙ sym c.are_tables.ensures ∙ c.if-not-are_tables.false in
+    let tables : are_tables (items_view vs) ≡ true =
+    sym (are_tables-map vs) ∙ sym c.are_tables.ensures ∙ c.if-not-are_tables.false in
     all_well c.args.least c.args.most (items_view vs) (omega arith) tables (omega arith)

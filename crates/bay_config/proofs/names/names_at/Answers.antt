@@ -7,6 +7,9 @@ use Rattle.bay_config.proofs.names.names_at.Goals as goal
 pub returns-in-Some-as_array : goal.returns-in-Some-as_array
 returns-in-Some-as_array c =
     let f = table_view c.args.file.now in
-    let at : get_member (section_name c.args.which) f ≡ Some (view c.in-Some.value.now) = ap (λ k. get_member k f) (sym c.name.ensures) ∙ sym c.in-Some.ensures in
-    let list : as_array (view c.in-Some.value.now) ≡ Some (items_view c.as_slice.result.now) = sym c.in-Some-as_array.ensures ∙ ap (λ vs. Some (items_view vs)) (sym c.as_slice.ensures.value) in
+    let at : get_member (section_name c.args.which) f ≡ Some (view c.in-Some.value.now) =
+    ap (λ k. get_member k f) (sym c.name.ensures) ∙ sym c.in-Some.ensures in
+    let list : as_array (view c.in-Some.value.now) ≡ Some (items_view c.as_slice.result.now) =
+    sym c.in-Some-as_array.ensures
+    ∙ ap (λ vs. Some (items_view vs)) (sym c.as_slice.ensures.value) in
     rw (at, list) c.names_of.ensures

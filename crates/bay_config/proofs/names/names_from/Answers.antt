@@ -16,7 +16,10 @@ returns-in_err-name c =
     rw (p.1, p.2) (elim c.in_err-name.ensures [
       | inl m ↦ inl m
       | inr read ↦
-          inr (c.loop-i.invariant ∙ turn_refused (name_check c.args.which) (name_in c.args.which) vs c.loop-i.i c.index-values-i.result c.loop-i.names.items (table_view c.in-Some.table.now) c.in_err-name.field-0.0 h c.index-values-i.is c.in-Some.ensures read)
+          inr (c.loop-i.invariant
+          ∙ turn_refused (name_check c.args.which) (name_in c.args.which) vs c.loop-i.i
+          c.index-values-i.result c.loop-i.names.items (table_view c.in-Some.table.now)
+          c.in_err-name.field-0.0 h c.index-values-i.is c.in-Some.ensures read)
     ])
 
 pub loop-i-preserved : goal.loop-i-preserved
@@ -29,10 +32,17 @@ loop-i-preserved c =
     elim c.match-as_table.branch [
       | in-Some+in_ok-name+in_ok-push w ↦
           c.loop-i.invariant
-          ∙ turn_some (name_check c.args.which) (name_in c.args.which) vs i v done (table_view w.in-Some.table.now) w.in_ok-name.name h c.index-values-i.is w.in-Some.ensures w.in_ok-name.ensures
-          ∙ ap (λ d. after d (read_all (name_check c.args.which) (name_in c.args.which) (tables_of (items_view (drop (i + 1) vs))))) (sym (ap (λ s. s.items) w.names-is ∙ w.in_ok-push.ensures.items))
+          ∙ turn_some (name_check c.args.which) (name_in c.args.which) vs i v done
+          (table_view w.in-Some.table.now) w.in_ok-name.name h c.index-values-i.is
+          w.in-Some.ensures w.in_ok-name.ensures
+          ∙ ap (λ d. after d (read_all (name_check c.args.which) (name_in c.args.which)
+          (tables_of (items_view (drop (i + 1) vs)))))
+          (sym (ap (λ s. s.items) w.names-is ∙ w.in_ok-push.ensures.items))
       | in_default w ↦
           c.loop-i.invariant
-          ∙ turn_none (name_check c.args.which) (name_in c.args.which) vs i v done h c.index-values-i.is w.in_default.ensures
-          ∙ ap (λ s. after s.items (read_all (name_check c.args.which) (name_in c.args.which) (tables_of (items_view (drop (i + 1) vs))))) (sym w.names-is)
+          ∙ turn_none (name_check c.args.which) (name_in c.args.which) vs i v done h
+          c.index-values-i.is w.in_default.ensures
+          ∙ ap (λ s. after s.items
+          (read_all (name_check c.args.which) (name_in c.args.which)
+          (tables_of (items_view (drop (i + 1) vs))))) (sym w.names-is)
     ]

@@ -8,4 +8,6 @@ use Rattle.bay_config.proofs.names.names_from.Given as goal
 
 abbrev pub invariant-loop-i : goal.invariant-loop-i
 invariant-loop-i l =
-    read_all (name_check l.which) (name_in l.which) (tables_of (items_view l.values)) ≡ after l.names.items (read_all (name_check l.which) (name_in l.which) (tables_of (items_view (drop l.i l.values))))
+    read_all (name_check l.which) (name_in l.which) (tables_of (items_view l.values))
+    ≡ after l.names.items (read_all (name_check l.which) (name_in l.which)
+    (tables_of (items_view (drop l.i l.values))))

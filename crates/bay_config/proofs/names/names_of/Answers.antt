@@ -10,10 +10,14 @@ pub returns-in_err-check_list : goal.returns-in_err-check_list
 returns-in_err-check_list c =
     let items = items_view c.args.values.now in
     let which = c.args.which in
-    rw (judged_append (list_checks 0 (most_names which) items) (map (λ t. entry_refusal (name_keys which) t) (tables_of items)) (map (name_in which) (tables_of items))) (search rules)
+    rw (judged_append (list_checks 0 (most_names which) items)
+    (map (λ t. entry_refusal (name_keys which) t) (tables_of items))
+    (map (name_in which) (tables_of items))) (search rules)
 
 pub returns : goal.returns
 returns c =
     let items = items_view c.args.values.now in
     let which = c.args.which in
-    rw (judged_append (list_checks 0 (most_names which) items) (map (λ t. entry_refusal (name_keys which) t) (tables_of items)) (map (name_in which) (tables_of items))) (search rules)
+    rw (judged_append (list_checks 0 (most_names which) items)
+    (map (λ t. entry_refusal (name_keys which) t) (tables_of items))
+    (map (name_in which) (tables_of items))) (search rules)

@@ -3,4 +3,5 @@ use Rattle.bay_config.proofs.NamedLemmas.{names_interlocking}
 use Rattle.bay_config.proofs.nodes.interlocking_name.Goals as goal
 
 pub returns : goal.returns
-returns c = names_interlocking c.args.bay.now c.args.place c.in_ok-name.name c.requires (search rules)
+returns c =
+    names_interlocking c.args.bay.now c.args.place c.in_ok-name.name c.requires (search rules)

@@ -3,4 +3,6 @@ use Rattle.bay_config.specs.Point.{points_from}
 use Rattle.bay_config.proofs.points.push_switches.Given as goal
 
 abbrev pub invariant-loop-place : goal.invariant-loop-place
-invariant-loop-place l = l.fn.points.items ++ points_from 0 l.switches ≡ l.points.items ++ points_from l.place (drop l.place l.switches)
+invariant-loop-place l =
+    l.fn.points.items ++ points_from 0 l.switches
+    ≡ l.points.items ++ points_from l.place (drop l.place l.switches)

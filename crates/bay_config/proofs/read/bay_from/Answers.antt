@@ -11,8 +11,10 @@ pub returns-in_err-lists-clause-read : goal.returns-in_err-lists-clause-read
 returns-in_err-lists-clause-read c = rw (by_parts (table_view c.args.file.now)) (search rules)
 
 pub returns-clause-read : goal.returns-clause-read
-returns-clause-read c = rw (by_parts (table_view c.args.file.now), c.bay_with.ensures) (search rules)
+returns-clause-read c =
+    rw (by_parts (table_view c.args.file.now), c.bay_with.ensures) (search rules)
 
 pub returns-clause-sound : goal.returns-clause-sound
 returns-clause-sound c =
-    bay_is_sound (table_view c.args.file.now) _ (rw (by_parts (table_view c.args.file.now), c.bay_with.ensures) (search rules))
+    bay_is_sound (table_view c.args.file.now) _
+    (rw (by_parts (table_view c.args.file.now), c.bay_with.ensures) (search rules))

@@ -12,8 +12,10 @@ document-is (Some n) m is = cc
 
 pub returns-in_err-bay-clause-read : goal.returns-in_err-bay-clause-read
 returns-in_err-bay-clause-read c =
-    rw (document-is (document_of c.args.text.now) (table_view c.in_ok-file.file) c.in_ok-file.ensures) (search rules)
+    rw (document-is (document_of c.args.text.now) (table_view c.in_ok-file.file)
+    c.in_ok-file.ensures) (search rules)
 
 pub returns-clause-read : goal.returns-clause-read
 returns-clause-read c =
-    rw (document-is (document_of c.args.text.now) (table_view c.in_ok-file.file) c.in_ok-file.ensures) (search rules)
+    rw (document-is (document_of c.args.text.now) (table_view c.in_ok-file.file)
+    c.in_ok-file.ensures) (search rules)

@@ -16,7 +16,10 @@ returns-in_err-switch c =
     rw (p.1, p.2) (elim c.in_err-switch.ensures [
       | inl m ↦ inl m
       | inr read ↦
-          inr (c.loop-i.invariant ∙ turn_refused switch_check switch_in vs c.loop-i.i c.index-values-i.result c.loop-i.switches.items (table_view c.in-Some.table.now) c.in_err-switch.field-0.0 h c.index-values-i.is c.in-Some.ensures read)
+          inr (c.loop-i.invariant
+          ∙ turn_refused switch_check switch_in vs c.loop-i.i c.index-values-i.result
+          c.loop-i.switches.items (table_view c.in-Some.table.now) c.in_err-switch.field-0.0 h
+          c.index-values-i.is c.in-Some.ensures read)
     ])
 
 pub loop-i-preserved : goal.loop-i-preserved
@@ -29,10 +32,15 @@ loop-i-preserved c =
     elim c.match-as_table.branch [
       | in-Some+in_ok-switch+in_ok-push w ↦
           c.loop-i.invariant
-          ∙ turn_some switch_check switch_in vs i v done (table_view w.in-Some.table.now) w.in_ok-switch.switch h c.index-values-i.is w.in-Some.ensures w.in_ok-switch.ensures
-          ∙ ap (λ d. after d (read_all switch_check switch_in (tables_of (items_view (drop (i + 1) vs))))) (sym (ap (λ s. s.items) w.switches-is ∙ w.in_ok-push.ensures.items))
+          ∙ turn_some switch_check switch_in vs i v done (table_view w.in-Some.table.now)
+          w.in_ok-switch.switch h c.index-values-i.is w.in-Some.ensures w.in_ok-switch.ensures
+          ∙ ap (λ d. after d (read_all switch_check switch_in
+          (tables_of (items_view (drop (i + 1) vs)))))
+          (sym (ap (λ s. s.items) w.switches-is ∙ w.in_ok-push.ensures.items))
       | in_default w ↦
           c.loop-i.invariant
           ∙ turn_none switch_check switch_in vs i v done h c.index-values-i.is w.in_default.ensures
-          ∙ ap (λ s. after s.items (read_all switch_check switch_in (tables_of (items_view (drop (i + 1) vs))))) (sym w.switches-is)
+          ∙ ap (λ s. after s.items
+          (read_all switch_check switch_in (tables_of (items_view (drop (i + 1) vs)))))
+          (sym w.switches-is)
     ]

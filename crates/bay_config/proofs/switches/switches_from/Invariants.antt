@@ -8,4 +8,6 @@ use Rattle.bay_config.proofs.switches.switches_from.Given as goal
 
 abbrev pub invariant-loop-i : goal.invariant-loop-i
 invariant-loop-i l =
-    read_all switch_check switch_in (tables_of (items_view l.values)) ≡ after l.switches.items (read_all switch_check switch_in (tables_of (items_view (drop l.i l.values))))
+    read_all switch_check switch_in (tables_of (items_view l.values))
+    ≡ after l.switches.items
+    (read_all switch_check switch_in (tables_of (items_view (drop l.i l.values))))

@@ -5,4 +5,5 @@ use Rattle.bay_control.proofs.controls.controls_of.Given as goal
 -- the controls of the switches so far
 abbrev pub invariant-loop-switch : goal.invariant-loop-switch
 invariant-loop-switch l =
-    (length l.controls.items ≡ l.switch-index) × (l.controls.items ≡ controls_of (take l.switch-index l.switches))
+    (length l.controls.items ≡ l.switch-index)
+    × (l.controls.items ≡ controls_of (take l.switch-index l.switches))

@@ -6,14 +6,19 @@ use Rattle.bay_device.proofs.TravelLemmas.{bay-travels}
 use Rattle.bay_device.proofs.load.load.Goals as goal
 
 pub returns-clause-accepted : goal.returns-clause-accepted
-returns-clause-accepted c = accepted-ok c.args.bay.now c.args.logic.now c.load_texts.result c.load_texts.ensures.runs
+returns-clause-accepted c =
+    accepted-ok c.args.bay.now c.args.logic.now c.load_texts.result c.load_texts.ensures.runs
 
 pub returns-clause-refused : goal.returns-clause-refused
-returns-clause-refused c = refused-err c.args.bay.now c.args.logic.now c.load_texts.result c.load_texts.ensures.device
+returns-clause-refused c =
+    refused-err c.args.bay.now c.args.logic.now c.load_texts.result c.load_texts.ensures.device
 
 pub returns-clause-idle : goal.returns-clause-idle
-returns-clause-idle c = text-idle (bay_of c.args.bay.now) (program_of c.args.logic.now) c.load_texts.result c.load_texts.ensures.device
+returns-clause-idle c =
+    text-idle (bay_of c.args.bay.now) (program_of c.args.logic.now) c.load_texts.result
+    c.load_texts.ensures.device
 
 pub returns-clause-timed : goal.returns-clause-timed
 returns-clause-timed c =
-    text-timed (bay_of c.args.bay.now) (program_of c.args.logic.now) c.load_texts.result (bay-travels c.args.bay.now) c.load_texts.ensures.device
+    text-timed (bay_of c.args.bay.now) (program_of c.args.logic.now) c.load_texts.result
+    (bay-travels c.args.bay.now) c.load_texts.ensures.device

@@ -17,9 +17,14 @@ pub returns-in_err-verified-clause-device : goal.returns-in_err-verified-clause-
 returns-in_err-verified-clause-device c =
     let bay = c.args.bay in
     let program : Checked = checked_view c.args.typed in
-    let fits : IsVerified bay.points c.in_ok-image.image = verified bay.points c.requires.checked.0 program c.requires.checked.1 (typed_of bay.points c.requires.checked.0 program c.requires.checked.1) c.in_ok-image.image c.in_ok-image.ensures.image in
-    let p = err_from_is_err_and c.from_residual-in_err-verified.result c.from_residual-in_err-verified.ensures.1 in
-    rw (p.1, p.2) (inl (only-memory _ (λ m. c.in_err-verified.ensures.exact m (rw c.as_slice.ensures fits))))
+    let fits : IsVerified bay.points c.in_ok-image.image =
+    verified bay.points c.requires.checked.0 program c.requires.checked.1
+    (typed_of bay.points c.requires.checked.0 program c.requires.checked.1) c.in_ok-image.image
+    c.in_ok-image.ensures.image in
+    let p = err_from_is_err_and c.from_residual-in_err-verified.result
+    c.from_residual-in_err-verified.ensures.1 in
+    rw (p.1, p.2)
+    (inl (only-memory _ (λ m. c.in_err-verified.ensures.exact m (rw c.as_slice.ensures fits))))
 
 pub returns-clause-runs : goal.returns-clause-runs
 returns-clause-runs c =
@@ -27,5 +32,10 @@ returns-clause-runs c =
     let program : Checked = checked_view c.args.typed in
     let is = image-is program c.in_ok-image.image c.in_ok-image.ensures.image in
     let fits = rw c.as_slice.ensures at c.in_ok-verified.ensures.accepted in
-    let first = runs-first program bay c.requires.bay (subst (λ (i : Image). IsVerified bay.points i) is fits) (subst (λ (i : Image). DoesTheText program i.code) is c.in_ok-image.ensures.follows) in
-    subst (Runs program) (sym (c.in_ok-device.ensures ∙ ap (initial_device bay) (c.in_ok-verified.ensures.same ∙ is))) first
+    let first =
+    runs-first program bay c.requires.bay
+    (subst (λ (i : Image). IsVerified bay.points i) is fits)
+    (subst (λ (i : Image). DoesTheText program i.code) is c.in_ok-image.ensures.follows) in
+    subst (Runs program) (sym
+    (c.in_ok-device.ensures ∙ ap (initial_device bay) (c.in_ok-verified.ensures.same ∙ is)))
+    first

@@ -16,7 +16,9 @@ invariant_of-state c =
     record {
       bound = rw (did.layout, did.switches) d.bound;
       metered = rw did.layout d.metered;
-      told_stands = told-again (bay_view d.bay) (bay_view c.answer.new.self) d.told d.told_stands did.back c.answer.new.self.shows;
+      told_stands =
+          told-again (bay_view d.bay) (bay_view c.answer.new.self) d.told d.told_stands did.back
+          c.answer.new.self.shows;
       told_sized = rw did.switches d.told_sized;
       tabled = rw did.switches d.tabled;
       typed = d.typed;
@@ -29,7 +31,9 @@ invariant_of-state-in-Break-branch-2 c =
     record {
       bound = rw (did.layout, did.switches) d.bound;
       metered = rw did.layout d.metered;
-      told_stands = told-again (bay_view d.bay) (bay_view c.answer.new.self) d.told d.told_stands did.back c.answer.new.self.shows;
+      told_stands =
+          told-again (bay_view d.bay) (bay_view c.answer.new.self) d.told d.told_stands did.back
+          c.answer.new.self.shows;
       told_sized = rw did.switches d.told_sized;
       tabled = rw did.switches d.tabled;
       typed = d.typed;
@@ -42,7 +46,9 @@ invariant_of-state-2 c =
     record {
       bound = rw (did.layout, did.switches) d.bound;
       metered = rw did.layout d.metered;
-      told_stands = told-again (bay_view d.bay) (bay_view c.answer.new.self) d.told d.told_stands did.back c.answer.new.self.shows;
+      told_stands =
+          told-again (bay_view d.bay) (bay_view c.answer.new.self) d.told d.told_stands did.back
+          c.answer.new.self.shows;
       told_sized = rw did.switches d.told_sized;
       tabled = rw did.switches d.tabled;
       typed = d.typed;
@@ -57,8 +63,12 @@ returns-clause-ok c connections =
     let x : Answered = answered c.args.client c.args.connection.now.pdu (bay_of s) in
     let answered-as = rw c.pdu.ensures at c.in_ok-answer.ensures.ok in
     let did = c.in_ok-due.ensures in
-    answered-done a terms x s c.args.output.now.sent.items c.reply.new.output.sent.items c.args.output.now.commands.items c.reply.new.output.commands.items (bay_view c.answer.new.self) c.replace_due.new.due
+    answered-done a terms x s c.args.made.now.sent.items c.reply.new.made.sent.items
+    c.args.made.now.commands.items c.reply.new.made.commands.items (bay_view c.answer.new.self)
+    c.replace_due.new.due
     answered-as.left
-    (c.replace_due.ensures ∙ ap (later_due d.due) (did.due ∙ ap (due_if a terms) answered-as.ending))
-    (did.sent ∙ ap (λ pdus. c.args.output.now.sent.items ++ map (λ pdu. sent_on a (sending terms pdu)) pdus) answered-as.sent)
-    (did.commands ∙ ap (λ cs. c.args.output.now.commands.items ++ cs) answered-as.commands)
+    (c.replace_due.ensures ∙ ap (later_due d.due)
+    (did.due ∙ ap (due_if a terms) answered-as.ending))
+    (did.sent ∙ ap (λ pdus. c.args.made.now.sent.items
+    ++ map (λ pdu. sent_on a (sending terms pdu)) pdus) answered-as.sent)
+    (did.commands ∙ ap (λ cs. c.args.made.now.commands.items ++ cs) answered-as.commands)

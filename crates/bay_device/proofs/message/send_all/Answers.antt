@@ -16,11 +16,16 @@ loop-pdu-preserved c =
     let terms : Terms = terms_of c.args.connection.now.talk in
     let pdu : List ℕ = get_or pdus c.loop-pdu.pdu-index c.pdu-item.result in
     let frame : List ℕ → Sent = λ p. sent_on a (sending terms p) in
-    let octets = c.in_ok-octets.ensures ∙ ap (λ p. sending terms p) (c.as_slice.ensures ∙ c.pdu-item.is) in
-    let items = c.in_ok-push.ensures.items ∙ ap (λ o. c.loop-pdu.sent.items ++ sent_on a o ∷ []) octets in
+    let octets =
+    c.in_ok-octets.ensures ∙ ap (λ p. sending terms p) (c.as_slice.ensures ∙ c.pdu-item.is) in
+    let items =
+    c.in_ok-push.ensures.items ∙ ap (λ o. c.loop-pdu.sent.items ++ sent_on a o ∷ []) octets in
     rw items record {
-      goes = c.loop-pdu.invariant.goes ∙ one-more frame c.loop-pdu.sent.items pdus c.loop-pdu.pdu-index c.pdu-item.result c.loop-pdu-test.true;
-      kept = front-kept c.args.sent.now.items c.loop-pdu.sent.items (sent_on a (sending terms pdu) ∷ []) c.loop-pdu.invariant.kept;
+      goes = c.loop-pdu.invariant.goes
+          ∙ one-more frame c.loop-pdu.sent.items pdus c.loop-pdu.pdu-index c.pdu-item.result
+          c.loop-pdu-test.true;
+      kept = front-kept c.args.sent.now.items c.loop-pdu.sent.items
+          (sent_on a (sending terms pdu) ∷ []) c.loop-pdu.invariant.kept;
     }
 
 pub returns-clause-ok : goal.returns-clause-ok
@@ -30,4 +35,6 @@ returns-clause-ok c =
     let terms : Terms = terms_of c.args.connection.now.talk in
     let past : length pdus ≤ c.loop-pdu.pdu-index = omega (arith, c.loop-pdu-test.false) in
     let none : drop c.loop-pdu.pdu-index pdus ≡ [] = drop_of_length-le pdus past in
-    sym (c.loop-pdu.invariant.goes ∙ ap (λ ps. c.loop-pdu.sent.items ++ map (λ p. sent_on a (sending terms p)) ps) none ∙ append-nil c.loop-pdu.sent.items)
+    sym (c.loop-pdu.invariant.goes
+    ∙ ap (λ ps. c.loop-pdu.sent.items ++ map (λ p. sent_on a (sending terms p)) ps) none
+    ∙ append-nil c.loop-pdu.sent.items)

@@ -22,7 +22,8 @@ loop-at-init c = record {
   going = c.requires.going;
   first = λ none. refl;
   later = λ some. absurd (omega (arith, some));
-  moves = λ connections. moves-none c.args.now c.args.association c.args.connection.now.talk c.args.octets.now (done_of (state_view connections c.args.state.now) c.args.output.now);
+  moves = λ connections. moves-none c.args.now c.args.association c.args.connection.now.talk
+      c.args.octets.now (done_of (state_view connections c.args.state.now) c.args.made.now);
 }
 
 pub loop-at-preserved : goal.loop-at-preserved
@@ -37,28 +38,39 @@ loop-at-preserved c =
       within = omega (arith, stood.within, length-drop at octets);
       going = did.going;
       first = λ none. absurd (omega (arith, did.moves, none));
-      later = λ some. left-on c.args.connection.now.talk c.loop-at.connection.talk c.turn.new.connection.talk octets at used stood.first stood.later
-          (did.left ∙ ap (λ rest. left_by c.loop-at.connection.talk (take used rest)) (rest-of octets at));
-      moves = λ connections. rw (← drop-drop octets at used) (moves-on _ _ _ _ _ _ _ _ _ _ _ (stood.moves connections) ((rw rest-of at did.ok) connections));
+      later = λ some. left-on c.args.connection.now.talk c.loop-at.connection.talk
+          c.turn.new.connection.talk octets at used stood.first stood.later
+          (did.left ∙ ap (λ rest. left_by c.loop-at.connection.talk (take used rest))
+          (rest-of octets at));
+      moves = λ connections. rw (← drop-drop octets at used)
+          (moves-on _ _ _ _ _ _ _ _ _ _ _ (stood.moves connections)
+          ((rw rest-of at did.ok) connections));
     }
 
 pub returns-in_err-at-clause-err : goal.returns-in_err-at-clause-err
 returns-in_err-at-clause-err c =
     let p = err_from_is_err_and c.from_residual.result c.from_residual.ensures.1 in
-    rw (p.1, p.2) (λ connections. stops-then _ _ _ _ _ _ _ _ _ _ (c.loop-at.invariant.moves connections) ((rw rest-of at c.in_err-at.ensures.err) connections))
+    rw (p.1, p.2) (λ connections. stops-then _ _ _ _ _ _ _ _ _ _
+    (c.loop-at.invariant.moves connections)
+    ((rw rest-of at c.in_err-at.ensures.err) connections))
 
 pub returns-clause-left : goal.returns-clause-left
 returns-clause-left c =
     let octets = c.args.octets.now in
     let stood = c.loop-at.invariant in
     let all : c.loop-at.at ≡ length octets = omega (arith, stood.within, c.loop-at-test.false) in
-    let whole : take c.loop-at.at octets ≡ octets = ap (λ n. take n octets) all ∙ take-length octets in
-    stood.later (omega (arith, all, c.requires.some)) ∙ ap (left_by c.args.connection.now.talk) whole
+    let whole : take c.loop-at.at octets ≡ octets =
+    ap (λ n. take n octets) all ∙ take-length octets in
+    stood.later (omega (arith, all, c.requires.some))
+    ∙ ap (left_by c.args.connection.now.talk) whole
 
 pub returns-clause-ok : goal.returns-clause-ok
 returns-clause-ok c connections =
     let octets = c.args.octets.now in
     let past : length octets ≤ c.loop-at.at = omega (arith, c.loop-at-test.false) in
     let none : drop c.loop-at.at octets ≡ [] = drop_of_length-le octets past in
-    ends-all c.args.now c.args.association c.args.connection.now.talk octets (done_of (state_view connections c.args.state.now) c.args.output.now) c.loop-at.connection.talk
-    (done_of (state_view connections c.loop-at.state) c.loop-at.output) (returns-clause-left c) (rw none at (c.loop-at.invariant.moves connections))
+    ends-all c.args.now c.args.association c.args.connection.now.talk octets
+    (done_of (state_view connections c.args.state.now) c.args.made.now)
+    c.loop-at.connection.talk
+    (done_of (state_view connections c.loop-at.state) c.loop-at.made) (returns-clause-left c)
+    (rw none at (c.loop-at.invariant.moves connections))

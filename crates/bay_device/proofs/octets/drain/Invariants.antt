@@ -11,8 +11,10 @@ invariant-loop-at l = record {
   going : IsGoing l.connection.talk.stream.left;
   first : l.at ≡ 0 → l.connection.talk ≡ l.initial.connection.talk;
   later : 0 < l.at → l.connection.talk ≡ left_by l.initial.connection.talk (take l.at l.octets);
-  moves : (connections : List (Option Talk)) → Moves l.now l.association l.initial.connection.talk l.octets (done_of (state_view connections l.initial.state) l.initial.output)
-      l.connection.talk (drop l.at l.octets) (done_of (state_view connections l.state) l.output);
+  moves : (connections : List (Option Talk))
+      → Moves l.now l.association l.initial.connection.talk l.octets
+      (done_of (state_view connections l.initial.state) l.initial.made)
+      l.connection.talk (drop l.at l.octets) (done_of (state_view connections l.state) l.made);
 }
 
 abbrev pub decreases-loop-at : goal.decreases-loop-at

@@ -13,7 +13,8 @@ pub take_position-requires : goal.take_position-requires
 take_position-requires c =
     let d = c.args.bay.now in
     let bound = get_or c.as_slice.result.now c.args.switch c.index-as_slice-switch.result in
-    (d.placed c.args.switch bound (there d.switches _ c.args.switch _ c.as_slice.ensures c.requires)).kinded
+    (d.placed c.args.switch bound
+    (there d.switches _ c.args.switch _ c.as_slice.ensures c.requires)).leaf_typed
 
 pub invariant_of-bay : goal.invariant_of-bay
 invariant_of-bay c =
@@ -22,13 +23,17 @@ invariant_of-bay c =
     let bound = get_or c.as_slice.result.now c.args.switch c.index-as_slice-switch.result in
     let here = there d.switches _ k _ c.as_slice.ensures c.requires in
     let did = c.take_position.ensures in
-    let written : c.take_position.new.tree ≡ rows_after_contact (switch_names (switches_of d.switches) k bound.switch) c.args.position c.args.now d.tree =
-    did.rows ∙ ap (λ (n : SwitchNames). rows_after_contact n c.args.position c.args.now d.tree) (d.placed k bound here).named in
+    let written : c.take_position.new.tree
+    ≡ rows_after_contact (switch_names (switches_of d.switches) k bound.switch) c.args.position
+    c.args.now d.tree =
+    did.rows ∙ ap (λ (n : SwitchNames). rows_after_contact n c.args.position c.args.now d.tree)
+    (d.placed k bound here).named in
     record {
       placed = rw did.layout d.placed;
       controlled = rows_kept _ d.tree d.control_rows (sym did.layout) d.controlled;
       sized = d.sized;
-      shows = rw written (shows-contact d.controls (length (switches_of d.switches)) (switches_of d.switches) k bound.switch c.args.position c.args.now d.tree d.shows);
+      shows = rw written (shows-contact d.controls (length (switches_of d.switches))
+          (switches_of d.switches) k bound.switch c.args.position c.args.now d.tree d.shows);
     }
 
 pub returns-clause-changed : goal.returns-clause-changed
@@ -37,7 +42,8 @@ returns-clause-changed c s is =
     let bound = get_or c.as_slice.result.now c.args.switch c.index-as_slice-switch.result in
     let here = there d.switches _ c.args.switch _ c.as_slice.ensures c.requires in
     c.take_position.ensures.changed
-    ∙ ap (λ (n : SwitchNames). not (tells n.position c.args.position d.tree)) (named-there (layout_of d.tree) d.switches c.args.switch bound s d.placed here is)
+    ∙ ap (λ (n : SwitchNames). not (tells n.position c.args.position d.tree))
+    (named-there (layout_of d.tree) d.switches c.args.switch bound s d.placed here is)
 
 pub returns-clause-after : goal.returns-clause-after
 returns-clause-after c s is =
@@ -45,4 +51,6 @@ returns-clause-after c s is =
     let bound = get_or c.as_slice.result.now c.args.switch c.index-as_slice-switch.result in
     let here = there d.switches _ c.args.switch _ c.as_slice.ensures c.requires in
     ap (λ rows. record (bay_view d) { rows = rows })
-    (c.take_position.ensures.rows ∙ ap (λ (n : SwitchNames). rows_after_contact n c.args.position c.args.now d.tree) (named-there (layout_of d.tree) d.switches c.args.switch bound s d.placed here is))
+    (c.take_position.ensures.rows
+    ∙ ap (λ (n : SwitchNames). rows_after_contact n c.args.position c.args.now d.tree)
+    (named-there (layout_of d.tree) d.switches c.args.switch bound s d.placed here is))

@@ -4,37 +4,46 @@ use Rattle.bay_nodes.specs.Names.{StatusNames, meter_names}
 use Rattle.bay_process.specs.Layout.{layout_of, status_in, switches_of}
 use Rattle.bay_process.specs.Names.{field_names}
 use Rattle.bay_process.specs.Values.{rows_after_measure, tells_measure}
-use Rattle.bay_process.proofs.FieldLemmas.{field-kinded, field-named}
+use Rattle.bay_process.proofs.FieldLemmas.{field-leaf_typed, field-named}
 use Rattle.bay_services.specs.Views.{bay_view}
 use Rattle.bay_services.proofs.PlaceLemmas.{rows_kept}
 use Rattle.bay_device.proofs.ApartLemmas.{shows-measure}
 use Rattle.bay_device.proofs.process.measure.Goals as goal
 
 pub take_measure-requires : goal.take_measure-requires
-take_measure-requires c = rw c.field.ensures (field-kinded (layout_of c.args.bay.now.tree) c.args.rows c.args.field c.requires.kinded)
+take_measure-requires c =
+    rw c.field.ensures (field-leaf_typed (layout_of c.args.bay.now.tree) c.args.rows c.args.field
+    c.requires.leaf_typed)
 
 pub invariant_of-bay : goal.invariant_of-bay
 invariant_of-bay c =
     let d = c.args.bay.now in
     let f = c.args.field in
-    let named = ap (status_in (layout_of d.tree)) c.field.ensures ∙ field-named (layout_of d.tree) c.args.rows f ∙ ap (field_names f) c.requires.named in
+    let named =
+    ap (status_in (layout_of d.tree)) c.field.ensures
+    ∙ field-named (layout_of d.tree) c.args.rows f ∙ ap (field_names f) c.requires.named in
     let did = c.take_measure.ensures in
     let fits = c.ranges.value in
     let rows = simp to_z-of_z at did.rows in
-    let written : c.take_measure.new.tree ≡ rows_after_measure (field_names f (meter_names c.args._meter)) c.args.value c.args.now d.tree =
+    let written : c.take_measure.new.tree
+    ≡ rows_after_measure (field_names f (meter_names c.args._meter)) c.args.value c.args.now
+    d.tree =
     rows ∙ ap (λ (n : StatusNames). rows_after_measure n c.args.value c.args.now d.tree) named in
     record {
       placed = rw did.layout d.placed;
       controlled = rows_kept _ d.tree d.control_rows (sym did.layout) d.controlled;
       sized = d.sized;
-      shows = rw written (shows-measure d.controls (length (switches_of d.switches)) c.args._meter f c.args.value c.args.now d.tree d.shows);
+      shows = rw written (shows-measure d.controls (length (switches_of d.switches)) c.args._meter f
+          c.args.value c.args.now d.tree d.shows);
     }
 
 pub returns-clause-changed : goal.returns-clause-changed
 returns-clause-changed c =
     let d = c.args.bay.now in
     let f = c.args.field in
-    let named = ap (status_in (layout_of d.tree)) c.field.ensures ∙ field-named (layout_of d.tree) c.args.rows f ∙ ap (field_names f) c.requires.named in
+    let named =
+    ap (status_in (layout_of d.tree)) c.field.ensures
+    ∙ field-named (layout_of d.tree) c.args.rows f ∙ ap (field_names f) c.requires.named in
     let fits = c.ranges.value in
     let changed = simp to_z-of_z at c.take_measure.ensures.changed in
     changed ∙ ap (λ (n : StatusNames). not (tells_measure n c.args.value d.tree)) named
@@ -43,7 +52,10 @@ pub returns-clause-after : goal.returns-clause-after
 returns-clause-after c =
     let d = c.args.bay.now in
     let f = c.args.field in
-    let named = ap (status_in (layout_of d.tree)) c.field.ensures ∙ field-named (layout_of d.tree) c.args.rows f ∙ ap (field_names f) c.requires.named in
+    let named =
+    ap (status_in (layout_of d.tree)) c.field.ensures
+    ∙ field-named (layout_of d.tree) c.args.rows f ∙ ap (field_names f) c.requires.named in
     let fits = c.ranges.value in
     let rows = simp to_z-of_z at c.take_measure.ensures.rows in
-    ap (λ rs. record (bay_view d) { rows = rs }) (rows ∙ ap (λ (n : StatusNames). rows_after_measure n c.args.value c.args.now d.tree) named)
+    ap (λ rs. record (bay_view d) { rows = rs })
+    (rows ∙ ap (λ (n : StatusNames). rows_after_measure n c.args.value c.args.now d.tree) named)

@@ -12,10 +12,13 @@ pub invariant_of-bay : goal.invariant_of-bay
 invariant_of-bay c =
     let d = c.args.bay.now in
     let did = c.write_outputs.ensures in
-    let written : c.write_outputs.new.tree ≡ outputs_put (layout_of d.tree) d.switches c.args.outputs.now c.args.now d.tree = rw c.as_slice.ensures at did.rows in
+    let written : c.write_outputs.new.tree
+    ≡ outputs_put (layout_of d.tree) d.switches c.args.outputs.now c.args.now d.tree =
+    rw c.as_slice.ensures at did.rows in
     record {
       placed = rw did.layout d.placed;
       controlled = rows_kept _ d.tree d.control_rows (sym did.layout) d.controlled;
       sized = d.sized;
-      shows = rw written (shows-scan d.controls (length (switches_of d.switches)) (layout_of d.tree) c.args.outputs.now c.args.now d.switches d.tree c.requires.interlocked d.shows);
+      shows = rw written (shows-scan d.controls (length (switches_of d.switches)) (layout_of d.tree)
+          c.args.outputs.now c.args.now d.switches d.tree c.requires.interlocked d.shows);
     }

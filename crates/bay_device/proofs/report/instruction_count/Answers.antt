@@ -12,5 +12,6 @@ pub returns : goal.returns
 returns c =
     let i = c.loop-next.invariant in
     let end = ends c.loop-next.place (length c.args.code.now) i.within
-    (λ lt. always_there c.args.code.now c.requires.code c.loop-next.count c.loop-next.place i.counted lt (sym c.instr_at.ensures.value ∙ c.in_default.is)) in
+    (λ lt. always_there c.args.code.now c.requires.code c.loop-next.count c.loop-next.place
+    i.counted lt (sym c.instr_at.ensures.value ∙ c.in_default.is)) in
     i.counted ∙ ap (λ p. Some p) end

@@ -5,7 +5,8 @@ use Rattle.bay_io.proofs.outbox.write_out.Given as goal
 abbrev pub invariant-loop-done : goal.invariant-loop-done
 invariant-loop-done g l = record {
   within : l.done ≤ length l.text;
-  sent : Appends (g.W.Sink.contents l.initial.writer.inner) (g.W.Sink.contents l.writer.inner) (take l.done l.text);
+  sent : Appends (g.W.Sink.contents l.initial.writer.inner) (g.W.Sink.contents l.writer.inner)
+      (take l.done l.text);
   unfailed : l.writer.has_failed ≡ false;
 }
 

@@ -8,7 +8,8 @@ returns g c =
     let done = c.step-answer.ensures.steps in
     record {
       choice = done.choice;
-      text = subst (λ t. Puts g.W.Write.contents c.args.outbox.now c.args.writer.now t c.put_step.new.outbox c.put_step.new.writer c.put_step.result)
+      text = subst (λ t. Puts g.W.Write.contents c.args.outbox.now c.args.writer.now t
+          c.put_step.new.outbox c.put_step.new.writer c.put_step.result)
           (ap₂ (λ a d. step_text c.args.moment a d) done.answered done.left) c.put_step.ensures;
       left_is = done.left;
     }

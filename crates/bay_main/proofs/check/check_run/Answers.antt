@@ -6,11 +6,17 @@ use Rattle.bay_main.proofs.check.check_run.Goals as goal
 pub returns-in-Ok : goal.returns-in-Ok
 returns-in-Ok g c =
     let bay = c.args.bay.now in
-    Prints-weaker g.W.Write.contents (MayTell c.report.result) (CheckReport bay c.args.form c.args.program.now) c.args.writer.now c.write_report.new.writer c.write_report.result
-    (CheckReport-device bay c.args.form c.args.program.now c.in-Ok.device c.report.result c.in-Ok.ensures.ok c.report.ensures) c.write_report.ensures
+    Prints-weaker g.W.Write.contents (MayTell c.report.result)
+    (CheckReport bay c.args.form c.args.program.now) c.args.writer.now c.write_report.new.writer
+    c.write_report.result
+    (CheckReport-device bay c.args.form c.args.program.now c.in-Ok.device c.report.result
+    c.in-Ok.ensures.ok c.report.ensures) c.write_report.ensures
 
 pub returns-in-Err : goal.returns-in-Err
 returns-in-Err g c =
     let bay = c.args.bay.now in
-    Prints-weaker g.W.Write.contents (MayRefuse c.in-Err.fault) (CheckReport bay c.args.form c.args.program.now) c.args.writer.now c.write_refusal.new.writer c.write_refusal.result
-    (CheckReport-refused bay c.args.form c.args.program.now c.in-Err.fault c.in-Err.ensures.refused) c.write_refusal.ensures
+    Prints-weaker g.W.Write.contents (MayRefuse c.in-Err.fault)
+    (CheckReport bay c.args.form c.args.program.now) c.args.writer.now
+    c.write_refusal.new.writer c.write_refusal.result
+    (CheckReport-refused bay c.args.form c.args.program.now c.in-Err.fault c.in-Err.ensures.refused)
+    c.write_refusal.ensures

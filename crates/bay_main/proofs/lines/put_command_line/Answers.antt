@@ -6,8 +6,15 @@ use Rattle.bay_main.proofs.lines.put_command_line.Goals as goal
 
 pub returns-in_err-put_numbered : goal.returns-in_err-put_numbered
 returns-in_err-put_numbered g c =
-    Puts-cut g.W.Write.contents c.args.outbox.now c.args.writer.now c.put_numbered.new.writer (decimal c.args.moment ++ codes " command") ((codes " " ++ c.args.id.now) ++ order_text c.args.on) _ c.put_numbered.new.outbox c.from_residual.result c.from_residual.ensures.0 (refl) c.in_err-put_numbered.ensures
+    Puts-cut g.W.Write.contents c.args.outbox.now c.args.writer.now c.put_numbered.new.writer
+    (decimal c.args.moment ++ codes " command")
+    ((codes " " ++ c.args.id.now) ++ order_text c.args.on) _ c.put_numbered.new.outbox
+    c.from_residual.result c.from_residual.ensures.0 (refl) c.in_err-put_numbered.ensures
 
 pub returns : goal.returns
 returns g c =
-    Puts-then g.W.Write.contents c.args.outbox.now c.args.writer.now c.put_numbered.new.writer c.put_order.new.writer (decimal c.args.moment ++ codes " command") ((codes " " ++ c.args.id.now) ++ order_text c.args.on) _ c.put_numbered.new.outbox c.put_order.new.outbox c.put_order.result (refl) c.in_ok-put_numbered.ensures c.put_order.ensures
+    Puts-then g.W.Write.contents c.args.outbox.now c.args.writer.now c.put_numbered.new.writer
+    c.put_order.new.writer (decimal c.args.moment ++ codes " command")
+    ((codes " " ++ c.args.id.now) ++ order_text c.args.on) _ c.put_numbered.new.outbox
+    c.put_order.new.outbox c.put_order.result (refl) c.in_ok-put_numbered.ensures
+    c.put_order.ensures

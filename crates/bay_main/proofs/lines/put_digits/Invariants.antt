@@ -5,7 +5,8 @@ use Rattle.bay_main.proofs.lines.put_digits.Given as goal
 
 abbrev pub invariant-loop-rest : goal.invariant-loop-rest
 invariant-loop-rest g l = record {
-  progress : Rest g.W.Write.contents l.initial.outbox l.initial.writer (encode_lower l.octets) (encode_lower l.rest) l.outbox l.writer;
+  progress : Rest g.W.Write.contents l.initial.outbox l.initial.writer (encode_lower l.octets)
+      (encode_lower l.rest) l.outbox l.writer;
   sized : length l.room ≡ 512;
 }
 

@@ -5,8 +5,15 @@ use Rattle.bay_main.proofs.lines.put_steps.Goals as goal
 
 pub returns-in_err-put_numbered : goal.returns-in_err-put_numbered
 returns-in_err-put_numbered g c =
-    Puts-cut g.W.Write.contents c.args.outbox.now c.args.writer.now c.put_numbered.new.writer (decimal c.args.moment ++ codes " scan steps=") (decimal c.args.steps) _ c.put_numbered.new.outbox c.from_residual.result c.from_residual.ensures.0 refl c.in_err-put_numbered.ensures
+    Puts-cut g.W.Write.contents c.args.outbox.now c.args.writer.now c.put_numbered.new.writer
+    (decimal c.args.moment ++ codes " scan steps=") (decimal c.args.steps) _
+    c.put_numbered.new.outbox c.from_residual.result c.from_residual.ensures.0 refl
+    c.in_err-put_numbered.ensures
 
 pub returns : goal.returns
 returns g c =
-    Puts-then g.W.Write.contents c.args.outbox.now c.args.writer.now c.put_numbered.new.writer c.put_number.new.writer (decimal c.args.moment ++ codes " scan steps=") (decimal c.from.result) _ c.put_numbered.new.outbox c.put_number.new.self c.put_number.result (ap (λ n. (decimal c.args.moment ++ codes " scan steps=") ++ decimal n) (sym c.from.ensures)) c.in_ok-put_numbered.ensures c.put_number.ensures
+    Puts-then g.W.Write.contents c.args.outbox.now c.args.writer.now c.put_numbered.new.writer
+    c.put_number.new.writer (decimal c.args.moment ++ codes " scan steps=")
+    (decimal c.from.result) _ c.put_numbered.new.outbox c.put_number.new.self
+    c.put_number.result (ap (λ n. (decimal c.args.moment ++ codes " scan steps=") ++ decimal n)
+    (sym c.from.ensures)) c.in_ok-put_numbered.ensures c.put_number.ensures

@@ -9,4 +9,6 @@ use Rattle.bay_main.proofs.serving.serve_line.Goals as goal
 pub returns-in-Err-clause-refused : goal.returns-in-Err-clause-refused
 returns-in-Err-clause-refused g c =
     let none = no_text-unread c.in-Some.octets.now c.in-Err.ensures.cases.0 in
-    rw c.in-Some.is (ap (λ line. refusal_of (process_of line) (nat_lt last_moment (moment_at c.args.clock c.args.server.now))) none)
+    rw c.in-Some.is
+    (ap (λ line. refusal_of (process_of line)
+    (nat_lt last_moment (moment_at c.args.clock c.args.server.now))) none)

@@ -6,22 +6,54 @@ use Rattle.bay_main.proofs.serving.serve_lines.Goals as goal
 
 pub returns-in_err-status : goal.returns-in_err-status
 returns-in_err-status g c =
-    let more : c.args.turns - c.loop-turn.turn ≡ suc (c.args.turns - (c.loop-turn.turn + 1)) = grind (arith, nat_tests) in
-    Reached-fails (Called g.L.Link.does g.L.Link.failures) g.H.Host.does g.W.Write.contents _ _ _ _ _ _ _ _ _ c.loop-turn.invariant.reached _ _ c.next_line-line.ensures.first c.next_line-line.ensures.others more
-    (record { link = c.try_turn.new.link.link; held = c.try_turn.new.server; host = c.try_turn.new.host }) c.try_turn.new.writer _ c.from_residual.result c.from_residual.ensures.0 c.in_err-status.ensures
+    let more : c.args.turns - c.loop-turn.turn ≡ suc (c.args.turns - (c.loop-turn.turn + 1)) =
+    grind (arith, nat_tests) in
+    Reached-fails (Called g.L.Link.does g.L.Link.failures) g.H.Host.does g.W.Write.contents _ _ _ _
+    _ _ _ _ _ c.loop-turn.invariant.reached _ _ c.next_line-line.ensures.first
+    c.next_line-line.ensures.others more
+    (record {
+      link = c.try_turn.new.link.link;
+      held = c.try_turn.new.server;
+      host = c.try_turn.new.host;
+    }) c.try_turn.new.writer _ c.from_residual.result
+    c.from_residual.ensures.0 c.in_err-status.ensures
 
 pub returns-in-Ends : goal.returns-in-Ends
 returns-in-Ends g c =
-    let more : c.args.turns - c.loop-turn.turn ≡ suc (c.args.turns - (c.loop-turn.turn + 1)) = grind (arith, nat_tests) in
-    Reached-ends (Called g.L.Link.does g.L.Link.failures) g.H.Host.does g.W.Write.contents _ _ _ _ _ _ _ _ _ c.loop-turn.invariant.reached _ _ c.next_line-line.ensures.first c.next_line-line.ensures.others more
-    (record { link = c.try_turn.new.link.link; held = c.try_turn.new.server; host = c.try_turn.new.host }) c.try_turn.new.writer _ _ c.in-Ends.is c.in_ok-status.ensures
+    let more : c.args.turns - c.loop-turn.turn ≡ suc (c.args.turns - (c.loop-turn.turn + 1)) =
+    grind (arith, nat_tests) in
+    Reached-ends (Called g.L.Link.does g.L.Link.failures) g.H.Host.does g.W.Write.contents _ _ _ _ _
+    _ _ _ _ c.loop-turn.invariant.reached _ _ c.next_line-line.ensures.first
+    c.next_line-line.ensures.others more
+    (record {
+      link = c.try_turn.new.link.link;
+      held = c.try_turn.new.server;
+      host = c.try_turn.new.host;
+    }) c.try_turn.new.writer _ _ c.in-Ends.is c.in_ok-status.ensures
 
 pub loop-turn-preserved : goal.loop-turn-preserved
 loop-turn-preserved g c =
-    let more : c.args.turns - c.loop-turn.turn ≡ suc (c.args.turns - (c.loop-turn.turn + 1)) = grind (arith, nat_tests) in
+    let more : c.args.turns - c.loop-turn.turn ≡ suc (c.args.turns - (c.loop-turn.turn + 1)) =
+    grind (arith, nat_tests) in
     record {
       within = grind (arith, nat_tests);
-      well = goes-well (Called g.L.Link.does g.L.Link.failures) g.H.Host.does g.W.Write.contents _ _ _ (record { link = c.try_turn.new.link.link; held = c.try_turn.new.server; host = c.try_turn.new.host }) c.try_turn.new.writer _ _ c.in-Done.is c.loop-turn.invariant.well c.in_ok-status.ensures;
-      reached = Reached-done (Called g.L.Link.does g.L.Link.failures) g.H.Host.does g.W.Write.contents _ _ _ _ _ _ _ _ _ c.loop-turn.invariant.reached _ _ c.next_line-line.ensures.first c.next_line-line.ensures.others more
-          (record { link = c.try_turn.new.link.link; held = c.try_turn.new.server; host = c.try_turn.new.host }) _ c.try_turn.new.writer _ _ c.in-Done.is c.in_ok-status.ensures (may-pause (Called g.L.Link.does g.L.Link.failures) g.H.Host.does g.W.Write.contents _ _ _ _ c.rest.ensures);
+      well = goes-well (Called g.L.Link.does g.L.Link.failures) g.H.Host.does g.W.Write.contents _ _
+          _ (record {
+            link = c.try_turn.new.link.link;
+            held = c.try_turn.new.server;
+            host = c.try_turn.new.host;
+          }) c.try_turn.new.writer _ _ c.in-Done.is
+          c.loop-turn.invariant.well c.in_ok-status.ensures;
+      reached =
+          Reached-done (Called g.L.Link.does g.L.Link.failures) g.H.Host.does g.W.Write.contents _ _
+          _ _ _ _ _ _ _ c.loop-turn.invariant.reached _ _ c.next_line-line.ensures.first
+          c.next_line-line.ensures.others more
+          (record {
+            link = c.try_turn.new.link.link;
+            held = c.try_turn.new.server;
+            host = c.try_turn.new.host;
+          }) _ c.try_turn.new.writer _ _ c.in-Done.is
+          c.in_ok-status.ensures
+          (may-pause (Called g.L.Link.does g.L.Link.failures) g.H.Host.does g.W.Write.contents _
+          _ _ _ c.rest.ensures);
     }

@@ -7,7 +7,10 @@ abbrev pub invariant-loop-turn : goal.invariant-loop-turn
 invariant-loop-turn g l = record {
   within : l.turn ≤ l.turns;
   well : l.writer.has_failed ≡ false;
-  reached : Reached (Called g.L.Link.does g.L.Link.failures) g.H.Host.does g.W.Write.contents l.turns l.initial.lines
-      (record { link = l.initial.link.link; held = l.initial.server; host = l.initial.host }) l.initial.writer
-      (l.turns - l.turn) l.lines (record { link = l.link.link; held = l.server; host = l.host }) l.writer;
+  reached : Reached (Called g.L.Link.does g.L.Link.failures) g.H.Host.does g.W.Write.contents
+      l.turns l.initial.lines
+      (record { link = l.initial.link.link; held = l.initial.server; host = l.initial.host })
+      l.initial.writer
+      (l.turns - l.turn) l.lines (record { link = l.link.link; held = l.server; host = l.host })
+      l.writer;
 }

@@ -4,7 +4,10 @@ use Rattle.bay_main.specs.TurnLines.{is_quiet}
 use Rattle.bay_main.proofs.turns.tell_turn.Goals as goal
 
 pub returns-then-is_quiet : goal.returns-then-is_quiet
-returns-then-is_quiet g c = chosen _ (is_quiet c.args.turn.now) (sym c.is_quiet.ensures ∙ c.if-is_quiet.true) (refl, refl)
+returns-then-is_quiet g c =
+    chosen _ (is_quiet c.args.turn.now) (sym c.is_quiet.ensures ∙ c.if-is_quiet.true) (refl, refl)
 
 pub returns-else-is_quiet : goal.returns-else-is_quiet
-returns-else-is_quiet g c = other _ (is_quiet c.args.turn.now) (sym c.is_quiet.ensures ∙ c.if-is_quiet.false) c.write_turn.ensures
+returns-else-is_quiet g c =
+    other _ (is_quiet c.args.turn.now) (sym c.is_quiet.ensures ∙ c.if-is_quiet.false)
+    c.write_turn.ensures

@@ -4,12 +4,21 @@ use Rattle.bay_main.proofs.turns.write_bad_line.Goals as goal
 
 pub returns-in_err-put_unreadable : goal.returns-in_err-put_unreadable
 returns-in_err-put_unreadable g c =
-    last-cut g.W.Write.contents (unreadable_text c.args.number) 3 c.new-outbox.result c.args.writer.now c.put_unreadable.new.writer c.put_unreadable.new.writer c.new-outbox.ensures c.from_residual.result c.from_residual.ensures.0 c.in_err-put_unreadable.ensures
+    last-cut g.W.Write.contents (unreadable_text c.args.number) 3 c.new-outbox.result
+    c.args.writer.now c.put_unreadable.new.writer c.put_unreadable.new.writer
+    c.new-outbox.ensures c.from_residual.result c.from_residual.ensures.0
+    c.in_err-put_unreadable.ensures
 
 pub returns-in_err-finish : goal.returns-in_err-finish
 returns-in_err-finish g c =
-    last-stuck g.W.Write.contents (unreadable_text c.args.number) 3 c.new-outbox.result c.args.writer.now c.put_unreadable.new.writer c.finish.new.writer c.new-outbox.ensures _ c.from_residual-in_err-finish.result c.from_residual-in_err-finish.ensures.0 c.in_ok-put_unreadable.ensures.0 c.in_err-finish.ensures.err c.in_err-finish.ensures.fault
+    last-stuck g.W.Write.contents (unreadable_text c.args.number) 3 c.new-outbox.result
+    c.args.writer.now c.put_unreadable.new.writer c.finish.new.writer c.new-outbox.ensures _
+    c.from_residual-in_err-finish.result c.from_residual-in_err-finish.ensures.0
+    c.in_ok-put_unreadable.ensures.0 c.in_err-finish.ensures.err c.in_err-finish.ensures.fault
 
 pub returns : goal.returns
 returns g c =
-    last-done g.W.Write.contents (unreadable_text c.args.number) 3 c.new-outbox.result c.args.writer.now c.put_unreadable.new.writer c.finish.new.writer c.new-outbox.ensures _ c.in_ok-put_unreadable.ensures.0 c.in_ok-finish.ensures.ok c.in_ok-finish.ensures.fault c.in_ok-finish.ensures.flushed
+    last-done g.W.Write.contents (unreadable_text c.args.number) 3 c.new-outbox.result
+    c.args.writer.now c.put_unreadable.new.writer c.finish.new.writer c.new-outbox.ensures _
+    c.in_ok-put_unreadable.ensures.0 c.in_ok-finish.ensures.ok c.in_ok-finish.ensures.fault
+    c.in_ok-finish.ensures.flushed

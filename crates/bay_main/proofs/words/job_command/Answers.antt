@@ -10,7 +10,9 @@ returns c =
     ∙ ap₂ with_subcommand
     (c.in_ok-subcommand-2.ensures.shape (search rules)
     ∙ ap₂ with_subcommand
-    (c.in_ok-subcommand.ensures.shape (search rules) ∙ ap₂ with_subcommand c.in_ok-program_command.ensures (ap (λ (a : App). a.top) c.in_ok-check.ensures.app))
+    (c.in_ok-subcommand.ensures.shape (search rules)
+    ∙ ap₂ with_subcommand c.in_ok-program_command.ensures
+    (ap (λ (a : App). a.top) c.in_ok-check.ensures.app))
     (ap (λ (a : App). a.top) c.replay_command.ensures.app))
     (ap (λ (a : App). a.top) c.in_ok-serve.ensures.app))
     (ap (λ (a : App). a.top) c.in_ok-compile.ensures.app)

@@ -13,7 +13,8 @@ pub returns-clause-one : goal.returns-clause-one
 returns-clause-one c = one_asked
 
 pub returns-clause-initiate : goal.returns-clause-initiate
-returns-clause-initiate c = λ octets proposal fits. (initiate_back octets proposal fits, initiate_read octets proposal)
+returns-clause-initiate c =
+    λ octets proposal fits. (initiate_back octets proposal fits, initiate_read octets proposal)
 
 pub returns-clause-answer : goal.returns-clause-answer
 returns-clause-answer c = answer_held

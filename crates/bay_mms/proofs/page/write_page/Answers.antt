@@ -14,9 +14,11 @@ unreachable-requires c =
 pub returns-in-Ok-clause-page : goal.returns-in-Ok-clause-page
 returns-in-Ok-clause-page c =
     let names = names_from c.args.tree.now c.in_ok-first.first in
-    rw (← c.in_ok-first.ensures.names) (text_given (first_page c.args.id c.args.size names) _ c.in-Ok.ensures)
+    rw (← c.in_ok-first.ensures.names)
+    (text_given (first_page c.args.id c.args.size names) _ c.in-Ok.ensures)
 
 pub returns-in-Ok-clause-short : goal.returns-in-Ok-clause-short
 returns-in-Ok-clause-short c =
     let names = names_from c.args.tree.now c.in_ok-first.first in
-    rw (text_given (first_page c.args.id c.args.size names) _ c.in-Ok.ensures) (first_page_short c.args.id c.args.size names c.requires.some)
+    rw (text_given (first_page c.args.id c.args.size names) _ c.in-Ok.ensures)
+    (first_page_short c.args.id c.args.size names c.requires.some)

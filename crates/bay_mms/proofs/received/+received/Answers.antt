@@ -15,7 +15,10 @@ read_data-returns-in_err-part-in-Ok-Some t c =
     let step = rw c.in-Ok-Some.field-0-is at c.in-Ok-Some.ensures.exact in
     let f = datum_as c.args.depth in
     let part = part_of c.in-Ok-Some.value in
-    rw (p.1, p.2) (gives_stop c.in_err-part-in-Ok-Some.field-0.0 (f part) (each_in f c.args.octets.now) c.in_err-part-in-Ok-Some.ensures (λ bad. passed_bad f c.args.octets.now c.loop-value.values c.next_value.new.self (data_in c.loop-value.parts.items) part c.loop-value.invariant step bad))
+    rw (p.1, p.2) (gives_stop c.in_err-part-in-Ok-Some.field-0.0 (f part)
+    (each_in f c.args.octets.now) c.in_err-part-in-Ok-Some.ensures
+    (λ bad. passed_bad f c.args.octets.now c.loop-value.values c.next_value.new.self
+    (data_in c.loop-value.parts.items) part c.loop-value.invariant step bad))
 
 pub read_data-loop-value-preserved : goal.read_data-loop-value-preserved
 read_data-loop-value-preserved t c =
@@ -23,24 +26,40 @@ read_data-loop-value-preserved t c =
     let f = datum_as c.args.depth in
     let part = part_of c.in-Ok-Some.value in
     let x = datum_of c.in_ok-part-in-Ok-Some.part in
-    rw c.in_ok-push_data-in-Ok-Some.ensures (passed_more f c.args.octets.now c.loop-value.values c.next_value.new.self (data_in c.loop-value.parts.items) part x c.loop-value.invariant step (spelled_ok (f part) x c.in_ok-part-in-Ok-Some.ensures))
+    rw c.in_ok-push_data-in-Ok-Some.ensures
+    (passed_more f c.args.octets.now c.loop-value.values c.next_value.new.self
+    (data_in c.loop-value.parts.items) part x c.loop-value.invariant step
+    (spelled_ok (f part) x c.in_ok-part-in-Ok-Some.ensures))
 
 pub read_datum-returns-then-depth-eq0 : goal.read_datum-returns-then-depth-eq0
-read_datum-returns-then-depth-eq0 t c = inr (too_deep c.args.depth (part_of c.args.value.now) c.if-depth-eq0.true)
+read_datum-returns-then-depth-eq0 t c =
+    inr (too_deep c.args.depth (part_of c.args.value.now) c.if-depth-eq0.true)
 
 pub read_datum-returns-in_err-parts : goal.read_datum-returns-in_err-parts
 read_datum-returns-in_err-parts t c =
     let p = err_from_is_err_and c.from_residual.result c.from_residual.ensures.1 in
-    let is : same_tag c.args.value.now.tag (constructed 2) ≡ true = ap (same_tag c.args.value.now.tag) (sym c.context_constructed.ensures) ∙ sym c.is.ensures ∙ c.if-is.true in
-    rw (p.1, p.2) (structure_err c.args.depth (part_of c.args.value.now) c.in_err-parts.field-0.0 (omega arith) is c.in_err-parts.ensures)
+    let is : same_tag c.args.value.now.tag (constructed 2) ≡ true =
+    ap (same_tag c.args.value.now.tag) (sym c.context_constructed.ensures) ∙ sym c.is.ensures
+    ∙ c.if-is.true in
+    rw (p.1, p.2) (structure_err c.args.depth (part_of c.args.value.now) c.in_err-parts.field-0.0
+    (omega arith) is c.in_err-parts.ensures)
 
 pub read_datum-returns-in_ok-parts : goal.read_datum-returns-in_ok-parts
 read_datum-returns-in_ok-parts t c =
-    let is : same_tag c.args.value.now.tag (constructed 2) ≡ true = ap (same_tag c.args.value.now.tag) (sym c.context_constructed.ensures) ∙ sym c.is.ensures ∙ c.if-is.true in
-    structure_ok c.args.depth (part_of c.args.value.now) (data_in c.in_ok-parts.parts.items) (omega arith) is c.in_ok-parts.ensures ∙ ap Ok (sym (view_structure c.in_ok-parts.parts))
+    let is : same_tag c.args.value.now.tag (constructed 2) ≡ true =
+    ap (same_tag c.args.value.now.tag) (sym c.context_constructed.ensures) ∙ sym c.is.ensures
+    ∙ c.if-is.true in
+    structure_ok c.args.depth (part_of c.args.value.now) (data_in c.in_ok-parts.parts.items)
+    (omega arith) is c.in_ok-parts.ensures ∙ ap Ok (sym (view_structure c.in_ok-parts.parts))
 
 pub read_datum-returns-else-is : goal.read_datum-returns-else-is
 read_datum-returns-else-is t c =
-    let isnt : same_tag c.args.value.now.tag (constructed 2) ≡ false = ap (same_tag c.args.value.now.tag) (sym c.context_constructed.ensures) ∙ sym c.is.ensures ∙ c.if-is.false in
-    let is : datum_as c.args.depth (part_of c.args.value.now) ≡ simple_as (part_of c.args.value.now) = simple_is c.args.depth (part_of c.args.value.now) (omega arith) isnt in
-    rw c.ok_or.ensures.value (gives_option datum_of c.simple_as.result (datum_as c.args.depth (part_of c.args.value.now)) (c.simple_as.ensures ∙ sym is))
+    let isnt : same_tag c.args.value.now.tag (constructed 2) ≡ false =
+    ap (same_tag c.args.value.now.tag) (sym c.context_constructed.ensures) ∙ sym c.is.ensures
+    ∙ c.if-is.false in
+    let is : datum_as c.args.depth (part_of c.args.value.now)
+    ≡ simple_as (part_of c.args.value.now) =
+    simple_is c.args.depth (part_of c.args.value.now) (omega arith) isnt in
+    rw c.ok_or.ensures.value
+    (gives_option datum_of c.simple_as.result (datum_as c.args.depth (part_of c.args.value.now))
+    (c.simple_as.ensures ∙ sym is))

@@ -11,7 +11,8 @@ abbrev pub decreases-read_data : goal.decreases-read_data
 decreases-read_data l = 2 * l.depth + 1
 
 abbrev pub invariant-read_data-loop-value : goal.invariant-read_data-loop-value
-invariant-read_data-loop-value l = Passed (datum_as l.depth) l.octets l.values (data_in l.parts.items)
+invariant-read_data-loop-value l =
+    Passed (datum_as l.depth) l.octets l.values (data_in l.parts.items)
 
 abbrev pub decreases-read_data-loop-value : goal.decreases-read_data-loop-value
 decreases-read_data-loop-value l = length l.values

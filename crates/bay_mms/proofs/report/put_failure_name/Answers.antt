@@ -7,4 +7,6 @@ pub returns-in_err-put_octets : goal.returns-in_err-put_octets
 returns-in_err-put_octets c =
     let p = err_from_is_err_and c.from_residual.result c.from_residual.ensures.1 in
     let f = c.in_err-put_octets.field-0.0 in
-    rw (p.1, p.2) (named_fault f failure_name (rw (c.context.ensures, c.as_bytes.ensures.value, c.failure_object.ensures) at c.in_err-put_octets.ensures))
+    rw (p.1, p.2) (named_fault f failure_name
+    (rw (c.context.ensures, c.as_bytes.ensures.value, c.failure_object.ensures) at
+    c.in_err-put_octets.ensures))

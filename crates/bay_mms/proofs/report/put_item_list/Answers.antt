@@ -6,4 +6,5 @@ use Rattle.bay_mms.proofs.report.put_item_list.Goals as goal
 pub returns-in_err-put_item_name : goal.returns-in_err-put_item_name
 returns-in_err-put_item_name c =
     let p = err_from_is_err_and c.from_residual.result c.from_residual.ensures.1 in
-    rw (p.1, p.2) (around_fault c.in_err-put_item_name.field-0.0 (constructed 0) _ c.in_err-put_item_name.ensures)
+    rw (p.1, p.2) (around_fault c.in_err-put_item_name.field-0.0 (constructed 0) _
+    c.in_err-put_item_name.ensures)

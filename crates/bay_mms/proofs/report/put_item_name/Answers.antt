@@ -7,4 +7,5 @@ pub returns-in_err-put_item : goal.returns-in_err-put_item
 returns-in_err-put_item c =
     let p = err_from_is_err_and c.from_residual.result c.from_residual.ensures.1 in
     let f = c.in_err-put_item.field-0.0 in
-    rw (p.1, p.2) (named_fault f (item_name c.args.domain.now c.args.item.now) c.in_err-put_item.ensures)
+    rw (p.1, p.2) (named_fault f (item_name c.args.domain.now c.args.item.now)
+    c.in_err-put_item.ensures)

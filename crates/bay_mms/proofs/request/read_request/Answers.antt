@@ -7,4 +7,5 @@ pub returns : goal.returns
 returns c =
     let octets = c.args.octets.now in
     let bytes : IsBytes octets = λ i. omega (arith, c.type_inv.octets i) in
-    answer_is octets c.answer_to.result bytes c.answer_to.ensures.asked (λ e. memory_taken octets bytes (c.answer_to.ensures.memory e))
+    answer_is octets c.answer_to.result bytes c.answer_to.ensures.asked
+    (λ e. memory_taken octets bytes (c.answer_to.ensures.memory e))

@@ -12,4 +12,10 @@ returns-in_err-put_octets c =
     let p = err_from_is_err_and c.from_residual.result c.from_residual.ensures.1 in
     let names = c.args.names.now in
     let at = c.loop-name.name-index in
-    rw (p.1, p.2) (remains_fault c.in_err-put_octets.field-0.0 c.args.writer.now c.loop-name.writer (element visible_tag c.name-item.result) _ _ _ (ap names_text (drop_more names at c.name-item.result c.loop-name-test.true) ∙ ap (λ (name : List ℕ). element visible_tag name ++ names_text (drop (at + 1) names)) (sym c.name-item.is)) c.loop-name.invariant (rw (c.universal.ensures, c.as_bytes.ensures.value, c.as_str.ensures) at c.in_err-put_octets.ensures))
+    rw (p.1, p.2) (remains_fault c.in_err-put_octets.field-0.0 c.args.writer.now c.loop-name.writer
+    (element visible_tag c.name-item.result) _ _ _
+    (ap names_text (drop_more names at c.name-item.result c.loop-name-test.true)
+    ∙ ap (λ (name : List ℕ). element visible_tag name ++ names_text (drop (at + 1) names))
+    (sym c.name-item.is)) c.loop-name.invariant
+    (rw (c.universal.ensures, c.as_bytes.ensures.value, c.as_str.ensures) at
+    c.in_err-put_octets.ensures))

@@ -10,5 +10,9 @@ use Rattle.bay_mms.proofs.response.write_attributes.Goals as goal
 pub returns-in_err-put_attributes : goal.returns-in_err-put_attributes
 returns-in_err-put_attributes c =
     let p = err_from_is_err_and c.from_residual.result c.from_residual.ensures.1 in
-    let text : List ℕ = element (context 0) (truth_octets false) ++ element (constructed 2) (type_text (type_at c.args.tree.now c.args.handle.now)) in
-    rw (p.1, p.2) (gives_fault c.in_err-put_attributes.field-0.0 _ (confirmed_fault c.in_err-put_attributes.field-0.0 c.args.id 6 text c.in_err-put_attributes.ensures))
+    let text : List ℕ =
+    element (context 0) (truth_octets false)
+    ++ element (constructed 2) (type_text (type_at c.args.tree.now c.args.handle.now)) in
+    rw (p.1, p.2) (gives_fault c.in_err-put_attributes.field-0.0 _
+    (confirmed_fault c.in_err-put_attributes.field-0.0 c.args.id 6 text
+    c.in_err-put_attributes.ensures))

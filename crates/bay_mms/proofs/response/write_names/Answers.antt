@@ -8,4 +8,7 @@ pub returns-in_err-put_names : goal.returns-in_err-put_names
 returns-in_err-put_names c =
     let p = err_from_is_err_and c.from_residual.result c.from_residual.ensures.1 in
     let fault = c.in_err-put_names.field-0.0 in
-    rw (p.1, p.2) (gives_fault fault _ (confirmed_fault fault c.args.id 1 (listing_text c.args.names.now c.args.more) (fault_left fault _ _ (around_fault fault (constructed 0) (names_text c.args.names.now) c.in_err-put_names.ensures))))
+    rw (p.1, p.2) (gives_fault fault _
+    (confirmed_fault fault c.args.id 1 (listing_text c.args.names.now c.args.more)
+    (fault_left fault _ _ (around_fault fault (constructed 0) (names_text c.args.names.now)
+    c.in_err-put_names.ensures))))

@@ -7,5 +7,7 @@ use Rattle.bay_mms.proofs.response.write_response.Goals as goal
 
 pub returns-in_ok-write_conclude-in-Conclude : goal.returns-in_ok-write_conclude-in-Conclude
 returns-in_ok-write_conclude-in-Conclude c =
-    let short : length concluded_text < 4294967296 = omega (arith, length-element (context 12) []) in
-    rw c.in-Conclude.is (gives_text concluded_text short ∙ ap Ok (sym c.in_ok-write_conclude-in-Conclude.ensures))
+    let short : length concluded_text < 4294967296 =
+    omega (arith, length-element (context 12) []) in
+    rw c.in-Conclude.is (gives_text concluded_text short
+    ∙ ap Ok (sym c.in_ok-write_conclude-in-Conclude.ensures))

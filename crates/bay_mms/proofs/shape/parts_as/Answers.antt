@@ -7,4 +7,9 @@ use Rattle.bay_mms.proofs.shape.parts_as.Goals as goal
 pub returns-in-Structure : goal.returns-in-Structure
 returns-in-Structure c =
     let parts = c.in-Structure.parts in
-    rw (c.in-Structure.is, view_structure parts, list_before (data_in parts.items), c.as_slice.ensures.value) refl
+    rw (
+      c.in-Structure.is,
+      view_structure parts,
+      list_before (data_in parts.items),
+      c.as_slice.ensures.value,
+    ) refl

@@ -7,12 +7,20 @@ use Rattle.bay_nodes.proofs.rows.push_commands.Goals as goal
 pub returns-in_ok-push_table-in-Direct-2 : goal.returns-in_ok-push_table-in-Direct-2
 returns-in_ok-push_table-in-Direct-2 c =
     let n = c.args.nameplate.now in
-    rw (c.in-Direct.is, c.in_ok-push_table-in-Direct-2.ensures, c.in_ok-push_table-in-Direct.ensures)
-    (rw (c.group_table.ensures n, c.operate_table.ensures n) (two_groups c.args.node.now c.args.rows.now.items group_row (rows_of (codes "$CO$Pos") (operation (codes "Oper")))))
+    rw (
+      c.in-Direct.is,
+      c.in_ok-push_table-in-Direct-2.ensures,
+      c.in_ok-push_table-in-Direct.ensures,
+    )
+    (rw (c.group_table.ensures n, c.operate_table.ensures n)
+    (two_groups c.args.node.now c.args.rows.now.items group_row
+    (rows_of (codes "$CO$Pos") (operation (codes "Oper")))))
 
 pub returns-in-Sbo : goal.returns-in-Sbo
-returns-in-Sbo c = rw c.in-Sbo.is (rw (c.select_table.ensures c.args.nameplate.now) at c.push_selection.ensures)
+returns-in-Sbo c =
+    rw c.in-Sbo.is (rw (c.select_table.ensures c.args.nameplate.now) at c.push_selection.ensures)
 
 pub returns-in-SboEnhanced : goal.returns-in-SboEnhanced
 returns-in-SboEnhanced c =
-    rw c.in-SboEnhanced.is (rw (c.select_with_value_table.ensures c.args.nameplate.now) at c.push_selection-in-SboEnhanced.ensures)
+    rw c.in-SboEnhanced.is (rw (c.select_with_value_table.ensures c.args.nameplate.now) at
+    c.push_selection-in-SboEnhanced.ensures)

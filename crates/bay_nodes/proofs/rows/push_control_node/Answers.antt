@@ -13,9 +13,13 @@ returns c =
     let first = c.control_table.result.now in
     let last = c.control_model_table.result.now in
     c.in_ok-push_row-2.ensures
-    ∙ ap (λ rs. rs ++ row (node ++ codes "$CF$Pos$sboTimeout") (Some (Unsigned32 s.sbo_timeout_ms)) ∷ [])
+    ∙ ap (λ rs. rs ++ row (node ++ codes "$CF$Pos$sboTimeout") (Some (Unsigned32 s.sbo_timeout_ms))
+    ∷ [])
     (c.in_ok-push_table-2.ensures
     ∙ ap (λ rs. rs ++ table_rows n node last)
     (c.in_ok-push_commands.ensures
-    ∙ ap (λ rs. rs ++ map (under node) (command_rows s.control)) (c.in_ok-push_table.ensures ∙ ap (λ rs. rs ++ table_rows n node first) c.in_ok-push_row.ensures)))
-    ∙ control_appended n c.args.rows.now.items node s.control s.sbo_timeout_ms first last (c.control_table.ensures n) (c.control_model_table.ensures n)
+    ∙ ap (λ rs. rs ++ map (under node) (command_rows s.control))
+    (c.in_ok-push_table.ensures
+    ∙ ap (λ rs. rs ++ table_rows n node first) c.in_ok-push_row.ensures)))
+    ∙ control_appended n c.args.rows.now.items node s.control s.sbo_timeout_ms first last
+    (c.control_table.ensures n) (c.control_model_table.ensures n)

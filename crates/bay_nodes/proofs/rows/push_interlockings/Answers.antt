@@ -7,5 +7,8 @@ pub loop-i-preserved : goal.loop-i-preserved
 loop-i-preserved c =
     let ts = c.args.switches.now in
     c.loop-i.invariant
-    ∙ alike_turn interlocking_node (λ n. record { name = node_name (codes "CILO") n; parts = interlocking_parts }) ts c.loop-i.i c.loop-i.rows.items (omega arith) (λ t. refl)
-    ∙ ap (λ rows. rows ++ numbered_from interlocking_node (c.loop-i.i + 1 + 1) (drop (c.loop-i.i + 1) ts)) (sym c.in_ok-push_interlocking.ensures)
+    ∙ alike_turn interlocking_node
+    (λ n. record { name = node_name (codes "CILO") n; parts = interlocking_parts }) ts
+    c.loop-i.i c.loop-i.rows.items (omega arith) (λ t. refl)
+    ∙ ap (λ rows. rows ++ numbered_from interlocking_node (c.loop-i.i + 1 + 1)
+    (drop (c.loop-i.i + 1) ts)) (sym c.in_ok-push_interlocking.ensures)

@@ -5,4 +5,5 @@ use Rattle.bay_nodes.proofs.rows.push_meters.Given as goal
 
 abbrev pub invariant-loop-i : goal.invariant-loop-i
 invariant-loop-i l =
-    l.fn.rows.items ++ numbered_from meter_node 1 l.meters ≡ l.rows.items ++ numbered_from meter_node (l.i + 1) (drop l.i l.meters)
+    l.fn.rows.items ++ numbered_from meter_node 1 l.meters
+    ≡ l.rows.items ++ numbered_from meter_node (l.i + 1) (drop l.i l.meters)

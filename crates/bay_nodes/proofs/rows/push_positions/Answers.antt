@@ -11,8 +11,18 @@ loop-switch-preserved c =
     let s = c.switch-item.result in
     let done = c.loop-switch.rows.items in
     elim c.if-is_of.branch [
-      | then-is_of+in_ok-push_position w ↦
-          (omega arith, rw (w.rows-is, w.number-is, w.in_ok-push_position.ensures) (c.loop-switch.invariant.1 ∙ position_turn c.args.breakers ss i n s done (omega arith) c.switch-item.is (sym c.is_of.ensures ∙ w.if-is_of.true)))
-      | else-is_of w ↦
-          (omega arith, rw (w.rows-is, w.number-is) (c.loop-switch.invariant.1 ∙ position_passed c.args.breakers ss i n s done (omega arith) c.switch-item.is (sym c.is_of.ensures ∙ w.if-is_of.false)))
+      | then-is_of+in_ok-push_position w ↦ (
+        omega arith,
+        rw (w.rows-is, w.number-is, w.in_ok-push_position.ensures)
+            (c.loop-switch.invariant.1
+            ∙ position_turn c.args.breakers ss i n s done (omega arith) c.switch-item.is
+            (sym c.is_of.ensures ∙ w.if-is_of.true)),
+      )
+      | else-is_of w ↦ (
+        omega arith,
+        rw (w.rows-is, w.number-is)
+            (c.loop-switch.invariant.1
+            ∙ position_passed c.args.breakers ss i n s done (omega arith) c.switch-item.is
+            (sym c.is_of.ensures ∙ w.if-is_of.false)),
+      )
     ]

@@ -8,4 +8,7 @@ pub returns-clause-rows : goal.returns-clause-rows
 returns-clause-rows c = grind (arith, common_steps)
 
 pub returns-clause-tree : goal.returns-clause-tree
-returns-clause-tree c = λ few_switches few_meters. subst IsTree (sym (returns-clause-rows c)) (rows_make_tree c.args.nameplate.now c.args.switches.now c.args.meters.now few_switches few_meters)
+returns-clause-tree c =
+    λ few_switches few_meters. subst IsTree (sym (returns-clause-rows c))
+    (rows_make_tree c.args.nameplate.now c.args.switches.now c.args.meters.now few_switches
+    few_meters)

@@ -1,24 +1,29 @@
 use Rattle.std.proofs.Common.{◌≡◌, ◌∙◌, sym, subst}
-use Rattle.bay_tree.specs.declared.leaf.Kind.TheVariants.{Truth}
+use Rattle.bay_tree.specs.declared.leaf.LeafType.TheVariants.{Truth}
 use Rattle.bay_nodes.specs.Names.{control_names_of, control_of}
 use Rattle.bay_process.specs.Controls.{AreControlRows}
 use Rattle.bay_process.specs.Nodes.{HasLeaf}
 use Rattle.bay_process.specs.declared.controls.ControlRows.{ControlRows}
 use Rattle.bay_process.proofs.ListLemmas.{length-snoc}
-use Rattle.bay_process.proofs.NodeLemmas.{controls-snoc, selected-kind}
+use Rattle.bay_process.proofs.NodeLemmas.{controls-snoc, selected-leaf_type}
 use Rattle.bay_process.proofs.controls.control_rows.Goals as goal
 
 pub selected_at-requires : goal.selected_at-requires
 selected_at-requires c =
-    let named : c.as_str-node.result.now ≡ control_of c.loop-place.place = c.as_str-node.ensures ∙ c.in_ok-name.ensures in
-    subst (λ n. HasLeaf c.args.tree.now (control_names_of n).selected Truth) (sym named) (c.requires c.loop-place.place c.loop-place-test.true)
+    let named : c.as_str-node.result.now ≡ control_of c.loop-place.place =
+    c.as_str-node.ensures ∙ c.in_ok-name.ensures in
+    subst (λ n. HasLeaf c.args.tree.now (control_names_of n).selected Truth) (sym named)
+    (c.requires c.loop-place.place c.loop-place-test.true)
 
 pub loop-place-preserved : goal.loop-place-preserved
 loop-place-preserved c =
     let rows = c.args.tree.now in
     let items = c.loop-place.controls.items in
-    let named : c.as_str-node.result.now ≡ control_of c.loop-place.place = c.as_str-node.ensures ∙ c.in_ok-name.ensures in
-    let has = subst (λ n. HasLeaf rows (control_names_of n).selected Truth) (sym named) (c.requires c.loop-place.place c.loop-place-test.true) in
+    let named : c.as_str-node.result.now ≡ control_of c.loop-place.place =
+    c.as_str-node.ensures ∙ c.in_ok-name.ensures in
+    let has =
+    subst (λ n. HasLeaf rows (control_names_of n).selected Truth) (sym named)
+    (c.requires c.loop-place.place c.loop-place-test.true) in
     let handles : ControlRows = record {
       selected = c.in_ok-selected.selected;
       select = c.in_ok-select.select;
@@ -28,7 +33,8 @@ loop-place-preserved c =
     } in
     let own : AreControlRows rows (control_names_of c.as_str-node.result.now) handles = record {
       selected = c.in_ok-selected.ensures;
-      selected_kind = selected-kind rows _ c.in_ok-selected.selected has c.in_ok-selected.ensures;
+      selected_type =
+          selected-leaf_type rows _ c.in_ok-selected.selected has c.in_ok-selected.ensures;
       select = c.in_ok-select.ensures;
       select_with_value = c.in_ok-select_with_value.ensures;
       operate = c.in_ok-operate.ensures;
@@ -36,5 +42,7 @@ loop-place-preserved c =
     } in
     rw c.in_ok-push.ensures.items record {
       sized = length-snoc items _ c.loop-place.place c.loop-place.invariant.sized;
-      named = controls-snoc rows items _ c.loop-place.invariant.named (rw c.loop-place.invariant.sized (subst (λ n. AreControlRows rows (control_names_of n) handles) named own));
+      named = controls-snoc rows items _ c.loop-place.invariant.named
+          (rw c.loop-place.invariant.sized
+          (subst (λ n. AreControlRows rows (control_names_of n) handles) named own));
     }

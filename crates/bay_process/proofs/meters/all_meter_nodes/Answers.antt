@@ -8,5 +8,6 @@ loop-place-preserved c =
     let n = c.in_ok-node.node in
     rw c.in_ok-push.ensures.items record {
       sized = length-snoc items n c.loop-place.place c.loop-place.invariant.sized;
-      named = meters-snoc c.args.bay.now items n c.loop-place.invariant.named (rw c.loop-place.invariant.sized c.in_ok-node.ensures);
+      named = meters-snoc c.args.bay.now items n c.loop-place.invariant.named
+          (rw c.loop-place.invariant.sized c.in_ok-node.ensures);
     }

@@ -11,7 +11,8 @@ pub meter_rows-requires : goal.meter_rows-requires
 meter_rows-requires c =
     let nodes = c.args.nodes.now in
     let n = c.index-nodes-i.result in
-    let here : slice_get nodes c.loop-i.i ≡ Some n = slice_get_read nodes (length nodes) c.loop-i.i n refl (omega arith) c.index-nodes-i.is in
+    let here : slice_get nodes c.loop-i.i ≡ Some n =
+    slice_get_read nodes (length nodes) c.loop-i.i n refl (omega arith) c.index-nodes-i.is in
     rw c.as_str.ensures (c.requires.there c.loop-i.i n here).leaves
 
 pub loop-i-preserved : goal.loop-i-preserved
@@ -22,13 +23,20 @@ loop-i-preserved c =
     let items = c.loop-i.bound.items in
     let n = c.index-nodes-i.result in
     let d = c.index-meters-i.result in
-    let here : slice_get nodes i ≡ Some n = slice_get_read nodes (length nodes) i n refl (omega arith) c.index-nodes-i.is in
+    let here : slice_get nodes i ≡ Some n =
+    slice_get_read nodes (length nodes) i n refl (omega arith) c.index-nodes-i.is in
     let lt : i < length meters = omega arith in
-    let id : c.in_ok-id.id ≡ get_or meters i d = c.in_ok-id.ensures ∙ c.as_str-in-loop-i.ensures ∙ c.index-meters-i.is in
+    let id : c.in_ok-id.id ≡ get_or meters i d =
+    c.in_ok-id.ensures ∙ c.as_str-in-loop-i.ensures ∙ c.index-meters-i.is in
     rw c.in_ok-push.ensures.items record {
       sized = length-snoc items _ i c.loop-i.invariant.sized;
       ids =
-          map-append (λ (m : BoundMeter). m.id) items _ ∙ ap (λ xs. xs ++ c.in_ok-id.id ∷ []) c.loop-i.invariant.ids ∙ ap (λ x. take i meters ++ x ∷ []) id
+          map-append (λ (m : BoundMeter). m.id) items _
+          ∙ ap (λ xs. xs ++ c.in_ok-id.id ∷ []) c.loop-i.invariant.ids
+          ∙ ap (λ x. take i meters ++ x ∷ []) id
           ∙ sym (take_more meters i d lt);
-      bound = bound-meters-snoc (layout_of c.args.tree.now) items _ c.loop-i.invariant.bound (rw c.loop-i.invariant.sized (bound-meter c.args.tree.now i n _ (c.requires.there i n here) (rw c.as_str.ensures at c.in_ok-rows.ensures)));
+      bound = bound-meters-snoc (layout_of c.args.tree.now) items _ c.loop-i.invariant.bound
+          (rw c.loop-i.invariant.sized
+          (bound-meter c.args.tree.now i n _ (c.requires.there i n here)
+          (rw c.as_str.ensures at c.in_ok-rows.ensures)));
     }

@@ -22,4 +22,6 @@ status_rows-requires-6 c = are-there _ _ _ c.requires.phase_c
 
 pub returns : goal.returns
 returns c =
-    found-meter c.args.tree.now (meter_names_of c.args.node.now) _ c.requires c.in_ok-tot_w.ensures c.in_ok-tot_var.ensures c.in_ok-hz.ensures c.in_ok-phase_a.ensures c.in_ok-phase_b.ensures c.in_ok-phase_c.ensures
+    found-meter c.args.tree.now (meter_names_of c.args.node.now) _ c.requires c.in_ok-tot_w.ensures
+    c.in_ok-tot_var.ensures c.in_ok-hz.ensures c.in_ok-phase_a.ensures c.in_ok-phase_b.ensures
+    c.in_ok-phase_c.ensures

@@ -20,5 +20,8 @@ status_rows-requires-5 c = rw c.as_str-interlocking.ensures (are-there _ _ _ c.r
 pub returns : goal.returns
 returns c =
     found-switch c.args.tree.now (nodes_names c.args.nodes.now) _ c.requires
-    (rw c.as_str-node.ensures at c.in_ok-position.ensures) (rw c.as_str-control.ensures at c.in_ok-repeated.ensures) (rw c.as_str-node.ensures at c.in_ok-operations.ensures)
-    (rw c.as_str-interlocking.ensures at c.in_ok-ena_opn.ensures) (rw c.as_str-interlocking.ensures at c.in_ok-ena_cls.ensures)
+    (rw c.as_str-node.ensures at c.in_ok-position.ensures)
+    (rw c.as_str-control.ensures at c.in_ok-repeated.ensures)
+    (rw c.as_str-node.ensures at c.in_ok-operations.ensures)
+    (rw c.as_str-interlocking.ensures at c.in_ok-ena_opn.ensures)
+    (rw c.as_str-interlocking.ensures at c.in_ok-ena_cls.ensures)

@@ -13,9 +13,12 @@ returns-clause-told c k named =
     let now = c.args.now in
     let first = c.set_enabled.ensures in
     let second = c.set_enabled-2.ensures in
-    let closing : status_in (layout_of mid) c.args.rows.now.ena_cls ≡ closing_of k = ap (λ (l : Layout). status_in l c.args.rows.now.ena_cls) first.layout ∙ named.closing in
+    let closing : status_in (layout_of mid) c.args.rows.now.ena_cls ≡ closing_of k =
+    ap (λ (l : Layout). status_in l c.args.rows.now.ena_cls) first.layout ∙ named.closing in
     told-here k c.args.enabled now rows mid c.set_enabled-2.new.tree
     (subst (AreValued rows) named.opening first.valued)
-    (first.rows ∙ ap (λ (n : StatusNames). with_enabled n c.args.enabled.may_open now rows) named.opening)
+    (first.rows ∙ ap (λ (n : StatusNames). with_enabled n c.args.enabled.may_open now rows)
+    named.opening)
     (subst (AreValued mid) closing second.valued)
-    (second.rows ∙ ap (λ (n : StatusNames). with_enabled n c.args.enabled.may_close now mid) closing)
+    (second.rows ∙ ap (λ (n : StatusNames). with_enabled n c.args.enabled.may_close now mid)
+    closing)

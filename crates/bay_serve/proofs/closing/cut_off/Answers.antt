@@ -8,4 +8,5 @@ unfolding cut_off
 returns-clause-after g c =
     let place = c.args.place in
     turning-as _ _ _ _ c.clear.ensures c.go.ensures
-    ∙ ap (λ (t : Turning). with_noted (goes place c.args.closing t.noted) (with_queue place [] t)) c.step_quietly.ensures.after
+    ∙ ap (λ (t : Turning). with_noted (goes place c.args.closing t.noted) (with_queue place [] t))
+    c.step_quietly.ensures.after

@@ -13,7 +13,9 @@ loop-done-preserved g c =
     let more : 0 < length (drop done xs) = omega (arith, length-drop done xs) in
     record {
       within = omega (arith, length-drop done xs, c.in-Ok.ensures.within);
-      so_far = Offering-more _ _ _ _ _ _ _ c.in-Ok.count _ c.loop-done.invariant.so_far (take_rest xs done) more c.in-Ok.count-test.1 c.in-Ok.ensures.call;
+      so_far =
+          Offering-more _ _ _ _ _ _ _ c.in-Ok.count _ c.loop-done.invariant.so_far
+          (take_rest xs done) more c.in-Ok.count-test.1 c.in-Ok.ensures.call;
     }
 
 pub returns-in-Ok-eq0-clause-offers : goal.returns-in-Ok-eq0-clause-offers
@@ -21,14 +23,16 @@ returns-in-Ok-eq0-clause-offers g c =
     let xs = c.args.octets.now in
     let done = c.loop-done.done in
     let more : 0 < length (drop done xs) = omega (arith, length-drop done xs) in
-    Offers-stopped _ _ _ _ _ _ _ _ _ c.loop-done.invariant.so_far (take_rest xs done) more c.in-Ok-eq0.field-0-test c.in-Ok-eq0.ensures.call
+    Offers-stopped _ _ _ _ _ _ _ _ _ c.loop-done.invariant.so_far (take_rest xs done) more
+    c.in-Ok-eq0.field-0-test c.in-Ok-eq0.ensures.call
 
 pub returns-in-Err-clause-offers : goal.returns-in-Err-clause-offers
 returns-in-Err-clause-offers g c =
     let xs = c.args.octets.now in
     let done = c.loop-done.done in
     let more : 0 < length (drop done xs) = omega (arith, length-drop done xs) in
-    Offers-failed _ _ _ _ _ _ _ _ c.loop-done.invariant.so_far (take_rest xs done) more c.in-Err.ensures.call
+    Offers-failed _ _ _ _ _ _ _ _ c.loop-done.invariant.so_far (take_rest xs done) more
+    c.in-Err.ensures.call
 
 pub returns-clause-offers : goal.returns-clause-offers
 returns-clause-offers g c =

@@ -6,7 +6,8 @@ use Rattle.bay_serve.proofs.offering.offer.Given as goal
 abbrev pub invariant-loop-done : goal.invariant-loop-done
 invariant-loop-done g l = record {
   within : l.done ≤ length l.octets;
-  so_far : Offering (Called g.L.Link.does g.L.Link.failures) l.initial.link l.link l.association l.octets l.done;
+  so_far : Offering (Called g.L.Link.does g.L.Link.failures) l.initial.link l.link l.association
+      l.octets l.done;
 }
 
 abbrev pub decreases-loop-done : goal.decreases-loop-done

@@ -7,5 +7,7 @@ use Rattle.bay_serve.proofs.offering.offer_each.Given as goal
 abbrev pub invariant-loop-place : goal.invariant-loop-place
 invariant-loop-place g l = record {
   within : l.place ≤ 8;
-  each : GoesEach (Called g.L.Link.does g.L.Link.failures) (offer_one l.now) (offer_calls l.now) l.initial.link l.link l.place (turning l.initial.server l.initial.notes) (turning l.server l.notes);
+  each : GoesEach (Called g.L.Link.does g.L.Link.failures) (offer_one l.now) (offer_calls l.now)
+      l.initial.link l.link l.place (turning l.initial.server l.initial.notes)
+      (turning l.server l.notes);
 }

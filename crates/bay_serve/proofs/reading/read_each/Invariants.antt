@@ -8,5 +8,7 @@ abbrev pub invariant-loop-place : goal.invariant-loop-place
 invariant-loop-place g l = record {
   within : l.place ≤ 8;
   room : length l.notes.commands ≤ l.place;
-  each : GoesEach (Called g.L.Link.does g.L.Link.failures) (read_one l.now) (read_calls l.now) l.initial.link l.link l.place (turning l.initial.server l.initial.notes) (turning l.server l.notes);
+  each : GoesEach (Called g.L.Link.does g.L.Link.failures) (read_one l.now) (read_calls l.now)
+      l.initial.link l.link l.place (turning l.initial.server l.initial.notes)
+      (turning l.server l.notes);
 }

@@ -6,28 +6,42 @@ use Rattle.bay_serve.proofs.reading.read_one.Goals as goal
 
 pub returns-then-not-is_open-clause-goes : goal.returns-then-not-is_open-clause-goes
 returns-then-not-is_open-clause-goes g c =
-    let down : is_up c.args.place (turning c.args.server.now c.args.notes.now) ≡ false = search rules in
+    let down : is_up c.args.place (turning c.args.server.now c.args.notes.now) ≡ false =
+    search rules in
     reads_not _ _ _ _ _ down
 
 pub returns-in-Ok-Bytes-clause-goes : goal.returns-in-Ok-Bytes-clause-goes
 returns-in-Ok-Bytes-clause-goes g c =
-    let up : is_up c.args.place (turning c.args.server.now c.args.notes.now) ≡ true = search rules in
-    reads_octets _ _ _ _ _ _ _ _ _ _ _ up (heard_as _ _ _ _ c.in-Ok-Bytes.is c.in-Ok-Bytes.field-0-is) c.read.ensures.call c.take_in.ensures.takes c.settle.ensures.talks c.settle.ensures.after
+    let up : is_up c.args.place (turning c.args.server.now c.args.notes.now) ≡ true =
+    search rules in
+    reads_octets _ _ _ _ _ _ _ _ _ _ _ up
+    (heard_as _ _ _ _ c.in-Ok-Bytes.is c.in-Ok-Bytes.field-0-is) c.read.ensures.call
+    c.take_in.ensures.takes c.settle.ensures.talks c.settle.ensures.after
 
 pub returns-in-Ok-Nothing-clause-goes : goal.returns-in-Ok-Nothing-clause-goes
 returns-in-Ok-Nothing-clause-goes g c =
-    let up : is_up c.args.place (turning c.args.server.now c.args.notes.now) ≡ true = search rules in
-    reads_silence _ _ _ _ _ _ _ up (heard_as _ _ _ _ c.in-Ok-Nothing.is c.in-Ok-Nothing.field-0-is) c.read.ensures.call
+    let up : is_up c.args.place (turning c.args.server.now c.args.notes.now) ≡ true =
+    search rules in
+    reads_silence _ _ _ _ _ _ _ up (heard_as _ _ _ _ c.in-Ok-Nothing.is c.in-Ok-Nothing.field-0-is)
+    c.read.ensures.call
 
 pub returns-in-Ok-End-clause-goes : goal.returns-in-Ok-End-clause-goes
 returns-in-Ok-End-clause-goes g c =
-    let up : is_up c.args.place (turning c.args.server.now c.args.notes.now) ≡ true = search rules in
+    let up : is_up c.args.place (turning c.args.server.now c.args.notes.now) ≡ true =
+    search rules in
     let now = c.args.now in
     let place = c.args.place in
-    let hung = c.step_quietly.ensures.after ∙ ap (λ (n : Noted). stepped now (Close (place + 1)) (turning c.args.server.now n)) c.leave.ensures in
-    reads_over _ _ _ _ _ _ _ _ _ _ up (heard_as _ _ _ _ c.in-Ok-End.is c.in-Ok-End.field-0-is) c.read.ensures.call hung c.settle-in-Ok-End.ensures.talks c.settle-in-Ok-End.ensures.after
+    let hung =
+    c.step_quietly.ensures.after
+    ∙ ap (λ (n : Noted). stepped now (Close (place + 1)) (turning c.args.server.now n))
+    c.leave.ensures in
+    reads_over _ _ _ _ _ _ _ _ _ _ up (heard_as _ _ _ _ c.in-Ok-End.is c.in-Ok-End.field-0-is)
+    c.read.ensures.call hung c.settle-in-Ok-End.ensures.talks c.settle-in-Ok-End.ensures.after
 
 pub returns-in-Err-clause-goes : goal.returns-in-Err-clause-goes
 returns-in-Err-clause-goes g c =
-    let up : is_up c.args.place (turning c.args.server.now c.args.notes.now) ≡ true = search rules in
-    reads_broken _ _ _ _ _ _ _ _ _ _ _ up (heard_broken _ _ _ c.in-Err.is) c.read.ensures.call c.cut_off.ensures.call c.cut_off.ensures.after c.settle-in-Err.ensures.talks c.settle-in-Err.ensures.after
+    let up : is_up c.args.place (turning c.args.server.now c.args.notes.now) ≡ true =
+    search rules in
+    reads_broken _ _ _ _ _ _ _ _ _ _ _ up (heard_broken _ _ _ c.in-Err.is) c.read.ensures.call
+    c.cut_off.ensures.call c.cut_off.ensures.after c.settle-in-Err.ensures.talks
+    c.settle-in-Err.ensures.after

@@ -1,21 +1,26 @@
 use Rattle.std.proofs.Common.{◌<◌, ◌∙◌, length, arith}
 use Rattle.std.proofs.lemmas.Option.{slice_get-get_or}
 use Rattle.bay_services.proofs.PlaceLemmas.{selected_named}
-use Rattle.bay_services.proofs.ShownLemmas.{kind_kept, shown_more}
+use Rattle.bay_services.proofs.ShownLemmas.{leaf_type_kept, shown_more}
 use Rattle.bay_services.proofs.decisions.show.Goals as goal
 
 pub put-requires : goal.put-requires
 put-requires c =
     let k = c.loop-switch.switch in
     let within : k < length c.args.rows.now = omega (arith, c.loop-switch-test.true) in
-    kind_kept c.loop-switch.tree c.args.tree.now _ _ c.loop-switch.invariant.layout (c.requires k _ (slice_get-get_or c.args.rows.now k c.index-rows-switch.result within)).selected_kind
+    leaf_type_kept c.loop-switch.tree c.args.tree.now _ _ c.loop-switch.invariant.layout
+    (c.requires k _ (slice_get-get_or c.args.rows.now k c.index-rows-switch.result
+    within)).selected_type
 
 pub loop-switch-preserved : goal.loop-switch-preserved
 loop-switch-preserved c =
     let k = c.loop-switch.switch in
     let within : k < length c.args.rows.now = omega (arith, c.loop-switch-test.true) in
-    let names = c.requires k _ (slice_get-get_or c.args.rows.now k c.index-rows-switch.result within) in
+    let names =
+    c.requires k _ (slice_get-get_or c.args.rows.now k c.index-rows-switch.result within) in
     record {
-      rows = shown_more c.args.selected k c.args.tree.now c.loop-switch.tree c.put.new.tree _ _ c.loop-switch.invariant.layout (selected_named c.args.tree.now _ _ names.selected) c.is_selected.ensures c.loop-switch.invariant.rows c.put.ensures.rows;
+      rows = shown_more c.args.selected k c.args.tree.now c.loop-switch.tree c.put.new.tree _ _
+          c.loop-switch.invariant.layout (selected_named c.args.tree.now _ _ names.selected)
+          c.is_selected.ensures c.loop-switch.invariant.rows c.put.ensures.rows;
       layout = c.put.ensures.layout ∙ c.loop-switch.invariant.layout;
     }

@@ -12,10 +12,15 @@ returns-in-Some c =
     let tree = c.args._tree.now in
     let name = name_at tree c.args.handle in
     let within : k < length rows = omega (arith, c.loop-switch-test.true) in
-    let here : slice_get rows k ≡ Some c.index-rows-switch.result = slice_get-get_or rows k c.index-rows-switch.result within ∙ ap Some (sym c.index-rows-switch.is) in
+    let here : slice_get rows k ≡ Some c.index-rows-switch.result =
+    slice_get-get_or rows k c.index-rows-switch.result within
+    ∙ ap Some (sym c.index-rows-switch.is) in
     let names = c.requires.named k c.index-rows-switch.result here in
-    let is : part_at k name ≡ Some c.in-Some.part = sym (part_named tree k _ c.args.handle names c.requires.found) ∙ sym c.part_at.ensures ∙ c.in-Some.is in
-    sym (c.loop-switch.invariant ∙ target_here k (length rows - k) name c.in-Some.part (omega arith) is)
+    let is : part_at k name ≡ Some c.in-Some.part =
+    sym (part_named tree k _ c.args.handle names c.requires.found) ∙ sym c.part_at.ensures
+    ∙ c.in-Some.is in
+    sym (c.loop-switch.invariant
+    ∙ target_here k (length rows - k) name c.in-Some.part (omega arith) is)
 
 pub loop-switch-preserved : goal.loop-switch-preserved
 loop-switch-preserved c =
@@ -24,8 +29,12 @@ loop-switch-preserved c =
     let tree = c.args._tree.now in
     let name = name_at tree c.args.handle in
     let within : k < length rows = omega (arith, c.loop-switch-test.true) in
-    let here : slice_get rows k ≡ Some c.index-rows-switch.result = slice_get-get_or rows k c.index-rows-switch.result within ∙ ap Some (sym c.index-rows-switch.is) in
+    let here : slice_get rows k ≡ Some c.index-rows-switch.result =
+    slice_get-get_or rows k c.index-rows-switch.result within
+    ∙ ap Some (sym c.index-rows-switch.is) in
     let names = c.requires.named k c.index-rows-switch.result here in
-    let is : part_at k name ≡ None = sym (part_named tree k _ c.args.handle names c.requires.found) ∙ sym c.part_at.ensures ∙ c.in_default.is in
+    let is : part_at k name ≡ None =
+    sym (part_named tree k _ c.args.handle names c.requires.found) ∙ sym c.part_at.ensures
+    ∙ c.in_default.is in
     let one : length rows - k ≡ suc (length rows - (k + 1)) = omega arith in
     c.loop-switch.invariant ∙ target_later k (length rows - k) (length rows - (k + 1)) name one is

@@ -6,5 +6,6 @@ use Rattle.bay_services.proofs.writing.succeed.Goals as goal
 
 pub unreachable-requires : goal.unreachable-requires
 unreachable-requires c =
-    let over : 4294967296 ≤ length success_result = rw c.in-Err-TooLong.field-0-is at c.in-Err-TooLong.ensures in
+    let over : 4294967296 ≤ length success_result =
+    rw c.in-Err-TooLong.field-0-is at c.in-Err-TooLong.ensures in
     omega (arith, length-element (context 1) [])

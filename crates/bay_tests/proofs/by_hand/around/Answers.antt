@@ -12,5 +12,6 @@ returns c =
     (sym
     (c.in_ok-push-2.ensures.items
     ∙ ap (λ (xs : List Item). xs ++ Block 1 And false c.args.items 1 ∷ [])
-    (c.in_ok-push.ensures.items ∙ ap (λ (xs : List Item). xs ++ c.load.result ∷ []) c.new-outer.ensures.items)))
+    (c.in_ok-push.ensures.items
+    ∙ ap (λ (xs : List Item). xs ++ c.load.result ∷ []) c.new-outer.ensures.items)))
     (around_items And false c.load.result c.args.items _ c.load.ensures c.requires)

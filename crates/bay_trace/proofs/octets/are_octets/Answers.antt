@@ -12,5 +12,7 @@ returns-then-is_empty c = octets-none c.args.word.now (sym c.is_empty.ensures �
 pub returns : goal.returns
 returns c =
     let word = c.args.word.now in
-    let all : c.all.result ≡ list_all is_ascii_hexdigit word = all_from_yields_List is_ascii_hexdigit _ _ c.all.result c.all.ensures.ran (YieldsList-from_slice word cc) (λ x b q k. search (rules, tests)) in
+    let all : c.all.result ≡ list_all is_ascii_hexdigit word =
+    all_from_yields_List is_ascii_hexdigit _ _ c.all.result c.all.ensures.ran
+    (YieldsList-from_slice word cc) (λ x b q k. search (rules, tests)) in
     octets-even word c.all.result (sym c.is_empty.ensures ∙ c.if-is_empty.false) (omega arith) all

@@ -7,7 +7,8 @@ use Rattle.bay_trace.proofs.trace.cut_number.Given as goal
 abbrev pub invariant-loop-rest : goal.invariant-loop-rest
 invariant-loop-rest l = record {
   within : l.number < 2 ^ 64;
-  read : first_number (slice_split is_space l.text) ≡ number_behind l.number (slice_split is_space l.rest);
+  read : first_number (slice_split is_space l.text)
+      ≡ number_behind l.number (slice_split is_space l.rest);
 }
 
 abbrev pub decreases-loop-rest : goal.decreases-loop-rest

@@ -8,10 +8,16 @@ use Rattle.bay_trace.proofs.trace.cut_word.Goals as goal
 
 pub returns-in-Some : goal.returns-in-Some
 returns-in-Some c =
-    let found = position_from_yields_List is_space _ _ _ c.position.ensures.ran (YieldsList-from_slice c.args.text.now cc) (λ x b q k. search (rules, tests)) in
-    some_space c.args.text.now c.in-Some.at (sym found ∙ c.in-Some.is) ∙ ap (λ rest. take c.in-Some.at c.args.text.now ∷ slice_split is_space rest) (sym (take_rest c.args.text.now (c.in-Some.at + 1)))
+    let found =
+    position_from_yields_List is_space _ _ _ c.position.ensures.ran
+    (YieldsList-from_slice c.args.text.now cc) (λ x b q k. search (rules, tests)) in
+    some_space c.args.text.now c.in-Some.at (sym found ∙ c.in-Some.is)
+    ∙ ap (λ rest. take c.in-Some.at c.args.text.now ∷ slice_split is_space rest)
+    (sym (take_rest c.args.text.now (c.in-Some.at + 1)))
 
 pub returns-in-None : goal.returns-in-None
 returns-in-None c =
-    let found = position_from_yields_List is_space _ _ _ c.position.ensures.ran (YieldsList-from_slice c.args.text.now cc) (λ x b q k. search (rules, tests)) in
+    let found =
+    position_from_yields_List is_space _ _ _ c.position.ensures.ran
+    (YieldsList-from_slice c.args.text.now cc) (λ x b q k. search (rules, tests)) in
     no_space c.args.text.now (sym found ∙ c.in-None.is)

@@ -9,17 +9,32 @@ use Rattle.bay_trace.proofs.trace.event.Goals as goal
 
 pub returns-in-Some-strip_prefix-2 : goal.returns-in-Some-strip_prefix-2
 returns-in-Some-strip_prefix-2 c =
-    let is = strip_prefix_is Decides-eqb c.args.text.now (codes "measure ") c.strip_prefix-3.result c.strip_prefix-3.ensures.cases in
-    let begins : c.args.text.now ≡ codes "measure " ++ c.in-Some-strip_prefix-2.told.now = rw c.in-Some-strip_prefix-2.is at is in
+    let is =
+    strip_prefix_is Decides-eqb c.args.text.now (codes "measure ") c.strip_prefix-3.result
+    c.strip_prefix-3.ensures.cases in
+    let begins : c.args.text.now ≡ codes "measure " ++ c.in-Some-strip_prefix-2.told.now =
+    rw c.in-Some-strip_prefix-2.is at is in
     c.measure.ensures ∙ sym (ap (λ text. event_of (slice_split is_space text)) begins)
 
 pub returns : goal.returns
 returns c =
-    let contact = strip_prefix_is Decides-eqb c.args.text.now (codes "contact ") c.strip_prefix.result c.strip_prefix.ensures.cases in
-    let input = strip_prefix_is Decides-eqb c.args.text.now (codes "input ") c.strip_prefix-2.result c.strip_prefix-2.ensures.cases in
-    let measure = strip_prefix_is Decides-eqb c.args.text.now (codes "measure ") c.strip_prefix-3.result c.strip_prefix-3.ensures.cases in
-    let no_contact : (r : List ℕ) → c.args.text.now ≢ codes "contact " ++ r = rw c.in_default.is at contact in
-    let no_input : (r : List ℕ) → c.args.text.now ≢ codes "input " ++ r = rw c.in_default-strip_prefix.is at input in
-    let no_measure : (r : List ℕ) → c.args.text.now ≢ codes "measure " ++ r = rw c.in_default-strip_prefix-2.is at measure in
-    let other : bytes_eq c.args.text.now (codes "scan") ≡ false = ap (λ t. bytes_eq c.args.text.now t) (sym c.as_slice.ensures) ∙ sym c.eq.ensures ∙ c.if-eq.false in
-    c.talk.ensures ∙ sym (no_verb c.args.text.now no_contact no_input no_measure (differs c.args.text.now (codes "scan") other))
+    let contact =
+    strip_prefix_is Decides-eqb c.args.text.now (codes "contact ") c.strip_prefix.result
+    c.strip_prefix.ensures.cases in
+    let input =
+    strip_prefix_is Decides-eqb c.args.text.now (codes "input ") c.strip_prefix-2.result
+    c.strip_prefix-2.ensures.cases in
+    let measure =
+    strip_prefix_is Decides-eqb c.args.text.now (codes "measure ") c.strip_prefix-3.result
+    c.strip_prefix-3.ensures.cases in
+    let no_contact : (r : List ℕ) → c.args.text.now ≢ codes "contact " ++ r =
+    rw c.in_default.is at contact in
+    let no_input : (r : List ℕ) → c.args.text.now ≢ codes "input " ++ r =
+    rw c.in_default-strip_prefix.is at input in
+    let no_measure : (r : List ℕ) → c.args.text.now ≢ codes "measure " ++ r =
+    rw c.in_default-strip_prefix-2.is at measure in
+    let other : bytes_eq c.args.text.now (codes "scan") ≡ false =
+    ap (λ t. bytes_eq c.args.text.now t) (sym c.as_slice.ensures) ∙ sym c.eq.ensures
+    ∙ c.if-eq.false in
+    c.talk.ensures ∙ sym (no_verb c.args.text.now no_contact no_input no_measure
+    (differs c.args.text.now (codes "scan") other))

@@ -9,5 +9,9 @@ confirm-requires c =
     let octets = c.args.parameters.now in
     let values = c.in_ok-values.values in
     let found = c.in_ok-values.ensures.ok in
-    let h : length (answered c.in_ok-power.power (option_copied values.called) (option_copied values.calling)) ≤ length octets = answered_within octets (parameters_of octets) (option_copied values.size) (option_copied values.called) (option_copied values.calling) c.in_ok-power.power c.in_ok-power.size refl found.size found.called found.calling c.in_ok-power.ensures.ok in
+    let h : length (answered c.in_ok-power.power (option_copied values.called)
+    (option_copied values.calling)) ≤ length octets =
+    answered_within octets (parameters_of octets) (option_copied values.size)
+    (option_copied values.called) (option_copied values.calling) c.in_ok-power.power
+    c.in_ok-power.size refl found.size found.called found.calling c.in_ok-power.ensures.ok in
     omega arith

@@ -7,9 +7,15 @@ pub loop-at-preserved : goal.loop-at-preserved
 loop-at-preserved c = record {
   within = omega arith;
   text =
-      wrapped_step c.args.size c.loop-at.at c.args.octets.now c.args.out.now.items c.loop-at.out.items c.append.new.out.items (wrapped c.args.size c.args.octets.now) (omega (arith, c.requires.size.some)) c.loop-at.invariant.within c.loop-at-test.true c.in_ok-append.ensures c.loop-at.invariant.text;
+      wrapped_step c.args.size c.loop-at.at c.args.octets.now c.args.out.now.items
+      c.loop-at.out.items c.append.new.out.items (wrapped c.args.size c.args.octets.now)
+      (omega (arith, c.requires.size.some)) c.loop-at.invariant.within c.loop-at-test.true
+      c.in_ok-append.ensures c.loop-at.invariant.text;
 }
 
 pub returns : goal.returns
 returns c =
-    wrapped_end c.args.size c.loop-at.at c.args.octets.now c.args.out.now.items c.loop-at.out.items c.append-2.new.out.items (wrapped c.args.size c.args.octets.now) (omega (arith, c.requires.size.some)) c.loop-at.invariant.within c.loop-at-test.false c.in_ok-append-2.ensures c.loop-at.invariant.text
+    wrapped_end c.args.size c.loop-at.at c.args.octets.now c.args.out.now.items c.loop-at.out.items
+    c.append-2.new.out.items (wrapped c.args.size c.args.octets.now)
+    (omega (arith, c.requires.size.some)) c.loop-at.invariant.within c.loop-at-test.false
+    c.in_ok-append-2.ensures c.loop-at.invariant.text

@@ -4,14 +4,23 @@ use Rattle.bay_transport.specs.Wrap.{wrapped}
 use Rattle.bay_transport.proofs.WrapLemmas.{wrapped_front, wrapped_alone, carries}
 use Rattle.bay_transport.proofs.wrap.wrap.Goals as goal
 
-alone : (c : goal.In_ok-append) → c.append.new.out.items ≡ wrapped c.args.size (c.args.front.now ++ c.args.rest.now)
+alone : (c : goal.In_ok-append)
+    → c.append.new.out.items ≡ wrapped c.args.size (c.args.front.now ++ c.args.rest.now)
 alone c =
-    rw (c.in_ok-append.ensures, c.in_ok-out.ensures.items) (wrapped_alone c.args.size c.args.front.now c.args.rest.now (omega (arith, c.requires.size.some)) (omega (arith, c.requires.size.some, c.requires.front)) c.if-rest-first.true)
+    rw (c.in_ok-append.ensures, c.in_ok-out.ensures.items)
+    (wrapped_alone c.args.size c.args.front.now c.args.rest.now
+    (omega (arith, c.requires.size.some))
+    (omega (arith, c.requires.size.some, c.requires.front)) c.if-rest-first.true)
 
-several : (c : goal.In_ok-append_all) → c.append_all.new.out.items ≡ wrapped c.args.size (c.args.front.now ++ c.args.rest.now)
+several : (c : goal.In_ok-append_all)
+    → c.append_all.new.out.items ≡ wrapped c.args.size (c.args.front.now ++ c.args.rest.now)
 several c =
-    wrapped_front c.args.size c.args.front.now c.args.rest.now c.append-2.new.out.items c.append_all.new.out.items (omega (arith, c.requires.size.some)) (omega (arith, c.requires.size.some, c.requires.front)) c.if-rest-first.false (rw c.in_ok-out.ensures.items at c.in_ok-append-2.ensures)
-    (rw (take_rest c.args.rest.now (c.args.size - 3 - length c.args.front.now)) at c.in_ok-append_all.ensures)
+    wrapped_front c.args.size c.args.front.now c.args.rest.now c.append-2.new.out.items
+    c.append_all.new.out.items (omega (arith, c.requires.size.some))
+    (omega (arith, c.requires.size.some, c.requires.front)) c.if-rest-first.false
+    (rw c.in_ok-out.ensures.items at c.in_ok-append-2.ensures)
+    (rw (take_rest c.args.rest.now (c.args.size - 3 - length c.args.front.now)) at
+    c.in_ok-append_all.ensures)
 
 pub returns-then-rest-first-clause-exact : goal.returns-then-rest-first-clause-exact
 returns-then-rest-first-clause-exact c = alone c
@@ -21,8 +30,13 @@ returns-clause-exact c = several c
 
 pub returns-then-rest-first-clause-carries : goal.returns-then-rest-first-clause-carries
 returns-then-rest-first-clause-carries c =
-    carries c.args.size (c.args.front.now ++ c.args.rest.now) c.append.new.out.items (omega (arith, c.requires.size.some)) (omega (arith, length-append c.args.front.now c.args.rest.now, c.requires.short)) (alone c)
+    carries c.args.size (c.args.front.now ++ c.args.rest.now) c.append.new.out.items
+    (omega (arith, c.requires.size.some))
+    (omega (arith, length-append c.args.front.now c.args.rest.now, c.requires.short)) (alone c)
 
 pub returns-clause-carries : goal.returns-clause-carries
 returns-clause-carries c =
-    carries c.args.size (c.args.front.now ++ c.args.rest.now) c.append_all.new.out.items (omega (arith, c.requires.size.some)) (omega (arith, length-append c.args.front.now c.args.rest.now, c.requires.short)) (several c)
+    carries c.args.size (c.args.front.now ++ c.args.rest.now) c.append_all.new.out.items
+    (omega (arith, c.requires.size.some))
+    (omega (arith, length-append c.args.front.now c.args.rest.now, c.requires.short))
+    (several c)

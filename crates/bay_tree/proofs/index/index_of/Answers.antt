@@ -15,13 +15,20 @@ loop-place-preserved c =
     let rows = c.args.rows.now in
     let i = c.loop-place.place - 1 in
     let lt : i < length rows = omega arith in
-    let row = get_or_default rows i c.index-rows-place.result (record { name = []; leaf = None }) lt in
-    let own : string_bytes c.in_ok-from_str.field-0 ≡ name_at rows i = c.in_ok-from_str.ensures.ok ∙ c.as_str.ensures ∙ ap (λ (r : Row). r.name) row in
+    let row =
+    get_or_default rows i c.index-rows-place.result (record { name = []; leaf = None }) lt in
+    let own : string_bytes c.in_ok-from_str.field-0 ≡ name_at rows i =
+    c.in_ok-from_str.ensures.ok ∙ c.as_str.ensures ∙ ap (λ (r : Row). r.name) row in
     record {
-      places = λ name. index-put rows c.loop-place.place i name (string_bytes c.in_ok-from_str.field-0) _ _ (omega arith) lt own
-          (btree_map_updates_text (string_bytes c.in_ok-from_str.field-0) c.loop-place.index c.insert.new.self (Some i) c.in_ok-insert.ensures.updates name)
+      places =
+          λ name. index-put rows c.loop-place.place i name (string_bytes c.in_ok-from_str.field-0) _
+          _ (omega arith) lt own
+          (btree_map_updates_text (string_bytes c.in_ok-from_str.field-0) c.loop-place.index
+          c.insert.new.self (Some i) c.in_ok-insert.ensures.updates name)
           (c.loop-place.invariant.places name);
-      texts = λ k le within. ⊎_elim (λ (here : k ≡ i). subst (λ n. IsUtf8 (name_at rows n)) (sym here) (subst IsUtf8 (c.as_str.ensures ∙ ap (λ (r : Row). r.name) row) c.as_str.utf8))
+      texts = λ k le within. ⊎_elim
+          (λ (here : k ≡ i). subst (λ n. IsUtf8 (name_at rows n)) (sym here)
+          (subst IsUtf8 (c.as_str.ensures ∙ ap (λ (r : Row). r.name) row) c.as_str.utf8))
           (λ (later : k ≢ i). c.loop-place.invariant.texts k (omega arith) within) (cases_eq k i);
     }
 

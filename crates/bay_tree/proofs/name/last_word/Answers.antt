@@ -5,16 +5,22 @@ use Rattle.bay_tree.proofs.name.last_word.Goals as goal
 
 pub returns-in-Some-clause-word : goal.returns-in-Some-clause-word
 returns-in-Some-clause-word c =
-    let parts = rsplit_some c.args.name.now c.in-Some.field-0-0.now c.in-Some.word.now c.in-Some.ensures.cases in
+    let parts =
+    rsplit_some c.args.name.now c.in-Some.field-0-0.now c.in-Some.word.now
+    c.in-Some.ensures.cases in
     sym (ap word_of parts.0 ∙ word_of-join c.in-Some.field-0-0.now c.in-Some.word.now parts.1)
 
 pub returns-in-Some-clause-named : goal.returns-in-Some-clause-named
 returns-in-Some-clause-named c =
-    let parts = rsplit_some c.args.name.now c.in-Some.field-0-0.now c.in-Some.word.now c.in-Some.ensures.cases in
-    rw (ap parent_of parts.0 ∙ parent_of-join c.in-Some.field-0-0.now c.in-Some.word.now parts.1) (parts.0, parts.1)
+    let parts =
+    rsplit_some c.args.name.now c.in-Some.field-0-0.now c.in-Some.word.now
+    c.in-Some.ensures.cases in
+    rw (ap parent_of parts.0 ∙ parent_of-join c.in-Some.field-0-0.now c.in-Some.word.now parts.1)
+    (parts.0, parts.1)
 
 pub returns-in-None-clause-word : goal.returns-in-None-clause-word
-returns-in-None-clause-word c = sym (word_of-word c.args.name.now (rsplit_none c.args.name.now c.in-None.ensures.cases))
+returns-in-None-clause-word c =
+    sym (word_of-word c.args.name.now (rsplit_none c.args.name.now c.in-None.ensures.cases))
 
 pub returns-in-None-clause-named : goal.returns-in-None-clause-named
 returns-in-None-clause-named c =

@@ -13,6 +13,9 @@ returns c =
     let at : drop (length name - length word) name ≡ word = end.1 in
     record {
       word = at ∙ c.last_word.ensures.word;
-      named = subst (λ (w : List ℕ). IsNamed (parent_of name) w name) (sym at) c.last_word.ensures.named;
-      boundary = IsCharBoundary-from_drop name (length name - length word) (omega arith) (subst IsUtf8 (sym at) c.last_word.utf8);
+      named = subst (λ (w : List ℕ). IsNamed (parent_of name) w name) (sym at)
+          c.last_word.ensures.named;
+      boundary =
+          IsCharBoundary-from_drop name (length name - length word) (omega arith)
+          (subst IsUtf8 (sym at) c.last_word.utf8);
     }

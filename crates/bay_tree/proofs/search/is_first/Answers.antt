@@ -8,13 +8,22 @@ use Rattle.bay_tree.proofs.search.is_first.Goals as goal
 pub returns-in-Some : goal.returns-in-Some
 returns-in-Some c =
     let rows = c.args.rows.now in
-    let row = get_or_default rows c.args.place c.index-rows-place.result (record { name = []; leaf = None }) c.requires.within in
-    let named : c.as_str.result.now ≡ name_at rows c.args.place = c.as_str.ensures ∙ ap (λ (r : Row). r.name) row in
-    first_is _ c.in-Some.first.now c.args.place (sym (ap (place_of rows) named) ∙ sym (c.requires.indexed c.as_str.result.now) ∙ sym c.in-Some.ensures.value)
+    let row =
+    get_or_default rows c.args.place c.index-rows-place.result
+    (record { name = []; leaf = None }) c.requires.within in
+    let named : c.as_str.result.now ≡ name_at rows c.args.place =
+    c.as_str.ensures ∙ ap (λ (r : Row). r.name) row in
+    first_is _ c.in-Some.first.now c.args.place
+    (sym (ap (place_of rows) named) ∙ sym (c.requires.indexed c.as_str.result.now)
+    ∙ sym c.in-Some.ensures.value)
 
 pub returns-in-None : goal.returns-in-None
 returns-in-None c =
     let rows = c.args.rows.now in
-    let row = get_or_default rows c.args.place c.index-rows-place.result (record { name = []; leaf = None }) c.requires.within in
-    let named : c.as_str.result.now ≡ name_at rows c.args.place = c.as_str.ensures ∙ ap (λ (r : Row). r.name) row in
-    none_is _ c.args.place (sym (ap (place_of rows) named) ∙ sym (c.requires.indexed c.as_str.result.now) ∙ sym c.in-None.ensures.value)
+    let row =
+    get_or_default rows c.args.place c.index-rows-place.result
+    (record { name = []; leaf = None }) c.requires.within in
+    let named : c.as_str.result.now ≡ name_at rows c.args.place =
+    c.as_str.ensures ∙ ap (λ (r : Row). r.name) row in
+    none_is _ c.args.place (sym (ap (place_of rows) named)
+    ∙ sym (c.requires.indexed c.as_str.result.now) ∙ sym c.in-None.ensures.value)

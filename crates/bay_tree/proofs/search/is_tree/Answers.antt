@@ -9,10 +9,15 @@ returns-then-not-is_first c = (
   λ tree.
       let stands = IsInPlace-tree c.args.rows.now c.loop-place.place c.loop-place-test.true tree in
       elim c.then-not-is_first.branch [
-        | then-not-is_first-via-then-not-is_first w ↦ sym w.if-not-is_first.true ∙ c.is_first.ensures.1 stands.first
-        | then-not-is_first-via-else-not-is_first+then-not-is_below_structure w ↦ sym w.if-not-is_below_structure.true ∙ w.is_below_structure.ensures.1 stands.below
+        | then-not-is_first-via-then-not-is_first w
+            ↦ sym w.if-not-is_first.true ∙ c.is_first.ensures.1 stands.first
+        | then-not-is_first-via-else-not-is_first+then-not-is_below_structure w
+            ↦ sym w.if-not-is_below_structure.true ∙ w.is_below_structure.ensures.1 stands.below
       ],
 )
 
 pub returns : goal.returns
-returns c = (λ _. IsTree-in_place c.args.rows.now (λ k lt. c.loop-place.invariant k (omega arith)), λ _. refl)
+returns c = (
+  λ _. IsTree-in_place c.args.rows.now (λ k lt. c.loop-place.invariant k (omega arith)),
+  λ _. refl,
+)

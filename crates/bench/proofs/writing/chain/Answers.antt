@@ -7,4 +7,6 @@ loop-list-init c = stands_first c.args.writer.now c.int.new.self c.args.value (s
 
 pub loop-list-preserved : goal.loop-list-preserved
 loop-list-preserved c =
-    stands_more c.args.writer.now c.loop-list.writer c.nest_from.new.self c.args.value c.loop-list._list c.len-start.result c.len-start.ensures c.loop-list.invariant (search rules)
+    stands_more c.args.writer.now c.loop-list.writer c.nest_from.new.self c.args.value
+    c.loop-list._list c.len-start.result c.len-start.ensures c.loop-list.invariant
+    (search rules)

@@ -8,4 +8,6 @@ unfolding chains
 loop-chain-init c = search rules
 
 pub loop-chain-preserved : goal.loop-chain-preserved
-loop-chain-preserved c = chains_more (nested (integer c.args.value) c.args.lists) c.loop-chain.writer c.chain.new.writer c.loop-chain._chain c.loop-chain.invariant (search rules)
+loop-chain-preserved c =
+    chains_more (nested (integer c.args.value) c.args.lists) c.loop-chain.writer c.chain.new.writer
+    c.loop-chain._chain c.loop-chain.invariant (search rules)

@@ -11,10 +11,13 @@ returns-then-is_empty c =
 pub returns-in-Some : goal.returns-in-Some
 returns-in-Some c =
     let left : c.self.inside.rest.now ≡ c.args.self.now = c.self.view_is in
-    let same = ap length left in
-    (ap units_in (sym left) ∙ units_step c.self.inside.rest.now _ (sym c.in-Some.ensures.exact), omega (arith, c.in-Some.ensures.shorter))
+    let same = ap length left in (
+      ap units_in (sym left) ∙ units_step c.self.inside.rest.now _ (sym c.in-Some.ensures.exact),
+      omega (arith, c.in-Some.ensures.shorter),
+    )
 
 pub returns-in-None : goal.returns-in-None
 returns-in-None c =
     let left : c.self.inside.rest.now ≡ c.args.self.now = c.self.view_is in
-    ap units_in (sym left) ∙ units_stop c.self.inside.rest.now c.if-is_empty.ensures (sym c.in-None.ensures.exact)
+    ap units_in (sym left) ∙ units_stop c.self.inside.rest.now c.if-is_empty.ensures
+    (sym c.in-None.ensures.exact)

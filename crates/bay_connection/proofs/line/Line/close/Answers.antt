@@ -2,4 +2,5 @@ use Rattle.std.proofs.Common.{refl, arith}
 use Rattle.bay_connection.proofs.line.Line.close.Goals as goal
 
 pub returns-clause-kept : goal.returns-clause-kept
-returns-clause-kept c = record { within = omega arith; joined = rw (c.end.ensures, c.end-2.ensures) refl }
+returns-clause-kept c =
+    record { within = omega arith; joined = rw (c.end.ensures, c.end-2.ensures) refl }

@@ -9,4 +9,7 @@ holds (Err e) h = tt
 
 pub returns-in-Answer-clause-kept : goal.returns-in-Answer-clause-kept
 returns-in-Answer-clause-kept c =
-    holds c.answer.result (record { within = omega (arith, c.requires.nothing); joined = sized_joined (talk_of c.args.self.now) (rw c.in-Answer.is at c.requires.ready) })
+    holds c.answer.result (record {
+      within = omega (arith, c.requires.nothing);
+      joined = sized_joined (talk_of c.args.self.now) (rw c.in-Answer.is at c.requires.ready);
+    })

@@ -5,4 +5,5 @@ use Rattle.bay_device.proofs.connections.Connections.free_place.Goals as goal
 
 pub returns-clause-lowest : goal.returns-clause-lowest
 returns-clause-lowest c =
-    c.free_place_in.ensures.lowest ∙ sym (talks-free c.self.inside.places) ∙ ap (λ ts. position (is_none {T = Talk}) ts) c.self.view_is
+    c.free_place_in.ensures.lowest ∙ sym (talks-free c.self.inside.places)
+    ∙ ap (λ ts. position (is_none {T = Talk}) ts) c.self.view_is

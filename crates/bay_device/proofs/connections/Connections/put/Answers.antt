@@ -4,8 +4,11 @@ use Rattle.bay_device.proofs.ConnectionLemmas.{are-eight, talks-set}
 use Rattle.bay_device.proofs.connections.Connections.put.Goals as goal
 
 pub invariant_of-self : goal.invariant_of-self
-invariant_of-self c = rw c.put_at.ensures (are-eight c.self.inside.places c.args.place c.args.connection c.self.invariant c.requires.going)
+invariant_of-self c =
+    rw c.put_at.ensures (are-eight c.self.inside.places c.args.place c.args.connection
+    c.self.invariant c.requires.going)
 
 pub returns : goal.returns
 returns c =
-    ap talks c.put_at.ensures ∙ talks-set c.self.inside.places c.args.place c.args.connection ∙ ap (λ ts. slice_set ts c.args.place (talk_in c.args.connection)) c.self.view_is
+    ap talks c.put_at.ensures ∙ talks-set c.self.inside.places c.args.place c.args.connection
+    ∙ ap (λ ts. slice_set ts c.args.place (talk_in c.args.connection)) c.self.view_is

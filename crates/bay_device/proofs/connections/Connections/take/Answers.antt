@@ -4,15 +4,20 @@ use Rattle.bay_device.proofs.ConnectionLemmas.{are-eight, taken, talk-at, talks-
 use Rattle.bay_device.proofs.connections.Connections.take.Goals as goal
 
 pub invariant_of-self : goal.invariant_of-self
-invariant_of-self c = rw c.take_at.ensures.rest (are-eight c.self.inside.places c.args.place None c.self.invariant tt)
+invariant_of-self c =
+    rw c.take_at.ensures.rest (are-eight c.self.inside.places c.args.place None c.self.invariant tt)
 
 pub returns-clause-value : goal.returns-clause-value
 returns-clause-value c =
-    ap talk_in c.take_at.ensures.value ∙ talk-at c.self.inside.places c.args.place ∙ ap (λ ts. unwrap_or (slice_get ts c.args.place) None) c.self.view_is
+    ap talk_in c.take_at.ensures.value ∙ talk-at c.self.inside.places c.args.place
+    ∙ ap (λ ts. unwrap_or (slice_get ts c.args.place) None) c.self.view_is
 
 pub returns-clause-rest : goal.returns-clause-rest
 returns-clause-rest c =
-    ap talks c.take_at.ensures.rest ∙ talks-set c.self.inside.places c.args.place None ∙ ap (λ ts. slice_set ts c.args.place None) c.self.view_is
+    ap talks c.take_at.ensures.rest ∙ talks-set c.self.inside.places c.args.place None
+    ∙ ap (λ ts. slice_set ts c.args.place None) c.self.view_is
 
 pub returns-clause-going : goal.returns-clause-going
-returns-clause-going c = taken c.self.inside.places c.args.place c.take_at.result c.self.invariant c.take_at.ensures.value
+returns-clause-going c =
+    taken c.self.inside.places c.args.place c.take_at.result c.self.invariant
+    c.take_at.ensures.value

@@ -18,10 +18,17 @@ returns c =
     let s : State = state_view cs inside.state in
     let here : place_of a ≡ Some c.in-Some.place = sym c.place_of.ensures.value ∙ c.in-Some.is in
     let talk = opened _ (sym c.is_open.ensures ∙ c.if-not-is_open.false) in
-    let some : connection_at (place_of a) s ≡ Some talk.0 = ap (λ (o : Option ℕ). connection_at o s) here ∙ talk.1 in
+    let some : connection_at (place_of a) s ≡ Some talk.0 =
+    ap (λ (o : Option ℕ). connection_at o s) here ∙ talk.1 in
     let whole = ap (close_outcome now a s) some in
-    subst (λ (t : State). IsOutcome (close_outcome now a t (connection_at (place_of a) t)) (let r : Result Step StepFault = Ok c.quiet.result in r) c.drop_connection.new.self) c.self.view_is
+    subst (λ (t : State). IsOutcome (close_outcome now a t (connection_at (place_of a) t))
+    (let r : Result Step StepFault = Ok c.quiet.result in r) c.drop_connection.new.self)
+    c.self.view_is
     (record {
-      answered = ap (λ (x : Step). let r : Result Step StepFault = Ok x in r) c.quiet.ensures ∙ ap (λ (o : Option Sent). quiet_answer (Ok o)) (c.advance-ended.ensures.sent cs) ∙ sym (ap (λ (o : Outcome). o.answer) whole);
-      left = c.drop_connection.ensures ∙ ap (closed a) (c.advance-ended.ensures.after cs) ∙ sym (ap (λ (o : Outcome). o.after) whole);
+      answered =
+          ap (λ (x : Step). let r : Result Step StepFault = Ok x in r) c.quiet.ensures
+          ∙ ap (λ (o : Option Sent). quiet_answer (Ok o)) (c.advance-ended.ensures.sent cs)
+          ∙ sym (ap (λ (o : Outcome). o.answer) whole);
+      left = c.drop_connection.ensures ∙ ap (closed a) (c.advance-ended.ensures.after cs)
+          ∙ sym (ap (λ (o : Outcome). o.after) whole);
     })

@@ -10,5 +10,6 @@ returns c =
     let inside = c.self.inside in
     ap (λ (cs : List (Option Talk)). state_view cs c.drop_owner.new.self) c.put.ensures
     ∙ ap (with_connection (Some c.args.place) None) (c.drop_owner.ensures inside.connections)
-    ∙ sym (ap (λ (o : Option ℕ). with_connection o None (without_owner a (state_view inside.connections inside.state))) c.requires)
+    ∙ sym (ap (λ (o : Option ℕ). with_connection o None
+    (without_owner a (state_view inside.connections inside.state))) c.requires)
     ∙ ap (closed a) c.self.view_is

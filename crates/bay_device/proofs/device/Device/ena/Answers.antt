@@ -4,4 +4,6 @@ use Rattle.bay_device.specs.LookUps.{enabled_of}
 use Rattle.bay_device.proofs.device.Device.ena.Goals as goal
 
 pub returns : goal.returns
-returns c = c.ena.ensures c.self.inside.connections ∙ ap (λ (s : State). enabled_of s c.args.switch) c.self.view_is
+returns c =
+    c.ena.ensures c.self.inside.connections
+    ∙ ap (λ (s : State). enabled_of s c.args.switch) c.self.view_is

@@ -25,23 +25,47 @@ returns c talk is_open =
     let t : State = state_view cs c.drain.new.state in
     let own = c.in-Some.connection.talk in
     let why = result_err c.drain.result in
-    let begun : done_of s c.new-output.result ≡ nothing_done s = rw (c.new-output.ensures.sent, c.new-output.ensures.commands) refl in
-    let here : connection_at (place_of a) s ≡ Some talk = ap (connection_at (place_of a)) c.self.view_is ∙ is_open in
-    let at : connection_at (place_of a) s ≡ unwrap_or (slice_get cs place) None = ap (λ (o : Option ℕ). connection_at o s) c.requires.here in
-    let same : own ≡ talk = same-talk own talk (connection_at (place_of a) s) (sym (ap talk_in c.in-Some.is) ∙ c.take.ensures.value ∙ sym at) here in
-    let comes : ComesTo now a own octets (done_of s c.new-output.result) why (done_of t c.drain.new.output) =
-    ended-at c.drain.result (λ (xs : List (Option Talk)) (w : Option Why). ComesTo now a own octets (done_of (state_view xs inside.state) c.new-output.result) w (done_of (state_view xs c.drain.new.state) c.drain.new.output))
+    let begun : done_of s c.new-made.result ≡ nothing_done s =
+    rw (c.new-made.ensures.sent, c.new-made.ensures.commands) refl in
+    let here : connection_at (place_of a) s ≡ Some talk =
+    ap (connection_at (place_of a)) c.self.view_is ∙ is_open in
+    let at : connection_at (place_of a) s ≡ unwrap_or (slice_get cs place) None =
+    ap (λ (o : Option ℕ). connection_at o s) c.requires.here in
+    let same : own ≡ talk =
+    same-talk own talk (connection_at (place_of a) s)
+    (sym (ap talk_in c.in-Some.is) ∙ c.take.ensures.value ∙ sym at) here in
+    let comes : ComesTo now a own octets (done_of s c.new-made.result) why
+    (done_of t c.drain.new.made) =
+    ended-at c.drain.result (λ (xs : List (Option Talk)) (w : Option Why). ComesTo now a own octets
+    (done_of (state_view xs inside.state) c.new-made.result) w
+    (done_of (state_view xs c.drain.new.state) c.drain.new.made))
     c.drain.ensures.ok c.drain.ensures.err cs in
-    let wanted : ComesTo now a talk octets (nothing_done s) why (done_of t c.drain.new.output) =
-    subst (λ (u : Talk). ComesTo now a u octets (nothing_done s) why (done_of t c.drain.new.output)) same
-    (subst (λ (d : Done). ComesTo now a own octets d why (done_of t c.drain.new.output)) begun comes) in
+    let wanted : ComesTo now a talk octets (nothing_done s) why (done_of t c.drain.new.made) =
+    subst (λ (u : Talk). ComesTo now a u octets (nothing_done s) why (done_of t c.drain.new.made))
+    same
+    (subst (λ (d : Done). ComesTo now a own octets d why (done_of t c.drain.new.made)) begun comes)
+    in
     let left : c.finish.new.self ≡ recv_after a (left_by talk octets) t why =
     c.finish.ensures
-    ∙ ap (λ (w : Option Why). recv_after a c.drain.new.connection.talk (state_view c.take.new.self c.drain.new.state) w) c.err-why.ensures.value
-    ∙ ap (λ (xs : List (Option Talk)). recv_after a c.drain.new.connection.talk (state_view xs c.drain.new.state) why) c.take.ensures.rest
+    ∙ ap (λ (w : Option Why). recv_after a c.drain.new.connection.talk
+    (state_view c.take.new.self c.drain.new.state) w) c.err-why.ensures.value
+    ∙ ap (λ (xs : List (Option Talk)). recv_after a c.drain.new.connection.talk
+    (state_view xs c.drain.new.state) why) c.take.ensures.rest
     ∙ after-taken a place t c.drain.new.connection.talk why c.requires.here
-    ∙ left-if c.drain.result a t c.drain.new.connection.talk (left_by own octets) c.drain.ensures.left
+    ∙ left-if c.drain.result a t c.drain.new.connection.talk (left_by own octets)
+    c.drain.ensures.left
     ∙ ap (λ (u : Talk). recv_after a (left_by u octets) t why) same in
-    let whole = heard-from now a octets c.args.ended s c.finish.new.self talk why (done_of t c.drain.new.output) wanted left in
-    let step : Step = record { ended = c.args.ended; sent = c.drain.new.output.sent.items; commands = c.drain.new.output.commands.items; closed = closed_by a why; scan = None } in
-    rw (c.new.ensures, c.new-2.ensures, c.closed_by.ensures, c.err-why.ensures.value) (subst (λ (u : State). HearsFrom now a octets c.args.ended u talk step c.finish.new.self) c.self.view_is whole)
+    let whole =
+    heard-from now a octets c.args.ended s c.finish.new.self talk why
+    (done_of t c.drain.new.made) wanted left in
+    let step : Step =
+    record {
+      ended = c.args.ended;
+      sent = c.drain.new.made.sent.items;
+      commands = c.drain.new.made.commands.items;
+      closed = closed_by a why;
+      scan = None;
+    } in
+    rw (c.new.ensures, c.new-2.ensures, c.closed_by.ensures, c.err-why.ensures.value)
+    (subst (λ (u : State). HearsFrom now a octets c.args.ended u talk step c.finish.new.self)
+    c.self.view_is whole)

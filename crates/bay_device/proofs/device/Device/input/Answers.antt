@@ -4,4 +4,6 @@ use Rattle.bay_device.specs.LookUps.{input_place}
 use Rattle.bay_device.proofs.device.Device.input.Goals as goal
 
 pub returns : goal.returns
-returns c = c.input_place.ensures c.self.inside.connections ∙ ap (λ (s : State). input_place s c.args.name.now) c.self.view_is
+returns c =
+    c.input_place.ensures c.self.inside.connections
+    ∙ ap (λ (s : State). input_place s c.args.name.now) c.self.view_is

@@ -4,4 +4,6 @@ use Rattle.bay_device.specs.LookUps.{meter_place}
 use Rattle.bay_device.proofs.device.Device.meter.Goals as goal
 
 pub returns : goal.returns
-returns c = c.meter_place.ensures c.self.inside.connections ∙ ap (λ (s : State). meter_place s c.args.id.now) c.self.view_is
+returns c =
+    c.meter_place.ensures c.self.inside.connections
+    ∙ ap (λ (s : State). meter_place s c.args.id.now) c.self.view_is

@@ -20,16 +20,24 @@ returns-then-is_empty c =
     let s : State = state_view cs inside.state in
     let here : place_of a ≡ Some c.in-Some.place = sym c.place_of.ensures.value ∙ c.in-Some.is in
     let talk = opened _ (sym c.is_open.ensures ∙ c.if-not-is_open.false) in
-    let some : connection_at (place_of a) s ≡ Some talk.0 = ap (λ (o : Option ℕ). connection_at o s) here ∙ talk.1 in
-    let none : octets ≡ [] = no-octets octets (grind (arith, nat_tests, c.is_empty.ensures, c.if-is_empty.true)) in
+    let some : connection_at (place_of a) s ≡ Some talk.0 =
+    ap (λ (o : Option ℕ). connection_at o s) here ∙ talk.1 in
+    let none : octets ≡ [] =
+    no-octets octets (grind (arith, nat_tests, c.is_empty.ensures, c.if-is_empty.true)) in
     let told : Option Sent → Result Step StepFault = λ o. quiet_answer (Ok o) in
-    let whole : Receives now a [] s (told (ended_at now s)) (advanced now s) = received-none now a s talk.0 some in
+    let whole : Receives now a [] s (told (ended_at now s)) (advanced now s) =
+    received-none now a s talk.0 some in
     let new = c.advance-ended.ensures.after cs in
-    let answered : (let r : Result Step StepFault = Ok c.quiet.result in r) ≡ told (ended_at now s) =
-    ap (λ (x : Step). let r : Result Step StepFault = Ok x in r) c.quiet.ensures ∙ ap told (c.advance-ended.ensures.sent cs) in
-    subst (λ (t : State). Receives now a octets t (Ok c.quiet.result) (state_view cs c.advance-ended.new.self)) c.self.view_is
-    (subst (λ xs. Receives now a xs s (Ok c.quiet.result) (state_view cs c.advance-ended.new.self)) (sym none)
-    (subst (λ (r : Result Step StepFault). Receives now a [] s r (state_view cs c.advance-ended.new.self)) (sym answered)
+    let answered : (let r : Result Step StepFault = Ok c.quiet.result in r)
+    ≡ told (ended_at now s) =
+    ap (λ (x : Step). let r : Result Step StepFault = Ok x in r) c.quiet.ensures
+    ∙ ap told (c.advance-ended.ensures.sent cs) in
+    subst (λ (t : State). Receives now a octets t (Ok c.quiet.result)
+    (state_view cs c.advance-ended.new.self)) c.self.view_is
+    (subst (λ xs. Receives now a xs s (Ok c.quiet.result) (state_view cs c.advance-ended.new.self))
+    (sym none)
+    (subst (λ (r : Result Step StepFault). Receives now a [] s r
+    (state_view cs c.advance-ended.new.self)) (sym answered)
     (subst (Receives now a [] s (told (ended_at now s))) (sym new) whole)))
 
 pub returns : goal.returns
@@ -42,12 +50,20 @@ returns c =
     let s : State = state_view cs inside.state in
     let here : place_of a ≡ Some c.in-Some.place = sym c.place_of.ensures.value ∙ c.in-Some.is in
     let talk = opened _ (sym c.is_open.ensures ∙ c.if-not-is_open.false) in
-    let some : connection_at (place_of a) s ≡ Some talk.0 = ap (λ (o : Option ℕ). connection_at o s) here ∙ talk.1 in
-    let lent : 0 < length octets = grind (arith, nat_tests, c.is_empty.ensures, c.if-is_empty.false) in
+    let some : connection_at (place_of a) s ≡ Some talk.0 =
+    ap (λ (o : Option ℕ). connection_at o s) here ∙ talk.1 in
+    let lent : 0 < length octets =
+    grind (arith, nat_tests, c.is_empty.ensures, c.if-is_empty.false) in
     let after = c.advance-ended.ensures.after cs in
-    let still : connection_at (place_of a) (state_view cs c.advance-ended.new.self) ≡ Some talk.0 = ap (λ (o : Option ℕ). connection_at o (state_view cs c.advance-ended.new.self)) here ∙ talk.1 in
+    let still : connection_at (place_of a) (state_view cs c.advance-ended.new.self) ≡ Some talk.0 =
+    ap (λ (o : Option ℕ). connection_at o (state_view cs c.advance-ended.new.self)) here
+    ∙ talk.1 in
     let heard = c.hear.ensures talk.0 still in
-    let own : HearsFrom now a octets (ended_at now s) (advanced now s) talk.0 c.hear.result c.hear.new.self =
-    subst (λ (o : Option Sent). HearsFrom now a octets o (advanced now s) talk.0 c.hear.result c.hear.new.self) (c.advance-ended.ensures.sent cs)
-    (subst (λ (t : State). HearsFrom now a octets c.advance-ended.result t talk.0 c.hear.result c.hear.new.self) after heard) in
-    subst (λ (t : State). Receives now a octets t (Ok c.hear.result) c.hear.new.self) c.self.view_is (received now a octets s c.hear.new.self talk.0 c.hear.result some lent own)
+    let own : HearsFrom now a octets (ended_at now s) (advanced now s) talk.0 c.hear.result
+    c.hear.new.self =
+    subst (λ (o : Option Sent). HearsFrom now a octets o (advanced now s) talk.0 c.hear.result
+    c.hear.new.self) (c.advance-ended.ensures.sent cs)
+    (subst (λ (t : State). HearsFrom now a octets c.advance-ended.result t talk.0 c.hear.result
+    c.hear.new.self) after heard) in
+    subst (λ (t : State). Receives now a octets t (Ok c.hear.result) c.hear.new.self) c.self.view_is
+    (received now a octets s c.hear.new.self talk.0 c.hear.result some lent own)

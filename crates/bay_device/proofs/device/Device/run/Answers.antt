@@ -19,13 +19,16 @@ use Rattle.bay_device.proofs.ToldLemmas.{told-backed}
 use Rattle.bay_device.proofs.device.Device.run.Goals as goal
 
 pub returns-in_err-answers-clause-means : goal.returns-in_err-answers-clause-means
-returns-in_err-answers-clause-means c program runs choices = all-mean program choices c.args.events.now c.args.self.now runs
+returns-in_err-answers-clause-means c program runs choices =
+    all-mean program choices c.args.events.now c.args.self.now runs
 
 pub returns-in_err-answers-clause-commanded : goal.returns-in_err-answers-clause-commanded
-returns-in_err-answers-clause-commanded c choices = all-commanded choices c.args.events.now c.args.self.now
+returns-in_err-answers-clause-commanded c choices =
+    all-commanded choices c.args.events.now c.args.self.now
 
 pub returns-in_err-answers-clause-backed : goal.returns-in_err-answers-clause-backed
-returns-in_err-answers-clause-backed c none choices = all-are-backed choices c.args.events.now c.args.self.now c.has_places.ensures none
+returns-in_err-answers-clause-backed c none choices =
+    all-are-backed choices c.args.events.now c.args.self.now c.has_places.ensures none
 
 pub loop-now-init : goal.loop-now-init
 loop-now-init c = record {
@@ -34,7 +37,8 @@ loop-now-init c = record {
   leads = rw c.in_ok-answers.ensures.items (leads-none c.args.events.now c.args.self.now);
 }
 
-rest-more : (events : List (ℕ × Event)) (i : ℕ) (d : ℕ × Event) → i < length events → drop i events ≡ get_or events i d ∷ drop (i + 1) events
+rest-more : (events : List (ℕ × Event)) (i : ℕ) (d : ℕ × Event) → i < length events
+    → drop i events ≡ get_or events i d ∷ drop (i + 1) events
 rest-more events i d within = grind (arith, common_steps)
 
 pub loop-now-preserved : goal.loop-now-preserved
@@ -47,8 +51,10 @@ loop-now-preserved c =
     record {
       counted = omega (arith, room.len, c.loop-now.invariant.counted);
       room = omega (arith, room.capacity, c.loop-now.invariant.room);
-      leads = rw room.items (leads-step events c.args.self.now c.loop-now.answers.items e (drop (i + 1) events) c.loop-now.self i
-          c.step-answer.result c.step-answer.new.self (rw here at c.loop-now.invariant.leads) c.step-answer.ensures.steps c.step-answer.ensures.halts);
+      leads = rw room.items (leads-step events c.args.self.now c.loop-now.answers.items e
+          (drop (i + 1) events) c.loop-now.self i
+          c.step-answer.result c.step-answer.new.self (rw here at c.loop-now.invariant.leads)
+          c.step-answer.ensures.steps c.step-answer.ensures.halts);
     }
 
 pub returns-clause-ok : goal.returns-clause-ok
@@ -57,15 +63,18 @@ returns-clause-ok c =
     let past : length events ≤ c.loop-now.now-index = omega (arith, c.loop-now-test.false) in
     let none : drop c.loop-now.now-index events ≡ [] = drop_of_length-le events past in
     let all : c.loop-now.now-index ≡ length events = omega (arith, c.loop-now.auto.now-index-end) in
-    runs-all events c.args.self.now c.loop-now.answers.items c.loop-now.self c.loop-now.now-index all (rw none at c.loop-now.invariant.leads)
+    runs-all events c.args.self.now c.loop-now.answers.items c.loop-now.self c.loop-now.now-index
+    all (rw none at c.loop-now.invariant.leads)
 
 pub returns-clause-means : goal.returns-clause-means
-returns-clause-means c program runs choices = all-mean program choices c.args.events.now c.args.self.now runs
+returns-clause-means c program runs choices =
+    all-mean program choices c.args.events.now c.args.self.now runs
 
 pub returns-clause-runs : goal.returns-clause-runs
 returns-clause-runs c program runs =
     let done = returns-clause-ok c in
-    subst (Runs program) (sym done.steps.left) (all-run program done.steps.choices c.args.events.now c.args.self.now runs)
+    subst (Runs program) (sym done.steps.left)
+    (all-run program done.steps.choices c.args.events.now c.args.self.now runs)
 
 pub returns-clause-commanded : goal.returns-clause-commanded
 returns-clause-commanded c choices = all-commanded choices c.args.events.now c.args.self.now
@@ -74,17 +83,22 @@ pub returns-clause-single : goal.returns-clause-single
 returns-clause-single c timed =
     let done = returns-clause-ok c in
     let each = all-single done.steps.choices c.args.events.now c.args.self.now timed in
-    all-of IsSingle c.loop-now.answers.items (subst (λ (rs : List (Result Step StepFault)). AllByRecursion IsSingle rs) (sym done.steps.answered) each)
+    all-of IsSingle c.loop-now.answers.items
+    (subst (λ (rs : List (Result Step StepFault)). AllByRecursion IsSingle rs)
+    (sym done.steps.answered) each)
 
 pub returns-clause-timed : goal.returns-clause-timed
 returns-clause-timed c timed =
     let done = returns-clause-ok c in
-    subst (λ (s : State). AreTimed s.controls.controls) (sym done.steps.left) (all-timed done.steps.choices c.args.events.now c.args.self.now timed)
+    subst (λ (s : State). AreTimed s.controls.controls) (sym done.steps.left)
+    (all-timed done.steps.choices c.args.events.now c.args.self.now timed)
 
 pub returns-clause-backed : goal.returns-clause-backed
-returns-clause-backed c none choices = all-are-backed choices c.args.events.now c.args.self.now c.has_places.ensures none
+returns-clause-backed c none choices =
+    all-are-backed choices c.args.events.now c.args.self.now c.has_places.ensures none
 
 pub returns-clause-told : goal.returns-clause-told
 returns-clause-told c idle =
     let done = returns-clause-ok c in
-    told-backed done.steps.choices c.args.events.now c.args.self.now c.loop-now.answers.items c.has_places.ensures idle done.steps.answered
+    told-backed done.steps.choices c.args.events.now c.args.self.now c.loop-now.answers.items
+    c.has_places.ensures idle done.steps.answered

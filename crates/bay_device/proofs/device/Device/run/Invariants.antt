@@ -7,5 +7,6 @@ abbrev pub invariant-loop-now : goal.invariant-loop-now
 invariant-loop-now l = record {
   counted : vec_len l.answers ≡ l.now-index;
   room : length l.events ≤ vec_capacity l.answers;
-  leads : Leads l.events l.initial.self l.answers.items (drop l.now-index l.events) l.self l.now-index;
+  leads : Leads l.events l.initial.self l.answers.items (drop l.now-index l.events) l.self
+      l.now-index;
 }

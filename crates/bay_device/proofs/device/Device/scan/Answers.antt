@@ -11,7 +11,14 @@ use Rattle.bay_device.specs.declared.fault.StepFault.{StepFault}
 use Rattle.bay_device.proofs.device.Device.scan.Goals as goal
 
 abbrev told : Option Sent → List Sent → List Command → ℕ → Result Step StepFault
-told ended sent commands steps = Ok (record { ended = ended; sent = sent; commands = commands; closed = None; scan = Some steps })
+told ended sent commands steps =
+    Ok (record {
+      ended = ended;
+      sent = sent;
+      commands = commands;
+      closed = None;
+      scan = Some steps;
+    })
 
 pub returns-clause-gives : goal.returns-clause-gives
 returns-clause-gives c =
@@ -21,12 +28,19 @@ returns-clause-gives c =
     let s : State = state_view cs inside.state in
     let new : State = state_view cs c.scan-steps.new.self in
     let after = c.advance-ended.ensures.after cs in
-    subst (λ (t : State). IsOutcome (scan_outcome now t) (told c.advance-ended.result c.new-2.result c.new-4.result c.scan-steps.result) new) c.self.view_is
+    subst (λ (t : State). IsOutcome (scan_outcome now t)
+    (told c.advance-ended.result c.new-2.result c.new-4.result c.scan-steps.result) new)
+    c.self.view_is
     (record {
-      answered = ap (λ (o : Option Sent). told o c.new-2.result c.new-4.result c.scan-steps.result) (c.advance-ended.ensures.sent cs)
-          ∙ ap (λ (xs : List Sent). told (ended_at now s) xs c.new-4.result c.scan-steps.result) (c.new-2.ensures ∙ c.new.ensures.items)
-          ∙ ap (λ (xs : List Command). told (ended_at now s) [] xs c.scan-steps.result) (c.new-4.ensures ∙ c.new-3.ensures.items)
-          ∙ ap (told (ended_at now s) [] []) (c.scan-steps.ensures.steps cs ∙ ap (λ (t : State). (ran_at now t).steps) after);
+      answered =
+          ap (λ (o : Option Sent). told o c.new-2.result c.new-4.result c.scan-steps.result)
+          (c.advance-ended.ensures.sent cs)
+          ∙ ap (λ (xs : List Sent). told (ended_at now s) xs c.new-4.result c.scan-steps.result)
+          (c.new-2.ensures ∙ c.new.ensures.items)
+          ∙ ap (λ (xs : List Command). told (ended_at now s) [] xs c.scan-steps.result)
+          (c.new-4.ensures ∙ c.new-3.ensures.items)
+          ∙ ap (told (ended_at now s) [] [])
+          (c.scan-steps.ensures.steps cs ∙ ap (λ (t : State). (ran_at now t).steps) after);
       left = c.scan-steps.ensures.after cs ∙ ap (scanned now) after;
     })
 
@@ -34,4 +48,5 @@ pub returns-clause-halts : goal.returns-clause-halts
 returns-clause-halts c =
     let now = c.args.now in
     let cs = c.self.inside.connections in
-    subst (λ (t : State). Halts now (advanced now t)) c.self.view_is (subst (Halts now) (c.advance-ended.ensures.after cs) (c.scan-steps.ensures.halts cs))
+    subst (λ (t : State). Halts now (advanced now t)) c.self.view_is
+    (subst (Halts now) (c.advance-ended.ensures.after cs) (c.scan-steps.ensures.halts cs))

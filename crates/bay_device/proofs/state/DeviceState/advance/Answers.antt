@@ -10,7 +10,9 @@ invariant_of-self c =
     record {
       bound = rw (did.layout, did.switches) d.bound;
       metered = rw did.layout d.metered;
-      told_stands = told-with (bay_view d.bay) (bay_view c.advance-over.new.self) (control.advanced c.args.now d.bay.controls) d.told d.told_stands did.after;
+      told_stands =
+          told-with (bay_view d.bay) (bay_view c.advance-over.new.self)
+          (control.advanced c.args.now d.bay.controls) d.told d.told_stands did.after;
       told_sized = rw did.switches d.told_sized;
       tabled = rw did.switches d.tabled;
       typed = d.typed;
@@ -23,7 +25,9 @@ invariant_of-self-in-None c =
     record {
       bound = rw (did.layout, did.switches) d.bound;
       metered = rw did.layout d.metered;
-      told_stands = told-with (bay_view d.bay) (bay_view c.advance-over.new.self) (control.advanced c.args.now d.bay.controls) d.told d.told_stands did.after;
+      told_stands =
+          told-with (bay_view d.bay) (bay_view c.advance-over.new.self)
+          (control.advanced c.args.now d.bay.controls) d.told d.told_stands did.after;
       told_sized = rw did.switches d.told_sized;
       tabled = rw did.switches d.tabled;
       typed = d.typed;

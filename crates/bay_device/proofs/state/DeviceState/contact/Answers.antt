@@ -10,7 +10,9 @@ use Rattle.bay_device.proofs.state.DeviceState.contact.Goals as goal
 pub take_contact-reached-requires : goal.take_contact-reached-requires
 take_contact-reached-requires c =
     let d = c.args.self.now in
-    let many = as-many d.bay.switches c.advance-over.new.self.bay.switches (ap (λ (s : State). s.switches) (c.advance-over.ensures.after [])) in
+    let many =
+    as-many d.bay.switches c.advance-over.new.self.bay.switches
+    (ap (λ (s : State). s.switches) (c.advance-over.ensures.after [])) in
     let lent = ap length c.as_slice.ensures in
     omega (arith, many, lent, c.if-switch-as_slice.false)
 
@@ -26,11 +28,18 @@ returns c connections =
     let whole = ap (contact_outcome c.args.now k c.args.position s) here.1 in
     let own = ap (λ (t : State). slice_get t.switches k) after ∙ here.1 in
     let took = c.take_contact-reached.ensures.after connections here.0 own in
-    let told : c.or_else.result ≡ or_else (ended_at c.args.now s) (reached_at k c.args.position (advanced c.args.now s)) =
+    let told : c.or_else.result
+    ≡ or_else (ended_at c.args.now s) (reached_at k c.args.position (advanced c.args.now s)) =
     c.or_else.ensures
-    ∙ ap (λ (o : Option Sent). or_else o c.take_contact-reached.result) (c.advance-over.ensures.sent connections)
-    ∙ ap (or_else (ended_at c.args.now s)) (c.take_contact-reached.ensures.sent connections ∙ ap (reached_at k c.args.position) after) in
+    ∙ ap (λ (o : Option Sent). or_else o c.take_contact-reached.result)
+    (c.advance-over.ensures.sent connections)
+    ∙ ap (or_else (ended_at c.args.now s))
+    (c.take_contact-reached.ensures.sent connections ∙ ap (reached_at k c.args.position) after)
+    in
     record {
-      answered = ap (λ (o : Option Sent). quiet_answer (Ok o)) told ∙ sym (ap (λ (o : Outcome). o.answer) whole);
-      left = took ∙ ap (contact_taken c.args.now k here.0 c.args.position) after ∙ sym (ap (λ (o : Outcome). o.after) whole);
+      answered =
+          ap (λ (o : Option Sent). quiet_answer (Ok o)) told
+          ∙ sym (ap (λ (o : Outcome). o.answer) whole);
+      left = took ∙ ap (contact_taken c.args.now k here.0 c.args.position) after
+          ∙ sym (ap (λ (o : Outcome). o.after) whole);
     }

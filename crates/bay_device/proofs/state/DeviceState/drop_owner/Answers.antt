@@ -10,7 +10,9 @@ invariant_of-self c =
     record {
       bound = rw (did.layout, did.switches) d.bound;
       metered = rw did.layout d.metered;
-      told_stands = told-with (bay_view d.bay) (bay_view c.drop_owner.new.self) (control.dropped c.args.association d.bay.controls) d.told d.told_stands did.after;
+      told_stands =
+          told-with (bay_view d.bay) (bay_view c.drop_owner.new.self)
+          (control.dropped c.args.association d.bay.controls) d.told d.told_stands did.after;
       told_sized = rw did.switches d.told_sized;
       tabled = rw did.switches d.tabled;
       typed = d.typed;

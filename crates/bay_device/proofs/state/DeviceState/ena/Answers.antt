@@ -17,36 +17,52 @@ pub enabled_at-enabled-requires : goal.enabled_at-enabled-requires
 enabled_at-enabled-requires c =
     let d = c.args.self.now in
     let bound = c.in_ok-bound.bound in
-    let here : slice_get d.bay.switches c.args.switch ≡ Some bound.now = rw c.as_slice.ensures at (got-some _ c.args.switch bound c.in_ok-bound.ensures.lookup) in
-    (d.bound c.args.switch bound.now here).kinded
+    let here : slice_get d.bay.switches c.args.switch ≡ Some bound.now =
+    rw c.as_slice.ensures at (got-some _ c.args.switch bound c.in_ok-bound.ensures.lookup) in
+    (d.bound c.args.switch bound.now here).leaf_typed
 
 within : (k n : ℕ) (o : Option (Bool × Bool)) → k < n → o ≡ cond (nat_lt k n) o None
 within k n o lt = grind (arith, nat_tests)
 
 -- what is answered of a switch that is there
-answered : (connections : List (Option Talk)) (d : DeviceState) (k : ℕ) (bound : BoundSwitch) (opens closes : Bool) → slice_get d.bay.switches k ≡ Some bound → opens ≡ may_open (state_view connections d) k → closes ≡ may_close (state_view connections d) k
+answered : (connections : List (Option Talk)) (d : DeviceState) (k : ℕ) (bound : BoundSwitch)
+    (opens closes : Bool) → slice_get d.bay.switches k ≡ Some bound
+    → opens ≡ may_open (state_view connections d) k
+    → closes ≡ may_close (state_view connections d) k
     → Some (opens, closes) ≡ enabled_of (state_view connections d) k
 answered connections d k bound opens closes here opening closing =
-    let lt : k < length (switches_of d.bay.switches) = slice_get_within (switches_of d.bay.switches) k bound.switch (slice_get-map (λ (b : BoundSwitch). b.switch) d.bay.switches k ∙ ap (λ o. option_map (λ (b : BoundSwitch). b.switch) o) here) in
-    ap (λ b. Some (b, closes)) opening ∙ ap (λ b. Some (may_open (state_view connections d) k, b)) closing ∙ within k (length (switches_of d.bay.switches)) _ lt
+    let lt : k < length (switches_of d.bay.switches) =
+    slice_get_within (switches_of d.bay.switches) k bound.switch
+    (slice_get-map (λ (b : BoundSwitch). b.switch) d.bay.switches k
+    ∙ ap (λ o. option_map (λ (b : BoundSwitch). b.switch) o) here) in
+    ap (λ b. Some (b, closes)) opening
+    ∙ ap (λ b. Some (may_open (state_view connections d) k, b)) closing
+    ∙ within k (length (switches_of d.bay.switches)) _ lt
 
 pub returns-in-Some : goal.returns-in-Some
 returns-in-Some c connections =
     let d = c.args.self.now in
     let k = c.args.switch in
     let bound = c.in_ok-bound.bound in
-    let here : slice_get d.bay.switches k ≡ Some bound.now = rw c.as_slice.ensures at (got-some _ k bound c.in_ok-bound.ensures.lookup) in
+    let here : slice_get d.bay.switches k ≡ Some bound.now =
+    rw c.as_slice.ensures at (got-some _ k bound c.in_ok-bound.ensures.lookup) in
     let told = d.told_stands k c.in-Some.enabled (sym c.get-2.ensures ∙ c.in-Some.is) in
-    answered connections d k bound.now c.in-Some.enabled.may_open c.in-Some.enabled.may_close here (sym (ap (is_truth true) told.opening.value_is)) (sym (ap (is_truth true) told.closing.value_is))
+    answered connections d k bound.now c.in-Some.enabled.may_open c.in-Some.enabled.may_close here
+    (sym (ap (is_truth true) told.opening.value_is))
+    (sym (ap (is_truth true) told.closing.value_is))
 
 pub returns-in-None : goal.returns-in-None
 returns-in-None c connections =
     let d = c.args.self.now in
     let k = c.args.switch in
     let bound = c.in_ok-bound.bound in
-    let here : slice_get d.bay.switches k ≡ Some bound.now = rw c.as_slice.ensures at (got-some _ k bound c.in_ok-bound.ensures.lookup) in
+    let here : slice_get d.bay.switches k ≡ Some bound.now =
+    rw c.as_slice.ensures at (got-some _ k bound c.in_ok-bound.ensures.lookup) in
     let named = (d.bound k bound.now here).named in
     let did = c.enabled_at-enabled.ensures in
-    answered connections d k bound.now c.enabled_at-enabled.result.may_open c.enabled_at-enabled.result.may_close here
-    (did.may_open ∙ ap (λ (n : SwitchNames). is_truth true (leaf_of n.ena_opn.value d.bay.tree)) named)
-    (did.may_close ∙ ap (λ (n : SwitchNames). is_truth true (leaf_of n.ena_cls.value d.bay.tree)) named)
+    answered connections d k bound.now c.enabled_at-enabled.result.may_open
+    c.enabled_at-enabled.result.may_close here
+    (did.may_open ∙ ap (λ (n : SwitchNames). is_truth true (leaf_of n.ena_opn.value d.bay.tree))
+    named)
+    (did.may_close ∙ ap (λ (n : SwitchNames). is_truth true (leaf_of n.ena_cls.value d.bay.tree))
+    named)

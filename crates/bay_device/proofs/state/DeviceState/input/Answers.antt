@@ -10,19 +10,27 @@ use Rattle.bay_device.proofs.state.DeviceState.input.Goals as goal
 pub set-requires : goal.set-requires
 set-requires c =
     let d = c.args.self.now in
-    let here : slice_get d.input_values c.args.input ≡ Some c.in-Some.before = sym c.get.ensures ∙ c.in-Some.is in
-    let lt : c.args.input < length d.input_values = slice_get_within d.input_values c.args.input c.in-Some.before here in
-    let many : length c.advance-over.new.self.input_values ≡ length d.input_values = ap (λ (s : State). length s.input_values) (c.advance-over.ensures.after []) in
+    let here : slice_get d.input_values c.args.input ≡ Some c.in-Some.before =
+    sym c.get.ensures ∙ c.in-Some.is in
+    let lt : c.args.input < length d.input_values =
+    slice_get_within d.input_values c.args.input c.in-Some.before here in
+    let many : length c.advance-over.new.self.input_values ≡ length d.input_values =
+    ap (λ (s : State). length s.input_values) (c.advance-over.ensures.after []) in
     omega (arith, lt, many)
 
 pub returns : goal.returns
 returns c connections =
     let d = c.args.self.now in
     let s : State = state_view connections d in
-    let here : slice_get d.input_values c.args.input ≡ Some c.in-Some.before = sym c.get.ensures ∙ c.in-Some.is in
+    let here : slice_get d.input_values c.args.input ≡ Some c.in-Some.before =
+    sym c.get.ensures ∙ c.in-Some.is in
     let after = c.advance-over.ensures.after connections in
     let whole = ap (input_outcome c.args.now c.args.input c.args.value s) here in
     record {
-      answered = ap (λ (o : Option Sent). quiet_answer (Ok o)) (c.advance-over.ensures.sent connections) ∙ sym (ap (λ (o : Outcome). o.answer) whole);
-      left = rw (c.set.ensures, c.same_truth-changed.ensures) (ap (input_taken c.args.input c.args.value c.in-Some.before) after ∙ sym (ap (λ (o : Outcome). o.after) whole));
+      answered =
+          ap (λ (o : Option Sent). quiet_answer (Ok o)) (c.advance-over.ensures.sent connections)
+          ∙ sym (ap (λ (o : Outcome). o.answer) whole);
+      left = rw (c.set.ensures, c.same_truth-changed.ensures)
+          (ap (input_taken c.args.input c.args.value c.in-Some.before) after
+          ∙ sym (ap (λ (o : Outcome). o.after) whole));
     }

@@ -18,7 +18,9 @@ use Rattle.bay_device.proofs.state.DeviceState.measure.Goals as goal
 pub measure-changed-requires : goal.measure-changed-requires
 measure-changed-requires c =
     let d = c.args.self.now in
-    let here : slice_get d.meters c.args.meter ≡ Some c.in-Some.bound.now = rw c.as_slice.ensures at (got-some _ c.args.meter c.in-Some.bound c.in-Some.ensures.lookup) in
+    let here : slice_get d.meters c.args.meter ≡ Some c.in-Some.bound.now =
+    rw c.as_slice.ensures at (got-some _ c.args.meter c.in-Some.bound c.in-Some.ensures.lookup)
+    in
     rw c.advance-over.ensures.layout (d.metered c.args.meter c.in-Some.bound.now here)
 
 pub invariant_of-self : goal.invariant_of-self
@@ -32,7 +34,8 @@ invariant_of-self c =
       bound = rw (did.layout, did.switches) d.bound;
       metered = rw did.layout d.metered;
       told_stands = rw written (told-kept d.bay.tree _ d.told d.told_stands
-          (keeps-measure (field_names c.args.field (meter_names c.args.meter)) c.args.value c.args.now d.bay.tree (field-away c.args.meter c.args.field)));
+          (keeps-measure (field_names c.args.field (meter_names c.args.meter)) c.args.value
+          c.args.now d.bay.tree (field-away c.args.meter c.args.field)));
       told_sized = rw did.switches d.told_sized;
       tabled = rw did.switches d.tabled;
       typed = d.typed;
@@ -44,17 +47,26 @@ returns c connections =
     let s : State = state_view connections d in
     let t : State = state_view connections c.advance-over.new.self in
     let bound = c.in-Some.bound.now in
-    let here : slice_get d.meters c.args.meter ≡ Some bound = rw c.as_slice.ensures at (got-some _ c.args.meter c.in-Some.bound c.in-Some.ensures.lookup) in
-    let meter : slice_get (meters_of d.meters) c.args.meter ≡ Some bound.id = slice_get-map (λ (b : BoundMeter). b.id) d.meters c.args.meter ∙ ap (λ o. option_map (λ (b : BoundMeter). b.id) o) here in
+    let here : slice_get d.meters c.args.meter ≡ Some bound =
+    rw c.as_slice.ensures at (got-some _ c.args.meter c.in-Some.bound c.in-Some.ensures.lookup)
+    in
+    let meter : slice_get (meters_of d.meters) c.args.meter ≡ Some bound.id =
+    slice_get-map (λ (b : BoundMeter). b.id) d.meters c.args.meter
+    ∙ ap (λ o. option_map (λ (b : BoundMeter). b.id) o) here in
     let after = c.advance-over.ensures.after connections in
     let fits = c.ranges.value in
     let did = simp to_z-of_z at c.measure-changed.ensures.after in
     let changed = simp to_z-of_z at c.measure-changed.ensures.changed in
     let whole = ap (measure_outcome c.args.now c.args.meter c.args.field c.args.value s) meter in
     record {
-      answered = ap (λ (o : Option Sent). quiet_answer (Ok o)) (c.advance-over.ensures.sent connections) ∙ sym (ap (λ (o : Outcome). o.answer) whole);
-      left = ap (λ (b : Bay). with_bay b (record t { is_stale = t.is_stale || c.measure-changed.result })) did
-          ∙ ap (λ (b : Bool). record (measure_taken c.args.now c.args.meter c.args.field c.args.value t) { is_stale = t.is_stale || b }) changed
+      answered =
+          ap (λ (o : Option Sent). quiet_answer (Ok o)) (c.advance-over.ensures.sent connections)
+          ∙ sym (ap (λ (o : Outcome). o.answer) whole);
+      left = ap (λ (b : Bay). with_bay b
+          (record t { is_stale = t.is_stale || c.measure-changed.result })) did
+          ∙ ap (λ (b : Bool). record
+          (measure_taken c.args.now c.args.meter c.args.field c.args.value t)
+          { is_stale = t.is_stale || b }) changed
           ∙ ap (measure_taken c.args.now c.args.meter c.args.field c.args.value) after
           ∙ sym (ap (λ (o : Outcome). o.after) whole);
     }

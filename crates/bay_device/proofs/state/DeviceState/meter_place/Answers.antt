@@ -7,4 +7,5 @@ use Rattle.bay_device.proofs.state.DeviceState.meter_place.Goals as goal
 pub returns : goal.returns
 returns c connections =
     let place = rw c.as_slice.ensures at c.place_of.ensures in
-    place ∙ position_mapped (λ (b : BoundMeter). b.id) (λ m. same_name m c.args.id.now) c.args.self.now.meters
+    place ∙ position_mapped (λ (b : BoundMeter). b.id) (λ m. same_name m c.args.id.now)
+    c.args.self.now.meters

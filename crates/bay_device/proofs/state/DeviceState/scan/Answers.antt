@@ -5,17 +5,20 @@ use Rattle.bay_services.specs.Bay.{Bay}
 use Rattle.bay_device.specs.Device.{Ran, State, with_bay}
 use Rattle.bay_device.specs.StateView.{state_view}
 use Rattle.bay_process.specs.Layout.{layout_of}
-use Rattle.bay_device.proofs.ScanLemmas.{halted, inputs-named, interlocked, kinded, meters-kinded, ran, scan-done}
+use Rattle.bay_device.proofs.ScanLemmas.{halted, inputs-named, interlocked, leaf_typed, meters-leaf_typed, ran, scan-done}
 use Rattle.bay_device.proofs.state.DeviceState.scan.Goals as goal
 
-pub run_program-steps-requires-clause-kinded : goal.run_program-steps-requires-clause-kinded
-run_program-steps-requires-clause-kinded c = let d = c.args.self.now in kinded (layout_of d.bay.tree) d.writes d.bay.switches d.bound
+pub run_program-steps-requires-clause-leaf_typed : goal.run_program-steps-requires-clause-leaf_typed
+run_program-steps-requires-clause-leaf_typed c = let d =
+    c.args.self.now in leaf_typed (layout_of d.bay.tree) d.writes d.bay.switches d.bound
 
 pub run_program-steps-requires-clause-metered : goal.run_program-steps-requires-clause-metered
-run_program-steps-requires-clause-metered c = let d = c.args.self.now in rw c.as_slice.ensures (meters-kinded (layout_of d.bay.tree) d.meters d.metered)
+run_program-steps-requires-clause-metered c = let d = c.args.self.now in
+    rw c.as_slice.ensures (meters-leaf_typed (layout_of d.bay.tree) d.meters d.metered)
 
 pub write_scan-requires-clause-interlocked : goal.write_scan-requires-clause-interlocked
-write_scan-requires-clause-interlocked c = let d = c.args.self.now in interlocked (layout_of d.bay.tree) d.writes d.bay.switches d.bound
+write_scan-requires-clause-interlocked c = let d =
+    c.args.self.now in interlocked (layout_of d.bay.tree) d.writes d.bay.switches d.bound
 
 pub invariant_of-self : goal.invariant_of-self
 invariant_of-self c =
@@ -39,8 +42,11 @@ returns-clause-after c connections =
     let steps = c.run_program-steps.result in
     let did = rw (c.as_slice.ensures, c.as_slice-2.ensures) at c.run_program-steps.ensures in
     let read = inputs-named connections d d.bay.switches d.meters d.reads refl refl refl in
-    ap (λ (b : Bay). with_bay b (record s { machine = m; last_scan = Some c.args.now; is_stale = false })) (rw c.outputs.ensures at c.write_scan.ensures.after)
-    ∙ scan-done connections d c.args.now _ read m steps (outputs_of m.image.points m.slots) did _ refl
+    ap (λ (b : Bay). with_bay b
+    (record s { machine = m; last_scan = Some c.args.now; is_stale = false }))
+    (rw c.outputs.ensures at c.write_scan.ensures.after)
+    ∙ scan-done connections d c.args.now _ read m steps (outputs_of m.image.points m.slots) did _
+    refl
 
 pub returns-clause-steps : goal.returns-clause-steps
 returns-clause-steps c connections =
@@ -48,7 +54,9 @@ returns-clause-steps c connections =
     let m = c.run_program-steps.new.machine in
     let did = rw (c.as_slice.ensures, c.as_slice-2.ensures) at c.run_program-steps.ensures in
     let read = inputs-named connections d d.bay.switches d.meters d.reads refl refl refl in
-    sym (ap (λ (r : Ran). r.steps) (ran connections d c.args.now _ read m c.run_program-steps.result (outputs_of m.image.points m.slots) did))
+    sym (ap (λ (r : Ran). r.steps)
+    (ran connections d c.args.now _ read m c.run_program-steps.result
+    (outputs_of m.image.points m.slots) did))
 
 pub returns-clause-halts : goal.returns-clause-halts
 returns-clause-halts c connections =
@@ -56,4 +64,5 @@ returns-clause-halts c connections =
     let m = c.run_program-steps.new.machine in
     let did = rw (c.as_slice.ensures, c.as_slice-2.ensures) at c.run_program-steps.ensures in
     let read = inputs-named connections d d.bay.switches d.meters d.reads refl refl refl in
-    halted connections d c.args.now _ read m c.run_program-steps.result (outputs_of m.image.points m.slots) did
+    halted connections d c.args.now _ read m c.run_program-steps.result
+    (outputs_of m.image.points m.slots) did

@@ -8,4 +8,5 @@ use Rattle.bay_device.proofs.state.DeviceState.switch.Goals as goal
 pub returns : goal.returns
 returns c connections =
     let place = rw c.as_slice.ensures at c.place_of.ensures in
-    place ∙ position_mapped (λ (b : BoundSwitch). b.switch) (λ (s : Switch). same_name s.id c.args.id.now) c.args.self.now.bay.switches
+    place ∙ position_mapped (λ (b : BoundSwitch). b.switch)
+    (λ (s : Switch). same_name s.id c.args.id.now) c.args.self.now.bay.switches

@@ -15,12 +15,17 @@ invariant_of-self c =
     let s = switch-there d.bay.switches c.args.switch c.requires in
     let rows = ap (λ (b : Bay). b.rows) (c.contact-changed.ensures.after s.0 s.1) in
     let tree = c.reach.ensures.tree ∙ rows in
-    let layout = ap (λ (r : List Row). layout_of r) c.reach.ensures.tree ∙ c.contact-changed.ensures.layout in
+    let layout =
+    ap (λ (r : List Row). layout_of r) c.reach.ensures.tree
+    ∙ c.contact-changed.ensures.layout in
     let switches = c.reach.ensures.switches ∙ c.contact-changed.ensures.switches in
     record {
       bound = rw (layout, switches) d.bound;
       metered = rw layout d.metered;
-      told_stands = rw tree (told-kept d.bay.tree _ d.told d.told_stands (keeps-contact (switches_of d.bay.switches) c.args.switch s.0 c.args.position c.args.now d.bay.tree));
+      told_stands =
+          rw tree (told-kept d.bay.tree _ d.told d.told_stands
+          (keeps-contact (switches_of d.bay.switches) c.args.switch s.0 c.args.position c.args.now
+          d.bay.tree));
       told_sized = rw switches d.told_sized;
       tabled = rw switches d.tabled;
       typed = d.typed;
@@ -32,12 +37,17 @@ invariant_of-self-else-reach c =
     let s = switch-there d.bay.switches c.args.switch c.requires in
     let rows = ap (λ (b : Bay). b.rows) (c.contact-changed.ensures.after s.0 s.1) in
     let tree = c.reach.ensures.tree ∙ rows in
-    let layout = ap (λ (r : List Row). layout_of r) c.reach.ensures.tree ∙ c.contact-changed.ensures.layout in
+    let layout =
+    ap (λ (r : List Row). layout_of r) c.reach.ensures.tree
+    ∙ c.contact-changed.ensures.layout in
     let switches = c.reach.ensures.switches ∙ c.contact-changed.ensures.switches in
     record {
       bound = rw (layout, switches) d.bound;
       metered = rw layout d.metered;
-      told_stands = rw tree (told-kept d.bay.tree _ d.told d.told_stands (keeps-contact (switches_of d.bay.switches) c.args.switch s.0 c.args.position c.args.now d.bay.tree));
+      told_stands =
+          rw tree (told-kept d.bay.tree _ d.told d.told_stands
+          (keeps-contact (switches_of d.bay.switches) c.args.switch s.0 c.args.position c.args.now
+          d.bay.tree));
       told_sized = rw switches d.told_sized;
       tabled = rw switches d.tabled;
       typed = d.typed;
@@ -48,13 +58,16 @@ returns-then-reach-clause-sent c connections =
     let d = c.args.self.now in
     let s = switch-there d.bay.switches c.args.switch c.requires in
     let done : is_done c.args.switch c.args.position d.bay.controls.execution ≡ true =
-    sym (ap (λ (b : Bay). is_done c.args.switch c.args.position b.controls.execution) (c.contact-changed.ensures.after s.0 s.1)) ∙ sym c.reach.ensures.done ∙ c.if-reach.true in
-    c.reached.ensures.sent ∙ sym (ap (λ (b : Bool). let o : Option Sent = cond b (reached d.due) None in o) done)
+    sym (ap (λ (b : Bay). is_done c.args.switch c.args.position b.controls.execution)
+    (c.contact-changed.ensures.after s.0 s.1)) ∙ sym c.reach.ensures.done ∙ c.if-reach.true in
+    c.reached.ensures.sent ∙ sym
+    (ap (λ (b : Bool). let o : Option Sent = cond b (reached d.due) None in o) done)
 
 pub returns-else-reach-clause-sent : goal.returns-else-reach-clause-sent
 returns-else-reach-clause-sent c connections =
     let d = c.args.self.now in
     let s = switch-there d.bay.switches c.args.switch c.requires in
     let done : is_done c.args.switch c.args.position d.bay.controls.execution ≡ false =
-    sym (ap (λ (b : Bay). is_done c.args.switch c.args.position b.controls.execution) (c.contact-changed.ensures.after s.0 s.1)) ∙ sym c.reach.ensures.done ∙ c.if-reach.false in
+    sym (ap (λ (b : Bay). is_done c.args.switch c.args.position b.controls.execution)
+    (c.contact-changed.ensures.after s.0 s.1)) ∙ sym c.reach.ensures.done ∙ c.if-reach.false in
     sym (ap (λ (b : Bool). let o : Option Sent = cond b (reached d.due) None in o) done)

@@ -7,7 +7,13 @@ use Rattle.bay_serve.proofs.notes.Notes.go.Goals as goal
 pub unwrap-requires : goal.unwrap-requires
 unwrap-requires c =
     let xs = c.self.inside.standings in
-    let isnt : is_told (slice_index_or xs c.args.place Steady) ≡ false = sym c.is_told.ensures ∙ c.if-not-is_told.true in
+    let isnt : is_told (slice_index_or xs c.args.place Steady) ≡ false =
+    sym c.is_told.ensures ∙ c.if-not-is_told.true in
     let sized : length xs ≡ 8 = search rules in
     let here : c.args.place < length xs = omega arith in
-    c.push.ensures.succeeds (omega (arith, told-room xs c.args.place here isnt, c.self.invariant.counted, c.self.invariant.closed_room))
+    c.push.ensures.succeeds (omega (
+      arith,
+      told-room xs c.args.place here isnt,
+      c.self.invariant.counted,
+      c.self.invariant.closed_room,
+    ))

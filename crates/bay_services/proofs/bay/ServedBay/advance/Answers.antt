@@ -11,7 +11,8 @@ invariant_of-self-2 c =
     let d = c.args.self.now in
     record {
       placed = rw c.show_selection.ensures.layout d.placed;
-      controlled = rows_kept _ d.tree d.control_rows (sym c.show_selection.ensures.layout) d.controlled;
+      controlled =
+          rows_kept _ d.tree d.control_rows (sym c.show_selection.ensures.layout) d.controlled;
       sized = d.sized;
       shows = shows c.advance-run_out.new.self _ _ _ _ d.sized c.show_selection.ensures.rows;
     }

@@ -9,13 +9,19 @@ pub returns-else-is_err-clause-ok : goal.returns-else-is_err-clause-ok
 returns-else-is_err-clause-ok c =
     let pdu = c.args.pdu.now in
     let bytes : IsBytes pdu = λ i. omega (arith, c.type_inv.pdu i) in
-    answered_as c.respond-answer.result c.args.client (bay_view c.args.self.now) (bay_view c.respond-answer.new.self) c.read_request-request.result _ (answer_held pdu c.read_request-request.result bytes c.read_request-request.ensures)
+    answered_as c.respond-answer.result c.args.client (bay_view c.args.self.now)
+    (bay_view c.respond-answer.new.self) c.read_request-request.result _
+    (answer_held pdu c.read_request-request.result bytes c.read_request-request.ensures)
     c.respond-answer.ensures.memory c.respond-answer.ensures.ok
 
 pub returns-else-is_err-clause-short : goal.returns-else-is_err-clause-short
 returns-else-is_err-clause-short c =
-    sent_short c.respond-answer.result c.args.client (bay_view c.args.self.now) (bay_view c.respond-answer.new.self) c.read_request-request.result c.requires.most c.respond-answer.ensures.ok
+    sent_short c.respond-answer.result c.args.client (bay_view c.args.self.now)
+    (bay_view c.respond-answer.new.self) c.read_request-request.result c.requires.most
+    c.respond-answer.ensures.ok
 
 pub returns-else-is_err-clause-ending : goal.returns-else-is_err-clause-ending
 returns-else-is_err-clause-ending c =
-    end_short c.respond-answer.result c.args.client (bay_view c.args.self.now) (bay_view c.respond-answer.new.self) c.read_request-request.result c.requires.most c.respond-answer.ensures.ok
+    end_short c.respond-answer.result c.args.client (bay_view c.args.self.now)
+    (bay_view c.respond-answer.new.self) c.read_request-request.result c.requires.most
+    c.respond-answer.ensures.ok

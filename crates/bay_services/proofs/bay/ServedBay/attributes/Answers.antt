@@ -7,4 +7,5 @@ use Rattle.bay_services.proofs.bay.ServedBay.attributes.Goals as goal
 pub returns-in-None : goal.returns-in-None
 returns-in-None c =
     let b = bay_view c.args.self.now in
-    said_as c.failed.result _ b _ c.failed.ensures (ap (attributes_at c.args.client c.args.id b) (sym c.row_named.ensures.row ∙ c.in-None.is))
+    said_as c.failed.result _ b _ c.failed.ensures
+    (ap (attributes_at c.args.client c.args.id b) (sym c.row_named.ensures.row ∙ c.in-None.is))

@@ -11,13 +11,18 @@ invariant_of-self c =
     let d = c.args.self.now in
     record {
       placed = rw c.show_selection.ensures.layout d.placed;
-      controlled = rows_kept _ d.tree d.control_rows (sym c.show_selection.ensures.layout) d.controlled;
+      controlled =
+          rows_kept _ d.tree d.control_rows (sym c.show_selection.ensures.layout) d.controlled;
       sized = d.sized;
       shows = shows c.cancel-answer.new.self _ _ _ _ d.sized c.show_selection.ensures.rows;
     }
 
 pub returns-clause-after : goal.returns-clause-after
-returns-clause-after c = decided c.args.self.now _ _ _ _ c.args.self.now.sized c.show_selection.ensures.rows c.cancel-answer.ensures.after
+returns-clause-after c =
+    decided c.args.self.now _ _ _ _ c.args.self.now.sized c.show_selection.ensures.rows
+    c.cancel-answer.ensures.after
 
 pub returns-clause-back : goal.returns-clause-back
-returns-clause-back c standing = undone c.args.self.now _ _ _ _ standing c.args.self.now.sized c.show_selection.ensures.rows c.cancel-answer.ensures.after refl
+returns-clause-back c standing =
+    undone c.args.self.now _ _ _ _ standing c.args.self.now.sized c.show_selection.ensures.rows
+    c.cancel-answer.ensures.after refl

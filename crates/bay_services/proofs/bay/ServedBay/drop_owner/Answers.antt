@@ -11,10 +11,13 @@ invariant_of-self c =
     let d = c.args.self.now in
     record {
       placed = rw c.show_selection.ensures.layout d.placed;
-      controlled = rows_kept _ d.tree d.control_rows (sym c.show_selection.ensures.layout) d.controlled;
+      controlled =
+          rows_kept _ d.tree d.control_rows (sym c.show_selection.ensures.layout) d.controlled;
       sized = d.sized;
       shows = shows c.drop_owner.new.self _ _ _ _ d.sized c.show_selection.ensures.rows;
     }
 
 pub returns-clause-after : goal.returns-clause-after
-returns-clause-after c = decided c.args.self.now _ _ _ _ c.args.self.now.sized c.show_selection.ensures.rows c.drop_owner.ensures
+returns-clause-after c =
+    decided c.args.self.now _ _ _ _ c.args.self.now.sized c.show_selection.ensures.rows
+    c.drop_owner.ensures

@@ -10,24 +10,39 @@ use Rattle.bay_services.proofs.ReplyLemmas.{added, too_long}
 use Rattle.bay_services.proofs.bay.ServedBay.read_select.Goals as goal
 
 pub object-requires : goal.object-requires
-object-requires c = handle_kept c.select.new.self.tree c.args.self.now.tree c.args.row c.select.ensures.layout c.requires
+object-requires c =
+    handle_kept c.select.new.self.tree c.args.self.now.tree c.args.row c.select.ensures.layout
+    c.requires
 
 pub returns-in_ok-object-in-Ok-clause-ok : goal.returns-in_ok-object-in-Ok-clause-ok
 returns-in_ok-object-in-Ok-clause-ok c =
     let d = c.args.self.now in
     let old = bay_view d in
     let item = name_kept c.select.new.self.tree d.tree c.args.row c.select.ensures.layout in
-    let told : c.as_str.result.now ≡ selected_text (object_of old (name_at d.tree c.args.row)) (Ok tt) =
-    c.as_str.ensures ∙ c.in_ok-object-in-Ok.ensures ∙ object_kept old (bay_view c.select.new.self) _ _ c.select.ensures.after ∙ ap (object_of old) item in
+    let told : c.as_str.result.now
+    ≡ selected_text (object_of old (name_at d.tree c.args.row)) (Ok tt) =
+    c.as_str.ensures ∙ c.in_ok-object-in-Ok.ensures
+    ∙ object_kept old (bay_view c.select.new.self) _ _ c.select.ensures.after
+    ∙ ap (object_of old) item in
     added c.text.result c.args.response.now c.text.new.self _ _ c.text.ensures
-    (λ has. selected c.args.client c.args.switch (name_at d.tree c.args.row) (reading d c.args.response.now) (select_outcome c.args.client.association c.args.switch c.args.client.now d.controls) (bay_view c.select.new.self) (Ok tt) c.as_str.result.now c.text.new.self c.select.ensures.after (sym c.in-Ok.is ∙ c.select.ensures.answer) told has)
+    (λ has. selected c.args.client c.args.switch (name_at d.tree c.args.row)
+    (reading d c.args.response.now)
+    (select_outcome c.args.client.association c.args.switch c.args.client.now d.controls)
+    (bay_view c.select.new.self) (Ok tt) c.as_str.result.now c.text.new.self
+    c.select.ensures.after (sym c.in-Ok.is ∙ c.select.ensures.answer) told has)
 
 pub returns-in_ok-object-in-Ok-clause-long : goal.returns-in_ok-object-in-Ok-clause-long
 returns-in_ok-object-in-Ok-clause-long c =
     let d = c.args.self.now in
     let old = bay_view d in
     let item = name_kept c.select.new.self.tree d.tree c.args.row c.select.ensures.layout in
-    let told : c.as_str.result.now ≡ selected_text (object_of old (name_at d.tree c.args.row)) (Ok tt) =
-    c.as_str.ensures ∙ c.in_ok-object-in-Ok.ensures ∙ object_kept old (bay_view c.select.new.self) _ _ c.select.ensures.after ∙ ap (object_of old) item in
+    let told : c.as_str.result.now
+    ≡ selected_text (object_of old (name_at d.tree c.args.row)) (Ok tt) =
+    c.as_str.ensures ∙ c.in_ok-object-in-Ok.ensures
+    ∙ object_kept old (bay_view c.select.new.self) _ _ c.select.ensures.after
+    ∙ ap (object_of old) item in
     too_long c.text.result c.args.response.now c.text.new.self _ _ c.text.ensures
-    (λ long. selected_long c.args.client c.args.switch (name_at d.tree c.args.row) (reading d c.args.response.now) (select_outcome c.args.client.association c.args.switch c.args.client.now d.controls) (Ok tt) c.as_str.result.now (sym c.in-Ok.is ∙ c.select.ensures.answer) told long)
+    (λ long. selected_long c.args.client c.args.switch (name_at d.tree c.args.row)
+    (reading d c.args.response.now)
+    (select_outcome c.args.client.association c.args.switch c.args.client.now d.controls)
+    (Ok tt) c.as_str.result.now (sym c.in-Ok.is ∙ c.select.ensures.answer) told long)

@@ -13,17 +13,24 @@ use Rattle.bay_services.proofs.bay.ServedBay.respond.Goals as goal
 pub returns-in-Ok-Initiate-clause-ok : goal.returns-in-Ok-Initiate-clause-ok
 returns-in-Ok-Initiate-clause-ok c =
     let b = bay_view c.args.self.now in
-    answered_from c.rejected.result (λ (d : Bay). rejected None InvalidPdu d) b _ c.rejected.ensures (ap (λ (q : Result Request MmsFault). answer_of c.args.client b (read_as q)) (c.in-Ok-Initiate.is ∙ ap Ok c.in-Ok-Initiate.field-0-is))
+    answered_from c.rejected.result (λ (d : Bay). rejected None InvalidPdu d) b _ c.rejected.ensures
+    (ap (λ (q : Result Request MmsFault). answer_of c.args.client b (read_as q))
+    (c.in-Ok-Initiate.is ∙ ap Ok c.in-Ok-Initiate.field-0-is))
 
 pub returns-in-Ok-Conclude-clause-ok : goal.returns-in-Ok-Conclude-clause-ok
 returns-in-Ok-Conclude-clause-ok c =
     let b = bay_view c.args.self.now in
-    answered_from c.concluded.result (λ (d : Bay). said concluded_text d) b _ c.concluded.ensures (ap (λ (q : Result Request MmsFault). answer_of c.args.client b (read_as q)) (c.in-Ok-Conclude.is ∙ ap Ok c.in-Ok-Conclude.field-0-is))
+    answered_from c.concluded.result (λ (d : Bay). said concluded_text d) b _ c.concluded.ensures
+    (ap (λ (q : Result Request MmsFault). answer_of c.args.client b (read_as q))
+    (c.in-Ok-Conclude.is ∙ ap Ok c.in-Ok-Conclude.field-0-is))
 
 pub returns-in-Err-clause-ok : goal.returns-in-Err-clause-ok
 returns-in-Err-clause-ok c =
     let b = bay_view c.args.self.now in
-    answered_from c.refused.result (λ (d : Bay). refused c.in-Err.fault d) b _ c.refused.ensures.told (ap (λ (q : Result Request MmsFault). answer_of c.args.client b (read_as q)) c.in-Err.is)
+    answered_from c.refused.result (λ (d : Bay). refused c.in-Err.fault d) b _
+    c.refused.ensures.told (ap
+    (λ (q : Result Request MmsFault). answer_of c.args.client b (read_as q)) c.in-Err.is)
 
 pub returns-in-Err-clause-memory : goal.returns-in-Err-clause-memory
-returns-in-Err-clause-memory c = not_memory c.refused.result c.args.request c.in-Err.fault c.in-Err.is c.refused.ensures.memory
+returns-in-Err-clause-memory c =
+    not_memory c.refused.result c.args.request c.in-Err.fault c.in-Err.is c.refused.ensures.memory

@@ -18,4 +18,6 @@ returns-clause-target c =
 pub returns-clause-there : goal.returns-clause-there
 returns-clause-there c =
     let d = c.args.self.now in
-    switch_there _ _ _ c.target_at.result c.target_at.ensures (ap length c.as_slice.ensures ∙ d.sized ∙ length-map d.switches (λ (b : BoundSwitch). b.switch))
+    switch_there _ _ _ c.target_at.result c.target_at.ensures
+    (ap length c.as_slice.ensures ∙ d.sized
+    ∙ length-map d.switches (λ (b : BoundSwitch). b.switch))

@@ -14,7 +14,9 @@ returns-clause-ok c =
     let i = c.loop-i.i in
     let left : (map naming (drop i names) ≡ []) ⊎ (data_in (drop i values) ≡ []) =
     elim (cases_lt i (length names)) [
-      | inl lt ↦ inr (ap data_in (drop_of_length-le values (omega (arith, lt, c.loop-i-test.false, c.min-i-end.ensures))))
+      | inl lt ↦ inr (ap data_in
+          (drop_of_length-le values (omega (arith, lt, c.loop-i-test.false, c.min-i-end.ensures))))
       | inr ge ↦ inl (ap (map naming) (drop_of_length-le names ge))
     ] in
-    sym (c.loop-i.invariant.ok ∙ none_left c.args.client _ _ (writing c.loop-i.self c.loop-i.written) left)
+    sym (c.loop-i.invariant.ok
+    ∙ none_left c.args.client _ _ (writing c.loop-i.self c.loop-i.written) left)

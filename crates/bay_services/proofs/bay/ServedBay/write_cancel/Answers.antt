@@ -19,10 +19,14 @@ returns-clause-ok c =
     let item = name_at d.tree c.args.part.row in
     let new = c.cancel-answer.new.self in
     let w = writing d c.args.written.now in
-    let read : cancel_in (datum_of c.args.given.now) ≡ Ok (cancelling c.in-Ok.cancel) = sym c.cancel_of.ensures ∙ ap (seen cancelling) c.in-Ok.is in
+    let read : cancel_in (datum_of c.args.given.now) ≡ Ok (cancelling c.in-Ok.cancel) =
+    sym c.cancel_of.ensures ∙ ap (seen cancelling) c.in-Ok.is in
     let control = cancelling c.in-Ok.cancel in
     let o = cancel_outcome a.association k a.now d.controls in
     both c.put_decision.result _ _ _ c.put_decision.ensures.response c.put_decision.ensures.reports
-    (λ has told. put_down a k item (name_at new.tree c.args.part.row) control control w o (bay_view new) c.cancel-answer.result _ _ _ _ c.cancel-answer.ensures.after refl c.cancel-answer.ensures.answer
-    (name_kept new.tree d.tree c.args.part.row c.cancel-answer.ensures.layout) refl has told (ap (λ (v : _). v.items) c.put_decision.ensures.commands) c.put_decision.ensures.ending
+    (λ has told. put_down a k item (name_at new.tree c.args.part.row) control control w o
+    (bay_view new) c.cancel-answer.result _ _ _ _ c.cancel-answer.ensures.after refl
+    c.cancel-answer.ensures.answer
+    (name_kept new.tree d.tree c.args.part.row c.cancel-answer.ensures.layout) refl has told
+    (ap (λ (v : _). v.items) c.put_decision.ensures.commands) c.put_decision.ensures.ending
     ∙ sym (ap (cancel_asked a k item w) read))

@@ -20,11 +20,17 @@ returns-clause-ok c =
     let item = name_at d.tree c.args.part.row in
     let new = c.select_with-answer.new.self in
     let w = writing d c.args.written.now in
-    let read : operate_in (datum_of c.args.given.now) ≡ Ok (operating c.in-Ok.operate) = sym c.operate_of.ensures ∙ ap (seen operating) c.in-Ok.is in
+    let read : operate_in (datum_of c.args.given.now) ≡ Ok (operating c.in-Ok.operate) =
+    sym c.operate_of.ensures ∙ ap (seen operating) c.in-Ok.is in
     let control = (operating c.in-Ok.operate).control in
     let o = select_with_outcome a.association k c.ask_of.result a.now d.controls in
     both c.put_decision.result _ _ _ c.put_decision.ensures.response c.put_decision.ensures.reports
-    (λ has told. put_down a k item (name_at new.tree c.args.part.row) control (cancelling c.control_of.result) w o (bay_view new) c.select_with-answer.result _ _ _ _ c.select_with-answer.ensures.after refl c.select_with-answer.ensures.answer
-    (name_kept new.tree d.tree c.args.part.row c.select_with-answer.ensures.layout) c.control_of.ensures has told (ap (λ (v : _). v.items) c.put_decision.ensures.commands) c.put_decision.ensures.ending
-    ∙ ap (λ (x : Ask). decided a k item control (select_with_outcome a.association k x a.now d.controls) w) c.ask_of.ensures
+    (λ has told. put_down a k item (name_at new.tree c.args.part.row) control
+    (cancelling c.control_of.result) w o (bay_view new) c.select_with-answer.result _ _ _ _
+    c.select_with-answer.ensures.after refl c.select_with-answer.ensures.answer
+    (name_kept new.tree d.tree c.args.part.row c.select_with-answer.ensures.layout)
+    c.control_of.ensures has told (ap (λ (v : _). v.items) c.put_decision.ensures.commands)
+    c.put_decision.ensures.ending
+    ∙ ap (λ (x : Ask). decided a k item control
+    (select_with_outcome a.association k x a.now d.controls) w) c.ask_of.ensures
     ∙ sym (ap (select_with_asked a k item w) read))

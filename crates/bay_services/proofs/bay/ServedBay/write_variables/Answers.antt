@@ -10,11 +10,17 @@ pub returns-in-Ok : goal.returns-in-Ok
 returns-in-Ok c =
     let b = bay_view c.args.self.now in
     let known = λ (none : _). let refused = c.write_page.ensures.unknown.1 none in absurd cc in
-    let page = page_is c.args.client c.args.id b (option_copied c.args.after) c.in-Ok.page.items c.in-Ok.ensures.page known in
-    ap written page ∙ is_written c.in-Ok.page.items (omega (arith, c.in-Ok.ensures.short, c.requires.most))
+    let page =
+    page_is c.args.client c.args.id b (option_copied c.args.after) c.in-Ok.page.items
+    c.in-Ok.ensures.page known in
+    ap written page ∙ is_written c.in-Ok.page.items
+    (omega (arith, c.in-Ok.ensures.short, c.requires.most))
 
 pub returns-in-Err-NoSuchName : goal.returns-in-Err-NoSuchName
 returns-in-Err-NoSuchName c =
     let b = bay_view c.args.self.now in
-    let none = c.write_page.ensures.unknown.0 (c.in-Err-NoSuchName.is ∙ ap Err c.in-Err-NoSuchName.field-0-is) in
-    rw (unknown_is c.args.client c.args.id b (option_copied c.args.after) none) c.write_unknown.ensures
+    let none =
+    c.write_page.ensures.unknown.0
+    (c.in-Err-NoSuchName.is ∙ ap Err c.in-Err-NoSuchName.field-0-is) in
+    rw (unknown_is c.args.client c.args.id b (option_copied c.args.after) none)
+    c.write_unknown.ensures

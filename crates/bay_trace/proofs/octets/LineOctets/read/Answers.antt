@@ -5,7 +5,8 @@ use Rattle.bay_trace.proofs.DigitLemmas.{front-of, octets-half}
 use Rattle.bay_trace.proofs.octets.LineOctets.read.Goals as goal
 
 pub decode-requires-clause-counted : goal.decode-requires-clause-counted
-decode-requires-clause-counted c = let half = octets-half c.args.digits.text.now c.args.digits.are_octets in omega (arith, half)
+decode-requires-clause-counted c = let half =
+    octets-half c.args.digits.text.now c.args.digits.are_octets in omega (arith, half)
 
 pub decode-requires-clause-fits : goal.decode-requires-clause-fits
 decode-requires-clause-fits c =
@@ -16,7 +17,8 @@ decode-requires-clause-fits c =
 pub returns-in_err-make_room-clause-refused : goal.returns-in_err-make_room-clause-refused
 returns-in_err-make_room-clause-refused c =
     let half = octets-half c.args.digits.text.now c.args.digits.are_octets in
-    let more : c.args.self.now.room < length (octets_in c.args.digits.text.now) = omega (arith, half, c.in_err-make_room.ensures.refused) in
+    let more : c.args.self.now.room < length (octets_in c.args.digits.text.now) =
+    omega (arith, half, c.in_err-make_room.ensures.refused) in
     search (rules, more)
 
 pub returns-clause-octets : goal.returns-clause-octets
@@ -24,6 +26,15 @@ returns-clause-octets c =
     let xs = c.decode.new.room in
     let made = c.in_ok-make_room.ensures.made in
     let shown = ap (λ (l : LineRoom). length l.octets) c.self.view_is in
-    let count : c.self.inside.count ≡ length c.args.digits.text.now / 2 = omega (arith, made.0, shown, length-take c.self.inside.count c.self.inside.room.items, c.self.invariant) in
-    front-of c.self.inside.count c.self.inside.room.len xs _ (omega (arith, c.self.invariant, c.as_mut_slice.ensures.len, c.decode.auto.room)) c.self.invariant
+    let count : c.self.inside.count ≡ length c.args.digits.text.now / 2 =
+    omega (
+      arith,
+      made.0,
+      shown,
+      length-take c.self.inside.count c.self.inside.room.items,
+      c.self.invariant,
+    ) in
+    front-of c.self.inside.count c.self.inside.room.len xs _
+    (omega (arith, c.self.invariant, c.as_mut_slice.ensures.len, c.decode.auto.room))
+    c.self.invariant
     ∙ ap (λ n. take n xs) count ∙ c.decode.ensures

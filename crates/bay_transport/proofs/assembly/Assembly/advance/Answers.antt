@@ -10,17 +10,35 @@ use Rattle.bay_transport.proofs.assembly.Assembly.advance.Goals as goal
 pub returns-in_err-taken-clause-err : goal.returns-in_err-taken-clause-err
 returns-in_err-taken-clause-err c =
     let p = err_from_is_err_and c.from_residual.result c.from_residual.ensures.1 in
-    let r : FailsWhere c.in_err-taken.field-0.0 ((run c.loop-used.self.number (left_of c.loop-used.self) (drop c.loop-used.used c.args.piece.now)).doings ≡ Fails c.in_err-taken.field-0.0 ∷ []) = rw (take_rest c.args.piece.now c.loop-used.used) at c.in_err-taken.ensures.err in
-    rw (p.1, p.2) (refuses_later c.args.self.now c.loop-used.self c.args.piece.now c.loop-used.used c.in_err-taken.field-0.0 c.loop-used.invariant.2 c.loop-used.invariant.3 r)
+    let r : FailsWhere c.in_err-taken.field-0.0
+    ((run c.loop-used.self.number (left_of c.loop-used.self)
+    (drop c.loop-used.used c.args.piece.now)).doings ≡ Fails c.in_err-taken.field-0.0 ∷ []) =
+    rw (take_rest c.args.piece.now c.loop-used.used) at c.in_err-taken.ensures.err in
+    rw (p.1, p.2) (refuses_later c.args.self.now c.loop-used.self c.args.piece.now c.loop-used.used
+    c.in_err-taken.field-0.0 c.loop-used.invariant.2 c.loop-used.invariant.3 r)
 
 pub loop-used-preserved : goal.loop-used-preserved
 loop-used-preserved c =
-    let t : Takes c.loop-used.self (drop c.loop-used.used c.args.piece.now) c.in_ok-taken.taken More c.step.new.self = rw (c.in-More.is, take_rest c.args.piece.now c.loop-used.used) at c.in_ok-taken.ensures.ok in
+    let t : Takes c.loop-used.self (drop c.loop-used.used c.args.piece.now) c.in_ok-taken.taken More
+    c.step.new.self =
+    rw (c.in-More.is, take_rest c.args.piece.now c.loop-used.used) at c.in_ok-taken.ensures.ok
+    in
     let w = t.within in
-    let n : length (drop c.loop-used.used c.args.piece.now) ≡ length c.args.piece.now - c.loop-used.used = length-drop c.loop-used.used c.args.piece.now in
-    (omega arith, c.in_ok-taken.ensures.sound, c.step.ensures.number ∙ c.loop-used.invariant.2, quiet_more c.args.self.now c.loop-used.self c.step.new.self c.args.piece.now c.loop-used.used c.in_ok-taken.taken c.loop-used.invariant.2 c.loop-used.invariant.3 t)
+    let n : length (drop c.loop-used.used c.args.piece.now)
+    ≡ length c.args.piece.now - c.loop-used.used =
+    length-drop c.loop-used.used c.args.piece.now in (
+      omega arith,
+      c.in_ok-taken.ensures.sound,
+      c.step.ensures.number ∙ c.loop-used.invariant.2,
+      quiet_more c.args.self.now c.loop-used.self c.step.new.self c.args.piece.now
+          c.loop-used.used c.in_ok-taken.taken c.loop-used.invariant.2 c.loop-used.invariant.3 t,
+    )
 
 pub returns-in_default-clause-ok : goal.returns-in_default-clause-ok
 returns-in_default-clause-ok c =
-    let t : Takes c.loop-used.self (drop c.loop-used.used c.args.piece.now) c.in_ok-taken.taken c.in_ok-taken.kind c.step.new.self = rw (take_rest c.args.piece.now c.loop-used.used) at c.in_ok-taken.ensures.ok in
-    reaches_kind c.args.self.now c.loop-used.self c.step.new.self c.args.piece.now c.loop-used.used c.in_ok-taken.taken c.in_ok-taken.kind c.loop-used-test.true c.loop-used.invariant.2 c.loop-used.invariant.3 t c.in_default.not-More
+    let t : Takes c.loop-used.self (drop c.loop-used.used c.args.piece.now) c.in_ok-taken.taken
+    c.in_ok-taken.kind c.step.new.self =
+    rw (take_rest c.args.piece.now c.loop-used.used) at c.in_ok-taken.ensures.ok in
+    reaches_kind c.args.self.now c.loop-used.self c.step.new.self c.args.piece.now c.loop-used.used
+    c.in_ok-taken.taken c.in_ok-taken.kind c.loop-used-test.true c.loop-used.invariant.2
+    c.loop-used.invariant.3 t c.in_default.not-More

@@ -8,7 +8,8 @@ invariant-loop-used l =
     (l.used ≤ length l.piece)
     × IsSound l.self
     × (l.self.number ≡ l.initial.self.number)
-    × (run l.initial.self.number (left_of l.initial.self) (take l.used l.piece) ≡ record { doings = []; left = left_of l.self })
+    × (run l.initial.self.number (left_of l.initial.self) (take l.used l.piece)
+    ≡ record { doings = []; left = left_of l.self })
 
 abbrev pub decreases-loop-used : goal.decreases-loop-used
 decreases-loop-used l = length l.piece - l.used

@@ -6,4 +6,6 @@ pub returns-then-len-gt-TSDU_MAX-clause-err : goal.returns-then-len-gt-TSDU_MAX-
 returns-then-len-gt-TSDU_MAX-clause-err c =
     let a = c.args.self.now in
     let long : 70000 < length a.buffer.items - 7 = omega arith in
-    rw c.if-indicator-ne2.false (too_long a.size a.buffer.items a.group c.if-is_none.ensures (frame_behind a.buffer.items a.group c.requires.bounds c.requires.whole) long)
+    rw c.if-indicator-ne2.false
+    (too_long a.size a.buffer.items a.group c.if-is_none.ensures
+    (frame_behind a.buffer.items a.group c.requires.bounds c.requires.whole) long)

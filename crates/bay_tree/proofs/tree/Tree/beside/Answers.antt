@@ -10,10 +10,16 @@ pub returns-clause-next : goal.returns-clause-next
 returns-clause-next c = grind (arith, common_steps)
 
 pub returns-in_err-index-clause-rows : goal.returns-in_err-index-clause-rows
-returns-in_err-index-clause-rows c = places_behind-next c.args.self.now c.args.handle c.from_residual.result (returns-in_err-index-clause-next c)
+returns-in_err-index-clause-rows c =
+    places_behind-next c.args.self.now c.args.handle c.from_residual.result
+    (returns-in_err-index-clause-next c)
 
 pub returns-clause-rows : goal.returns-clause-rows
-returns-clause-rows c = places_behind-next c.args.self.now c.args.handle (Some c.in_ok-index.index) (returns-clause-next c)
+returns-clause-rows c =
+    places_behind-next c.args.self.now c.args.handle (Some c.in_ok-index.index)
+    (returns-clause-next c)
 
 pub returns-clause-after : goal.returns-clause-after
-returns-clause-after c = next_beside-after c.args.self.now c.args.handle c.in_ok-index.index c.requires (returns-clause-next c)
+returns-clause-after c =
+    next_beside-after c.args.self.now c.args.handle c.in_ok-index.index c.requires
+    (returns-clause-next c)

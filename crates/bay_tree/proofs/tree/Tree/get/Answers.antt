@@ -7,5 +7,7 @@ use Rattle.bay_tree.proofs.tree.Tree.get.Goals as goal
 
 pub returns-clause-named : goal.returns-clause-named
 returns-clause-named c =
-    let value : option_copied c.as_ref.result ≡ leaf_at c.args.self.now c.args.handle = grind (arith, common_steps) in
-    value ∙ leaf-named c.args.self.now c.args.handle (rw (← c.self.view_is) c.self.invariant.tree) c.requires
+    let value : option_copied c.as_ref.result ≡ leaf_at c.args.self.now c.args.handle =
+    grind (arith, common_steps) in
+    value ∙ leaf-named c.args.self.now c.args.handle (rw (← c.self.view_is) c.self.invariant.tree)
+    c.requires
