@@ -1,5 +1,5 @@
 -- Which connections go on.
-use Rattle.std.proofs.Common.{◌≡◌, ℕ, List, [], ◌∷◌, Option, Some, None, IsSome, Result, Ok, Err, refl, sym, ap, ◌∙◌}
+use Rattle.std.proofs.Common.{◌≡◌, ℕ, List, [], ◌∷◌, Option, Some, IsSome, Result, Ok, Err, refl, ap, ◌∙◌}
 use Rattle.bay_transport.specs.Doings.{Doing, Answers, Delivers, Ends, Fails, Left, Going, Over, Broken, Stream, doings, after}
 use Rattle.bay_transport.specs.Feeding.{agreed, agreed_from, size_after, IsGoing}
 use Rattle.bay_transport.proofs.SizeLemmas.{after-size, delivers-size, quiet-going}

@@ -1,5 +1,5 @@
 -- The places of associations.
-use Rattle.std.proofs.Common.{◌≡◌, ℕ, zero, suc, ◌+◌, nat_lt, cond, not, List, [], ◌∷◌, length, position, is_none, slice_get, slice_index_or, slice_set, unwrap_or, Option, None, Some, IfSome, refl, ap, sym, ◌∙◌}
+use Rattle.std.proofs.Common.{◌≡◌, ℕ, zero, suc, ◌+◌, not, List, [], ◌∷◌, length, position, is_none, slice_get, slice_index_or, slice_set, unwrap_or, Option, None, Some, IfSome, refl, ap, sym, ◌∙◌}
 use Rattle.std.specs.List.{prefix_len}
 use Rattle.bay_transport.specs.Feeding.{IsGoing}
 use Rattle.bay_connection.specs.Feeding.{Client}

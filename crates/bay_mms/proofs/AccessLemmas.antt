@@ -6,13 +6,13 @@ use Rattle.std.proofs.lemmas.List.{length-map}
 use Rattle.bay_ber.specs.declared.tag.Tag.{Tag}
 use Rattle.bay_base.specs.Options.{◌>>=◌}
 use Rattle.bay_ber.specs.Tags.{same_tag}
-use Rattle.bay_ber.specs.Values.{Part, value, SpellAll, value_in, few_in, all_of, each_in, under}
+use Rattle.bay_ber.specs.Values.{Part, value, SpellAll, value_in, few_in, each_in, under}
 use Rattle.bay_ber.proofs.ReadLemmas.{IsBytes}
 use Rattle.bay_ber.proofs.ListingLemmas.{values_again}
 use Rattle.bay_ber.proofs.BackLemmas.{bind_some, some_is, AllBytes, tag_is, under_is, one_back, few_back, each_back, one_read, few_read}
 use Rattle.bay_mms.specs.Tags.{context, constructed, sequence, visible_tag}
 use Rattle.bay_base.specs.Results.{◌>>=◌ as ◌>>◌}
-use Rattle.bay_mms.specs.Spelled.{AreEach, spelled}
+use Rattle.bay_mms.specs.Spelled.{spelled}
 use Rattle.bay_mms.specs.Requests.{Naming, vmd, domain, association, VariableSpecification, Access, variables, named_list}
 use Rattle.bay_mms.specs.Grammar.{domain_name, name_as, name_in, variable_of, variable_as, access_as, any_alternate, judged}
 use Rattle.bay_mms.specs.SpelledNames.{IsName, IsPartial, IsVariable, IsAccess, as_whole, AreServed, AreUnserved, AreMany}

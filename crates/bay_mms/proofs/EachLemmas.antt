@@ -1,5 +1,5 @@
 -- What each value of a list is read as, and what it spells: the one list out of the other.
-use Rattle.std.proofs.Common.{◌≡◌, List, [], ◌∷◌, map, Option, Some, None, refl, ap, subst, ◌∙◌}
+use Rattle.std.proofs.Common.{◌≡◌, List, [], ◌∷◌, map, Option, Some, refl, ap, subst, ◌∙◌}
 use Rattle.bay_base.specs.Options.{◌>>=◌}
 use Rattle.bay_ber.specs.Values.{Part, all_of}
 use Rattle.bay_ber.proofs.ReadLemmas.{IsBytes}

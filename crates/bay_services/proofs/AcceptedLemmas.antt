@@ -36,7 +36,7 @@ use Rattle.bay_mms.specs.Laws.{datum_tag, datum_content}
 use Rattle.bay_mms.specs.Nodes.{Node, data_at, node_at, node_datum, value as leaf-node, structure as rows-node}
 use Rattle.bay_mms.specs.Requests.{Naming, vmd, domain, association, Asking, identify, names, attributes, read, write, Message, initiate, conclude, confirmed}
 use Rattle.bay_mms.specs.Responses as response
-use Rattle.bay_mms.specs.Responses.{class_text, error_text, failure_result, read_text, success_result, text_result, write_text}
+use Rattle.bay_mms.specs.Responses.{class_text, error_text, failure_result, read_text, text_result, write_text}
 use Rattle.bay_mms.specs.Tags.{context, constructed, int_tag}
 use Rattle.bay_mms.specs.declared.fault.ControlFault.{ControlFault}
 use Rattle.bay_mms.specs.declared.fault.MmsFault.{MmsFault}

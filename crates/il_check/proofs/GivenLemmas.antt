@@ -25,7 +25,7 @@ use Rattle.il_check.specs.Given.{Names, known, literal_given, variable_given, ou
 use Rattle.il_check.specs.Labelling.{Becomes, IsRight, coming_behind_action}
 use Rattle.il_check.specs.Program.{Checked, Item}
 use Rattle.il_check.specs.Rules as rules
-use Rattle.il_check.specs.Rules.{operand_in, number_in, own_type, load_type, fits, works, may_negate, is_plain, is_conditional, is_boolean, divides, gives, converted_from, input_type, argument_fits, arguments_fit, is_timer, allows, uses_result, is_wrong, is_unset, type_after, misses_label, goes_on}
+use Rattle.il_check.specs.Rules.{operand_in, number_in, own_type, load_type, fits, works, may_negate, is_plain, is_conditional, divides, gives, converted_from, input_type, argument_fits, arguments_fit, allows, uses_result, is_wrong, is_unset, type_after, goes_on}
 use Rattle.il_check.specs.TypedProgram.{slot_type, may_write, is_writable, IsOperand, is_divisor, IsOperation, IsArgument, AreArguments, Decides, has_label, IsTransfer, target_of, coming_behind_condition, coming_behind_transfer}
 use Rattle.il_check.specs.Typing.{loaded, load_in, slot_in, target_slot, stored, combined, operation_in, typed_argument, one_argument, two_arguments, arguments_in, call_with, transfer_in}
 use Rattle.il_check.specs.declared.given.Meaning.{Meaning}

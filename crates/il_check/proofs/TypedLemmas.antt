@@ -18,7 +18,7 @@ use Rattle.il_check.specs.Given.{Names, resolved}
 use Rattle.il_check.specs.Labelling.{Labelling, IsRight, IsCombined, IsRightEntry, AreRightEntries, Coming, Jumps, with_target, carried, coming_behind_label, coming_behind_action}
 use Rattle.il_check.specs.Program.{Entry, operation, block, Entries, no_entries, entry, Item, label, transfer, plain, Checked, entry_before}
 use Rattle.il_check.specs.Rules as rules
-use Rattle.il_check.specs.Rules.{gives, works, may_be, combines_wrong, combines_unset, type_after, goes_on}
+use Rattle.il_check.specs.Rules.{gives, works, type_after}
 use Rattle.il_check.specs.TypedProgram.{IsEntry, AreEntries, entry_depth, entries_depth, has_label, coming_behind_transfer, AreItems, IsTyped}
 use Rattle.il_check.specs.Typing.{operation_in, transfer_in, or_entry, block_in}
 use Rattle.il_check.specs.WellTyped.{Standing, type_behind, type_behind_all, items_faults, entry_left, entries_left, item_left, items_left, behind, moved}

@@ -24,10 +24,10 @@ use Rattle.il_image.specs.declared.timer.TimerState.{TimerState}
 use Rattle.il_image.specs.declared.value.Value.{Value}
 use Rattle.il_image.specs.declared.value.Value.TheVariants.{Truth, Short, Long, Wide, Span}
 use Rattle.il_image.specs.Arithmetic.{DividesBy, compared, computed, connected, exact, type_of_width}
-use Rattle.il_image.specs.Effects.{below, kind_of, two}
+use Rattle.il_image.specs.Effects.{below, kind_of}
 use Rattle.il_image.specs.Images.{IsValue}
 use Rattle.il_image.specs.Kinds.{HasKind}
-use Rattle.il_image.specs.Machine.{State, Turn, Goes, Traps, WrongKind, ZeroDivisor, act, divides, goes, is_comparable, pushes, stores, value_of_width, with_numbers}
+use Rattle.il_image.specs.Machine.{State, Turn, Goes, Traps, WrongKind, ZeroDivisor, act, divides, goes, is_comparable, pushes, stores, value_of_width}
 use Rattle.il_image.specs.Machine as machine
 use Rattle.il_image.specs.Timers.{called}
 use Rattle.il_image.specs.Values.{number_of, type_of}

@@ -1,4 +1,4 @@
-use Rattle.std.proofs.Common.{◌<◌, ◌∙◌, [], ap, arith, length}
+use Rattle.std.proofs.Common.{◌<◌, [], ap, arith, length}
 use Rattle.il_check.specs.declared.typed.Timer.{Timer}
 use Rattle.il_image.proofs.MapLemmas.{mapped_turn}
 use Rattle.il_compile.proofs.compile.kinds_of.Goals as goal

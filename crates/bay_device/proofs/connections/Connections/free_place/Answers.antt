@@ -1,4 +1,4 @@
-use Rattle.std.proofs.Common.{Option, is_none, position, ap, sym, ◌∙◌}
+use Rattle.std.proofs.Common.{is_none, position, ap, sym, ◌∙◌}
 use Rattle.bay_connection.specs.Talk.{Talk}
 use Rattle.bay_device.proofs.ConnectionLemmas.{talks-free}
 use Rattle.bay_device.proofs.connections.Connections.free_place.Goals as goal

@@ -30,7 +30,7 @@ returns c connections =
       answered =
           ap (λ (o : Option Sent). quiet_answer (Ok o)) (c.advance-over.ensures.sent connections)
           ∙ sym (ap (λ (o : Outcome). o.answer) whole);
-      left = rw (c.set.ensures, c.same_truth-changed.ensures)
+      left = rw (c.set.ensures)
           (ap (input_taken c.args.input c.args.value c.in-Some.before) after
           ∙ sym (ap (λ (o : Outcome). o.after) whole));
     }
