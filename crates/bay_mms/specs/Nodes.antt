@@ -8,7 +8,7 @@ use Rattle.bay_tree.specs.Rows.{name_at, leaf_at}
 use Rattle.bay_mms.specs.Data as mms
 use Rattle.bay_mms.specs.Data.{Datum, Data, leaf_datum}
 use Rattle.bay_mms.specs.Types as types
-use Rattle.bay_mms.specs.Types.{TypeSpec, Components, leaf_type}
+use Rattle.bay_mms.specs.Types.{TypeSpec, Components, leaf_type_spec}
 
 mutual
   pub data Node : Type 0 where
@@ -52,7 +52,7 @@ abbrev mutual
 
 abbrev mutual
   pub node_type : Node → TypeSpec
-  node_type (value leaf) = leaf_type leaf
+  node_type (value leaf) = leaf_type_spec leaf
   node_type (structure parts) = types.structure (nodes_types parts)
 
   pub nodes_types : Nodes → Components

@@ -33,15 +33,15 @@ abbrev mutual
 
 -- the type of a leaf: numbers by their bits, bit strings by theirs, octets and texts by the most
 -- that they may have
-abbrev pub leaf_type : Leaf → TypeSpec
-leaf_type (leaf.Truth value) = plain 3
-leaf_type (leaf.Dbpos value) = sized 4 (pos 2)
-leaf_type (leaf.Quality value) = sized 4 (pos 13)
-leaf_type (leaf.Int8 value) = sized 5 (pos 8)
-leaf_type (leaf.Int32 value) = sized 5 (pos 32)
-leaf_type (leaf.Unsigned8 value) = sized 6 (pos 8)
-leaf_type (leaf.Unsigned32 value) = sized 6 (pos 32)
-leaf_type (leaf.Octets value) = sized 9 (negsuc 63)
-leaf_type (leaf.Reference value) = sized 10 (negsuc 128)
-leaf_type (leaf.Text value) = sized 10 (negsuc 254)
-leaf_type (leaf.Utc ms) = plain 17
+abbrev pub leaf_type_spec : Leaf → TypeSpec
+leaf_type_spec (leaf.Truth value) = plain 3
+leaf_type_spec (leaf.Dbpos value) = sized 4 (pos 2)
+leaf_type_spec (leaf.Quality value) = sized 4 (pos 13)
+leaf_type_spec (leaf.Int8 value) = sized 5 (pos 8)
+leaf_type_spec (leaf.Int32 value) = sized 5 (pos 32)
+leaf_type_spec (leaf.Unsigned8 value) = sized 6 (pos 8)
+leaf_type_spec (leaf.Unsigned32 value) = sized 6 (pos 32)
+leaf_type_spec (leaf.Octets value) = sized 9 (negsuc 63)
+leaf_type_spec (leaf.Reference value) = sized 10 (negsuc 128)
+leaf_type_spec (leaf.Text value) = sized 10 (negsuc 254)
+leaf_type_spec (leaf.Utc ms) = plain 17

@@ -98,8 +98,8 @@ pub enum TypeSpec<'a> {
 }
 
 // The type of a leaf: its tag's number, and its size where it has one.
-fn leaf_type(leaf: &Leaf) -> TypeSpec<'_>
-    ensures { type_of result ≡ spec.leaf_type leaf.now }
+fn leaf_type_spec(leaf: &Leaf) -> TypeSpec<'_>
+    ensures { type_of result ≡ spec.leaf_type_spec leaf.now }
 {
     match leaf {
         Leaf::Truth(_) => TypeSpec::Plain(3),
@@ -140,7 +140,7 @@ pub fn type_spec_of<'a>(
     ensures { IfOk result (λ found. type_of found ≡ type_at tree.now handle) }
 {
     match tree.get(handle) {
-        Some(leaf) => Ok(leaf_type(leaf)),
+        Some(leaf) => Ok(leaf_type_spec(leaf)),
         None => {
             let mut parts = Vec::new(alloc);
             let mut next = tree.below(handle);

@@ -4,7 +4,7 @@ ghost use Rattle.bay_ber.specs.Writing.{element, integer_octets};
 ghost use Rattle.bay_mms.specs.Utc as spec;
 ghost use Rattle.bay_mms.specs.Tags.{context};
 ghost use Rattle.bay_mms.specs.Data.{position_octet, quality_octet, datum_text, leaf_datum};
-ghost use Rattle.bay_mms.specs.Types.{type_text, leaf_type};
+ghost use Rattle.bay_mms.specs.Types.{type_text, leaf_type_spec};
 ghost use Rattle.bay_mms.specs.Writing.{Appends};
 
 use crate::fault::EncodeFault;
@@ -84,7 +84,7 @@ pub(crate) fn put_leaf(writer: &mut Writer, leaf: &Leaf) -> Result<(), EncodeFau
 
 /// Writes the type of a leaf.
 pub(crate) fn put_leaf_type(writer: &mut Writer, leaf: &Leaf) -> Result<(), EncodeFault>
-    ensures { Appends writer.old result writer.new (type_text (leaf_type leaf.now)) }
+    ensures { Appends writer.old result writer.new (type_text (leaf_type_spec leaf.now)) }
 {
     match leaf {
         Leaf::Truth(_) => put_octets(writer, Tag::context(3), &[]),
