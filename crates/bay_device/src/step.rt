@@ -109,7 +109,7 @@ impl DeviceState {
             ≡ contact_taken now switch s position (state_view connections self.old) }
     {
         let changed = process::contact(&mut self.bay, now, switch, position);
-        self.is_stale |= value != before;
+        self.is_stale |= changed;
         if process::reach(&mut self.bay, switch, position) {
             reached(&mut self.due)
         } else {
@@ -170,7 +170,7 @@ impl DeviceState {
         };
         let over = self.advance(now);
         let changed = process::measure(&mut self.bay, now, meter, rows, field, value);
-        self.is_stale |= value != before;
+        self.is_stale |= changed;
         Ok(over)
     }
 
