@@ -1,4 +1,5 @@
-use Rattle.std.proofs.Common.{◌≡◌, ◌<◌, Bool, true, cond, List, nat_lt, Option, Some, None, option_map, slice_get, length, ap, sym, ◌∙◌, arith, ℕ}
+use Rattle.std.proofs.Common.{◌≡◌, ◌<◌, Bool, true, false, cond, refl, List, nat_lt, Option, Some, None, option_map, slice_get, length, ap, sym, ◌∙◌, arith, ℕ}
+use Rattle.std.specs.Bool.{beq}
 use Rattle.std.proofs.lemmas.Bool.Decides.{nat_tests}
 use Rattle.std.proofs.lemmas.Option.{slice_get-map, slice_get_within}
 use Rattle.bay_tree.specs.Rows.{leaf_of}
@@ -20,6 +21,10 @@ enabled_at-enabled-requires c =
     let here : slice_get d.bay.switches c.args.switch ≡ Some bound.now =
     rw c.as_slice.ensures at (got-some _ c.args.switch bound c.in_ok-bound.ensures.lookup) in
     (d.bound c.args.switch bound.now here).leaf_typed
+
+beq-true : (b : Bool) → beq true b ≡ b
+beq-true true = refl
+beq-true false = refl
 
 within : (k n : ℕ) (o : Option (Bool × Bool)) → k < n → o ≡ cond (nat_lt k n) o None
 within k n o lt = grind (arith, nat_tests)
@@ -48,8 +53,8 @@ returns-in-Some c connections =
     rw c.as_slice.ensures at (got-some _ k bound c.in_ok-bound.ensures.lookup) in
     let told = d.told_stands k c.in-Some.enabled (sym c.get-2.ensures ∙ c.in-Some.is) in
     answered connections d k bound.now c.in-Some.enabled.may_open c.in-Some.enabled.may_close here
-    (sym (ap (is_truth true) told.opening.value_is))
-    (sym (ap (is_truth true) told.closing.value_is))
+    (sym (beq-true c.in-Some.enabled.may_open) ∙ sym (ap (is_truth true) told.opening.value_is))
+    (sym (beq-true c.in-Some.enabled.may_close) ∙ sym (ap (is_truth true) told.closing.value_is))
 
 pub returns-in-None : goal.returns-in-None
 returns-in-None c connections =
