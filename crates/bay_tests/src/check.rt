@@ -6,8 +6,8 @@ use il_check::check::check;
 use il_check::fault::CheckFault;
 use il_check::program::Typed;
 use il_check::typed::{
-    External, Operation, Slot, Transfer, TypedArgument, TypedArguments, TypedEntry, TypedItem,
-    TypedOperand,
+    External, SimpleOperation, Slot, Transfer, TypedArgument, TypedArguments, TypedEntry,
+    TypedItem, TypedOperand,
 };
 use il_image::value::Value;
 use il_text::program::{Condition, Input, Operator, Output, StoreKind};
@@ -88,7 +88,7 @@ fn declared_variables_and_timers(rt: HostRuntime) -> Result<(), Fail> {
 }
 
 /// The operation of an item, if it is one.
-fn operation_of(item: Option<&TypedItem>) -> Option<Operation> {
+fn operation_of(item: Option<&TypedItem>) -> Option<SimpleOperation> {
     match item {
         Some(TypedItem::Entry(TypedEntry::Operation(operation))) => Some(*operation),
         _ => None,
@@ -104,7 +104,7 @@ fn transfer_of(item: Option<&TypedItem>) -> Option<Transfer> {
 }
 
 /// Whether these are the operations and the transfers of items.
-fn are_left(items: &[TypedItem], expected: &[(Option<Operation>, Option<Transfer>)]) -> bool {
+fn are_left(items: &[TypedItem], expected: &[(Option<SimpleOperation>, Option<Transfer>)]) -> bool {
     for (i, (operation, transfer)) in expected.iter().enumerate() {
         let item = items.get(i);
         if operation_of(item) != *operation || transfer_of(item) != *transfer {
@@ -118,23 +118,23 @@ fn are_left(items: &[TypedItem], expected: &[(Option<Operation>, Option<Transfer
 fn leaves(
     alloc: Global,
     lines: &str,
-    expected: &[(Option<Operation>, Option<Transfer>)],
+    expected: &[(Option<SimpleOperation>, Option<Transfer>)],
 ) -> Result<bool, Fail> {
     let text = format!(in alloc; "{}{lines}", declared())?;
     let typed = checked(alloc, text.as_str())?;
     Ok(are_left(typed.items(), expected))
 }
 
-const OPERATIONS: [(Option<Operation>, Option<Transfer>); 4] = [
+const OPERATIONS: [(Option<SimpleOperation>, Option<Transfer>); 4] = [
     (
-        Some(Operation::Load {
+        Some(SimpleOperation::Load {
             negated: false,
             operand: TypedOperand::Literal(Value::Long(40_000)),
         }),
         None,
     ),
     (
-        Some(Operation::Combine {
+        Some(SimpleOperation::Combine {
             operator: Operator::Add,
             kind: ElementaryType::Dint,
             negated: false,
@@ -143,7 +143,7 @@ const OPERATIONS: [(Option<Operation>, Option<Transfer>); 4] = [
         None,
     ),
     (
-        Some(Operation::Combine {
+        Some(SimpleOperation::Combine {
             operator: Operator::Gt,
             kind: ElementaryType::Dint,
             negated: false,
@@ -152,7 +152,7 @@ const OPERATIONS: [(Option<Operation>, Option<Transfer>); 4] = [
         None,
     ),
     (
-        Some(Operation::Store {
+        Some(SimpleOperation::Store {
             kind: StoreKind::Plain,
             slot: Slot::External(0),
         }),
@@ -168,7 +168,7 @@ fn operations(rt: HostRuntime) -> Result<(), Fail> {
 }
 
 // The last item is the label.
-const TRANSFERS: [(Option<Operation>, Option<Transfer>); 5] = [
+const TRANSFERS: [(Option<SimpleOperation>, Option<Transfer>); 5] = [
     (
         None,
         Some(Transfer::Call {
@@ -180,7 +180,7 @@ const TRANSFERS: [(Option<Operation>, Option<Transfer>); 5] = [
         }),
     ),
     (
-        Some(Operation::Load {
+        Some(SimpleOperation::Load {
             negated: false,
             operand: TypedOperand::Output {
                 timer: 0,
