@@ -479,7 +479,7 @@ fn labelled<'t, 'a>(label: &'a str, tokens: &'t [Token<'a>]) -> Option<Line<'t, 
     }
 }
 
-/// A line that begins with a word of the keyword.
+/// A line that begins with a keyword.
 #[tactic(auto, unfolding(crate::specs::Forms::keyword_line))]
 fn keyword_line<'t, 'a>(word: Keyword, tokens: &'t [Token<'a>]) -> Option<Line<'t, 'a>>
     ensures { option_and_then line_parts result ≡ spec.keyword_line word (symbols_of tokens.now) }
