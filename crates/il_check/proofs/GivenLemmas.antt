@@ -53,7 +53,8 @@ use Rattle.il_check.specs.declared.typed.SimpleOperation.TheVariants as op
 use Rattle.il_check.specs.declared.typed.Transfer.{Transfer}
 use Rattle.il_check.specs.declared.typed.Transfer.TheVariants as go
 use Rattle.il_check.proofs.DeclaredLemmas.{is_value, typed_is, number_is, IsMeant}
-use Rattle.il_check.proofs.LabellingLemmas.{if_some, not_false, some_is, same_for_all, right_typed}
+use Rattle.il_check.proofs.FaultlessLemmas.{not_false, same_for_all, right_typed}
+use Rattle.il_check.proofs.LabellingLemmas.{if_some, some_is}
 
 -- ---- what names mean
 

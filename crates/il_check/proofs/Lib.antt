@@ -3,6 +3,7 @@ pub mod CheckedLemmas
 pub mod DeclarationsViewLemmas
 pub mod DeclaredLemmas
 pub mod EntryLemmas
+pub mod FaultlessLemmas
 pub mod GivenLemmas
 pub mod LabelLemmas
 pub mod LabellingLemmas

@@ -29,7 +29,8 @@ use Rattle.il_check.specs.declared.typed.Slot.TheVariants as slot
 use Rattle.il_check.specs.declared.typed.Timer.{Timer}
 use Rattle.il_check.specs.declared.typed.Variable.{Variable}
 use Rattle.il_check.proofs.DeclaredLemmas.{get_last, get_more, initial_is}
-use Rattle.il_check.proofs.LabellingLemmas.{both_none, if_none, not_false, some_is}
+use Rattle.il_check.proofs.FaultlessLemmas.{both_none, if_none, not_false}
+use Rattle.il_check.proofs.LabellingLemmas.{some_is}
 use Rattle.il_check.proofs.NameLemmas.{looked_up-more}
 use Rattle.il_check.proofs.NotedLemmas.{least_fault-none}
 use Rattle.il_check.proofs.DeclarationsViewLemmas.{filter_map-more, meanings-more}

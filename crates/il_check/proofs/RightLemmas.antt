@@ -15,7 +15,8 @@ use Rattle.il_check.specs.RightProgram.{IsRightDeclaration, IsRightProgram}
 use Rattle.il_check.specs.WellTyped.{items_faults}
 use Rattle.il_check.specs.declared.fault.CheckFault.{CheckFault}
 use Rattle.il_check.specs.declared.fault.CheckFault.TheVariants.{OutOfMemory}
-use Rattle.il_check.proofs.LabellingLemmas.{both_none, if_none, not_false, some_labelling}
+use Rattle.il_check.proofs.FaultlessLemmas.{both_none, if_none, not_false}
+use Rattle.il_check.proofs.LabellingLemmas.{some_labelling}
 use Rattle.il_check.proofs.LeastLemmas.{answered_is_least}
 use Rattle.il_check.proofs.NotedLemmas.{least_fault-none}
 

@@ -29,7 +29,8 @@ use Rattle.il_check.specs.declared.typed.SimpleOperation.TheVariants as op
 use Rattle.il_check.specs.declared.typed.Transfer.{Transfer}
 use Rattle.il_check.proofs.DeclaredLemmas.{declares}
 use Rattle.il_check.proofs.GivenLemmas.{AreNamed, IsFound, found, named_from, operation_typed, operation_goes_on, left_same, transfer_typed, nothing_left}
-use Rattle.il_check.proofs.LabellingLemmas.{both_none, not_false, or_true, no_zero, right_from, entry_from, entry_reached, same_number, InRange, target_in, target_ahead, Brought, least, AreLeast, Exact, exact_now, exact_behind_label, exact_behind_action, exact_behind_block, least_behind_label, jumps_out, flows_from, first_labels, none_arrived, mapped_length}
+use Rattle.il_check.proofs.FaultlessLemmas.{both_none, not_false, or_true, no_zero, right_from, entry_reached, entry_from}
+use Rattle.il_check.proofs.LabellingLemmas.{same_number, InRange, target_in, target_ahead, Brought, least, AreLeast, Exact, exact_now, exact_behind_label, exact_behind_action, exact_behind_block, least_behind_label, jumps_out, flows_from, first_labels, none_arrived, mapped_length}
 use Rattle.il_check.proofs.NotedLemmas.{least_fault-none}
 
 -- ---- within a parenthesis
