@@ -10,5 +10,6 @@ pub mod ReplyLemmas
 pub mod ShortLemmas
 pub mod ShownLemmas
 pub mod StandingLemmas
+pub mod VariableLemmas
 pub mod ViewLemmas
 pub mod WriteLemmas
