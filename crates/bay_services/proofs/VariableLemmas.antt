@@ -27,7 +27,7 @@ use Rattle.bay_mms.specs.Controls.{Control, operate_in, cancel_in}
 use Rattle.bay_mms.specs.Data.{Datum, datum_text}
 use Rattle.bay_mms.specs.Laws.{datum_tag, datum_content}
 use Rattle.bay_mms.specs.Nodes.{Node, data_at, node_at, node_datum, value as leaf-node, structure as rows-node}
-use Rattle.bay_mms.specs.Requests.{Naming, vmd, domain, association, names}
+use Rattle.bay_mms.specs.Requests.{Naming, vmd, domain, association}
 use Rattle.bay_mms.specs.Responses.{failure_result, text_result}
 use Rattle.bay_mms.specs.Tags.{context}
 use Rattle.bay_mms.specs.declared.fault.ControlFault.{ControlFault}
