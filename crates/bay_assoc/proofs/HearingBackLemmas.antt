@@ -227,7 +227,7 @@ parameters_back identifier octets u users is whole b e =
     }
 
 -- what user data an SPDU hands on
-abbrev UserBytes : Spdu → Type 0
+abbrev pub UserBytes : Spdu → Type 0
 UserBytes (connect user) = IsBytes user
 UserBytes accept = ⊤
 UserBytes (finish None) = ⊤
@@ -355,7 +355,7 @@ then_is f o g y e =
     let b = bind_ok (wanted f o) g y e in
     (b.0, wanted_is f o b.0 b.1, b.2)
 
-id_is : (z : ℤ) (n : ℕ) → is_id z n ≡ true → z ≡ pos n
+pub id_is : (z : ℤ) (n : ℕ) → is_id z n ≡ true → z ≡ pos n
 id_is (pos m) n e = ap (λ (k : ℕ). pos k) (eqb-true m n e)
 id_is (negsuc m) n e = absurd cc
 

@@ -3,6 +3,8 @@ pub mod FrontLemmas
 pub mod HearingBackLemmas
 pub mod HearingLemmas
 pub mod LastLemmas
+pub mod ModeLemmas
+pub mod RefusalLemmas
 pub mod SpduLemmas
 pub mod UnitLemmas
 pub mod ValueBackLemmas

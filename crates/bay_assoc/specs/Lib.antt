@@ -12,6 +12,7 @@ pub mod SessionReading
 pub mod SessionViews
 pub mod Sized
 pub mod SpelledHearing
+pub mod SpelledRefusals
 pub mod SpelledSession
 pub mod SpelledValues
 pub mod Tags

@@ -173,6 +173,18 @@ request_of (first ∷ second ∷ []) =
     else mode_as second >>= (λ mode. normal_as first)
 request_of parts = None
 
+-- the mode, in either order
+abbrev pub mode_among : List Part → Option ℤ
+mode_among (first ∷ second ∷ []) =
+    if same_tag first.tag (constructed 0) then mode_as first else mode_as second
+mode_among parts = None
+
+-- the mode of a request for a connection, where its fields are those of one
+unfoldable pub mode_in : List ℕ → Option ℤ
+mode_in octets =
+    value_in octets >>= under set_tag >>= known_in (constructed 0 ∷ constructed 2 ∷ [])
+    >>= mode_among
+
 -- the request that octets are, among other fields
 unfoldable pub request_in : List ℕ → Option Connect
 request_in octets =

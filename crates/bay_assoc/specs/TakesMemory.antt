@@ -1,12 +1,13 @@
 -- Which TSDUs take memory: those that are answered.
-use Rattle.std.specs.Prelude.{Option, Some, None}
+use Rattle.std.specs.Prelude.{Option, Some, None, IsSome}
 use Rattle.bay_assoc.specs.declared.hearing.Phase.{Phase}
 use Rattle.bay_assoc.specs.declared.hearing.Phase.TheVariants.{Idle, Open, Over, Failed}
+use Rattle.bay_assoc.specs.Presentation.{mode_in}
 use Rattle.bay_assoc.specs.Session.{Spdu, connect, accept, finish, disconnect, abort, transfer}
 
--- A request for a connection, which is answered.
+-- A request for a connection of the normal mode, which is answered.
 abbrev pub IsConnect : Spdu → Type 0
-IsConnect (connect user) = Unit {0}
+IsConnect (connect user) = IsSome (mode_in user)
 IsConnect accept = ⊥
 IsConnect (finish user) = ⊥
 IsConnect disconnect = ⊥

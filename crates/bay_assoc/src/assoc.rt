@@ -51,7 +51,7 @@ impl Assoc {
     /// After a release and an abort every TSDU is refused.
     pub fn on_tsdu<'a>(&mut self, tsdu: &'a [u8]) -> Result<Heard<'a>, AssocFault>
         ensures heard { Hears self.old tsdu.now result self.new }
-        // Memory is wanting only where an answer is due.
+        // Memory is wanting only where an answer is due: not for a request of another mode.
         ensures memory { IsErrOf result AssocFault.OutOfMemory
             → TakesMemory self.old (spdu_in tsdu.now) }
         // An answer has at most 1,000 octets. A PDU of MMS stands last in the TSDU, and is heard

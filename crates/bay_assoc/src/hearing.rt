@@ -1,9 +1,10 @@
 // The phases of an association, and what is heard of a TSDU in each.
-ghost use Rattle.std.specs.Prelude.{◌≡◌, ◌≤◌, ◌∷◌, [], Some, length, option_map, IfOk, IfSome, IsErrOf};
+ghost use Rattle.std.specs.Prelude.{◌≡◌, ◌≤◌, ◌∷◌, [], Some, length, option_map, IfOk, IfSome, IsErrOf, IsSome};
 ghost use Rattle.bay_base.specs.Exact.{Gives};
 ghost use Rattle.bay_base.specs.Results.{IsRead};
 ghost use Rattle.bay_assoc.specs.Hearing.{answer_text, hearing};
 ghost use Rattle.bay_assoc.specs.Hearing as spec;
+ghost use Rattle.bay_assoc.specs.Presentation.{mode_in};
 ghost use Rattle.bay_assoc.specs.Session.{spdu_in};
 ghost use Rattle.bay_assoc.specs.Sized.{IsPduSize, IsSized, IsShort};
 ghost use Rattle.bay_assoc.specs.TakesMemory.{TakesMemory};
@@ -214,10 +215,11 @@ fn agreement(contexts: &[Context], user: Carried<'_>) -> Result<(Accepted, Agree
 }
 
 // A request for a connection.
-#[tactic(auto, unfolding(crate::specs::Hearing::connected))]
+#[tactic(auto, unfolding(crate::specs::Hearing::connected), using(crate::proofs::ModeLemmas::a_request_has_its_mode))]
 fn connected<'a>(alloc: Global, user: &'a [u8]) -> Result<(Heard<'a>, Phase), AssocFault>
     ensures heard { Gives AssocFault.OutOfMemory (λ x. (hearing_of x.0, x.1)) result
         (spec.connected user.now) }
+    ensures memory { IsErrOf result AssocFault.OutOfMemory → IsSome (mode_in user.now) }
     ensures short { IfOk result (λ x. IsShort x.0) }
     ensures sized { IfOk result (λ x. IsSized x.1) }
 {

@@ -1,12 +1,14 @@
 // Laws of what is heard. Each function does nothing, and its contract is the law.
-ghost use Rattle.std.specs.Prelude.{◌≡◌, List, ℕ, Some, Ok};
+ghost use Rattle.std.specs.Prelude.{◌≡◌, ◌↔◌, List, ℕ, Some, Ok, Err};
 ghost use Rattle.bay_ber.specs.Octets.{AreOctets};
+ghost use Rattle.bay_assoc.specs.declared.fault.AssocFault.{AssocFault};
 ghost use Rattle.bay_assoc.specs.declared.hearing.Phase.{Phase};
 ghost use Rattle.bay_assoc.specs.Acse.{associate_in};
 ghost use Rattle.bay_assoc.specs.Hearing.{Hearing, hearing};
 ghost use Rattle.bay_assoc.specs.Presentation.{Carried, Connect, user_in, request_in};
 ghost use Rattle.bay_assoc.specs.Session.{Spdu, spdu_in};
 ghost use Rattle.bay_assoc.specs.SpelledHearing.{IsHeard};
+ghost use Rattle.bay_assoc.specs.SpelledRefusals.{IsRefused};
 ghost use Rattle.bay_assoc.specs.SpelledSession.{IsSpdu};
 ghost use Rattle.bay_assoc.specs.SpelledValues.{IsUser, IsRequest, IsAssociate};
 
@@ -43,4 +45,11 @@ pub fn read_is_spelled()
         → request_in octets ≡ Some c → IsRequest octets c }
     ensures associate { (octets : List ℕ) (c : Carried) → AreOctets octets
         → associate_in octets ≡ Some c → IsAssociate octets c }
+{}
+
+/// A TSDU has one fault at most: it is refused with a fault exactly where it is spelled so, of the
+/// outermost layer whose spelling is wrong.
+pub fn one_fault()
+    ensures { (phase : Phase) (octets : List ℕ) (fault : AssocFault) → AreOctets octets
+        → (hearing phase octets ≡ Err fault) ↔ IsRefused phase octets fault }
 {}

@@ -1,5 +1,5 @@
 // Presentation protocol data units (ISO 8823-1 8.2).
-ghost use Rattle.std.specs.Prelude.{◌≡◌, ◌≤◌, ◌++◌, ◌∷◌, ◌&&◌, ◌||◌, [], length, map, option_map, OnOk, IfOk, IfSome};
+ghost use Rattle.std.specs.Prelude.{◌≡◌, ◌≤◌, ◌++◌, ◌∷◌, ◌&&◌, ◌||◌, [], length, map, option_map, OnOk, IfOk, IfSome, IsErrOf, IsSome};
 ghost use Rattle.std.specs.Option.{option_copied, ForSome};
 ghost use Rattle.bay_base.specs.Exact.{Gives};
 ghost use Rattle.bay_ber.specs.Values.{part_of, each_in};
@@ -377,8 +377,10 @@ fn mode_as(value: &Value<'_>) -> Option<i64>
 
 // The mode and the parameters, in either order.
 fn request_of<'a>(alloc: Global, parts: &[Value<'a>]) -> Result<Connect<'a>, AssocFault>
-    ensures { Gives AssocFault.OutOfMemory connect_view result
+    ensures request { Gives AssocFault.OutOfMemory connect_view result
         (wanted BadPresentation (spec.request_of (map part_of parts.now))) }
+    ensures memory { IsErrOf result AssocFault.OutOfMemory
+        → IsSome (spec.mode_among (map part_of parts.now)) }
 {
     let (mode, parameters) = match parts {
         [first, second] if first.tag.is(Tag::context_constructed(0)) => (first, second),
@@ -390,10 +392,11 @@ fn request_of<'a>(alloc: Global, parts: &[Value<'a>]) -> Result<Connect<'a>, Ass
 }
 
 /// The request for a connection (CP) that octets are, among other fields.
-#[tactic(auto, unfolding(crate::specs::Presentation::request_in))]
+#[tactic(auto, unfolding(crate::specs::Presentation::request_in, crate::specs::Presentation::mode_in))]
 pub(crate) fn request_in(alloc: Global, octets: &[u8]) -> Result<Connect<'_>, AssocFault>
-    ensures { Gives AssocFault.OutOfMemory connect_view result
+    ensures request { Gives AssocFault.OutOfMemory connect_view result
         (wanted BadPresentation (spec.request_in octets.now)) }
+    ensures memory { IsErrOf result AssocFault.OutOfMemory → IsSome (spec.mode_in octets.now) }
 {
     let content = content_under(octets, Tag::universal_constructed(17)).ok_or(
         AssocFault::BadPresentation,

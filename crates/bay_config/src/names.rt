@@ -1,11 +1,12 @@
 // The sections `input` and `meter` of a file, which list names.
-ghost use Rattle.std.specs.Prelude.{◌≡◌, ◌∷◌, [], map};
+ghost use Rattle.std.specs.Prelude.{◌≡◌, ◌∷◌, [], map, IsErrOf, IsSome};
+ghost use Rattle.toml.specs.Data.{get_member};
 ghost use Rattle.toml.specs.View.{table_view, items_view};
 ghost use Rattle.bay_config.specs.declared.fault.BayFault.TheVariants.{OutOfMemory};
 ghost use Rattle.bay_config.specs.Bay.{name_key, name_keys, name_in, section_name, most_names, name_section, names_in};
 ghost use Rattle.bay_base.specs.Exact.{Gives, judged};
 ghost use Rattle.bay_config.specs.Key.{first_of, entry_refusal};
-ghost use Rattle.bay_config.specs.Section.{tables_of, items_refusal, section_refusal};
+ghost use Rattle.bay_config.specs.Section.{tables_of, items_at, items_refusal, section_refusal};
 
 use crate::fault::BayFault;
 use crate::keys::{check_keys, find, identifier_at};
@@ -108,11 +109,13 @@ fn names_of(alloc: Global, values: &[Value], which: NameSection) -> Result<Listi
     names_from(alloc, values, which)
 }
 
-/// The names of a section; none where it is missing.
+/// The names of a section; none where it is missing. What is no list takes no memory.
 pub fn names_at(alloc: Global, file: &Table, which: NameSection) -> Result<Listing<Text>, BayFault>
-    ensures { let f = table_view file.now in
+    ensures names { let f = table_view file.now in
         Gives OutOfMemory (λ x. x) result
         (judged (section_refusal f (name_section which)) (names_in f which)) }
+    ensures memory { IsErrOf result OutOfMemory
+        → IsSome (items_at (get_member (section_name which) (table_view file.now))) }
 {
     match find(file, which.name()) {
         Some(value) => match value.as_array() {

@@ -1,5 +1,5 @@
 -- What one feeding comes to.
-use Rattle.std.proofs.Common.{◌≡◌, ℕ, ◌-◌, ◌≤◌, List, [], ◌∷◌, ◌++◌, length, take, drop, Option, Some, None, Result, Ok, Err, IsSome, unwrap_or, option_to_list, refl, sym, ap, ◌∙◌, arith}
+use Rattle.std.proofs.Common.{◌≡◌, ℕ, ◌-◌, ◌<◌, ◌≤◌, List, [], ◌∷◌, ◌++◌, length, take, drop, Option, Some, None, Result, Ok, Err, IsSome, unwrap_or, option_to_list, refl, sym, ap, ◌∙◌, arith}
 use Rattle.std.proofs.lemmas.List.{take_all}
 use Rattle.bay_transport.specs.declared.fault.TransportFault.{TransportFault}
 use Rattle.bay_transport.specs.declared.fault.TransportFault.TheVariants.{BadTpkt, BadCotp, ClassRefused, TsduTooLong, Failed, OutOfMemory}
@@ -364,7 +364,8 @@ fed_fault t piece Failed code joined refused k =
 fed_fault t piece OutOfMemory code joined refused k = absurd (cc)
 
 pub fault_memory : (t : Talk) (piece : List ℕ) (fault : TransportFault)
-    → RefusesPiece t.stream piece fault → code_of fault ≡ None → IsGoing t.stream.left
+    → RefusesPiece t.stream piece fault → code_of fault ≡ None
+    → IsGoing t.stream.left × (0 < length piece)
 fault_memory t piece BadTpkt refused k = absurd (cc)
 fault_memory t piece BadCotp refused k = absurd (cc)
 fault_memory t piece ClassRefused refused k = absurd (cc)

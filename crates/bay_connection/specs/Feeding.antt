@@ -71,6 +71,15 @@ IsOpenFor (heard.Released octets) phase = Unit {0}
 IsOpenFor heard.Ended phase = Unit {0}
 IsOpenFor (heard.Fault code) phase = Unit {0}
 
+-- What is lent is the PDU of MMS that was heard, and nothing where something else was.
+abbrev pub LendsOnly : Heard → List ℕ → Type 0
+LendsOnly heard.Nothing pdu = pdu ≡ []
+LendsOnly (heard.Answer octets) pdu = pdu ≡ []
+LendsOnly heard.Mms pdu = Unit {0}
+LendsOnly (heard.Released octets) pdu = pdu ≡ []
+LendsOnly heard.Ended pdu = pdu ≡ []
+LendsOnly (heard.Fault code) pdu = pdu ≡ []
+
 -- what is heard, and what the connection is then, without where it lies in memory
 abbrev pub indication_of : Heard → Client → Option Indication
 indication_of heard.Nothing c = None

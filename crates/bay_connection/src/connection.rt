@@ -1,10 +1,10 @@
 // A connection as its user sees it.
-ghost use Rattle.std.specs.Prelude.{◌≡◌, ◌≤◌, ◌↔◌, [], IfOk, IfSome, IsSome, IsTrue, OnErr, length, take};
+ghost use Rattle.std.specs.Prelude.{◌≡◌, ◌<◌, ◌≤◌, ◌↔◌, [], IfOk, IfSome, IsSome, IsTrue, OnErr, length, take};
 ghost use Rattle.bay_transport.specs.Doings.{start};
 ghost use Rattle.bay_transport.specs.Feeding.{IsGoing};
 ghost use Rattle.bay_assoc.specs.Hears.{association_terms};
 ghost use Rattle.bay_connection.specs.Talk.{closed, terms_of, left_by, sending};
-ghost use Rattle.bay_connection.specs.Feeding.{Feeds, indication_of, IsOpenFor};
+ghost use Rattle.bay_connection.specs.Feeding.{Feeds, indication_of, IsOpenFor, LendsOnly};
 
 use crate::heard::Fed;
 use crate::line::Line;
@@ -65,8 +65,11 @@ impl Connection {
             (λ fed. self.new.talk ≡ left_by self.old.talk (take fed.used piece.now)) }
         // A PDU is heard where it can be answered.
         ensures open { IfOk result (λ fed. IsOpenFor fed.heard self.new.talk.phase) }
-        // Memory is wanting only where octets are still taken, and then the connection is over.
-        ensures memory { OnErr result (IsGoing self.old.talk.stream.left) }
+        ensures lent { IfOk result (λ fed. LendsOnly fed.heard self.new.pdu) }
+        // Memory is wanting only where octets are still taken and some came, and then the
+        // connection is over.
+        ensures memory { OnErr result
+            (IsGoing self.old.talk.stream.left × (0 < length piece.now)) }
         ensures over { OnErr result (self.new.talk ≡ closed self.old.talk.stream) }
     {
         match self.line.feed(piece) {

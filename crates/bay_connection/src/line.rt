@@ -1,11 +1,11 @@
 // The layers of a connection: octets become TSDUs in the transport, and TSDUs are heard by the
 // association.
-ghost use Rattle.std.specs.Prelude.{◌≡◌, ◌≤◌, [], Some, IfOk, IsSome, OnErr, OnOk, length, take};
+ghost use Rattle.std.specs.Prelude.{◌≡◌, ◌<◌, ◌≤◌, [], Some, IfOk, IsSome, OnErr, OnOk, length, take};
 ghost use Rattle.bay_transport.specs.Doings.{Delivers, start};
 ghost use Rattle.bay_transport.specs.Feeding.{IsGoing, agreed, doing_for};
 ghost use Rattle.bay_assoc.specs.Hears.{association_terms};
 ghost use Rattle.bay_connection.specs.Talk.{answers, closed, terms_of, sent, sending, left_by};
-ghost use Rattle.bay_connection.specs.Feeding.{Feeds, indication_of, IsOpenFor};
+ghost use Rattle.bay_connection.specs.Feeding.{Feeds, indication_of, IsOpenFor, LendsOnly};
 ghost use Rattle.bay_connection.specs.Line.{talk_of, pdu_of, client_of, IsKept, IsReady, TakesMemory, Tells, TellsOf};
 
 use crate::heard::{Fed, Heard};
@@ -49,6 +49,7 @@ impl Line {
     pub(crate) fn close(&mut self)
         ensures kept { IsKept self.new }
         ensures closed { talk_of self.new ≡ closed self.old.transport.stream }
+        ensures nothing { pdu_of self.new ≡ [] }
     {
         self.pdu = 0;
         self.transport.end();
@@ -96,6 +97,7 @@ impl Line {
             (indication_of heard (client_of self.new)) (talk_of self.new)) }
         ensures number { self.new.transport.stream.number ≡ self.old.transport.stream.number }
         ensures open { IfOk result (λ heard. IsOpenFor heard self.new.assoc) }
+        ensures lent { IfOk result (λ heard. LendsOnly heard (pdu_of self.new)) }
     {
         let tsdu = self.transport.shown();
         match self.assoc.on_tsdu(tsdu) {
@@ -126,8 +128,10 @@ impl Line {
 
     // The answer to a request for a connection.
     fn answer(&self) -> Result<Heard, AllocError>
-        ensures { IfOk result (λ heard. indication_of heard (client_of self.now)
+        requires { self.now.pdu ≡ 0 }
+        ensures answer { IfOk result (λ heard. indication_of heard (client_of self.now)
             ≡ Some (answers self.now.transport.shown)) }
+        ensures lent { IfOk result (λ heard. LendsOnly heard (pdu_of self.now)) }
     {
         let octets = self.transport.shown().to_vec(self.alloc)?;
         Ok(Heard::Answer(octets))
@@ -144,6 +148,7 @@ impl Line {
         ensures memory { OnErr result (TakesMemory got) }
         ensures number { self.new.transport.stream.number ≡ self.old.transport.stream.number }
         ensures open { IfOk result (λ heard. IsOpenFor heard self.new.assoc) }
+        ensures lent { IfOk result (λ heard. LendsOnly heard (pdu_of self.new)) }
     {
         match got {
             Got::More => Ok(Heard::Nothing),
@@ -166,9 +171,11 @@ impl Line {
             (indication_of fed.heard (client_of self.new))) }
         ensures left { IfOk result
             (λ fed. talk_of self.new ≡ left_by (talk_of self.old) (take fed.used piece.now)) }
-        ensures memory { OnErr result (IsGoing self.old.transport.stream.left) }
+        ensures memory { OnErr result
+            (IsGoing self.old.transport.stream.left × (0 < length piece.now)) }
         ensures number { self.new.transport.stream.number ≡ self.old.transport.stream.number }
         ensures open { IfOk result (λ fed. IsOpenFor fed.heard self.new.assoc) }
+        ensures lent { IfOk result (λ fed. LendsOnly fed.heard (pdu_of self.new)) }
     {
         self.pdu = 0;
         match self.transport.feed(piece) {

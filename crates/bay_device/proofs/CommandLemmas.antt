@@ -1,5 +1,5 @@
 -- Each command of a step is released, and there is one at most.
-use Rattle.std.proofs.Common.{◌≡◌, ◌≢◌, ◌≤◌, ℕ, zero, suc, Bool, true, false, cond, nat_lt, List, [], ◌∷◌, ◌++◌, map, slice_get, Option, Some, None, Result, IfOk, refl, ap, sym, ◌∙◌, arith}
+use Rattle.std.proofs.Common.{◌≡◌, ◌≢◌, ◌≤◌, ℕ, zero, suc, Bool, true, false, not, ◌&&◌, cond, nat_lt, List, [], ◌∷◌, ◌++◌, map, slice_get, Option, Some, None, Result, IfOk, refl, ap, sym, ◌∙◌, arith}
 use Rattle.std.specs.List.{AllByRecursion}
 use Rattle.bay_tree.specs.Rows.{leaf_of}
 use Rattle.bay_tree.specs.declared.leaf.Dbpos.{Dbpos}
@@ -13,9 +13,9 @@ use Rattle.bay_services.specs.Bay.{Bay}
 use Rattle.bay_services.specs.Released.{AreTimed, Leaves, releasing}
 use Rattle.bay_services.specs.Released as services
 use Rattle.bay_services.specs.declared.answer.Command.{Command}
-use Rattle.bay_services.proofs.ReleaseLemmas.{Sole, all-of, answer-sent, at-most-one, busy-still, commands-each, idle-now, leaves-none, leaves-then, leaves-with, request-leaves, sole-said}
+use Rattle.bay_services.proofs.ReleaseLemmas.{Sole, all-of, answer-sent, at-most-one, busy-still, commands-each, idle-now, interlocking-apart, leaves-none, leaves-then, leaves-with, request-leaves, sole-said}
 use Rattle.bay_device.specs.Commands.{AllCommanded, AreCommanded, IsReleasedAt, IsSingle}
-use Rattle.bay_device.specs.Device.{State, advanced, bay_of, ended_at, is_fresh}
+use Rattle.bay_device.specs.Device.{State, advanced, bay_of, ended_at, is_recent}
 use Rattle.bay_device.specs.Hearing.{Done, Heard, client_at, heard, on_heard, said, sent_on, with_sent}
 use Rattle.bay_device.specs.Outcomes.{Outcome, close_outcome, connection_at, contact_outcome, event_outcome, input_outcome, first_talk, last_moment, measure_outcome, nothing_done, octets_outcome, open_outcome, outcome, outcomes, place_of, recv_after, recv_outcome, with_connection, without_owner}
 use Rattle.bay_device.specs.declared.event.Event.{Event}
@@ -25,20 +25,35 @@ use Rattle.bay_device.specs.declared.event.Step.{Step}
 use Rattle.bay_device.specs.declared.event.Why.{Why}
 use Rattle.bay_device.specs.declared.fault.StepFault.{StepFault}
 
--- what is made of octets: nothing is operated that was not released before them
-record Makes (now : ℕ) (s : State) (d : Done) : Type 0 where
-  leaves : Leaves now (bay_of s) (bay_of d.state)
-  fresh : is_fresh now d.state ≡ is_fresh now s
-  released : AllByRecursion (IsReleasedAt now s) d.commands
-  replied : d.commands ≢ [] → d.sent ≢ []
-  sole : AreTimed s.controls.controls → Sole now d.commands d.state.controls
+-- what a device notes of its scans, and its inputs, which no client changes
+pub record Notes : Type 0 where
+  pub last_scan : Option ℕ
+  pub is_stale : Bool
+  pub age : ℕ
+  pub inputs : List Bool
 
-begins : (now : ℕ) (s : State) → Makes now s (nothing_done (advanced now s))
+abbrev pub notes_of : State → Notes
+notes_of s = record {
+  last_scan = s.last_scan;
+  is_stale = s.is_stale;
+  age = s.scan_max_age_ms;
+  inputs = s.input_values;
+}
+
+-- what is made of octets: nothing is operated that was not released before them
+pub record Makes (now : ℕ) (s : State) (d : Done) : Type 0 where
+  pub leaves : Leaves now (bay_of s) (bay_of d.state)
+  pub notes : notes_of d.state ≡ notes_of s
+  pub released : AllByRecursion (IsReleasedAt now s) d.commands
+  pub replied : d.commands ≢ [] → d.sent ≢ []
+  pub sole : AreTimed s.controls.controls → Sole now d.commands d.state.controls
+
+pub begins : (now : ℕ) (s : State) → Makes now s (nothing_done (advanced now s))
 begins now s = record {
   leaves =
       leaves-with now (bay_of s) (bay_of s) (control.advanced now s.controls)
       (leaves-none now (bay_of s)) (busy-still now s.controls);
-  fresh = refl;
+  notes = refl;
   released = tt;
   replied = λ some. absurd (some refl);
   sole = λ timed. record { timed = timed; single = tt };
@@ -47,14 +62,15 @@ begins now s = record {
 enabled-before : (now k : ℕ) (on : Bool) (b d : Bay) → Leaves now b d
     → is_truth true (leaf_of (releasing k on) d.rows) ≡ true
     → is_truth true (leaf_of (releasing k on) b.rows) ≡ true
-enabled-before now k true b d left h = ap (is_truth true) (sym (left.enabled k _)) ∙ h
-enabled-before now k false b d left h = ap (is_truth true) (sym (left.enabled k _)) ∙ h
+enabled-before now k true b d left h = ap (is_truth true) (sym (left.values _ (interlocking-apart k _))) ∙ h
+enabled-before now k false b d left h = ap (is_truth true) (sym (left.values _ (interlocking-apart k _))) ∙ h
 
 released-before : (now a : ℕ) (terms : Terms) (s : State) (d : Done) (command : Command)
     → Makes now s d → services.IsReleased (client_at now a terms d.state) (bay_of d.state) command
     → IsReleasedAt now s command
 released-before now a terms s d command makes is = record {
-  fresh = sym makes.fresh ∙ is.fresh;
+  fresh = sym (ap (λ (n : Notes). is_recent now n.age n.last_scan && not n.is_stale) makes.notes)
+      ∙ is.fresh;
   enabled =
       enabled-before now command.switch command.on (bay_of s) (bay_of d.state) makes.leaves
       is.enabled;
@@ -92,7 +108,7 @@ makes-said now a terms pdu s d makes =
       leaves =
           leaves-then now (bay_of s) b (answered c pdu b).after makes.leaves
           (request-leaves c pdu b);
-      fresh = makes.fresh;
+      notes = makes.notes;
       released =
           joined now s d.commands (answered c pdu b).commands makes.released
           (all-before now a terms s d (answered c pdu b).commands makes (commands-each c pdu b));
@@ -114,7 +130,7 @@ makes-sent : (now a : ℕ) (octets : List ℕ) (s : State) (d : Done) → Makes 
 makes-sent now a octets s d makes =
     record {
       leaves = makes.leaves;
-      fresh = makes.fresh;
+      notes = makes.notes;
       released = makes.released;
       replied = λ some. sent-some a octets d;
       sole = makes.sole;
@@ -130,7 +146,7 @@ makes-one now a (releases octets) s d later makes rest = makes-sent now a octets
 makes-one now a ends-heard s d later makes rest = makes
 makes-one now a (fails code) s d later makes rest = makes
 
-makes-heard : (choice : Option ℕ) (now a : ℕ) (is : List Indication) (s : State) (d : Done)
+pub makes-heard : (choice : Option ℕ) (now a : ℕ) (is : List Indication) (s : State) (d : Done)
     → Makes now s d → Makes now s (heard choice now a is d).done
 makes-heard None now a [] s d makes = makes
 makes-heard None now a (i ∷ is) s d makes =

@@ -17,6 +17,7 @@ use Rattle.bay_control.specs.Decisions.{controls_of}
 use Rattle.bay_services.specs.Released.{AreTimed}
 use Rattle.bay_device.specs.Device.{State}
 use Rattle.bay_device.specs.Entries.{IsIdle}
+use Rattle.bay_device.specs.Fresh.{IsLoaded}
 use Rattle.bay_device.specs.Load.{LoadsRead, initial_device, of_bay, of_checked, of_compiled, of_program}
 use Rattle.bay_device.specs.declared.fault.LoadFault.{LoadFault}
 use Rattle.bay_device.specs.declared.fault.LoadFault.TheVariants.{OutOfMemory}
@@ -46,26 +47,30 @@ first-read : (bay : Bay) (image : Result Image ImageFault) (s : State) → Loads
 first-read bay (Ok image) s loads = record { image = image; is = loads.1 }
 first-read bay (Err fault) s loads = absurd cc
 
-idle-first : (bay : Bay) (s : State) → IsFirst bay s → IsIdle s
-idle-first bay s first = let idle : IsIdle (initial_device bay first.image) =
-    record { unselected = refl; closed = refl } in subst IsIdle (sym first.is) idle
-
 timed-first : (bay : Bay) (s : State) → AreTimed (controls_of bay.switches) → IsFirst bay s
     → AreTimed s.controls.controls
 timed-first bay s timed first =
     subst (λ (t : State). AreTimed t.controls.controls) (sym first.is) timed
 
-pub text-idle : (bay : Result Bay BayFault) (program : Result PlainProgram TextFault)
-    (result : Result State LoadFault)
-    → Gives OutOfMemory (λ (s : State). s) result (of_bay bay program) → IfOk result IsIdle
-text-idle (Ok bay) program (Ok s) e = idle-first bay s (first-program bay program s e)
-text-idle (Err fault) program (Ok s) e = absurd cc
-text-idle bay program (Err refusal) e = tt
+loaded-first : (bay : Bay) (s : State) → IsFirst bay s → IsLoaded s
+loaded-first bay s first = record { bay = bay; image = first.image; is = first.is }
 
-pub image-idle : (bay : Bay) (image : Result Image ImageFault) (result : Result State LoadFault)
-    → IfOk result (λ s. LoadsRead bay image (Ok s)) → IfOk result IsIdle
-image-idle bay image (Ok s) loads = idle-first bay s (first-read bay image s loads)
-image-idle bay image (Err refusal) loads = tt
+pub text-loaded : (bay : Result Bay BayFault) (program : Result PlainProgram TextFault)
+    (result : Result State LoadFault)
+    → Gives OutOfMemory (λ (s : State). s) result (of_bay bay program) → IfOk result IsLoaded
+text-loaded (Ok bay) program (Ok s) e = loaded-first bay s (first-program bay program s e)
+text-loaded (Err fault) program (Ok s) e = absurd cc
+text-loaded bay program (Err refusal) e = tt
+
+pub image-loaded : (bay : Bay) (image : Result Image ImageFault) (result : Result State LoadFault)
+    → IfOk result (λ s. LoadsRead bay image (Ok s)) → IfOk result IsLoaded
+image-loaded bay image (Ok s) loads = loaded-first bay s (first-read bay image s loads)
+image-loaded bay image (Err refusal) loads = tt
+
+pub loaded-idle : (result : Result State LoadFault) → IfOk result IsLoaded → IfOk result IsIdle
+loaded-idle (Ok s) loaded = let idle : IsIdle (initial_device loaded.bay loaded.image) =
+    record { unselected = refl; closed = refl } in subst IsIdle (sym loaded.is) idle
+loaded-idle (Err refusal) loaded = tt
 
 -- where each switch of the bay file that can be operated takes some time
 abbrev IsTimed : Result State LoadFault → Type 0

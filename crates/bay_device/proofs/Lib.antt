@@ -3,11 +3,13 @@ pub mod ApartLemmas
 pub mod CommandLemmas
 pub mod ConnectionLemmas
 pub mod EntryLemmas
+pub mod FreshLemmas
 pub mod IdleLemmas
 pub mod LoadLemmas
 pub mod MeaningLemmas
 pub mod MessageLemmas
 pub mod NameLemmas
+pub mod OperateLemmas
 pub mod ProcessLemmas
 pub mod RecvLemmas
 pub mod RunLemmas

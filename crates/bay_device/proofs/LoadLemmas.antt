@@ -1,11 +1,16 @@
 -- What load makes of a bay and a verified image.
-use Rattle.std.proofs.Common.{◌≡◌, ◌≢◌, ℕ, Bool, true, false, cond, nat_le, Result, Ok, Err, List, length, None, refl, ap, sym, ◌∙◌}
+use Rattle.std.proofs.Common.{◌≡◌, ◌≢◌, ℕ, Bool, true, false, cond, nat_le, Result, Ok, Err, List, length, None, refl, subst, ap, sym, ◌∙◌}
 use Rattle.std.proofs.lemmas.List.{length-map}
 use Rattle.bay_control.specs.Decisions as control
 use Rattle.bay_control.specs.Decisions.{initial}
 use Rattle.bay_control.specs.declared.control.SwitchControl.{SwitchControl}
-use Rattle.bay_process.specs.Layout.{switches_of}
+use Rattle.bay_process.specs.Layout.{AreBound, Layout, bound_from, switches_of}
+use Rattle.bay_process.specs.Nodes.{AreAllNodes}
+use Rattle.bay_process.specs.Parts.{AreBoundSwitches}
+use Rattle.bay_process.specs.declared.nodes.Nodes.{Nodes}
+use Rattle.bay_process.proofs.BoundLemmas.{are-bound, bound-switches}
 use Rattle.bay_process.specs.declared.switch.BoundSwitch.{BoundSwitch}
+use Rattle.bay_services.specs.Bay as services
 use Rattle.bay_services.specs.Bay.{ShowSelection, shown}
 use Rattle.bay_services.proofs.ShownLemmas.{shown_again}
 use Rattle.bay_config.specs.declared.bay.Bay.{Bay}
@@ -18,69 +23,67 @@ use Rattle.il_compile.specs.Compiled.{compiled_of, image_of, image_size}
 use Rattle.il_compile.specs.declared.fault.CompileFault.{CompileFault}
 use Rattle.il_compile.specs.declared.fault.CompileFault.TheVariants.{CodeTooLong}
 use Rattle.il_scan.specs.Scans.{Held}
-use Rattle.bay_device.specs.Device.{State}
+use Rattle.bay_device.specs.Device.{State, bay_of, with_bay}
 use Rattle.bay_device.specs.Load.{initial_device}
 use Rattle.bay_device.specs.declared.fault.LoadFault.{LoadFault}
 use Rattle.bay_device.specs.declared.fault.LoadFault.TheVariants.{Refused, OutOfMemory}
 
--- a device before its first event
-pub loaded-view : (bay : Bay) (image : Image) (rows : List Row) (switches : List Switch)
-    (input_values : List Bool) (meters : List (List ℕ)) (reads writes : List Source)
-    (machine : Held) (controls : control.State)
+-- a device before its first event, of a bay that is bound
+pub loaded-view : (bay : Bay) (image : Image) (served : services.Bay) (age : ℕ)
+    (inputs : List (List ℕ)) (input_values : List Bool) (meters : List (List ℕ))
+    (reads writes : List Source) (machine : Held)
     → let s : State = initial_device bay image in
-    rows ≡ s.rows → switches ≡ s.switches → input_values ≡ s.input_values → meters ≡ s.meters
-    → reads ≡ s.reads → writes ≡ s.writes → machine ≡ s.machine → controls ≡ s.controls
-    → record s {
-      rows = rows;
-      switches = switches;
+    served ≡ bay_of s → age ≡ s.scan_max_age_ms → inputs ≡ s.inputs
+    → input_values ≡ s.input_values → meters ≡ s.meters → reads ≡ s.reads → writes ≡ s.writes
+    → machine ≡ s.machine
+    → record (with_bay served s) {
+      scan_max_age_ms = age;
+      inputs = inputs;
       input_values = input_values;
       meters = meters;
       reads = reads;
       writes = writes;
       machine = machine;
-      controls = controls;
     } ≡ s
-loaded-view bay image rows switches input_values meters reads writes machine controls r w i m e f h
-    y =
+loaded-view bay image served age inputs input_values meters reads writes machine b a n i m e f h =
     let s : State = initial_device bay image in
-    ap (λ x. record s {
-      rows = x;
-      switches = switches;
+    ap (λ x. record (with_bay x s) {
+      scan_max_age_ms = age;
+      inputs = inputs;
       input_values = input_values;
       meters = meters;
       reads = reads;
       writes = writes;
       machine = machine;
-      controls = controls;
-    }) r
+    }) b
     ∙ ap (λ x. record s {
-      switches = x;
+      scan_max_age_ms = x;
+      inputs = inputs;
       input_values = input_values;
       meters = meters;
       reads = reads;
       writes = writes;
       machine = machine;
-      controls = controls;
-    }) w
+    }) a
+    ∙ ap (λ x. record s {
+      inputs = x;
+      input_values = input_values;
+      meters = meters;
+      reads = reads;
+      writes = writes;
+      machine = machine;
+    }) n
     ∙ ap (λ x. record s {
       input_values = x;
       meters = meters;
       reads = reads;
       writes = writes;
       machine = machine;
-      controls = controls;
     }) i
-    ∙ ap (λ x. record s {
-      meters = x;
-      reads = reads;
-      writes = writes;
-      machine = machine;
-      controls = controls;
-    }) m
-    ∙ ap (λ x. record s { reads = x; writes = writes; machine = machine; controls = controls }) e
-    ∙ ap (λ x. record s { writes = x; machine = machine; controls = controls }) f
-    ∙ ap (λ x. record s { machine = x; controls = controls }) h
-    ∙ ap (λ x. record s { controls = x }) y
+    ∙ ap (λ x. record s { meters = x; reads = reads; writes = writes; machine = machine }) m
+    ∙ ap (λ x. record s { reads = x; writes = writes; machine = machine }) e
+    ∙ ap (λ x. record s { writes = x; machine = machine }) f
+    ∙ ap (λ x. record s { machine = x }) h
 
 -- rows that show that nothing is selected
 pub shows-first : (controls : control.State) (all : List SwitchControl) (count many : ℕ)
@@ -89,10 +92,29 @@ pub shows-first : (controls : control.State) (all : List SwitchControl) (count m
 shows-first controls all count many old new first same is =
     rw (first, same, is) (shown_again None None count old)
 
--- as many switches as were bound
-pub bound-many : (bound : List BoundSwitch) (switches : List Switch) → switches_of bound ≡ switches
-    → length bound ≡ length switches
-bound-many bound switches is = sym (length-map bound (λ (b : BoundSwitch). b.switch)) ∙ ap length is
+-- what was bound of a bay's switches
+pub record IsBoundTo (bay : Bay) (layout : Layout) (writes : List Source)
+    (bound : List BoundSwitch) : Type 0 where
+  pub switches : switches_of bound ≡ bay.switches
+  pub sized : length bound ≡ length bay.switches
+  pub placed : AreBound layout writes bound
+
+pub bound-to : (bay : Bay) (nodes : List Nodes) (layout : Layout) (writes : List Source)
+    (taken : List Switch) (bound : List BoundSwitch) → AreAllNodes bay nodes
+    → length nodes ≡ length bay.switches → taken ≡ bay.switches
+    → AreBoundSwitches layout writes taken nodes bound → IsBoundTo bay layout writes bound
+bound-to bay nodes layout writes taken bound named sized same did =
+    let is : bound ≡ bound_from writes 0 bay.switches did.rows =
+    did.is ∙ ap (λ ss. bound_from writes 0 ss did.rows) same in
+    let all : switches_of bound ≡ bay.switches =
+    ap switches_of is
+    ∙ bound-switches writes 0 bay.switches did.rows (sym (did.sized ∙ sized)) in
+    record {
+      switches = all;
+      sized = sym (length-map bound (λ (b : BoundSwitch). b.switch)) ∙ ap length all;
+      placed = subst (λ (bs : List BoundSwitch). AreBound layout writes bs) (sym is)
+          (are-bound bay nodes layout writes did.rows named did.named sized did.sized);
+    }
 
 -- a fault that can't be another is want of memory
 pub only-memory : (e : LoadFault) → (e ≢ OutOfMemory → ⊥) → e ≡ OutOfMemory

@@ -1,33 +1,22 @@
 -- What a selection that is shown leaves of what the last scan told.
-use Rattle.std.proofs.Common.{◌≡◌, ℕ, zero, suc, ◌+◌, List, ◌++◌, codes, get_or, length, Option, refl, ap, sym, ◌∙◌, arith}
-use Rattle.bay_tree.specs.declared.leaf.Leaf.TheVariants as leaf
+use Rattle.std.proofs.Common.{◌≡◌, ℕ, List, ◌++◌, length, Option, ap, sym, ◌∙◌}
 use Rattle.bay_tree.specs.declared.row.Row.{Row}
-use Rattle.bay_nodes.specs.Names.{control_names, interlocking_of}
-use Rattle.bay_nodes.specs.Node.{node_name}
+use Rattle.bay_nodes.specs.Names.{interlocking_of}
 use Rattle.bay_control.specs.Decisions.{selected_switch, standing_of}
 use Rattle.bay_control.specs.Decisions as control
 use Rattle.bay_control.specs.declared.selection.Standing.{Standing}
 use Rattle.bay_process.specs.Told.{AreTold}
 use Rattle.bay_process.specs.declared.switch.Enabled.{Enabled}
-use Rattle.bay_process.proofs.ToldLemmas.{IsAway, Keeps, leaf-other, told-kept}
-use Rattle.bay_services.specs.Bay.{Bay, ShowSelection, is_selected, shown, standing_again, with_controls}
-
-away-control : (n : ℕ) (t : List ℕ) → IsAway (node_name (codes "CSWI") n ++ t)
-away-control n t k s e = let second : 73 ≡ 83 = ap (λ l. get_or l 1 0) e in omega (arith, second)
-
-keeps-shown : (selected : Option ℕ) (count : ℕ) (rows : List Row)
-    → Keeps rows (shown selected count rows)
-keeps-shown selected zero rows k s = refl
-keeps-shown selected (suc j) rows k s =
-    leaf-other (shown selected j rows) (interlocking_of k ++ s) ((control_names j).selected)
-    (leaf.Truth (is_selected j selected)) (away-control (j + 1) _ k s)
-    ∙ keeps-shown selected j rows k s
+use Rattle.bay_process.proofs.ToldLemmas.{told-kept}
+use Rattle.bay_services.specs.Bay.{Bay, ShowSelection, shown, standing_again, with_controls}
+use Rattle.bay_services.proofs.ReleaseLemmas.{interlocking-apart, keeps-shown}
 
 -- rows that show another selection
 pub told-shown : (rows new : List Row) (told : List (Option Enabled)) (selected : Option ℕ)
     (count : ℕ) → AreTold rows told → new ≡ shown selected count rows → AreTold new told
 told-shown rows new told selected count all is =
-    rw is (told-kept rows (shown selected count rows) told all (keeps-shown selected count rows))
+    rw is (told-kept rows (shown selected count rows) told all
+    (λ k s. keeps-shown selected count rows (interlocking_of k ++ s) (interlocking-apart k s)))
 
 pub told-with : (old new : Bay) (controls : control.State) (told : List (Option Enabled))
     → AreTold old.rows told → new ≡ with_controls controls old → AreTold new.rows told

@@ -64,7 +64,7 @@ none-written-in =
     ap (λ (o : Option Part). o >>= under (constructed 1) >>= values_in >>= behind_id
     >>= under (constructed 5) >>= values_in) no-value
 
-none-accepted : (now a : ℕ) (n : Bay) (m : Result Message MmsFault)
+pub none-accepted : (now a : ℕ) (n : Bay) (m : Result Message MmsFault)
     → message_accepted now a n m [] ≡ []
 none-accepted now a n (Ok (initiate proposal)) = refl
 none-accepted now a n (Ok conclude) = refl
@@ -227,12 +227,12 @@ talk-sized (Some place) s t all e = all place t e
 -- ---- an event
 
 -- The answer tells what is seen, and of each talk what is left of it; the names and the sizes stay.
-record IsTold (n : Bay) (talks : List (Option Talk)) (f : Step → List Entry)
+pub record IsTold (n : Bay) (talks : List (Option Talk)) (f : Step → List Entry)
     (g : Step → List (Option Talk)) (o : Outcome) (entries : List Entry) : Type 0 where
-  told : of_answer [] f o.answer ≡ entries
-  left : o.after.connections ≡ of_answer talks g o.answer
-  alike : AreNamedAlike n (bay_of o.after)
-  sized : AreTalks o.after.connections
+  pub told : of_answer [] f o.answer ≡ entries
+  pub left : o.after.connections ≡ of_answer talks g o.answer
+  pub alike : AreNamedAlike n (bay_of o.after)
+  pub sized : AreTalks o.after.connections
 
 closed-told : (now a : ℕ) (why : Option Why)
     → told_closed now (closed_by a why) ≡ entries_closed now a why
@@ -444,7 +444,7 @@ module _ (n : Bay) (now : ℕ) (s : State) (alike : AreNamedAlike n (bay_of s))
   told-if true f g x y xs ys p q = p
   told-if false f g x y xs ys p q = q
 
-  outcome-told : (choice : Option ℕ) (event : Event)
+  pub outcome-told : (choice : Option ℕ) (event : Event)
       → IsTold n talks (told_step now event n talks) (talks_step event talks)
       (outcome choice now event s) (entries_at choice now event s)
   outcome-told choice event =
@@ -516,7 +516,7 @@ none-there zero place = refl
 none-there (suc n) zero = refl
 none-there (suc n) (suc place) = none-there n place
 
-idle-talks : (s : State) → IsIdle s → AreTalks s.connections
+pub idle-talks : (s : State) → IsIdle s → AreTalks s.connections
 idle-talks s idle place t e =
     let none : unwrap_or (slice_get s.connections place) None ≡ None =
     ap (λ (cs : List (Option Talk)). unwrap_or (slice_get cs place) None) idle.closed

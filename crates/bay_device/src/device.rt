@@ -11,8 +11,10 @@ ghost use Rattle.il_image.specs.declared.opcode.Version.TheVariants.{Two};
 ghost use Rattle.bay_device.specs.Commands.{AllCommanded, AreCommanded, IsSingle};
 ghost use Rattle.bay_device.specs.Device.{bay_of};
 ghost use Rattle.bay_device.specs.Entries.{IsIdle, Leading, entries_all};
+ghost use Rattle.bay_device.specs.Fresh.{AllFresh, Came, IsFresh, Past};
 ghost use Rattle.bay_device.specs.LookUps.{switch_place, input_place, meter_place, enabled_of};
 ghost use Rattle.bay_device.specs.Meaning.{AllMean, Halting, HaltsAt, MeansAt, Runs, is_refused};
+ghost use Rattle.bay_device.specs.Operates.{AllOperate, AreOperates};
 ghost use Rattle.bay_device.specs.Outcomes.{closed, connection_at, event_outcome, outcome, recv_after};
 ghost use Rattle.bay_device.specs.Outcomes as spec;
 ghost use Rattle.bay_device.specs.Report.{IsReport};
@@ -40,12 +42,13 @@ use std::marker::Model;
 
 /// A device, which contracts see as its state: what the bay file says, the rows of its tree, the
 /// values of its inputs, the machine with its program, its controls, the moments of the last event
-/// and the last scan, and what the octets of its clients have left.
+/// and the last scan, and what the octets of its clients have left. Its two parts are in boxes, so
+/// that a device is let go in two calls.
 #[derive(Drop)]
 pub struct Device {
     alloc: Global,
-    state: DeviceState,
-    connections: Connections,
+    state: Box<DeviceState>,
+    connections: Box<Connections>,
 }
 
 impl Model for Device {
@@ -57,7 +60,7 @@ impl Model for Device {
 
     ghost coded = { Prim.hlevel codes };
 
-    ghost view = { λ d. state_view d.connections d.state };
+    ghost view = { λ d. state_view d.connections.value d.state.value };
 }
 
 // What the device tells of a closing.
@@ -72,14 +75,15 @@ fn closed_by(association: u16, why: Option<Why>) -> Option<(u16, Why)>
 
 impl Device {
     /// The device of a state, without clients.
-    pub(crate) fn of_state(alloc: Global, state: DeviceState) -> Self
-        ensures { result ≡ state_view (replicate 8 None) state }
+    pub(crate) fn of_state(alloc: Global, state: Box<DeviceState>) -> Result<Self, AllocError>
+        ensures { IfOk result (λ device. device ≡ state_view (replicate 8 None) state.value) }
     {
-        Device {
+        let connections = Box::new(alloc, Connections::new())?;
+        Ok(Device {
             alloc,
             state,
-            connections: Connections::new(),
-        }
+            connections,
+        })
     }
 
     /// The size of the program, and what a scan takes at most. It goes over the code once.
@@ -321,6 +325,15 @@ impl Device {
         // Each command is one that the interlocking releases, on a fresh scan, while no switch is
         // operating, and comes with its reply.
         ensures commanded { IfOk result (AreCommanded now self.old) }
+        // They are the operates that are accepted in what the octets of the event and of its
+        // answer tell, in their order, each with its own response.
+        ensures operates { (names : Bay) → AreNamedAlike names (bay_of self.old)
+            → AreTalks self.old.connections
+            → IfOk result (AreOperates now event.entry names self.old.connections) }
+        // Behind them is a scan that is not too old, since which the process has not changed,
+        // among the events since load.
+        ensures fresh { (past : List Past) → Came past self.old
+            → IsFresh now self.old.scan_max_age_ms past result }
         // There is one at most, on a device whose switches take some time, as load makes it; and
         // that stays.
         ensures single { AreTimed self.old.controls.controls → IsSingle result }
@@ -354,6 +367,10 @@ impl Device {
         // each command is one that the interlocking releases, on a fresh scan, while no switch is
         // operating, and comes with its reply, whatever the choices;
         ensures commanded { (choices : List (Option ℕ)) → AllCommanded choices events.now self.old }
+        // behind it is a scan that is not too old, since which the process has not changed, among
+        // the events since load, whatever the choices;
+        ensures fresh { (past : List Past) → Came past self.old → (choices : List (Option ℕ))
+            → AllFresh past choices events.now self.old }
         // there is one at most for each event, on a device whose switches take some time, as load
         // makes it;
         ensures single { IfOk result
@@ -373,6 +390,11 @@ impl Device {
             (λ answers. IsIdle self.old
             → AreBacked self.old.controls.controls
             (told_all (bay_of self.old) self.old.connections events.now answers.items)) }
+        // The commands are the operates that are accepted in what they tell, each with its own
+        // response.
+        ensures operates { IfOk result
+            (λ answers. IsIdle self.old
+            → AllOperate (bay_of self.old) self.old.connections events.now answers.items) }
     {
         self.has_places();
         let mut answers = Vec::with_capacity(self.alloc, events.len())?;

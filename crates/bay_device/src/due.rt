@@ -9,7 +9,7 @@ use bay_base::listing::Listing;
 
 /// The octets that tell the client of an association of the end of what is operating; each is left
 /// out where its PDU has more octets than are agreed.
-#[derive(Debug, Drop)]
+#[derive(Drop)]
 pub struct Due {
     /// The number of the association that operates.
     pub association: u16,

@@ -15,7 +15,7 @@ pub const LAST_MOMENT: u64 = 4_294_967_295_999;
 pub const ASSOCIATIONS: usize = 8;
 
 /// What happens to a device at a moment. Associations have the numbers 1 to 8.
-#[derive(Clone, Copy, Debug)]
+#[derive(Clone, Copy)]
 pub enum Event<'a> {
     /// A client connects, and has this number until it is closed.
     Open {
@@ -63,7 +63,7 @@ pub fn place_of(association: u16) -> Option<usize>
 }
 
 /// Octets that are to be sent to a client.
-#[derive(Debug, Drop)]
+#[derive(Drop)]
 pub struct Sent {
     /// The number of its association.
     pub association: u16,
@@ -84,7 +84,7 @@ pub enum Why {
 }
 
 /// What an accepted event did.
-#[derive(Debug, Drop)]
+#[derive(Drop)]
 pub struct Step {
     /// The end of what was operating, told to the client that asked for it with enhanced security.
     pub ended: Option<Sent>,

@@ -1,5 +1,5 @@
 // A device from the text of a bay file and the text of a program, or the octets of an image.
-ghost use Rattle.std.specs.Prelude.{◌≡◌, ◌≢◌, ℕ, None, Ok, Err, IfOk, IfErr, OnOk, length, replicate};
+ghost use Rattle.std.specs.Prelude.{◌≡◌, ◌≢◌, ℕ, [], None, Ok, Err, IfOk, IfErr, OnOk, length, replicate};
 ghost use Rattle.bay_process.specs.Controls.{AreAllControlRows, HaveSelected};
 ghost use Rattle.bay_process.specs.Layout.{layout_of};
 ghost use Rattle.bay_services.specs.Bay.{shown};
@@ -21,7 +21,9 @@ ghost use Rattle.il_verify.specs.Verdicts.{IsVerified};
 ghost use Rattle.il_verify.specs.declared.fault.VerifyFault.{VerifyFault};
 ghost use Rattle.bay_device.specs.Accepts.{IsRight};
 ghost use Rattle.bay_device.specs.Entries.{IsIdle};
+ghost use Rattle.bay_device.specs.Fresh.{IsLoaded};
 ghost use Rattle.bay_device.specs.Load.{initial_device, checked_in, of_compiled, of_checked, of_program, of_bay, verify_refusal, Loads, LoadsImage, LoadsRead};
+ghost use Rattle.bay_device.specs.BoundBay.{IsBoundBay};
 ghost use Rattle.bay_device.specs.Meaning.{Runs};
 ghost use Rattle.bay_device.specs.StateView.{state_view};
 ghost use Rattle.bay_device.specs.declared.fault.LoadFault.TheVariants.{OutOfMemory, Refused};
@@ -31,12 +33,15 @@ use crate::fault::LoadFault;
 use crate::state::DeviceState;
 use crate::table::tables_of;
 use bay_base::listing::Listing;
-use bay_config::bay::{Bay, Point};
+use bay_base::text::Text;
+use bay_config::bay::{Bay, Point, Source};
 use bay_config::read::read_bay;
 use bay_control::controls::Controls;
 use bay_process::bind::falses;
 use bay_process::controls::{ControlRows, control_rows};
+use bay_process::meter::BoundMeter;
 use bay_process::parts::{bound_rows, node_names, wired_machine};
+use bay_process::values::ToldValues;
 use bay_services::bay::ServedBay;
 use bay_services::decisions::show;
 use bay_tree::tree::Tree;
@@ -50,6 +55,7 @@ use il_text::program::Program;
 use il_text::read::read_program;
 use il_verify::verify::{Verified, verify};
 use std::alloc::{AllocError, Global};
+use std::mem::replace;
 
 /// Where the controls of so many switches stand in a tree, which then shows that none is selected.
 fn shown_rows(
@@ -68,44 +74,45 @@ fn shown_rows(
     Ok(Listing::new(rows))
 }
 
-/// The state of a device of a bay and a verified image, before its first event.
-fn state_of(alloc: Global, bay: Bay, verified: Verified) -> Result<DeviceState, AllocError>
-    requires bay { IsBay bay }
-    requires verified { IsVerified bay.points verified }
-    ensures { IfOk result (λ state. state_view (replicate 8 None) state
-        ≡ initial_device bay verified) }
+/// A bay as its clients see it, and what else a device's state takes from its bay.
+#[derive(Drop)]
+pub struct BoundBay {
+    pub bay: ServedBay,
+    pub scan_max_age_ms: u32,
+    pub inputs: Listing<Text>,
+    pub meters: Listing<BoundMeter>,
+    pub told: ToldValues,
+}
+
+/// Takes the items of a list out, which has none then. It takes no memory.
+fn take_items<T>(alloc: Global, list: &mut Listing<T>) -> Vec<T>
+    ensures value { result.items ≡ list.old }
+    ensures after { list.new ≡ [] }
 {
-    let wired = wired_machine(alloc, bay.points.as_slice(), verified)?;
+    replace(list, Listing::new(Vec::new(alloc))).into_vec()
+}
+
+/// A bay with nothing selected, whose switches and meters are bound to the rows of its tree.
+fn bound_bay(alloc: Global, mut bay: Box<Bay>, writes: &[Source]) -> Result<BoundBay, AllocError>
+    requires { IsBay bay.value }
+    ensures { IfOk result (IsBoundBay bay.value writes.now) }
+{
     let nodes = node_names(alloc, &bay)?;
-    let input_values = falses(alloc, bay.inputs.as_slice())?;
     let controls = Controls::new(&bay);
+    let rows = take_items(alloc, &mut bay.rows);
+    let switches = take_items(alloc, &mut bay.switches);
+    let mut bound = bound_rows(alloc, rows, switches, bay.meters.as_slice(), &nodes, writes)?;
+    let control_rows = shown_rows(alloc, &mut bound.tree, bound.switches.len())?;
     let Bay {
         domain,
         vendor,
         model,
         revision,
         scan_max_age_ms,
-        rows,
-        switches,
         inputs,
-        meters,
         ..
-    } = bay;
-    let mut bound = bound_rows(
-        alloc,
-        rows.into_vec(),
-        switches.into_vec(),
-        meters.as_slice(),
-        &nodes,
-        wired.writes.as_slice(),
-    )?;
-    let control_rows = shown_rows(alloc, &mut bound.tree, bound.switches.len())?;
-    let tables = tables_of(
-        bound.switches.as_slice(),
-        inputs.as_slice(),
-        bound.meters.as_slice(),
-    );
-    Ok(DeviceState {
+    } = Box::into_inner(bay);
+    Ok(BoundBay {
         bay: ServedBay {
             domain,
             vendor,
@@ -118,28 +125,60 @@ fn state_of(alloc: Global, bay: Bay, verified: Verified) -> Result<DeviceState, 
         },
         scan_max_age_ms,
         inputs,
-        input_values,
         meters: Listing::new(bound.meters),
         told: bound.told,
-        tables,
-        reads: Listing::new(wired.reads),
-        writes: Listing::new(wired.writes),
-        machine: wired.machine,
-        moment: 0,
-        last_scan: None,
-        is_stale: false,
-        due: None,
     })
 }
 
+/// The state of a device of a bay and a verified image, before its first event.
+fn state_of(
+    alloc: Global,
+    bay: Box<Bay>,
+    verified: Verified,
+) -> Result<Box<DeviceState>, AllocError>
+    requires bay { IsBay bay.value }
+    requires verified { IsVerified bay.value.points verified }
+    ensures { IfOk result (λ state. state_view (replicate 8 None) state.value
+        ≡ initial_device bay.value verified) }
+{
+    let wired = wired_machine(alloc, bay.points.as_slice(), verified)?;
+    let input_values = falses(alloc, bay.inputs.as_slice())?;
+    let bound = bound_bay(alloc, bay, wired.writes.as_slice())?;
+    let tables = tables_of(
+        bound.bay.switches.as_slice(),
+        bound.inputs.as_slice(),
+        bound.meters.as_slice(),
+    );
+    let state = Box::new(
+        alloc,
+        DeviceState {
+            bay: bound.bay,
+            scan_max_age_ms: bound.scan_max_age_ms,
+            inputs: bound.inputs,
+            input_values,
+            meters: bound.meters,
+            told: bound.told,
+            tables,
+            reads: Listing::new(wired.reads),
+            writes: Listing::new(wired.writes),
+            machine: wired.machine,
+            moment: 0,
+            last_scan: None,
+            is_stale: false,
+            due: None,
+        },
+    )?;
+    Ok(state)
+}
+
 /// The device of a bay and a verified image.
-fn device_of(alloc: Global, bay: Bay, verified: Verified) -> Result<Device, AllocError>
-    requires bay { IsBay bay }
-    requires verified { IsVerified bay.points verified }
-    ensures { IfOk result (λ device. device ≡ initial_device bay verified) }
+fn device_of(alloc: Global, bay: Box<Bay>, verified: Verified) -> Result<Device, AllocError>
+    requires bay { IsBay bay.value }
+    requires verified { IsVerified bay.value.points verified }
+    ensures { IfOk result (λ device. device ≡ initial_device bay.value verified) }
 {
     let state = state_of(alloc, bay, verified)?;
-    Ok(Device::of_state(alloc, state))
+    Device::of_state(alloc, state)
 }
 
 /// The image, verified for these points.
@@ -158,12 +197,12 @@ fn verified_for(alloc: Global, image: Image, points: &[Point]) -> Result<Verifie
 }
 
 /// The device of a bay and a checked program.
-fn load_checked(alloc: Global, bay: Bay, typed: Typed) -> Result<Device, LoadFault>
-    requires bay { IsBay bay }
+fn load_checked(alloc: Global, bay: Box<Bay>, typed: Typed) -> Result<Device, LoadFault>
+    requires bay { IsBay bay.value }
     requires checked { (program : PlainProgram)
-        × (checked_of bay.points program ≡ Ok (checked_view typed)) }
+        × (checked_of bay.value.points program ≡ Ok (checked_view typed)) }
     ensures device { Gives OutOfMemory (λ device. device) result
-        (of_compiled bay (compiled_of (checked_view typed))) }
+        (of_compiled bay.value (compiled_of (checked_view typed))) }
     ensures runs { IfOk result (Runs (checked_view typed)) }
 {
     let image = compile(alloc, &typed)?;
@@ -173,12 +212,12 @@ fn load_checked(alloc: Global, bay: Bay, typed: Typed) -> Result<Device, LoadFau
 }
 
 /// The device of a bay and a program.
-fn load_program(alloc: Global, bay: Bay, program: &Program<'_>) -> Result<Device, LoadFault>
-    requires { IsBay bay }
+fn load_program(alloc: Global, bay: Box<Bay>, program: &Program<'_>) -> Result<Device, LoadFault>
+    requires { IsBay bay.value }
     ensures device { Gives OutOfMemory (λ device. device) result
-        (of_checked bay (checked_of bay.points (plain_program program.now))) }
+        (of_checked bay.value (checked_of bay.value.points (plain_program program.now))) }
     ensures runs { IfOk result
-        (λ device. (c : Checked) × (checked_of bay.points (plain_program program.now) ≡ Ok c)
+        (λ device. (c : Checked) × (checked_of bay.value.points (plain_program program.now) ≡ Ok c)
         × Runs c device) }
 {
     let typed = check(alloc, program, bay.points.as_slice())?;
@@ -196,12 +235,12 @@ fn program_in<'a>(alloc: Global, logic: &'a str) -> Result<Program<'a>, TextFaul
 }
 
 /// The device of a bay and the text of a program.
-fn load_text(alloc: Global, bay: Bay, logic: &str) -> Result<Device, LoadFault>
-    requires { IsBay bay }
+fn load_text(alloc: Global, bay: Box<Bay>, logic: &str) -> Result<Device, LoadFault>
+    requires { IsBay bay.value }
     ensures device { Gives OutOfMemory (λ device. device) result
-        (of_program bay (program_of logic.now)) }
+        (of_program bay.value (program_of logic.now)) }
     ensures runs { IfOk result
-        (λ device. (c : Checked) × (checked_in (Ok bay) (program_of logic.now) ≡ Ok c)
+        (λ device. (c : Checked) × (checked_in (Ok bay.value) (program_of logic.now) ≡ Ok c)
         × Runs c device) }
 {
     let program = program_in(alloc, logic)?;
@@ -217,7 +256,8 @@ fn load_texts(alloc: Global, bay: &str, logic: &str) -> Result<Device, LoadFault
         × Runs c device) }
 {
     let bay = read_bay(alloc, bay)?;
-    load_text(alloc, bay, logic)
+    let boxed = Box::new(alloc, bay)?;
+    load_text(alloc, boxed, logic)
 }
 
 /// The device of a bay file and a program, before its first event. A fault of the bay file (50 to
@@ -235,8 +275,9 @@ pub fn load(alloc: Global, bay: &str, logic: &str) -> Result<Device, LoadFault>
     ensures runs { IfOk result
         (λ device. (c : Checked) × (checked_in (bay_of bay.now) (program_of logic.now) ≡ Ok c)
         × Runs c device) }
-    // Nothing is selected, and no association is open; each switch that can be operated takes some
-    // time.
+    // No event was done: nothing is selected, and no association is open; each switch that can be
+    // operated takes some time.
+    ensures loaded { IfOk result IsLoaded }
     ensures idle { IfOk result IsIdle }
     ensures timed { IfOk result (λ device. AreTimed device.controls.controls) }
 {
@@ -244,10 +285,10 @@ pub fn load(alloc: Global, bay: &str, logic: &str) -> Result<Device, LoadFault>
 }
 
 /// The device of a bay and an image.
-fn load_decoded(alloc: Global, bay: Bay, image: Image) -> Result<Device, LoadFault>
-    requires { IsBay bay }
-    ensures ok { IfOk result (λ device. LoadsImage bay image (Ok device)) }
-    ensures refused { IfErr result (λ e. e ≢ OutOfMemory → LoadsImage bay image (Err e)) }
+fn load_decoded(alloc: Global, bay: Box<Bay>, image: Image) -> Result<Device, LoadFault>
+    requires { IsBay bay.value }
+    ensures ok { IfOk result (λ device. LoadsImage bay.value image (Ok device)) }
+    ensures refused { IfErr result (λ e. e ≢ OutOfMemory → LoadsImage bay.value image (Err e)) }
 {
     let verified = verified_for(alloc, image, bay.points.as_slice())?;
     let device = device_of(alloc, bay, verified)?;
@@ -255,11 +296,11 @@ fn load_decoded(alloc: Global, bay: Bay, image: Image) -> Result<Device, LoadFau
 }
 
 /// The device of a bay and the octets of an image.
-fn load_octets(alloc: Global, bay: Bay, image: &[u8]) -> Result<Device, LoadFault>
-    requires { IsBay bay }
-    ensures ok { IfOk result (λ device. LoadsRead bay (decoded image.now) (Ok device)) }
+fn load_octets(alloc: Global, bay: Box<Bay>, image: &[u8]) -> Result<Device, LoadFault>
+    requires { IsBay bay.value }
+    ensures ok { IfOk result (λ device. LoadsRead bay.value (decoded image.now) (Ok device)) }
     ensures refused { IfErr result
-        (λ e. e ≢ OutOfMemory → LoadsRead bay (decoded image.now) (Err e)) }
+        (λ e. e ≢ OutOfMemory → LoadsRead bay.value (decoded image.now) (Err e)) }
 {
     let image = decode(alloc, image)?;
     load_decoded(alloc, bay, image)
@@ -272,11 +313,13 @@ pub fn load_image(alloc: Global, bay: &str, image: &[u8]) -> Result<Device, Load
     ensures ok { IfOk result (λ device. Loads (bay_of bay.now) (decoded image.now) (Ok device)) }
     ensures refused { IfErr result
         (λ e. e ≢ OutOfMemory → Loads (bay_of bay.now) (decoded image.now) (Err e)) }
-    // Nothing is selected, and no association is open; each switch that can be operated takes some
-    // time.
+    // No event was done: nothing is selected, and no association is open; each switch that can be
+    // operated takes some time.
+    ensures loaded { IfOk result IsLoaded }
     ensures idle { IfOk result IsIdle }
     ensures timed { IfOk result (λ device. AreTimed device.controls.controls) }
 {
     let read = read_bay(alloc, bay)?;
-    load_octets(alloc, read, image)
+    let boxed = Box::new(alloc, read)?;
+    load_octets(alloc, boxed, image)
 }

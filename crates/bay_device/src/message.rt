@@ -161,7 +161,6 @@ fn reply(
     ensures commands_before { take (length made.old.commands.items) made.new.commands.items
         ≡ made.old.commands.items }
 {
-    let due = due_if(connection, association, &answer.ending)?;
     send_all(
         connection,
         association,
@@ -169,7 +168,7 @@ fn reply(
         &mut made.sent,
     )?;
     made.commands.extend_from_slice(answer.commands.as_slice())?;
-    Ok(due)
+    due_if(connection, association, &answer.ending)
 }
 
 /// Answers a PDU and does what it asks for; where there is no memory, the selection and the

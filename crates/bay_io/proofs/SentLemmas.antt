@@ -1,10 +1,10 @@
 -- Lemmas on what reached a writer.
-use Rattle.std.proofs.Common.{◌≡◌, ◌≢◌, ℕ, Bool, true, false, cond, eqb, ◌||◌, ◌&&◌, List, [], ◌++◌, subst, Option, Result, Ok, Err, IsErr, OnErr, OnOk, append-nil, append_assoc, take, drop, take-append-drop, refl, ap, sym, ◌∙◌}
+use Rattle.std.proofs.Common.{◌≡◌, ◌≢◌, ℕ, Bool, true, false, cond, eqb, ◌||◌, ◌&&◌, List, [], ◌++◌, subst, Option, Result, Ok, Err, OnErr, OnOk, is_ok, is_err, MatchBool, append-nil, append_assoc, take, drop, take-append-drop, refl, ap, sym, ◌∙◌}
 use Rattle.std.proofs.lemmas.Bool.{ne_eqb}
 use Rattle.std.specs.Io.KnownBytes.{Appends, Keeps}
 use Rattle.std.proofs.KnownBytes.{Appends-nil, Appends-trans, Appends-kept}
 use Rattle.bay_io.specs.Sent.{Sends, SendsPart, Puts}
-use Rattle.bay_io.specs.Watched.{Writing}
+use Rattle.bay_io.specs.Watched.{Watching, Writing}
 
 pub Sends-all : (a b : Option (List ℕ)) (xs : List ℕ) → Appends a b xs → Sends a b xs []
 Sends-all a b xs p = record { taken = xs; appended = p; parts = sym (append-nil xs) }
@@ -62,35 +62,21 @@ SendsPart-step a b c front rest zs n p q e =
       };
     }
 
--- a buffer that was emptied into the writer, and then a text
-pub Sends-then_all : (a b c : Option (List ℕ)) (old held left text : List ℕ) → held ≡ old
-    → Sends a b held left → left ≡ [] → Appends b c text → Sends a c (old ++ text) left
-Sends-then_all a b c old held left text o s e p =
-    record {
-      taken = s.taken ++ text;
-      appended = Appends-trans a b c s.taken text s.appended p;
-      parts = ap (λ l. l ++ text) (sym o ∙ s.parts ∙ ap (λ l. s.taken ++ l) e ∙ append-nil s.taken)
-          ∙ sym (ap (λ l. (s.taken ++ text) ++ l) e ∙ append-nil (s.taken ++ text));
-    }
-
-pub SendsPart-then : (a b c : Option (List ℕ)) (old held left text : List ℕ) → held ≡ old
-    → Sends a b held left → left ≡ [] → SendsPart b c text → SendsPart a c (old ++ text)
-SendsPart-then a b c old held left text o s e q =
-    SendsPart-after a b c s.taken text (old ++ text) s.appended q
-    (ap (λ l. l ++ text) (sym o ∙ s.parts ∙ ap (λ l. s.taken ++ l) e ∙ append-nil s.taken))
-
--- what was pending and more is written
-pub Sends-more : (a b c : Option (List ℕ)) (given left more : List ℕ) → Sends a b given left
-    → Appends b c (left ++ more) → Appends a c (given ++ more)
-Sends-more a b c given left more s p =
-    subst (Appends a c) (sym (append_assoc s.taken left more) ∙ ap (λ l. l ++ more) (sym s.parts))
-    (Appends-trans a b c s.taken (left ++ more) s.appended p)
-
 pub SendsPart-of_more : (a b c : Option (List ℕ)) (given left more : List ℕ) → Sends a b given left
     → SendsPart b c (left ++ more) → SendsPart a c (given ++ more)
 SendsPart-of_more a b c given left more s q =
     SendsPart-after a b c s.taken (left ++ more) (given ++ more) s.appended q
     (ap (λ l. l ++ more) s.parts ∙ append_assoc s.taken left more)
+
+-- what was pending is written
+pub Sends-rest : (a b c : Option (List ℕ)) (given left : List ℕ) → Sends a b given left
+    → Appends b c left → Appends a c given
+Sends-rest a b c given left s p =
+    subst (Appends a c) (sym s.parts) (Appends-trans a b c s.taken left s.appended p)
+
+pub Sends-rest_part : (a b c : Option (List ℕ)) (given left : List ℕ) → Sends a b given left
+    → SendsPart b c left → SendsPart a c given
+Sends-rest_part a b c given left s q = SendsPart-after a b c s.taken left given s.appended q s.parts
 
 pub Sends-trans : (a b c : Option (List ℕ)) (given left more last : List ℕ) → Sends a b given left
     → Sends b c (left ++ more) last → Sends a c (given ++ more) last
@@ -102,23 +88,6 @@ Sends-trans a b c given left more last s q =
           ∙ ap (λ l. s.taken ++ l) q.parts ∙ sym (append_assoc s.taken q.taken last);
     }
 
-pub Sends-as : (a b : Option (List ℕ)) (p t u last : List ℕ) → t ≡ u → Sends a b (p ++ t) last
-    → Sends a b (p ++ u) last
-Sends-as a b p t u last e s = subst (λ l. Sends a b (p ++ l) last) e s
-
-pub SendsPart-as : (a b : Option (List ℕ)) (p t u : List ℕ) → t ≡ u → SendsPart a b (p ++ t)
-    → SendsPart a b (p ++ u)
-SendsPart-as a b p t u e s = subst (λ l. SendsPart a b (p ++ l)) e s
-
--- what holds anyhow holds of an answer
-pub at-err : {T E P : Type 0} (r : Result T E) → P → OnErr r P
-at-err (Ok x) p = tt
-at-err (Err e) p = p
-
-pub at-ok : {T E P : Type 0} (r : Result T E) → P → OnOk r P
-at-ok (Ok x) p = p
-at-ok (Err e) p = tt
-
 -- nothing was taken
 pub SendsPart-none : (a : Option (List ℕ)) (xs : List ℕ) → SendsPart a a xs
 SendsPart-none a xs = record { left = xs; sends = Sends-none a xs }
@@ -128,48 +97,170 @@ pub unfailed : (before : Bool) (n : ℕ) (given : Bool) → before ≡ false →
     → (before || (eqb n 0 && given)) ≡ false
 unfailed before n given e some = rw (e, ne_eqb n 0 some) refl
 
--- what was not kept is as it was
-pub not_kept : {A : Type 0} (b : Bool) (x y z : A) → x ≡ cond b y z → b ≡ false → x ≡ z
-not_kept true x y z e f = absurd (cc)
-not_kept false x y z e f = e
+-- ---- what is put into a writer, text after text
 
-pub Appends-as : (a b : Option (List ℕ)) (p t u : List ℕ) → t ≡ u → Appends a b (p ++ t)
-    → Appends a b (p ++ u)
-Appends-as a b p t u e s = subst (λ l. Appends a b (p ++ l)) e s
+joined : (failed fails : Bool) (a b c : Option (List ℕ)) (pending front back middle left : List ℕ)
+    → MatchBool failed (SendsPart a b (pending ++ front)) (Sends a b (pending ++ front) middle)
+    → MatchBool fails (SendsPart b c (middle ++ back)) (Sends b c (middle ++ back) left)
+    → (failed ≡ true → (c ≡ b) × (fails ≡ true))
+    → MatchBool fails (SendsPart a c (pending ++ (front ++ back)))
+    (Sends a c (pending ++ (front ++ back)) left)
+joined true true a b c pending front back middle left put more kept =
+    subst (λ x. SendsPart a x (pending ++ (front ++ back))) (sym (kept refl).0)
+    (SendsPart-more a b (pending ++ front) back (pending ++ (front ++ back)) put
+    (sym (append_assoc pending front back)))
+joined true false a b c pending front back middle left put more kept =
+    let bad = (kept refl).1 in absurd cc
+joined false true a b c pending front back middle left put more kept =
+    subst (SendsPart a c) (append_assoc pending front back)
+    (SendsPart-of_more a b c (pending ++ front) middle back put more)
+joined false false a b c pending front back middle left put more kept =
+    subst (λ t. Sends a c t left) (append_assoc pending front back)
+    (Sends-trans a b c (pending ++ front) middle back left put more)
 
--- what was given to a buffer before a writer
-module _ {W X E : Type 0} (contents : W → Option (List ℕ)) (pending : List ℕ) (old : Writing W)
-  where
-    -- a front of the text could not be added
-    pub Puts-cut : (new : Writing W) (front back text left : List ℕ) (r : Result X E) → IsErr r
-        → text ≡ front ++ back
-        → SendsPart (contents old.inner) (contents new.inner) (pending ++ front)
-        × (new.has_failed ≡ true) → Puts contents pending old text left new r
-    Puts-cut new front back text left (Ok x) is whole cut = absurd (cc)
-    Puts-cut new front back text left (Err e) is whole cut = (
-      SendsPart-more (contents old.inner) (contents new.inner) (pending ++ front) back
-          (pending ++ text) cut.0
-          (ap (λ t. pending ++ t) whole ∙ sym (append_assoc pending front back)),
-      cut.1,
-    )
+module _ {W : Type 0} {contents : W → Option (List ℕ)} where
+  -- a text was put, and then another
+  pub Puts-then : {old mid new : Writing W} {front back : List ℕ} → Puts contents old front mid
+      → Puts contents mid back new → Puts contents old (front ++ back) new
+  Puts-then {old} {mid} {new} {front} {back} put more = record {
+    sent = joined mid.has_failed new.has_failed (contents old.inner) (contents mid.inner)
+        (contents new.inner) old.pending front back mid.pending new.pending put.sent more.sent
+        (λ e. (ap contents (more.kept e).0, (more.kept e).1));
+    kept = λ e. (
+      (more.kept (put.kept e).1).0 ∙ (put.kept e).0,
+      (more.kept (put.kept e).1).1,
+    );
+  }
 
-    -- a front of the text was added, and then the rest
-    pub Puts-then : (mid new : Writing W) (front back text middle left : List ℕ) (r : Result X E)
-        → text ≡ front ++ back
-        → Sends (contents old.inner) (contents mid.inner) (pending ++ front) middle
-        × (mid.has_failed ≡ false)
-        → Puts contents middle mid back left new r → Puts contents pending old text left new r
-    Puts-then mid new front back text middle left (Ok x) whole put more =
-        let sent =
-        Sends-trans (contents old.inner) (contents mid.inner) (contents new.inner)
-        (pending ++ front) middle back left put.0 more.0 in
-        let same : (pending ++ front) ++ back ≡ pending ++ text =
-        append_assoc pending front back ∙ sym (ap (λ t. pending ++ t) whole) in
-        (subst (λ t. Sends (contents old.inner) (contents new.inner) t left) same sent, more.1)
-    Puts-then mid new front back text middle left (Err e) whole put more =
-        let sent =
-        SendsPart-of_more (contents old.inner) (contents mid.inner) (contents new.inner)
-        (pending ++ front) middle back put.0 more.0 in
-        let same : (pending ++ front) ++ back ≡ pending ++ text =
-        append_assoc pending front back ∙ sym (ap (λ t. pending ++ t) whole) in
-        (subst (SendsPart (contents old.inner) (contents new.inner)) same sent, more.1)
+  pub Puts-as : {old new : Writing W} {text : List ℕ} (other : List ℕ) → text ≡ other
+      → Puts contents old text new → Puts contents old other new
+  Puts-as {old} {new} {text} other e put = subst (λ t. Puts contents old t new) e put
+
+  -- nothing was put
+  pub Puts-nil : (w : Writing W) → Puts contents w [] w
+  Puts-nil w = record { sent = by_failed w.has_failed; kept = λ e. (refl, e) }
+    where
+      by_failed : (b : Bool)
+          → MatchBool b (SendsPart (contents w.inner) (contents w.inner) (w.pending ++ []))
+          (Sends (contents w.inner) (contents w.inner) (w.pending ++ []) w.pending)
+      by_failed true = SendsPart-none (contents w.inner) (w.pending ++ [])
+      by_failed false =
+          subst (λ t. Sends (contents w.inner) (contents w.inner) t w.pending)
+          (sym (append-nil w.pending)) (Sends-none (contents w.inner) w.pending)
+
+  -- a text goes by the buffer, which is empty
+  pub Puts-out : {X E : Type 0} (old new : Writing W) (text : List ℕ) (r : Result X E)
+      → OnOk r (Appends (contents old.inner) (contents new.inner) (old.pending ++ text))
+      → OnErr r (SendsPart (contents old.inner) (contents new.inner) (old.pending ++ text))
+      → OnOk r (new.pending ≡ []) → is_err r ≡ new.has_failed
+      → (old.has_failed ≡ true → (new.inner ≡ old.inner) × (new.has_failed ≡ true))
+      → Puts contents old text new
+  Puts-out {X} {E} old new text (Ok x) all part none failed kept =
+      record {
+        sent = subst (λ b. MatchBool b
+            (SendsPart (contents old.inner) (contents new.inner) (old.pending ++ text))
+            (Sends (contents old.inner) (contents new.inner) (old.pending ++ text) new.pending))
+            failed
+            (subst (Sends (contents old.inner) (contents new.inner) (old.pending ++ text))
+            (sym none) (Sends-all (contents old.inner) (contents new.inner) (old.pending ++ text)
+            all));
+        kept = kept;
+      }
+  Puts-out {X} {E} old new text (Err e) all part none failed kept =
+      record {
+        sent = subst (λ b. MatchBool b
+            (SendsPart (contents old.inner) (contents new.inner) (old.pending ++ text))
+            (Sends (contents old.inner) (contents new.inner) (old.pending ++ text) new.pending))
+            failed part;
+        kept = kept;
+      }
+
+  -- a text was kept in the buffer
+  pub Puts-kept : (old : Writing W) (sink : Watching W) (pending text left : List ℕ) (kept : Bool)
+      → record {
+        inner = sink.inner;
+        has_failed = sink.has_failed;
+        is_flushed = sink.is_flushed;
+        pending = pending;
+      } ≡ old
+      → left ≡ cond kept (pending ++ text) pending → kept ≡ true
+      → Puts contents old text (record {
+        inner = sink.inner;
+        has_failed = sink.has_failed;
+        is_flushed = sink.is_flushed;
+        pending = left;
+      })
+  Puts-kept old sink pending text left true same e is =
+      subst (λ w. Puts contents w text (record {
+        inner = sink.inner;
+        has_failed = sink.has_failed;
+        is_flushed = sink.is_flushed;
+        pending = left;
+      })) same (record { sent = by_failed sink.has_failed; kept = λ f. (refl, f) })
+    where
+      by_failed : (b : Bool)
+          → MatchBool b (SendsPart (contents sink.inner) (contents sink.inner) (pending ++ text))
+          (Sends (contents sink.inner) (contents sink.inner) (pending ++ text) left)
+      by_failed true = SendsPart-none (contents sink.inner) (pending ++ text)
+      by_failed false =
+          subst (Sends (contents sink.inner) (contents sink.inner) (pending ++ text)) (sym e)
+          (Sends-none (contents sink.inner) (pending ++ text))
+  Puts-kept old sink pending text left false same e is = absurd cc
+
+  -- what was pending was written out, and then a text was put
+  pub Puts-after : {X E : Type 0} (old mid new : Writing W) (text : List ℕ) (r : Result X E)
+      → OnOk r (Appends (contents old.inner) (contents mid.inner) old.pending)
+      → OnOk r (mid.pending ≡ []) → is_err r ≡ mid.has_failed
+      → (old.has_failed ≡ true → mid ≡ old) → is_ok r ≡ true → Puts contents mid text new
+      → Puts contents old text new
+  Puts-after {X} {E} old mid new text (Ok x) all none failed kept is put =
+      Puts-then (Puts-out {X = X} {E = E} old mid [] (Ok x)
+      (subst (Appends (contents old.inner) (contents mid.inner)) (sym (append-nil old.pending)) all)
+      tt none failed
+      (λ e. (
+        ap (λ (w : Writing W). w.inner) (kept e),
+        ap (λ (w : Writing W). w.has_failed) (kept e) ∙ e,
+      ))) put
+  Puts-after {X} {E} old mid new text (Err e) all none failed kept is put = absurd cc
+
+  -- it could not be written out
+  pub Puts-stuck : {X E : Type 0} (old mid : Writing W) (text : List ℕ) (r : Result X E)
+      → OnErr r (SendsPart (contents old.inner) (contents mid.inner) old.pending)
+      → is_err r ≡ mid.has_failed → (old.has_failed ≡ true → mid ≡ old) → is_ok r ≡ false
+      → Puts contents old text mid
+  Puts-stuck {X} {E} old mid text (Ok x) part failed kept is = absurd cc
+  Puts-stuck {X} {E} old mid text (Err e) part failed kept is =
+      Puts-out {X = X} {E = E} old mid text (Err e) tt
+      (SendsPart-more (contents old.inner) (contents mid.inner) old.pending text
+      (old.pending ++ text) part refl) tt failed
+      (λ f. (
+        ap (λ (w : Writing W). w.inner) (kept f),
+        ap (λ (w : Writing W). w.has_failed) (kept f) ∙ f,
+      ))
+
+-- of a text, all but the rest was put into a writer
+pub record Rest {W : Type 0} (contents : W → Option (List ℕ)) (old : Writing W)
+    (text rest : List ℕ) (new : Writing W) : Type 0 where
+  pub done : List ℕ
+  pub whole : text ≡ done ++ rest
+  pub put : Puts contents old done new
+
+module _ {W : Type 0} {contents : W → Option (List ℕ)} where
+  pub Rest-start : (w : Writing W) (text : List ℕ) → Rest contents w text text w
+  Rest-start w text = record { done = []; whole = refl; put = Puts-nil w }
+
+  -- a part more was put
+  pub Rest-step : {old mid new : Writing W} {text rest part more : List ℕ}
+      → Rest contents old text rest mid → rest ≡ part ++ more → Puts contents mid part new
+      → Rest contents old text more new
+  Rest-step {old} {mid} {new} {text} {rest} {part} {more} r e put = record {
+    done = r.done ++ part;
+    whole = r.whole ∙ ap (λ t. r.done ++ t) e ∙ sym (append_assoc r.done part more);
+    put = Puts-then r.put put;
+  }
+
+  -- all was put
+  pub Rest-end : {old new : Writing W} {text rest : List ℕ} → Rest contents old text rest new
+      → rest ≡ [] → Puts contents old text new
+  Rest-end {old} {new} {text} {rest} r e =
+      Puts-as text (sym (r.whole ∙ ap (λ t. r.done ++ t) e ∙ append-nil r.done)) r.put

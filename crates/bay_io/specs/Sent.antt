@@ -1,5 +1,5 @@
 -- What reached a writer.
-use Rattle.std.specs.Prelude.{◌≡◌, ℕ, true, false, List, ◌++◌, Option, Result, Ok, Err}
+use Rattle.std.specs.Prelude.{◌≡◌, ℕ, true, false, List, [], ◌++◌, Option, Result, Ok, Err, MatchBool}
 use Rattle.std.specs.Io.KnownBytes.{Appends}
 use Rattle.bay_io.specs.Watched.{Writing}
 
@@ -14,12 +14,22 @@ pub record SendsPart (old new : Option (List ℕ)) (given : List ℕ) : Type 0 w
   pub left : List ℕ
   pub sends : Sends old new given left
 
--- a text was added to what was pending before a writer: the writer took a front of both, and the
--- rest is pending; or a write failed, and the writer took a front of both
-abbrev pub Puts : {W X E : Type 0} → (W → Option (List ℕ)) → List ℕ → Writing W → List ℕ → List ℕ
-    → Writing W → Result X E → Type 0
-Puts contents pending old text left new (Ok x) =
-    Sends (contents old.inner) (contents new.inner) (pending ++ text) left
-    × (new.has_failed ≡ false)
-Puts contents pending old text left new (Err e) =
-    SendsPart (contents old.inner) (contents new.inner) (pending ++ text) × (new.has_failed ≡ true)
+-- a text was added to what a writer has pending: the writer took a front of both, and the rest is
+-- pending; or a write failed, then or before, and the writer took a front of both
+pub record Puts {W : Type 0} (contents : W → Option (List ℕ)) (old : Writing W) (text : List ℕ)
+    (new : Writing W) : Type 0 where
+  pub sent : MatchBool new.has_failed
+      (SendsPart (contents old.inner) (contents new.inner) (old.pending ++ text))
+      (Sends (contents old.inner) (contents new.inner) (old.pending ++ text) new.pending)
+  pub kept : old.has_failed ≡ true → (new.inner ≡ old.inner) × (new.has_failed ≡ true)
+
+-- a writer took all that was pending, and was flushed; or a write or the flush failed, then or
+-- before, and the writer took a front of it, which is nothing after a failure
+abbrev pub Finishes : {W X E : Type 0} → (W → Option (List ℕ)) → Writing W → Writing W → Result X E
+    → Type 0
+Finishes contents old new (Ok x) =
+    (old.has_failed ≡ false) × Appends (contents old.inner) (contents new.inner) old.pending
+    × (new.pending ≡ []) × ((new.has_failed ≡ false) × (new.is_flushed ≡ true))
+Finishes contents old new (Err e) =
+    SendsPart (contents old.inner) (contents new.inner) old.pending
+    × (old.has_failed ≡ true → new.inner ≡ old.inner) × (new.has_failed ≡ true)

@@ -1,5 +1,5 @@
 // All octets of a reader, up to a limit.
-ghost use Rattle.std.specs.Prelude.{◌≡◌, ◌+◌, ◌-◌, ◌^◌, ◌<◌, ◌≤◌, length, vec_len, IfOk, IfSome};
+ghost use Rattle.std.specs.Prelude.{◌≡◌, ◌+◌, ◌-◌, ◌^◌, ◌<◌, ◌≤◌, ◌++◌, true, length, vec_len, IfOk, IfSome};
 ghost use Rattle.bay_io.specs.Input.{failed_of};
 
 use crate::calls::Source;
@@ -23,8 +23,17 @@ pub enum ReadFault {
     OutOfMemory,
 }
 
+/// Adds octets to what was kept, if all before were, and answers whether there was memory for all.
+fn keep(all: &mut Vec<u8>, is_whole: bool, octets: &[u8]) -> bool
+    ensures { result ≡ true
+        → (is_whole ≡ true) × (all.new.items ≡ all.old.items ++ octets.now) }
+{
+    is_whole && all.extend_from_slice(octets).is_ok()
+}
+
 /// All octets that the reader has left, if they are at most so many. It is read once more than that
-/// at most; a reader of which a read has failed is not read again.
+/// at most; a reader of which a read has failed is not read again. Where there is no memory for
+/// what was read, it is read on, as there may be too much.
 pub fn read_all<R: Source>(
     alloc: Global,
     reader: &mut WatchedReader<R>,
@@ -35,6 +44,8 @@ pub fn read_all<R: Source>(
     ensures within { IfOk result (λ v. vec_len v ≤ limit) }
     ensures too_long { result ≡ Err ReadFault.TooLong
         → IfSome (R.remaining reader.old.inner) (λ xs. limit < length xs) }
+    ensures memory { result ≡ Err ReadFault.OutOfMemory
+        → IfSome (R.remaining reader.old.inner) (λ xs. length xs ≤ limit) }
     ensures failed { reader.new.has_failed ≡ failed_of result }
     ensures reads { reader.new.reads ≤ reader.old.reads + limit + 1 }
 {
@@ -42,17 +53,23 @@ pub fn read_all<R: Source>(
         return Err(ReadFault::Failed);
     }
     let mut all = Vec::new(alloc);
+    let mut count = 0;
+    let mut is_whole = true;
     let mut piece = [0u8; PIECE];
     for turn in 0..limit + 1 {
         match reader.read(&mut piece) {
-            Ok(0) => return Ok(all),
+            Ok(0) => {
+                if is_whole {
+                    return Ok(all);
+                }
+                return Err(ReadFault::OutOfMemory);
+            }
             Ok(n) => {
-                if limit - all.len() < n {
+                if limit - count < n {
                     return Err(ReadFault::TooLong);
                 }
-                if all.extend_from_slice(&piece[..n]).is_err() {
-                    return Err(ReadFault::OutOfMemory);
-                }
+                count += n;
+                is_whole = keep(&mut all, is_whole, &piece[..n]);
             }
             Err(_) => return Err(ReadFault::Failed),
         }

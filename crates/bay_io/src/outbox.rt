@@ -1,11 +1,7 @@
-// What is written goes through a buffer, so that a writer is asked for 64 KiB at a time.
-ghost use Rattle.std.specs.Prelude.{◌≡◌, ◌+◌, ◌≤◌, ◌++◌, [], length, true, false, is_err, OnOk, OnErr, if◌then◌else◌};
+// Octets that are not yet written.
+ghost use Rattle.std.specs.Prelude.{◌≡◌, ◌+◌, ◌≤◌, ◌++◌, [], length, if◌then◌else◌};
 ghost use Rattle.std.specs.Fmt.{decimal};
-ghost use Rattle.std.specs.Io.KnownBytes.{Appends, Keeps};
-ghost use Rattle.bay_io.specs.Sent.{Puts, SendsPart};
 
-use crate::calls::Sink;
-use crate::writer::WatchedWriter;
 use arrayvec::ArrayVec;
 use itoa::Buffer;
 use std::marker::Model;
@@ -21,57 +17,6 @@ const SHORT: usize = 4;
 #[derive(Clone, Copy, Debug, PartialEq, Eq, Error)]
 #[error("a write failed")]
 pub struct WriteFault;
-
-/// Writes all of the text, or a front of it. A writer of which a write has failed is not written to
-/// again.
-fn write_out<W: Sink>(writer: &mut WatchedWriter<W>, text: &[u8]) -> Result<(), WriteFault>
-    ensures ok { OnOk result
-        (Appends (W.contents writer.old.inner) (W.contents writer.new.inner) text.now) }
-    ensures err { OnErr result
-        (SendsPart (W.contents writer.old.inner) (W.contents writer.new.inner) text.now) }
-    ensures fault { is_err result ≡ writer.new.has_failed }
-{
-    if writer.has_failed() {
-        return Err(WriteFault);
-    }
-    let mut done = 0;
-    while done < text.len() {
-        match writer.write(&text[done..]) {
-            Ok(0) => return Err(WriteFault),
-            Ok(n) => done += n,
-            Err(_) => return Err(WriteFault),
-        }
-    }
-    Ok(())
-}
-
-/// Flushes the writer. One of which a write has failed is not flushed.
-fn flush_out<W: Sink>(writer: &mut WatchedWriter<W>) -> Result<(), WriteFault>
-    ensures kept { Keeps (W.contents writer.old.inner) (W.contents writer.new.inner) }
-    ensures flushed { OnOk result (writer.new.is_flushed ≡ true) }
-    ensures fault { is_err result ≡ writer.new.has_failed }
-{
-    if writer.has_failed() {
-        return Err(WriteFault);
-    }
-    match writer.flush() {
-        Ok(()) => Ok(()),
-        Err(_) => Err(WriteFault),
-    }
-}
-
-/// Writes all of the text, or a front of it, and flushes the writer.
-pub fn write_last<W: Sink>(writer: &mut WatchedWriter<W>, text: &[u8]) -> Result<(), WriteFault>
-    ensures ok { OnOk result
-        (Appends (W.contents writer.old.inner) (W.contents writer.new.inner) text.now) }
-    ensures err { OnErr result
-        (SendsPart (W.contents writer.old.inner) (W.contents writer.new.inner) text.now) }
-    ensures flushed { OnOk result (writer.new.is_flushed ≡ true) }
-    ensures fault { is_err result ≡ writer.new.has_failed }
-{
-    write_out(writer, text)?;
-    flush_out(writer)
-}
 
 /// Adds a short text octet by octet, which costs less than a call that copies it.
 fn keep_octets(pending: &mut ArrayVec<u8, ROOM>, text: &[u8])
@@ -133,7 +78,7 @@ impl Outbox {
 
     /// Adds the text where the buffer has room for it, and answers whether it had.
     #[inline(always)]
-    fn keep(&mut self, text: &[u8]) -> bool
+    pub fn keep(&mut self, text: &[u8]) -> bool
         ensures { self.new ≡ (if result then self.old ++ text.now else self.old) }
     {
         self.pending.try_extend_from_slice(text).is_ok()
@@ -142,116 +87,32 @@ impl Outbox {
     /// Adds a number's decimal digits where the buffer has room for them, and answers whether it
     /// had.
     #[inline(always)]
-    fn keep_number(&mut self, number: u64) -> bool
+    pub fn keep_number(&mut self, number: u64) -> bool
         ensures { self.new ≡ (if result then self.old ++ decimal number else self.old) }
     {
         let digits = self.digits.format(number);
         keep_short(&mut self.pending, digits.as_bytes())
     }
 
-    /// Writes out what is pending.
-    pub fn flush<W: Sink>(&mut self, writer: &mut WatchedWriter<W>) -> Result<(), WriteFault>
-        ensures puts { Puts W.contents self.old writer.old [] self.new writer.new result }
-        ensures empty { OnOk result (self.new ≡ []) }
-    {
-        write_out(writer, self.pending.as_slice())?;
-        self.pending.clear();
-        Ok(())
-    }
-
-    /// Adds the text to the buffer that was just emptied, or writes out a text that is longer than
-    /// the buffer.
-    fn put_first<W: Sink>(
-        &mut self,
-        writer: &mut WatchedWriter<W>,
-        text: &[u8],
-    ) -> Result<(), WriteFault>
-        requires empty { self.old ≡ [] }
-        requires well { writer.old.has_failed ≡ false }
-        ensures { Puts W.contents self.old writer.old text.now self.new writer.new result }
-    {
-        if self.keep(text) {
-            return Ok(());
-        }
-        write_out(writer, text)
-    }
-
-    /// Writes out what is pending, and then adds the text.
-    #[inline(never)]
-    fn put_after_flush<W: Sink>(
-        &mut self,
-        writer: &mut WatchedWriter<W>,
-        text: &[u8],
-    ) -> Result<(), WriteFault>
-        ensures { Puts W.contents self.old writer.old text.now self.new writer.new result }
-    {
-        self.flush(writer)?;
-        self.put_first(writer, text)
-    }
-
-    /// Adds the text; where the buffer has no room for it, what is pending is written out before.
-    #[inline(always)]
-    pub fn put<W: Sink>(
-        &mut self,
-        writer: &mut WatchedWriter<W>,
-        text: &[u8],
-    ) -> Result<(), WriteFault>
-        requires { writer.old.has_failed ≡ false }
-        ensures { Puts W.contents self.old writer.old text.now self.new writer.new result }
-    {
-        if self.keep(text) {
-            return Ok(());
-        }
-        self.put_after_flush(writer, text)
-    }
-
     /// Adds a text that is mostly short, like the id of a switch: of up to four octets faster than
-    /// `put`.
-    pub fn put_short<W: Sink>(
-        &mut self,
-        writer: &mut WatchedWriter<W>,
-        text: &[u8],
-    ) -> Result<(), WriteFault>
-        requires { writer.old.has_failed ≡ false }
-        ensures { Puts W.contents self.old writer.old text.now self.new writer.new result }
+    /// `keep`.
+    pub fn keep_short(&mut self, text: &[u8]) -> bool
+        ensures { self.new ≡ (if result then self.old ++ text.now else self.old) }
     {
-        if keep_short(&mut self.pending, text) {
-            return Ok(());
-        }
-        self.put_after_flush(writer, text)
+        keep_short(&mut self.pending, text)
     }
 
-    /// Adds a number, in decimal digits.
-    #[inline(always)]
-    pub fn put_number<W: Sink>(
-        &mut self,
-        writer: &mut WatchedWriter<W>,
-        number: u64,
-    ) -> Result<(), WriteFault>
-        requires { writer.old.has_failed ≡ false }
-        ensures { Puts W.contents self.old writer.old (decimal number) self.new writer.new result }
+    /// What was added.
+    pub fn as_slice(&self) -> &[u8]
+        ensures { result.now ≡ self.now }
     {
-        if self.keep_number(number) {
-            return Ok(());
-        }
-        self.put_after_flush(writer, Buffer::new().format(number).as_bytes())
+        self.pending.as_slice()
     }
 
-    /// Adds a last text, writes out all, and flushes the writer.
-    pub fn finish<W: Sink>(
-        mut self,
-        writer: &mut WatchedWriter<W>,
-        text: &[u8],
-    ) -> Result<(), WriteFault>
-        ensures ok { OnOk result
-            (Appends (W.contents writer.old.inner) (W.contents writer.new.inner) (self ++ text.now)) }
-        ensures err { OnErr result
-            (SendsPart (W.contents writer.old.inner) (W.contents writer.new.inner)
-            (self ++ text.now)) }
-        ensures flushed { OnOk result (writer.new.is_flushed ≡ true) }
-        ensures fault { is_err result ≡ writer.new.has_failed }
+    /// Forgets what was added.
+    pub fn clear(&mut self)
+        ensures { self.new ≡ [] }
     {
-        self.flush(writer)?;
-        write_last(writer, text)
+        self.pending.clear();
     }
 }

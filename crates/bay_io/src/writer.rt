@@ -1,21 +1,62 @@
-// A writer that is watched: nothing but a write or a flush changes what is known of it.
-ghost use Rattle.std.specs.Prelude.{◌≡◌, ◌||◌, true, false, is_ok, is_err, if◌then◌else◌};
-ghost use Rattle.std.specs.Io.{WritesAtMost};
-ghost use Rattle.std.specs.Io.KnownBytes.{WriteAppends, Keeps};
-ghost use Rattle.bay_io.specs.Calls.{writes, flushes};
-ghost use Rattle.bay_io.specs.Watched as spec;
+// A writer that is watched, with a buffer before it, so that it is asked for 64 KiB at a time.
+//
+// Whether a write has failed is kept in it: what prints puts text after text, and asks once.
+ghost use Rattle.std.specs.Prelude.{◌≡◌, [], true, false, is_err, OnOk, OnErr};
+ghost use Rattle.std.specs.Fmt.{decimal};
+ghost use Rattle.std.specs.Io.KnownBytes.{Appends, Keeps};
+ghost use Rattle.bay_io.specs.Sent.{Finishes, Puts, SendsPart};
 
 use crate::calls::Sink;
-use std::io;
+use crate::outbox::{Outbox, WriteFault};
+use crate::watched::Watched;
+use itoa::Buffer;
 use std::marker::Model;
 
+/// Writes all of the text, or a front of it. A sink of which a write has failed is not written to
+/// again.
+fn write_out<W: Sink>(sink: &mut Watched<W>, text: &[u8]) -> Result<(), WriteFault>
+    ensures ok { OnOk result
+        (Appends (W.contents sink.old.inner) (W.contents sink.new.inner) text.now) }
+    ensures err { OnErr result
+        (SendsPart (W.contents sink.old.inner) (W.contents sink.new.inner) text.now) }
+    ensures fault { is_err result ≡ sink.new.has_failed }
+    ensures kept { sink.old.has_failed ≡ true → sink.new ≡ sink.old }
+{
+    if sink.has_failed() {
+        return Err(WriteFault);
+    }
+    let mut done = 0;
+    while done < text.len() {
+        match sink.write(&text[done..]) {
+            Ok(0) => return Err(WriteFault),
+            Ok(n) => done += n,
+            Err(_) => return Err(WriteFault),
+        }
+    }
+    Ok(())
+}
+
+/// Flushes the sink. One of which a write has failed is not flushed.
+fn flush_out<W: Sink>(sink: &mut Watched<W>) -> Result<(), WriteFault>
+    ensures kept { Keeps (W.contents sink.old.inner) (W.contents sink.new.inner) }
+    ensures flushed { OnOk result (sink.new.is_flushed ≡ true) }
+    ensures fault { is_err result ≡ sink.new.has_failed }
+{
+    if sink.has_failed() {
+        return Err(WriteFault);
+    }
+    match sink.flush() {
+        Ok(()) => Ok(()),
+        Err(_) => Err(WriteFault),
+    }
+}
+
 /// A writer that knows whether a write or a flush has failed, or a write took nothing of what it
-/// was given, and whether it was flushed since its last write.
+/// was given, and whether it was flushed since its last write; with a buffer of 65,536 octets.
 #[derive(Drop)]
 pub struct WatchedWriter<W> {
-    inner: W,
-    has_failed: bool,
-    is_flushed: bool,
+    sink: Watched<W>,
+    outbox: Outbox,
 }
 
 impl<W> Model for WatchedWriter<W> {
@@ -23,18 +64,23 @@ impl<W> Model for WatchedWriter<W> {
 
     ghost Value = { Writing W };
 
-    ghost view = { λ w. record { inner = w.inner; has_failed = w.has_failed; is_flushed = w.is_flushed } };
+    ghost view = { λ w. record {
+      inner = w.sink.inner;
+      has_failed = w.sink.has_failed;
+      is_flushed = w.sink.is_flushed;
+      pending = w.outbox;
+    } };
 }
 
 impl<W> WatchedWriter<W> {
     /// A writer to which nothing was written yet, and which counts as not flushed.
     pub fn new(inner: W) -> Self
-        ensures { result ≡ record { inner = inner; has_failed = false; is_flushed = false } }
+        ensures { result
+            ≡ record { inner = inner; has_failed = false; is_flushed = false; pending = [] } }
     {
         WatchedWriter {
-            inner,
-            has_failed: false,
-            is_flushed: false,
+            sink: Watched::new(inner),
+            outbox: Outbox::new(),
         }
     }
 
@@ -42,61 +88,89 @@ impl<W> WatchedWriter<W> {
     pub fn has_failed(&self) -> bool
         ensures { result ≡ self.now.has_failed }
     {
-        self.has_failed
+        self.sink.has_failed()
     }
 
     /// Whether it was flushed since its last write.
     pub fn is_flushed(&self) -> bool
         ensures { result ≡ self.now.is_flushed }
     {
-        self.is_flushed
-    }
-}
-
-/// Whether a write of a text failed, or took nothing of it.
-fn write_fails(text: &[u8], outcome: &io::Result<usize>) -> bool
-    ensures { result ≡ spec.write_fails text.now outcome.now }
-{
-    match outcome {
-        Ok(taken) => *taken == 0 && !text.is_empty(),
-        Err(_) => true,
+        self.sink.is_flushed()
     }
 }
 
 impl<W: Sink> WatchedWriter<W> {
-    /// Writes a front of the octets at once, and answers how many.
-    pub fn write(&mut self, octets: &[u8]) -> io::Result<usize>
-        ensures bound { WritesAtMost result octets.now }
-        ensures bytes { WriteAppends (W.contents self.old.inner) (W.contents self.new.inner) result
-            octets.now }
-        // The sink was offered these octets once, and took so many.
-        ensures call { W.does self.old.inner (writes octets.now result) self.new.inner }
-        ensures failed { self.new.has_failed
-            ≡ (self.old.has_failed || spec.write_fails octets.now result) }
-        ensures flushed { self.new.is_flushed ≡ false }
+    /// Writes out what is pending.
+    fn write_pending(&mut self) -> Result<(), WriteFault>
+        ensures ok { OnOk result
+            (Appends (W.contents self.old.inner) (W.contents self.new.inner) self.old.pending) }
+        ensures err { OnErr result
+            (SendsPart (W.contents self.old.inner) (W.contents self.new.inner) self.old.pending) }
+        ensures empty { OnOk result (self.new.pending ≡ []) }
+        ensures fault { is_err result ≡ self.new.has_failed }
+        ensures kept { self.old.has_failed ≡ true → self.new ≡ self.old }
     {
-        let outcome = self.inner.write_octets(octets);
-        if write_fails(octets, &outcome) {
-            self.has_failed = true;
-        }
-        self.is_flushed = false;
-        outcome
+        write_out(&mut self.sink, self.outbox.as_slice())?;
+        self.outbox.clear();
+        Ok(())
     }
 
-    /// Flushes the sink.
-    pub fn flush(&mut self) -> io::Result<()>
-        ensures bytes { Keeps (W.contents self.old.inner) (W.contents self.new.inner) }
-        ensures call { W.does self.old.inner (flushes result) self.new.inner }
-        ensures failed { self.new.has_failed ≡ (self.old.has_failed || is_err result) }
-        ensures flushed { self.new.is_flushed
-            ≡ (if is_ok result then true else self.old.is_flushed) }
+    /// Adds the text to the buffer that was just emptied, or writes out a text that is longer than
+    /// the buffer.
+    fn put_first(&mut self, text: &[u8])
+        requires { self.old.pending ≡ [] }
+        ensures { Puts W.contents self.old text.now self.new }
     {
-        let outcome = self.inner.flush_octets();
-        if outcome.is_ok() {
-            self.is_flushed = true;
-        } else {
-            self.has_failed = true;
+        if !self.outbox.keep(text) {
+            let _ = write_out(&mut self.sink, text);
         }
-        outcome
+    }
+
+    /// Writes out what is pending, and then adds the text.
+    #[inline(never)]
+    fn put_after_flush(&mut self, text: &[u8])
+        ensures { Puts W.contents self.old text.now self.new }
+    {
+        if self.write_pending().is_ok() {
+            self.put_first(text);
+        }
+    }
+
+    /// Adds the text; where the buffer has no room for it, what is pending is written out before.
+    #[inline(always)]
+    pub fn put(&mut self, text: &[u8])
+        ensures { Puts W.contents self.old text.now self.new }
+    {
+        if !self.outbox.keep(text) {
+            self.put_after_flush(text);
+        }
+    }
+
+    /// Adds a text that is mostly short, like the id of a switch: of up to four octets faster than
+    /// `put`.
+    pub fn put_short(&mut self, text: &[u8])
+        ensures { Puts W.contents self.old text.now self.new }
+    {
+        if !self.outbox.keep_short(text) {
+            self.put_after_flush(text);
+        }
+    }
+
+    /// Adds a number, in decimal digits.
+    #[inline(always)]
+    pub fn put_number(&mut self, number: u64)
+        ensures { Puts W.contents self.old (decimal number) self.new }
+    {
+        if !self.outbox.keep_number(number) {
+            self.put_after_flush(Buffer::new().format(number).as_bytes());
+        }
+    }
+
+    /// Writes out all, and flushes the sink.
+    pub fn finish(&mut self) -> Result<(), WriteFault>
+        ensures { Finishes W.contents self.old self.new result }
+    {
+        self.write_pending()?;
+        flush_out(&mut self.sink)
     }
 }

@@ -1,5 +1,5 @@
 -- How a command ends: its exit status, and what it writes to standard error.
-use Rattle.std.specs.Prelude.{ℕ, List, [], codes, string_bytes}
+use Rattle.std.specs.Prelude.{ℕ, List, codes, string_bytes, []}
 use Rattle.bay_main.specs.declared.ending.Ended.{Ended}
 use Rattle.bay_main.specs.declared.ending.Ended.TheVariants.{Status, WriteFailed, Refused}
 

@@ -1,23 +1,13 @@
 -- What public clauses cite of the crates below.
+pub use Rattle.bay_files.specs.Files
+pub use Rattle.bay_replay.specs.Replay
+pub use Rattle.bay_report.specs.Load
+pub use Rattle.bay_report.specs.Report
 pub use Rattle.bay_serve.specs.Calls
-pub use Rattle.bay_serve.specs.Served
-pub use Rattle.bay_serve.specs.Turns
-pub use Rattle.bay_trace.specs.Placing
-pub use Rattle.bay_trace.specs.Trace
+pub use Rattle.bay_serving.specs.Host
+pub use Rattle.bay_serving.specs.Serve
+pub use Rattle.bay_words.specs.Jobs
 -- Its own definitions.
-pub mod Answering
+pub mod Check
 pub mod Commands
 pub mod Ending
-pub mod Files
-pub mod Host
-pub mod Jobs
-pub mod JobView
-pub mod LineAnswers
-pub mod Load
-pub mod Report
-pub mod Scenario
-pub mod ScenarioView
-pub mod Serve
-pub mod ServeReport
-pub mod Serving
-pub mod TurnLines

@@ -1,10 +1,11 @@
 // A load alone: what is printed for it.
-ghost use Rattle.bay_main.specs.Report.{CheckReport, Prints};
+ghost use Rattle.bay_main.specs.Check.{CheckReport};
+ghost use Rattle.bay_report.specs.Report.{Prints};
 
-use crate::load::{Form, load_program};
-use crate::output::{write_refusal, write_report};
 use bay_io::outbox::WriteFault;
 use bay_io::writer::WatchedWriter;
+use bay_report::load::{Form, load_program};
+use bay_report::output::{write_refusal, write_report};
 use std::alloc::Global;
 use std::io::Write;
 
@@ -21,7 +22,7 @@ pub fn check_run<W: Write>(
         result }
 {
     match load_program(alloc, bay, form, program) {
-        Ok(device) => write_report(alloc, device.report(), writer),
-        Err(fault) => write_refusal(alloc, fault, writer),
+        Ok(device) => write_report(writer, device.report()),
+        Err(fault) => write_refusal(writer, fault),
     }
 }

@@ -1,27 +1,27 @@
 // What a command does, over files by their names, a reader and a writer.
-ghost use Rattle.std.specs.Prelude.{◌≡◌, true, map, option_map, IfSome, Result, Ok};
+ghost use Rattle.std.specs.Prelude.{◌≡◌, map, Result, Ok};
 ghost use Rattle.bay_serve.specs.Calls.{Called};
-ghost use Rattle.bay_main.specs.Commands.{Checks, ChecksNamed, Compiles, CompilesDevice, CompilesRead, DoesVerb, Given, Obeys, ServesNamed, WritesImage, form_of};
+ghost use Rattle.bay_main.specs.Commands.{Checks, Compiles, CompilesDevice, CompilesRead, DoesTask, Obeys, WritesImage, name_of};
 ghost use Rattle.bay_main.specs.Commands as spec;
-ghost use Rattle.bay_main.specs.declared.words.Verb.TheVariants.{Check, Compile, Serve};
-ghost use Rattle.bay_main.specs.Jobs.{has_files, is_whole};
-ghost use Rattle.bay_main.specs.JobView.{job_view};
-ghost use Rattle.bay_main.specs.Report.{Prints};
+ghost use Rattle.bay_words.specs.JobView.{program_view, task_view};
 
 use crate::check::check_run;
 use crate::ending::Ended;
-use crate::files::{BothFiles, FileFault, FileSystem, read_both};
-use crate::host::Host;
-use crate::load::{Form, load_octets};
-use crate::output::{CLEAN, FAULT, NO_MEMORY, write_refusal, write_report, write_text};
-use crate::replay::replay_watched;
-use crate::serve::{Named, Numbers, serve, write_unread};
-use crate::words::{Job, Verb, WordsFault, job_of};
 use bay_device::device::Device;
+use bay_files::files::{BothFiles, FileFault, FileSystem, read_both, write_whole};
 use bay_io::outbox::WriteFault;
 use bay_io::reader::WatchedReader;
 use bay_io::writer::WatchedWriter;
+use bay_replay::replay::replay_watched;
+use bay_report::load::{Form, load_octets};
+use bay_report::output::{
+    CLEAN, FAULT, NO_MEMORY, write_refusal, write_report, write_text, write_unread,
+};
 use bay_serve::link::Link;
+use bay_serving::host::Host;
+use bay_serving::serve::{Named, Numbers, serve};
+use bay_words::task::{Program, Task};
+use bay_words::words::{WordsFault, task_of};
 use std::alloc::Global;
 use std::io::{Read, Write};
 
@@ -63,7 +63,7 @@ fn write_image<F: FileSystem, W: Write>(
     let Ok(image) = device.image() else {
         return write_text(writer, NO_MEMORY, FAULT);
     };
-    match files.write(alloc, out, image.as_slice()) {
+    match write_whole(alloc, files, out, image.as_slice()) {
         Ok(()) => Ok(CLEAN),
         Err(FileFault::OutOfMemory) => write_text(writer, NO_MEMORY, FAULT),
         Err(FileFault::Failed) => Err(WriteFault),
@@ -81,10 +81,7 @@ fn compile_device<F: FileSystem, W: Write>(
     ensures { CompilesDevice F.writes W.contents out.now device.now files.old files.new writer.old
         writer.new result }
 {
-    let status = write_report(alloc, device.report(), writer)?;
-    if status != CLEAN {
-        return Ok(status);
-    }
+    write_report(writer, device.report())?;
     write_image(alloc, device, out, files, writer)
 }
 
@@ -102,7 +99,7 @@ fn compile_files<F: FileSystem, W: Write>(
 {
     match load_octets(alloc, both.bay.as_slice(), both.program.as_slice()) {
         Ok(device) => compile_device(alloc, &device, out, files, writer),
-        Err(fault) => write_refusal(alloc, fault, writer),
+        Err(fault) => write_refusal(writer, fault),
     }
 }
 
@@ -127,129 +124,55 @@ fn compile<F: FileSystem, W: Write>(
     }
 }
 
-/// Checks the files of a job.
-fn check_job<F: FileSystem, W: Write>(
-    alloc: Global,
-    job: &Job,
-    files: &F,
-    writer: &mut WatchedWriter<W>,
-) -> Result<u8, WriteFault>
-    requires { has_files Check (job_view job.now) ≡ true }
-    ensures { Given (job_view job.now).bay
-        (λ bay. ChecksNamed F.reads W.contents bay (job_view job.now).logic (job_view job.now).image
-        files.now writer.old writer.new result) }
+/// Which form a program has, and the name of its file.
+fn form_of<'a>(program: Program<&'a str>) -> (Form, &'a str)
+    ensures form { result.0 ≡ spec.form_of (program_view program.entry) }
+    ensures name { result.1.now ≡ name_of (program_view program.entry) }
 {
-    let Some(bay) = &job.bay else { unreachable!() };
-    match (&job.logic, &job.image) {
-        (Some(logic), _) => check(
-            alloc,
-            Form::Logic,
-            bay.as_str(),
-            logic.as_str(),
-            files,
-            writer,
-        ),
-        (None, Some(image)) => check(
-            alloc,
-            Form::Image,
-            bay.as_str(),
-            image.as_str(),
-            files,
-            writer,
-        ),
-        (None, None) => unreachable!(),
+    match program {
+        Program::Logic(name) => (Form::Logic, name),
+        Program::Image(name) => (Form::Image, name),
     }
 }
 
-/// Compiles the files of a job.
-fn compile_job<F: FileSystem, W: Write>(
+/// Does a task.
+fn do_task<F: FileSystem, L: Link + Drop, H: Host<L>, R: Read, W: Write>(
     alloc: Global,
-    job: &Job,
-    files: &mut F,
-    writer: &mut WatchedWriter<W>,
-) -> Result<u8, WriteFault>
-    requires { has_files Compile (job_view job.now) ≡ true }
-    ensures { Given (job_view job.now).bay
-        (λ bay. Given (job_view job.now).logic
-        (λ logic. Given (job_view job.now).out
-        (λ out. Compiles F.reads F.writes F.same W.contents bay logic out files.old files.new
-        writer.old writer.new result))) }
-{
-    let (Some(bay), Some(logic), Some(out)) = (&job.bay, &job.logic, &job.out) else {
-        unreachable!()
-    };
-    compile(
-        alloc,
-        bay.as_str(),
-        logic.as_str(),
-        out.as_str(),
-        files,
-        writer,
-    )
-}
-
-/// The program or the image of a job, and which of the two it is.
-fn program_of(job: &Job) -> Option<(Form, &str)>
-    ensures form { IfSome result (λ p. p.0 ≡ form_of (job_view job.now).logic) }
-    ensures name { option_map (λ p. p.1.now) result
-        ≡ spec.program_of (job_view job.now).logic (job_view job.now).image }
-{
-    match (&job.logic, &job.image) {
-        (Some(logic), _) => Some((Form::Logic, logic.as_str())),
-        (None, Some(image)) => Some((Form::Image, image.as_str())),
-        (None, None) => None,
-    }
-}
-
-/// Serves the files of a job.
-fn serve_job<F: FileSystem, L: Link + Drop, H: Host<L>, W: Write>(
-    alloc: Global,
-    job: &Job,
-    files: &F,
-    host: &mut H,
-    writer: &mut WatchedWriter<W>,
-) -> Result<u8, WriteFault>
-    requires { has_files Serve (job_view job.now) ≡ true }
-    ensures { ServesNamed F.reads (Called L.does L.failures) H.does W.contents (job_view job.now)
-        files.now host.old host.new writer.old writer.new result }
-{
-    let (Some(bay), Some((form, program))) = (&job.bay, program_of(job)) else {
-        unreachable!()
-    };
-    let (Some(port), Some(turns)) = (job.port, job.turns) else {
-        unreachable!()
-    };
-    let trace = job.trace.as_ref().map(|trace| trace.as_str());
-    let named = Named {
-        bay: bay.as_str(),
-        form,
-        program,
-        trace,
-    };
-    serve(alloc, named, files, host, Numbers { port, turns }, writer)
-}
-
-/// Does a job.
-fn do_job<F: FileSystem, L: Link + Drop, H: Host<L>, R: Read, W: Write>(
-    alloc: Global,
-    job: &Job,
+    task: Task<&str>,
     files: &mut F,
     host: &mut H,
     reader: &mut WatchedReader<R>,
     writer: &mut WatchedWriter<W>,
 ) -> Result<u8, WriteFault>
-    requires { is_whole (job_view job.now) ≡ true }
-    ensures { DoesVerb F.reads F.writes F.same (Called L.does L.failures) H.does R.remaining
-        W.contents job.now.verb (job_view job.now)
+    ensures { DoesTask F.reads F.writes F.same (Called L.does L.failures) H.does R.remaining
+        W.contents (task_view task.entry)
         (record { files = files.old; host = host.old; reader = reader.old; writer = writer.old })
         (record { files = files.new; host = host.new; reader = reader.new; writer = writer.new })
         result }
 {
-    match job.verb {
-        Verb::Check => check_job(alloc, job, files, writer),
-        Verb::Compile => compile_job(alloc, job, files, writer),
-        Verb::Replay => replay_watched(alloc, reader, writer),
-        Verb::Serve => serve_job(alloc, job, files, host, writer),
+    match task {
+        Task::Check { bay, program } => {
+            let (form, program) = form_of(program);
+            check(alloc, form, bay, program, files, writer)
+        }
+        Task::Replay => replay_watched(alloc, reader, writer),
+        Task::Serve {
+            bay,
+            program,
+            port,
+            turns,
+            trace,
+        } => {
+            let (form, program) = form_of(program);
+            let named = Named {
+                bay,
+                form,
+                program,
+                trace,
+            };
+            serve(alloc, named, files, host, Numbers { port, turns }, writer)
+        }
+        Task::Compile { bay, logic, out } => compile(alloc, bay, logic, out, files, writer),
     }
 }
 
@@ -270,8 +193,8 @@ pub fn obey<F: FileSystem, L: Link + Drop, H: Host<L>, R: Read, W: Write>(
         (record { files = files.new; host = host.new; reader = reader.new; writer = writer.new })
         result }
 {
-    match job_of(alloc, words) {
-        Ok(job) => Ended::of(do_job(alloc, &job, files, host, reader, writer)),
+    match task_of(alloc, words) {
+        Ok(task) => Ended::of(do_task(alloc, task, files, host, reader, writer)),
         Err(WordsFault::OutOfMemory) => Ended::of(write_text(writer, NO_MEMORY, FAULT)),
         Err(WordsFault::Refused(text)) => Ended::Refused(text),
     }

@@ -3,8 +3,8 @@ ghost use Rattle.std.specs.Prelude.{◌≡◌};
 ghost use Rattle.bay_main.specs.Commands.{Ends};
 ghost use Rattle.bay_main.specs.Ending.{complaint_of, status_of};
 
-use crate::output::FAULT;
 use bay_io::outbox::WriteFault;
+use bay_report::output::FAULT;
 
 /// The status of words that ask for nothing that is done.
 const WORDS: u8 = 2;

@@ -1,12 +1,16 @@
 // The program's way in and out: its words, the files of its system, standard input, standard
 // output, standard error and the exit status.
+ghost use Rattle.std.specs.Prelude.{◌≡◌};
+ghost use Rattle.std.specs.Process.{exit_status};
+ghost use Rattle.bay_main.specs.Ending.{status_of};
+
 use crate::commands::obey;
 use crate::ending::Ended;
-use crate::files::SystemFiles;
-use crate::host::SystemHost;
-use crate::output::{FAULT, write_text};
+use bay_files::files::SystemFiles;
 use bay_io::reader::WatchedReader;
 use bay_io::writer::WatchedWriter;
+use bay_report::output::{FAULT, write_text};
+use bay_serving::host::SystemHost;
 use std::alloc::{AllocError, Global};
 use std::io::ErrorKind;
 use std::net::{Net, TcpListener, TcpStream};
@@ -91,16 +95,22 @@ fn end_unheard<R: Runtime<A = Global>>(rt: &R, why: Unheard) -> Ended {
     Ended::of(write_text(&mut writer, b"fault memory\n", FAULT))
 }
 
+/// Writes to standard error what there is to complain of, and gives the exit status.
+fn conclude<R: Runtime<A = Global>>(rt: &R, ended: &Ended) -> ExitCode
+    ensures { exit_status result ≡ status_of ended.now }
+{
+    let _ = eprint!(rt; "{}", ended.complaint());
+    ExitCode::from(ended.status())
+}
+
 /// Does what the program's words ask for: reads files or standard input, writes a report to
 /// standard output, and ends with its status. What `clap` says of wrong words goes to standard
 /// error with the status 2, and so does `fault 122` of a failed write, with 3.
 pub fn run<R: Runtime<A = Global> + Net<Listener = TcpListener, Stream = TcpStream>>(
     rt: &R,
 ) -> ExitCode {
-    let ended = match obey_program(rt) {
-        Ok(ended) => ended,
-        Err(why) => end_unheard(rt, why),
-    };
-    let _ = eprint!(rt; "{}", ended.complaint());
-    ExitCode::from(ended.status())
+    match obey_program(rt) {
+        Ok(ended) => conclude(rt, &ended),
+        Err(why) => conclude(rt, &end_unheard(rt, why)),
+    }
 }

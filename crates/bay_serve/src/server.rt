@@ -14,12 +14,19 @@ use bay_device::fault::StepFault;
 use std::alloc::{AllocError, Global};
 use std::marker::Model;
 
-/// A device, and for each association at most 262,144 octets that are still to be sent to it. The
-/// room for them was taken at first.
+/// What a server has.
 #[derive(Drop)]
-pub struct Server {
+struct Parts {
     device: Device,
     queues: Vec<Queue>,
+}
+
+/// A device, and for each association at most 262,144 octets that are still to be sent to it. The
+/// room for them was taken at first. All of it is in one box, so that a server is let go in one
+/// call.
+#[derive(Drop)]
+pub struct Server {
+    parts: Box<Parts>,
 }
 
 impl Model for Server {
@@ -32,9 +39,12 @@ impl Model for Server {
 
     ghost use Rattle.bay_serve.specs.Serving.{IsServing};
 
-    ghost view = { λ s. record { device = s.device; queues = s.queues.items } };
+    ghost view = { λ s. record {
+      device = s.parts.value.device;
+      queues = s.parts.value.queues.items;
+    } };
 
-    ghost invariant = { λ s. IsServing s.device s.queues.items };
+    ghost invariant = { λ s. IsServing s.parts.value.device s.parts.value.queues.items };
 }
 
 /// Eight empty queues.
@@ -59,9 +69,13 @@ impl Server {
             (λ server. server ≡ record { device = device; queues = replicate 8 [] }) }
         ensures err { IfErr result (λ back. back ≡ device) }
     {
-        match make_queues(alloc) {
-            Ok(queues) => Ok(Server { device, queues }),
-            Err(_) => Err(device),
+        let queues = match make_queues(alloc) {
+            Ok(queues) => queues,
+            Err(_) => return Err(device),
+        };
+        match Box::new(alloc, Parts { device, queues }) {
+            Ok(parts) => Ok(Server { parts }),
+            Err(refused) => Err(refused.value.device),
         }
     }
 
@@ -69,7 +83,7 @@ impl Server {
     pub fn device(&self) -> &Device
         ensures { result.now ≡ self.now.device }
     {
-        &self.device
+        &self.parts.device
     }
 
     /// Whether the association at a place is open.
@@ -77,7 +91,7 @@ impl Server {
         requires { place < 8 }
         ensures { result ≡ is_up_in place self.now }
     {
-        self.device.is_open(place as u16 + 1)
+        self.parts.device.is_open(place as u16 + 1)
     }
 
     /// The place of the lowest association that is free.
@@ -85,7 +99,7 @@ impl Server {
         ensures lowest { result ≡ spec.free_place self.now }
         ensures within { IfSome result (λ place. place < 8) }
     {
-        let association = self.device.free_association()?;
+        let association = self.parts.device.free_association()?;
         Some(usize::from(association - 1))
     }
 
@@ -97,7 +111,7 @@ impl Server {
         ensures single { IsSingle result }
         ensures queues { self.new.queues ≡ self.old.queues }
     {
-        self.device.step(now, event)
+        self.parts.device.step(now, event)
     }
 
     /// What is still to be sent to the association at a place.
@@ -105,7 +119,7 @@ impl Server {
         requires { place < 8 }
         ensures { result.now ≡ queue_at place self.now }
     {
-        self.queues[place].as_slice()
+        self.parts.queues[place].as_slice()
     }
 
     /// Adds octets where there is room for all of them, and answers whether there was.
@@ -116,7 +130,7 @@ impl Server {
             ≡ (if result then put_queue place (queue_at place self.old ++ octets.now) self.old
             else self.old) }
     {
-        self.queues[place].put(octets)
+        self.parts.queues[place].put(octets)
     }
 
     /// Drops the first octets of what is still to be sent.
@@ -125,7 +139,7 @@ impl Server {
         requires count { count ≤ length (queue_at place self.old) }
         ensures { self.new ≡ put_queue place (drop count (queue_at place self.old)) self.old }
     {
-        self.queues[place].drop_front(count);
+        self.parts.queues[place].drop_front(count);
     }
 
     /// Drops all that is still to be sent.
@@ -133,6 +147,6 @@ impl Server {
         requires { place < 8 }
         ensures { self.new ≡ put_queue place [] self.old }
     {
-        self.queues[place].clear();
+        self.parts.queues[place].clear();
     }
 }

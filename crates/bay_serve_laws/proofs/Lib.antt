@@ -13,3 +13,7 @@ pub mod CutLemmas
 pub mod ReadFlows
 pub mod OfferFlows
 pub mod TurnFlows
+pub mod KeepLemmas
+pub mod TellingLemmas
+pub mod ClosingLemmas
+pub mod RoomLemmas

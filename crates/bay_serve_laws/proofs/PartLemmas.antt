@@ -275,7 +275,7 @@ module _ (Q : Type 0) (now : ℕ) where
       (offer_one now place o s)
   Part-offer place o s = Part-offer_if place o s (is_leaving (standing_of place s)) (is_up place s)
 
-  Part-each : {C : Type 0} (f : ℕ → C → Turning → Turning) (calls : ℕ → C → Turning → List Call)
+  pub Part-each : {C : Type 0} (f : ℕ → C → Turning → Turning) (calls : ℕ → C → Turning → List Call)
       (events : ℕ → C → Turning → List ChosenEvent)
       → ((place : ℕ) (c : C) (s : Turning)
       → Part Q now s (calls place c s) (events place c s) (f place c s))

@@ -15,10 +15,11 @@ use Rattle.bay_device.specs.declared.fault.StepFault.TheVariants.{MomentTooLarge
 use Rattle.bay_trace.specs.Placing.{AreOctets, placed_event}
 use Rattle.bay_trace.specs.Trace.{NamedData, connects, receives, disconnects, contact, input, measure, scan}
 
--- nothing is sent but what tells of an end, and nothing is to be operated
+-- nothing is sent but what tells of an end, nothing is to be operated, and nothing was closed
 pub record SaysLittle (step : Step) : Type 0 where
   pub sent : step.sent ≡ []
   pub commands : step.commands ≡ []
+  pub closed : step.closed ≡ None
 
 abbrev pub IsQuiet : Result Step StepFault → Type 0
 IsQuiet (Err fault) = Unit {0}
@@ -27,35 +28,35 @@ IsQuiet (Ok step) = SaysLittle step
 contact-quiet : (now k : ℕ) (position : Dbpos) (s : State) (switch : Option Switch)
     → IsQuiet (contact_outcome now k position s switch).answer
 contact-quiet now k position s None = tt
-contact-quiet now k position s (Some switch) = record { sent = refl; commands = refl }
+contact-quiet now k position s (Some switch) = record { sent = refl; commands = refl; closed = refl }
 
 input-quiet : (now k : ℕ) (value : Bool) (s : State) (before : Option Bool)
     → IsQuiet (input_outcome now k value s before).answer
 input-quiet now k value s None = tt
-input-quiet now k value s (Some before) = record { sent = refl; commands = refl }
+input-quiet now k value s (Some before) = record { sent = refl; commands = refl; closed = refl }
 
 measure-quiet : (now k : ℕ) (field : MeterField) (value : ℤ) (s : State) (id : Option (List ℕ))
     → IsQuiet (measure_outcome now k field value s id).answer
 measure-quiet now k field value s None = tt
-measure-quiet now k field value s (Some id) = record { sent = refl; commands = refl }
+measure-quiet now k field value s (Some id) = record { sent = refl; commands = refl; closed = refl }
 
 open-quiet : (now a : ℕ) (s : State) (place : Option ℕ) (talk : Option Talk)
     → IsQuiet (open_outcome now a s place talk).answer
 open-quiet now a s None talk = tt
-open-quiet now a s (Some place) None = record { sent = refl; commands = refl }
+open-quiet now a s (Some place) None = record { sent = refl; commands = refl; closed = refl }
 open-quiet now a s (Some place) (Some talk) = tt
 
 close-quiet : (now a : ℕ) (s : State) (talk : Option Talk)
     → IsQuiet (close_outcome now a s talk).answer
 close-quiet now a s None = tt
-close-quiet now a s (Some talk) = record { sent = refl; commands = refl }
+close-quiet now a s (Some talk) = record { sent = refl; commands = refl; closed = refl }
 
 recv-quiet : (choice : Option ℕ) (now a : ℕ) (octets : List ℕ) (s : State) (talk : Option Talk)
     → octets ≡ [] → IsQuiet (recv_outcome choice now a octets s talk).answer
 recv-quiet choice now a octets s None e = tt
 recv-quiet choice now a octets s (Some talk) e =
     subst (λ l. IsQuiet (octets_outcome choice now a s talk l).answer) (sym e)
-    (record { sent = refl; commands = refl })
+    (record { sent = refl; commands = refl; closed = refl })
 
 event-quiet : (choice : Option ℕ) (now : ℕ) (event : Event) (s : State) → IsWithoutOctets event
     → IsQuiet (event_outcome choice now event s).answer
@@ -68,7 +69,7 @@ event-quiet choice now (Contact k position) s h =
 event-quiet choice now (Input k value) s h = input-quiet now k value s (slice_get s.input_values k)
 event-quiet choice now (Measure k field value) s h =
     measure-quiet now k field value s (slice_get s.meters k)
-event-quiet choice now Scan s h = record { sent = refl; commands = refl }
+event-quiet choice now Scan s h = record { sent = refl; commands = refl; closed = refl }
 
 -- what holds of a refusal and of what else an event does holds of it at any moment
 pub at_any_moment : (P : Outcome → Type 0) (choice : Option ℕ) (now : ℕ) (event : Event) (s : State)

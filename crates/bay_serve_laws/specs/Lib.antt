@@ -9,3 +9,5 @@ pub use Rattle.bay_trace.specs.Trace
 pub mod Events
 pub mod Faults
 pub mod Flows
+pub mod Room
+pub mod Telling

@@ -1,13 +1,16 @@
 // Laws of a turn. Each function does nothing, and its contract is the law.
-ghost use Rattle.std.specs.Prelude.{◌≡◌, ℕ, ◌-◌, ◌^◌, ◌<◌, true, List, Option, length};
+ghost use Rattle.std.specs.Prelude.{◌≡◌, ℕ, ◌+◌, ◌-◌, ◌^◌, ◌<◌, ◌≤◌, [], true, List, Option, length, replicate};
+ghost use Rattle.bay_device.specs.Device.{State};
 ghost use Rattle.bay_trace.specs.Trace.{NamedData};
 ghost use Rattle.bay_serve.specs.Calls.{Called};
 ghost use Rattle.bay_serve.specs.Served.{Serves, line_in};
-ghost use Rattle.bay_serve.specs.Turns.{Held, Script};
+ghost use Rattle.bay_serve.specs.Turns.{Held, Script, turned};
 ghost use Rattle.bay_serve.specs.declared.told.Turn.{Turn};
 ghost use Rattle.bay_serve_laws.specs.Events.{HasNoOctets, IsItsEvents};
 ghost use Rattle.bay_serve_laws.specs.Faults.{tells_failure};
 ghost use Rattle.bay_serve_laws.specs.Flows.{IsInTime, IsOfProcess, IsTidy, LosesNothing};
+ghost use Rattle.bay_serve_laws.specs.Room.{AreInRoom};
+ghost use Rattle.bay_serve_laws.specs.Telling.{TellsClosings, times_told};
 
 use bay_serve::link::Link;
 
@@ -19,6 +22,24 @@ pub fn a_told_failure_is_counted<L: Link>(_link: &L)
         Serves (Called L.does L.failures) old new now line before after turn
         → tells_failure turn.closed ≡ true →
         L.failures old < 2 ^ 64 - 1 → L.failures old < L.failures new }
+{}
+
+/// Of an association it is told once at most in a turn that it was closed: with its reason, or that
+/// there was no memory.
+pub fn an_association_is_told_once<L: Link>(_link: &L)
+    ensures { (old new : L) (now : ℕ) (line : Option NamedData) (before after : Held) (turn : Turn)
+        (place : ℕ) →
+        Serves (Called L.does L.failures) old new now line before after turn
+        → times_told (place + 1) turn.closed turn.memory ≤ 1 }
+{}
+
+/// Of each association that the device closes in a turn it is told, with the device's number or
+/// that there was no memory: for a server in which nothing waits for a closed association, at a
+/// moment that is not refused.
+pub fn what_the_device_closes_is_told()
+    ensures { (now : ℕ) (line : Option NamedData) (script : Script) (h : Held) → IsTidy h
+        → IsInTime now h → HasNoOctets line → length script.readings ≡ 8
+        → length script.offers ≡ 8 → TellsClosings now line script h }
 {}
 
 /// The device after a turn is the device that the turn's events make of the device before, each at
@@ -42,4 +63,16 @@ pub fn octets_are_neither_lost_nor_repeated()
         length script.offers ≡ 8 → LosesNothing now line script h }
     // The line of a turn that is done is such a line.
     ensures lines { (text : Option (List ℕ)) → IsOfProcess (line_in text) }
+    // A server is tidy as it is made, and so after each turn.
+    ensures begins { (device : State)
+        → IsTidy (record { device = device; queues = replicate 8 [] }) }
+{}
+
+/// No queue ever holds more than 262,144 octets: none does as a server is made, and none after a
+/// turn where none did before it.
+pub fn queues_stay_in_their_room()
+    ensures begins { (device : State)
+        → AreInRoom (record { device = device; queues = replicate 8 [] }) }
+    ensures stays { (now : ℕ) (line : Option NamedData) (script : Script) (h : Held) → AreInRoom h
+        → AreInRoom (turned now line script h).server }
 {}

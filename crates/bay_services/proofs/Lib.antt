@@ -3,6 +3,7 @@ pub mod AnswerLemmas
 pub mod DecisionLemmas
 pub mod EntryLemmas
 pub mod NameLemmas
+pub mod OperateLemmas
 pub mod PlaceLemmas
 pub mod ReadLemmas
 pub mod ReleaseLemmas

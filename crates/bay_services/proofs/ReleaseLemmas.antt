@@ -8,7 +8,7 @@ use Rattle.bay_tree.specs.declared.row.Row.{Row}
 use Rattle.bay_nodes.specs.Names.{control_names, interlocking_of}
 use Rattle.bay_nodes.specs.Node.{node_name}
 use Rattle.bay_process.specs.Values.{is_truth}
-use Rattle.bay_process.proofs.ToldLemmas.{IsAway, Keeps, leaf-other}
+use Rattle.bay_process.proofs.ToldLemmas.{IsAway, leaf-other}
 use Rattle.bay_control.specs.Decisions.{Outcome, State, advanced, answer_of, cancel_outcome, execution_at, is_executing, is_over_at, operate_outcome, other_is_executing, rows_of_operate, select_outcome, select_with_outcome, selected_switch}
 use Rattle.bay_control.specs.Decisions.{Row as DecisionRow}
 use Rattle.bay_control.specs.Requests.{control_of, is_controlled, is_released}
@@ -29,7 +29,7 @@ use Rattle.bay_services.specs.Answers.{Answered, answer_of as answer-of, answere
 use Rattle.bay_services.specs.Bay.{Bay, is_selected, shown, with_controls}
 use Rattle.bay_services.specs.Controls.{ask_of, view_of}
 use Rattle.bay_services.specs.Reads.{Reading, nothing_read, read_all, read_one, read_part, read_row, read_target}
-use Rattle.bay_services.specs.Released.{AreTimed, IsReleased, Leaves, releasing}
+use Rattle.bay_services.specs.Released.{AreTimed, IsReleased, Leaves, TellsNoSelection, releasing}
 use Rattle.bay_services.specs.Rows.{row_named}
 use Rattle.bay_services.specs.Targets.{target_of}
 use Rattle.bay_services.specs.Writes.{Writing, nothing_written, cancel_asked, commands_for, decided, operate_asked, select_with_asked, write_all, write_one, write_part, write_row, write_target}
@@ -39,18 +39,22 @@ use Rattle.bay_services.specs.declared.target.ControlPart.{ControlPart}
 use Rattle.bay_services.specs.declared.target.ControlPart.TheVariants.{Select, SelectWith, Operate, Cancel}
 use Rattle.bay_services.specs.declared.target.Target.{Target}
 
--- ---- what shows the selection shows no interlocking value
+-- ---- what shows the selection shows nothing else
 
 away-control : (n : ℕ) (t : List ℕ) → IsAway (node_name (codes "CSWI") n ++ t)
 away-control n t k s e = let second : 73 ≡ 83 = ap (λ l. get_or l 1 0) e in omega (arith, second)
 
-pub keeps-shown : (selected : Option ℕ) (count : ℕ) (rows : List Row)
-    → Keeps rows (shown selected count rows)
-keeps-shown selected zero rows k s = refl
-keeps-shown selected (suc j) rows k s =
-    leaf-other (shown selected j rows) (interlocking_of k ++ s) ((control_names j).selected)
-    (leaf.Truth (is_selected j selected)) (away-control (j + 1) _ k s)
-    ∙ keeps-shown selected j rows k s
+-- an interlocking value tells of none
+pub interlocking-apart : (k : ℕ) (s : List ℕ) → TellsNoSelection (interlocking_of k ++ s)
+interlocking-apart k s j e = away-control (j + 1) _ k s e
+
+pub keeps-shown : (selected : Option ℕ) (count : ℕ) (rows : List Row) (name : List ℕ)
+    → TellsNoSelection name → leaf_of name (shown selected count rows) ≡ leaf_of name rows
+keeps-shown selected zero rows name apart = refl
+keeps-shown selected (suc j) rows name apart =
+    leaf-other (shown selected j rows) name ((control_names j).selected)
+    (leaf.Truth (is_selected j selected)) (apart j)
+    ∙ keeps-shown selected j rows name apart
 
 -- ---- an execution that lasts
 
@@ -199,21 +203,21 @@ starting now k on controls timed controlled =
 -- ---- bays
 
 pub leaves-none : (now : ℕ) (b : Bay) → Leaves now b b
-leaves-none now b = record { enabled = λ k name. refl; busy = λ e h. h }
+leaves-none now b = record { values = λ name apart. refl; busy = λ e h. h }
 
 pub leaves-with : (now : ℕ) (b d : Bay) (x : State) → Leaves now b d → Busies now d.controls x
     → Leaves now b (with_controls x d)
 leaves-with now b d x left busy = record {
-  enabled =
-      λ k name. keeps-shown (selected_switch x.selection) (length d.switches) d.rows k name
-      ∙ left.enabled k name;
+  values =
+      λ name apart. keeps-shown (selected_switch x.selection) (length d.switches) d.rows name apart
+      ∙ left.values name apart;
   busy = λ e h. busy e (left.busy e h);
 }
 
 pub leaves-then : (now : ℕ) (b d e : Bay) → Leaves now b d → Leaves now d e → Leaves now b e
 leaves-then now b d e p q =
     record {
-      enabled = λ k name. q.enabled k name ∙ p.enabled k name;
+      values = λ name apart. q.values name apart ∙ p.values name apart;
       busy = λ x h. q.busy x (p.busy x h);
     }
 
@@ -295,8 +299,8 @@ true-of false h = absurd cc
 -- an operation that was released when others had been asked for is released now
 enabled-now : (c : Client) (b d : Bay) (k : ℕ) (on : Bool) → Leaves c.now b d
     → is_released on (view_of c k d) ≡ true → is_truth true (leaf_of (releasing k on) b.rows) ≡ true
-enabled-now c b d k true left h = ap (is_truth true) (sym (left.enabled k _)) ∙ h
-enabled-now c b d k false left h = ap (is_truth true) (sym (left.enabled k _)) ∙ h
+enabled-now c b d k true left h = ap (is_truth true) (sym (left.values _ (interlocking-apart k _))) ∙ h
+enabled-now c b d k false left h = ap (is_truth true) (sym (left.values _ (interlocking-apart k _))) ∙ h
 
 pub idle-now : (now : ℕ) (s t : State) (o : Option Execution) → Busies now s t
     → (advanced now t).execution ≡ None → (advanced now s).execution ≡ o

@@ -1,7 +1,8 @@
 -- What the variables of a read and of a write ask of controls, and what was accepted of it.
-use Rattle.std.specs.Prelude.{ℕ, List, [], ◌∷◌, ◌++◌, length, nat_le, Option, Some, None, Result, Ok, Err, is_ok, if◌then◌else◌}
+use Rattle.std.specs.Prelude.{ℕ, Bool, List, [], ◌∷◌, ◌++◌, length, nat_le, Option, Some, None, Result, Ok, Err, is_ok, if◌then◌else◌}
 use Rattle.bay_tree.specs.Rows.{name_at}
-use Rattle.bay_control.specs.Acts.{Entry}
+use Rattle.bay_control.specs.Acts as act
+use Rattle.bay_control.specs.Acts.{Act, Entry}
 use Rattle.bay_control.specs.Happenings as call
 use Rattle.bay_control.specs.Happenings.{Call, act_of, entries_of, outcome_of}
 use Rattle.bay_mms.specs.Controls as asked
@@ -18,6 +19,7 @@ use Rattle.bay_services.specs.Reads.{Reading, nothing_read, read_one, read_all}
 use Rattle.bay_services.specs.Rows.{row_named}
 use Rattle.bay_services.specs.Targets.{target_of}
 use Rattle.bay_services.specs.Writes.{Writing, nothing_written, write_one, write_all}
+use Rattle.bay_services.specs.declared.answer.Command.{Command}
 use Rattle.bay_services.specs.declared.client.Client.{Client}
 use Rattle.bay_services.specs.declared.target.ControlPart.{ControlPart}
 use Rattle.bay_services.specs.declared.target.ControlPart.TheVariants.{Select, SelectWith, Operate, Cancel}
@@ -114,3 +116,16 @@ message_entries c b (Err fault) = []
 -- What a PDU of a client asks of controls, in its order, and what was accepted of it.
 abbrev pub entries_in : Client → List ℕ → Bay → List Entry
 entries_in c pdu b = message_entries c b (answer_to pdu)
+
+-- ---- the commands
+
+-- an operate that was accepted is one command: the position that is asked for of its switch
+abbrev pub command_of : Act → Bool → List Command
+command_of (act.Operate a k choice) is_accepted =
+    if is_accepted then record { switch = k; on = choice.on } ∷ [] else []
+command_of other is_accepted = []
+
+-- those of the operates that were accepted, in their order
+abbrev pub operates_in : List Entry → List Command
+operates_in [] = []
+operates_in (e ∷ es) = command_of e.act e.is_accepted ++ operates_in es

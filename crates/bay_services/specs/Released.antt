@@ -1,7 +1,7 @@
 -- When a switch may be operated, and what of a bay no client changes (IEC 61850-7-4, CILO).
-use Rattle.std.specs.Prelude.{ℕ, ◌≡◌, ◌≤◌, ◌++◌, Bool, true, false, List, Some, None}
+use Rattle.std.specs.Prelude.{ℕ, ◌≡◌, ◌≢◌, ◌≤◌, Bool, true, false, List, Some, None}
 use Rattle.bay_tree.specs.Rows.{leaf_of}
-use Rattle.bay_nodes.specs.Names.{closing_of, interlocking_of, opening_of}
+use Rattle.bay_nodes.specs.Names.{closing_of, control_names, opening_of}
 use Rattle.bay_process.specs.Values.{is_truth}
 use Rattle.bay_control.specs.Decisions.{advanced}
 use Rattle.bay_control.specs.Requests.{control_of, is_controlled}
@@ -23,11 +23,14 @@ pub record IsReleased (c : Client) (b : Bay) (command : Command) : Type 0 where
   pub enabled : is_truth true (leaf_of (releasing command.switch command.on) b.rows) ≡ true
   pub idle : (advanced c.now b.controls).execution ≡ None
 
--- No client changes an interlocking value, nor what is operating.
+-- a name that tells of no selection
+abbrev pub TellsNoSelection : List ℕ → Type 0
+TellsNoSelection name = (k : ℕ) → name ≢ (control_names k).selected
+
+-- No client changes a value that tells of no selection, nor what is operating.
 pub record Leaves (now : ℕ) (before after : Bay) : Type 0 where
-  pub enabled : (k : ℕ) (name : List ℕ)
-      → leaf_of (interlocking_of k ++ name) after.rows
-      ≡ leaf_of (interlocking_of k ++ name) before.rows
+  pub values : (name : List ℕ) → TellsNoSelection name
+      → leaf_of name after.rows ≡ leaf_of name before.rows
   pub busy : (e : Execution) → (advanced now before.controls).execution ≡ Some e
       → (advanced now after.controls).execution ≡ Some e
 

@@ -12,7 +12,7 @@ pub struct Command {
 
 /// The PDUs of MMS that tell a client of the end of what it operates (IEC 61850-8-1,
 /// CommandTermination); each is left out where it has more octets than are agreed.
-#[derive(Debug, Drop)]
+#[derive(Drop)]
 pub struct Ending {
     /// The switch has reached its position.
     pub positive: Option<Listing<u8>>,
@@ -21,7 +21,7 @@ pub struct Ending {
 }
 
 /// What a PDU of a client is answered, and what it asks of others than the bay.
-#[derive(Debug, Drop)]
+#[derive(Drop)]
 pub struct Answer {
     /// The PDUs of MMS that are to be sent, in their order: reports that controls are refused, and
     /// then the response.

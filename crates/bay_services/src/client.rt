@@ -1,7 +1,7 @@
 // Who asks, and when.
 
 /// A client that asks something of a bay.
-#[derive(Clone, Copy, Debug)]
+#[derive(Clone, Copy)]
 pub struct Client {
     /// The number of its association.
     pub association: u16,

@@ -8,7 +8,7 @@ ghost use Rattle.bay_nodes.specs.Names.{control_names};
 ghost use Rattle.bay_services.specs.Accepted.{AreNamedAlike, accepted_in, first_response, may_be_reported};
 ghost use Rattle.bay_services.specs.Answers.{answered};
 ghost use Rattle.bay_services.specs.Bay.{Bay, ShowSelection};
-ghost use Rattle.bay_services.specs.Entries.{entries_in};
+ghost use Rattle.bay_services.specs.Entries.{entries_in, operates_in};
 ghost use Rattle.bay_services.specs.Released.{AreTimed, IsReleased, Leaves};
 ghost use Rattle.bay_services.specs.declared.client.Client.{Client};
 ghost use Rattle.bay_tree.specs.Rows.{with_leaf_of};
@@ -23,10 +23,13 @@ pub fn selection_stays_shown()
         → ShowSelection controls count (with_leaf_of name value rows) }
 {}
 
-/// Each command of an answer is one of an operate that was accepted while the last scan was fresh,
-/// the interlocking released it and no switch was operating; where each switch takes some time
-/// there is one at most. No client changes what the interlocking releases, nor what is operating.
+/// The commands of an answer are those of the operates that it accepts, in their order: one for
+/// each, and no other. Each comes while the last scan is fresh, the interlocking releases it and no
+/// switch is operating; where each switch takes some time there is one at most. No client changes a
+/// value of the tree but which switch is selected, nor what is operating.
 pub fn commands_are_released()
+    ensures operated { (c : Client) (pdu : List ℕ) (b : Bay)
+        → (answered c pdu b).commands ≡ operates_in (entries_in c pdu b) }
     ensures released { (c : Client) (pdu : List ℕ) (b : Bay)
         → All (IsReleased c b) (answered c pdu b).commands }
     ensures single { (c : Client) (pdu : List ℕ) (b : Bay) → AreTimed b.controls.controls

@@ -10,7 +10,7 @@ use bay_process::controls::ControlRows;
 use bay_tree::tree::{Handle, Tree};
 
 /// A part of a control (IEC 61850-8-1, the structures below CO).
-#[derive(Clone, Copy, Debug)]
+#[derive(Clone, Copy)]
 pub enum ControlPart {
     /// SBO.
     Select,
@@ -22,7 +22,7 @@ pub enum ControlPart {
 }
 
 /// A part of the control of a switch.
-#[derive(Clone, Copy, Debug)]
+#[derive(Clone, Copy)]
 pub struct Target {
     /// The place of the switch in the bay file, from 0.
     pub switch: usize,

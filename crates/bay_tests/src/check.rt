@@ -1,9 +1,8 @@
-// What is left of a checked program, and what faults say.
+// What is left of a checked program.
 use bay_base::text::Text;
 use bay_base::types::ElementaryType;
 use bay_config::bay::{Point, Source, SwitchPoint};
 use il_check::check::check;
-use il_check::fault::CheckFault;
 use il_check::program::Typed;
 use il_check::typed::{
     External, SimpleOperation, Slot, Transfer, TypedArgument, TypedArguments, TypedEntry,
@@ -204,31 +203,5 @@ const TRANSFERS: [(Option<SimpleOperation>, Option<Transfer>); 5] = [
 fn transfers(rt: HostRuntime) -> Result<(), Fail> {
     let lines = "CAL T1(PT := T#5s)\nLD t1.q\nJMPC L\nRET\nl:\nEND_PROGRAM\n";
     assert!(rt; leaves(rt.alloc(), lines, &TRANSFERS)?);
-    Ok(())
-}
-
-/// Whether a fault says this.
-fn says(alloc: Global, fault: CheckFault, message: &str) -> Result<bool, AllocError> {
-    let text = format!(in alloc; "{fault}")?;
-    Ok(text.as_str() == message)
-}
-
-#[test]
-fn messages(rt: HostRuntime) -> Result<(), Fail> {
-    let alloc = rt.alloc();
-    for (fault, message) in [
-        (CheckFault::UnknownName { line: 1 }, "the name is unknown"),
-        (
-            CheckFault::BackwardJump { line: 1 },
-            "the jump goes backward",
-        ),
-        (
-            CheckFault::Unreachable { line: 1 },
-            "the instruction can't be reached",
-        ),
-        (CheckFault::OutOfMemory, "out of memory"),
-    ] {
-        assert!(rt; says(alloc, fault, message)?, "{message}");
-    }
     Ok(())
 }

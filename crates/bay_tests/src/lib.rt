@@ -1,15 +1,19 @@
 // Tests of what can't be a line of cases: programs and points that no text gives, values call by
-// call, verdicts that hand an image back, and a replay with readers and writers that fail. They use
-// public calls alone, and stand in a crate of their own, since a crate with tests is proved a
-// second time for them.
+// call, a device as a library is called, replays with readers and writers that fail, and serving
+// over links of which calls fail and over the sockets of the system. They use public calls alone,
+// and stand in a crate of their own, since a crate with tests is proved a second time for them.
 //
 // - `bay`: the longest bay file.
 // - `by_hand`: programs that no text gives.
-// - `check`: what is left of a checked program, and what faults say.
-// - `image`: values, timers, instructions and images.
-// - `verify`: refused images, handed back.
+// - `check`: what is left of a checked program.
+// - `image`: values and instructions.
+// - `device`: a device as a library is called.
 // - `replay`: readers and writers that go by a few octets at a time, and that fail.
 // - `serve`: serving over a link and a host in memory, and over those of the system.
+// - `memory_link`, `memory`: clients in memory, and turns over them.
+// - `links`: a link over sockets call by call, and the system's clock.
+// - `sockets`: a client and the server in turn, on 127.0.0.1.
+// - `session`: what a client sends, and what it is answered.
 #![tactic(auto)]
 
 #[cfg(test)]
@@ -19,10 +23,20 @@ mod by_hand;
 #[cfg(test)]
 mod check;
 #[cfg(test)]
+mod device;
+#[cfg(test)]
 mod image;
+#[cfg(test)]
+mod links;
+#[cfg(test)]
+mod memory;
+#[cfg(test)]
+mod memory_link;
 #[cfg(test)]
 mod replay;
 #[cfg(test)]
 mod serve;
 #[cfg(test)]
-mod verify;
+mod session;
+#[cfg(test)]
+mod sockets;

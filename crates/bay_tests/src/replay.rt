@@ -150,12 +150,6 @@ fn goes_by_pieces(rt: HostRuntime) -> Result<(), Fail> {
     let found = outcome_of(rt.alloc(), scenario(), 0, 1000, true);
     assert!(rt; found.report.as_slice() == report() && found.status == 0);
     assert!(rt; !found.read_failed && !found.write_failed && found.is_flushed);
-    Ok(())
-}
-
-#[test]
-fn reaches_what_is_below(rt: HostRuntime) -> Result<(), Fail> {
-    let found = outcome_of(rt.alloc(), scenario(), 0, 1000, true);
     assert_eq!(rt; found.reads_below, found.reads);
     assert_eq!(rt; found.flushes_below, 1);
     Ok(())
@@ -163,7 +157,8 @@ fn reaches_what_is_below(rt: HostRuntime) -> Result<(), Fail> {
 
 #[test]
 fn failing_reads(rt: HostRuntime) -> Result<(), Fail> {
-    for k in 1..=u64::try_from(scenario().len()).unwrap_or(0) {
+    // one read for each octet, and one that tells their end
+    for k in 1..=scenario().len() as u64 + 1 {
         let found = outcome_of(rt.alloc(), scenario(), k, 1000, true);
         let is_told = found.report.as_slice() == b"fault 121\n".as_slice() && found.status == 3;
         assert!(rt;
@@ -203,10 +198,19 @@ fn reads_no_more_than_the_limit(rt: HostRuntime) -> Result<(), Fail> {
     Ok(())
 }
 
+/// What is printed for so many line feeds, with its status (255 for a failed write).
+fn blank_outcome(alloc: Global, count: usize) -> Result<(Vec<u8>, u8), Fail> {
+    let blank = vec![in alloc; 10u8; count]?;
+    let mut taken = Vec::new(alloc);
+    let status = replay_run(alloc, blank.as_slice(), &mut taken).unwrap_or(255);
+    Ok((taken, status))
+}
+
 #[test]
-fn needs_no_watch(rt: HostRuntime) -> Result<(), Fail> {
-    let mut taken = Vec::new(rt.alloc());
-    let found = replay_run(rt.alloc(), scenario(), &mut taken);
-    assert!(rt; found.ok() == Some(0) && taken.as_slice() == report());
+fn reads_as_much_as_the_limit(rt: HostRuntime) -> Result<(), Fail> {
+    let (full, status) = blank_outcome(rt.alloc(), 16_777_216)?;
+    assert!(rt; full.as_slice() == b"fault 120 line 0\n".as_slice() && status == 3);
+    let (over, status) = blank_outcome(rt.alloc(), 16_777_217)?;
+    assert!(rt; over.as_slice() == b"fault 121\n".as_slice() && status == 3);
     Ok(())
 }

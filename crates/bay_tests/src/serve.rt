@@ -39,7 +39,7 @@ impl FileSystem for Texts<'_> {
         }
     }
 
-    fn write(&mut self, _alloc: Global, _name: &str, _octets: &[u8]) -> Result<(), FileFault> {
+    fn write(&mut self, _name: &str, _beside: &str, _octets: &[u8]) -> Result<bool, FileFault> {
         Err(FileFault::Failed)
     }
 

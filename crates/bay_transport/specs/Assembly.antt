@@ -72,6 +72,13 @@ left_for Ended left = Over
 abbrev pub run_for : Got → Assembly → Run
 run_for kind a = record { doings = doings_for kind a; left = left_for kind (left_of a) }
 
+-- What was completed last stays where nothing is completed.
+abbrev pub KeepsShown : Got → List ℕ → List ℕ → Type 0
+KeepsShown More old new = new ≡ old
+KeepsShown Answer old new = Unit {0}
+KeepsShown Tsdu old new = Unit {0}
+KeepsShown Ended old new = Unit {0}
+
 -- The fault is answered where this holds, want of memory aside.
 abbrev pub FailsWhere : TransportFault → Type 0 → Type 0
 FailsWhere BadTpkt P = P

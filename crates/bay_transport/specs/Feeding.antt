@@ -41,14 +41,14 @@ IsGoing Over = ⊥
 IsGoing Broken = ⊥
 
 -- The piece is refused: its first doing is the fault. A stream that failed refuses every piece, and
--- memory can be wanted only where octets are still taken.
+-- memory can be wanted only where octets are still taken and some came.
 abbrev pub RefusesPiece : Stream → List ℕ → TransportFault → Type 0
 RefusesPiece s piece BadTpkt = doings s piece ≡ Fails BadTpkt ∷ []
 RefusesPiece s piece BadCotp = doings s piece ≡ Fails BadCotp ∷ []
 RefusesPiece s piece ClassRefused = doings s piece ≡ Fails ClassRefused ∷ []
 RefusesPiece s piece TsduTooLong = doings s piece ≡ Fails TsduTooLong ∷ []
 RefusesPiece s piece Failed = s.left ≡ Broken
-RefusesPiece s piece OutOfMemory = IsGoing s.left
+RefusesPiece s piece OutOfMemory = IsGoing s.left × (0 < length piece)
 
 -- the size agreed, where octets are still taken and a request came
 abbrev pub agreed_from : Left → Option ℕ

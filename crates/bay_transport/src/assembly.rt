@@ -1,9 +1,9 @@
 // Octets of a stream, assembled to frames, and the data of frames to TSDUs.
-ghost use Rattle.std.specs.Prelude.{◌≡◌, ◌+◌, ◌-◌, ◌<◌, ◌≤◌, Ok, Err, [], ◌∷◌, length, take, drop, ◌++◌, IfOk, IfErr, OnOk, IfSome, is_some};
+ghost use Rattle.std.specs.Prelude.{◌≡◌, ◌+◌, ◌-◌, ◌<◌, ◌≤◌, Ok, Err, [], ◌∷◌, length, take, drop, ◌++◌, IfOk, IfErr, OnErr, OnOk, IfSome, is_some};
 ghost use Rattle.bay_transport.specs.Frame.{wanted};
 ghost use Rattle.bay_transport.specs.Connect as spec;
 ghost use Rattle.bay_transport.specs.Doings.{Fails, Refuses, effect_of, data_effect, connected, alone, run};
-ghost use Rattle.bay_transport.specs.Assembly.{connection_of, rest_of, left_of, body_of, IsSound, HoldsFrame, HasNoRoom, run_for, FailsWhere, Takes, Reaches};
+ghost use Rattle.bay_transport.specs.Assembly.{connection_of, rest_of, left_of, body_of, IsSound, HoldsFrame, HasNoRoom, run_for, FailsWhere, KeepsShown, Takes, Reaches};
 
 use crate::fault::TransportFault;
 use crate::fed::Got;
@@ -83,6 +83,8 @@ impl Assembly {
             (λ kind. alone (connected
             (spec.connect self.old.number (is_some self.old.size) indicator (body_of self.old)))
             (connection_of self.old) ≡ run_for kind self.new) }
+        ensures shown { IfOk result
+            (λ kind. KeepsShown kind self.old.shown.items self.new.shown.items) }
         ensures err { IfErr result
             (λ fault. FailsWhere fault
             (spec.connect self.old.number (is_some self.old.size) indicator (body_of self.old)
@@ -109,6 +111,8 @@ impl Assembly {
         ensures ok { IfOk result
             (λ kind. alone (data_effect (connection_of self.old) indicator (body_of self.old))
             (connection_of self.old) ≡ run_for kind self.new) }
+        ensures shown { IfOk result
+            (λ kind. KeepsShown kind self.old.shown.items self.new.shown.items) }
         ensures err { IfErr result
             (λ fault. FailsWhere fault
             (data_effect (connection_of self.old) indicator (body_of self.old) ≡ Refuses fault)) }
@@ -139,6 +143,8 @@ impl Assembly {
         ensures ok { IfOk result
             (λ kind. alone (effect_of self.old.number (connection_of self.old) (rest_of self.old))
             (connection_of self.old) ≡ run_for kind self.new) }
+        ensures shown { IfOk result
+            (λ kind. KeepsShown kind self.old.shown.items self.new.shown.items) }
         ensures err { IfErr result
             (λ fault. FailsWhere fault
             (effect_of self.old.number (connection_of self.old) (rest_of self.old)
@@ -181,6 +187,8 @@ impl Assembly {
         ensures sound { OnOk result (IsSound self.new) }
         ensures number { self.new.number ≡ self.old.number }
         ensures ok { IfOk result (λ taken. Takes self.old piece.now taken.0 taken.1 self.new) }
+        ensures shown { IfOk result
+            (λ taken. KeepsShown taken.1 self.old.shown.items self.new.shown.items) }
         ensures err { IfErr result
             (λ fault. FailsWhere fault
             ((run self.old.number (left_of self.old) piece.now).doings ≡ Fails fault ∷ [])) }
@@ -203,9 +211,12 @@ impl Assembly {
         ensures sound { OnOk result (IsSound self.new) }
         ensures number { self.new.number ≡ self.old.number }
         ensures ok { IfOk result (λ taken. Reaches self.old piece.now taken.0 taken.1 self.new) }
+        ensures shown { IfOk result
+            (λ taken. KeepsShown taken.1 self.old.shown.items self.new.shown.items) }
         ensures err { IfErr result
             (λ fault. FailsWhere fault
             ((run self.old.number (left_of self.old) piece.now).doings ≡ Fails fault ∷ [])) }
+        ensures some { OnErr result (0 < length piece.now) }
     {
         let mut used = 0;
         while used < piece.len() {

@@ -1,7 +1,7 @@
 // The fields of a transport: frames are assembled until the connection ends or is refused.
 ghost use Rattle.std.specs.Prelude.{◌≡◌, ◌≤◌, [], IfOk, IfErr, OnErr, length, take};
 ghost use Rattle.bay_transport.specs.Doings.{start, after};
-ghost use Rattle.bay_transport.specs.Assembly.{HasNoRoom};
+ghost use Rattle.bay_transport.specs.Assembly.{HasNoRoom, KeepsShown};
 ghost use Rattle.bay_transport.specs.Feeding.{stream_of, received_of, IsKept, Feeds, RefusesPiece, IsWithinLimits, ended, broken, doing_for};
 
 use crate::assembly::Assembly;
@@ -75,6 +75,9 @@ impl Reader {
         ensures refused { IfErr result
             (λ fault. RefusesPiece (stream_of self.old) piece.now fault) }
         ensures broken { OnErr result (stream_of self.new ≡ broken (stream_of self.old)) }
+        ensures shown { IfOk result
+            (λ fed. KeepsShown fed.got self.old.assembly.shown.items
+            self.new.assembly.shown.items) }
     {
         match self.state {
             ReaderState::Refused => return Err(TransportFault::Failed),

@@ -1,5 +1,6 @@
 // A connection as its user sees it.
 ghost use Rattle.std.specs.Prelude.{◌≡◌, ◌+◌, ◌≤◌, ◌++◌, [], IfOk, IfErr, OnErr, IsSome, IfSome, length, take};
+ghost use Rattle.bay_transport.specs.Assembly.{KeepsShown};
 ghost use Rattle.bay_transport.specs.Doings.{start, after};
 ghost use Rattle.bay_transport.specs.Feeding.{Feeds, RefusesPiece, IsWithinLimits, agreed, ended, broken, doing_for};
 ghost use Rattle.bay_transport.specs.Wrap.{wrapped, Carries};
@@ -49,6 +50,7 @@ impl Transport {
     /// the answer is `Ended` again.
     ///
     /// A refusal is for good: later pieces are answered `Failed`, as they are after want of memory.
+    /// A piece without octets takes no memory.
     /// No more is kept than 70,000 octets of an unfinished TSDU, an unfinished frame (less than
     /// 65,535 octets), and 70,000 octets of what is shown. After an end or a refusal nothing is
     /// kept: the buffers are given back.
@@ -63,6 +65,8 @@ impl Transport {
         ensures after { IfOk result
             (λ fed. self.new.stream ≡ after self.old.stream (take fed.used piece.now)) }
         ensures broken { OnErr result (self.new.stream ≡ broken self.old.stream) }
+        // Where nothing is completed, what was completed last is still shown.
+        ensures shown { IfOk result (λ fed. KeepsShown fed.got self.old.shown self.new.shown) }
         ensures limits { IsWithinLimits self.new }
     {
         self.reader.feed(piece)
@@ -98,7 +102,7 @@ impl Transport {
     /// The data TPDUs in which a TSDU is sent, each in its frame and of at most the size agreed, an
     /// empty TSDU in one of them (X.224 13.7). The octets of the TSDU are those of the front and
     /// then the rest, so that what another layer writes before its user's octets need not be joined
-    /// with them: each octet is copied once, into room that is taken once.
+    /// with them: each octet is copied once.
     ///
     /// The front has at most 125 octets, which is what the smallest data TPDU holds, and the TSDU
     /// at most 70,000.

@@ -1,149 +1,98 @@
-// Runs the command lines that come on standard input, over files of its own folder, and prints each
-// that comes out otherwise than it says, and how many do.
+// Runs the cases of the program that come on standard input, and prints each that comes out
+// otherwise than it says, and how many do. They are scenarios with their reports, and command lines
+// with what they print and leave.
 //
-// The cases are sections, each with a head `== NAME`. `file NAME` and `octets NAME` make a file, of
-// a text or of octets in hexadecimal digits; `input` is what the next commands read. `run STATUS
-// WORDS` is a case: the command of these words prints this text, and ends with this status. Behind
-// it `complaint` is what the last command writes to standard error, `holds NAME` what a file then
-// holds, in hexadecimal digits, and `gone NAME` a file that is not there. `note` is none.
+// The cases are sections, each with a head `== NAME`; `note` is none. Octets are in hexadecimal
+// digits.
+//
+// - `bay`, `frame`, `logic` and `trace` are texts, which stand until another takes their place; the
+//   logic follows the frame, and in the trace `{OCTETS*TIMES}` stands for octets so many times.
+//   `report STATUS [NAME]` is a case: the scenario of these texts ends with this status and this
+//   report.
+// - In `bays` each line is a case, `OLD|NEW -> REPORT`: what becomes of the bay file with one part
+//   replaced.
+// - `eight` is a talk that eight associations have at once, as one alone has it, whole and octet by
+//   octet; `fronts` are messages, of which each front comes to what is complete in it; `hostile`
+//   are octets of a client, each replaced by each other value (`eight`, `fronts` and `hostile` say
+//   how).
+// - `input` and `octets` are what the next commands read, and `input NAME` and `octets NAME` make a
+//   file, of a text or of octets. `run STATUS WORDS` is a case: the command of these words prints
+//   this text, and ends with this status. Behind it `complaint` is what the last command writes to
+//   standard error, `holds NAME` what a file then holds, in octets, and `gone NAME` a file that is
+//   not there.
+// - In `jobs` each line is a case, `WORDS -> JOB`: what a command line asks for.
+//
+// The sections behind `== note examples` are those of examples/, as `tools/examples_stdin` makes
+// them of the examples' files.
 #![tactic(auto)]
 
-use anyhow::{Result, bail};
-use bay_io::reader::WatchedReader;
-use bay_io::writer::WatchedWriter;
-use bay_main::commands::obey;
-use bay_main::ending::Ended;
-use bay_main::files::SystemFiles;
-use bay_main::host::SystemHost;
-use cases::octets::{is_spelled, octets_of};
+mod commands;
+mod eight;
+mod fronts;
+mod hostile;
+mod texts;
+
+use anyhow::{Context, Result};
 use cases::sections::{BETWEEN, head_and_body, sections_of};
-use cases::told::{Told, check_answer, outcome_of};
+use cases::told::Told;
 use cases::words::first_word;
+use commands::{Commands, check_job};
+use eight::check_eight;
+use fronts::check_fronts;
+use hostile::Hostile;
 use std::alloc::Global;
-use std::fs;
 use std::io::Read;
 use std::net::{Net, TcpListener, TcpStream};
-use std::rt::{Files, Runtime};
+use std::rt::Runtime;
+use texts::{Texts, check_changed_bay, check_scenario};
 
-/// What the next commands read, and what the last one complained of.
-#[derive(Drop)]
-struct Before<'a> {
-    alloc: Global,
-    input: &'a str,
-    complaint: String,
-}
-
-/// Does a command, and puts what it prints behind the octets.
-fn ended<R: Runtime<A = Global> + Net<Listener = TcpListener, Stream = TcpStream>>(
-    rt: &R,
-    alloc: Global,
-    words: &[&str],
-    input: &[u8],
-    printed: &mut Vec<u8>,
-) -> Ended {
-    let mut files = SystemFiles::new(rt);
-    let mut host = SystemHost::new(rt);
-    let mut reader = WatchedReader::new(input);
-    let mut writer = WatchedWriter::new(printed);
-    obey(
-        alloc,
-        words,
-        &mut files,
-        &mut host,
-        &mut reader,
-        &mut writer,
-    )
-}
-
-/// The words of a command line.
-fn words_of(alloc: Global, line: &str) -> Result<Vec<&str>> {
-    let mut words = Vec::new(alloc);
-    if !line.is_empty() {
-        for word in line.split(" ") {
-            words.push(word)?;
-        }
-    }
-    Ok(words)
-}
-
-/// Fails where what was printed is not this text, line by line.
-fn check_printed(alloc: Global, printed: &[u8], wanted: &str) -> Result<()> {
-    let line = if wanted.is_empty() { "" } else { "\n" };
-    let wanted = format!(in alloc; "{wanted}{line}")?;
-    if printed != wanted.as_bytes() {
-        bail!("it prints {}", str::from_utf8(printed).unwrap_or("no text"));
+/// The lines of what a command line asks for.
+fn tell_jobs(alloc: Global, told: &mut Told, body: &str) -> Result<()> {
+    for line in body.lines() {
+        let (words, wanted) = line.split_once(" -> ").context("no answer")?;
+        told.tell(line, check_job(alloc, words, wanted))?;
     }
     Ok(())
 }
 
-impl<'a> Before<'a> {
-    /// Whether a command ends with this status, and prints this text.
-    fn runs<R: Runtime<A = Global> + Net<Listener = TcpListener, Stream = TcpStream>>(
-        &mut self,
-        rt: &R,
-        status: &str,
-        line: &str,
-        wanted: &str,
-    ) -> Result<bool> {
-        let words = words_of(self.alloc, line)?;
-        let input = format!(in self.alloc; "{}\n", self.input)?;
-        let mut printed = Vec::new(self.alloc);
-        let ended = ended(
-            rt,
-            self.alloc,
-            words.as_slice(),
-            input.as_bytes(),
-            &mut printed,
-        );
-        self.complaint = String::from_str(self.alloc, ended.complaint())?;
-        if ended.status() != status.parse::<u8>()? {
-            bail!("it ends with {}", ended.status());
-        }
-        check_printed(self.alloc, printed.as_slice(), wanted)?;
-        Ok(true)
-    }
-
-    /// Whether the last command complained so.
-    fn complains(&self, wanted: &str) -> Result<bool> {
-        outcome_of(check_answer(self.complaint.as_str().trim_end(), wanted))
-    }
-
-    /// Whether a file holds these octets.
-    fn holds<R: Files>(&self, rt: &R, name: &str, wanted: &str) -> Result<bool> {
-        let mut octets = Vec::new(self.alloc);
-        fs::open(rt, name)?.read_to_end(&mut octets)?;
-        is_spelled(self.alloc, octets.as_slice(), wanted)
-    }
-
-    /// The case of a section.
-    fn agrees<R: Runtime<A = Global> + Net<Listener = TcpListener, Stream = TcpStream>>(
-        &mut self,
-        rt: &R,
-        head: &str,
-        body: &str,
-    ) -> Result<bool> {
-        let (kind, rest) = first_word(head);
-        match kind {
-            "run" => {
-                let (status, line) = first_word(rest);
-                self.runs(rt, status, line, body)
-            }
-            "complaint" => self.complains(body),
-            "holds" => self.holds(rt, rest, body),
-            "gone" => Ok(fs::open(rt, rest).is_err()),
-            _ => bail!("there is no such section"),
-        }
-    }
-}
-
-/// Makes a file of a text, or of octets in hexadecimal digits.
-fn make_file<R: Files>(rt: &R, alloc: Global, kind: &str, name: &str, body: &str) -> Result<()> {
-    if kind == "octets" {
-        fs::write(rt, name, octets_of(alloc, body)?)?;
-    } else {
-        fs::write(rt, name, format!(in alloc; "{body}\n")?)?;
+/// The lines of changed bay files.
+fn tell_bays(alloc: Global, told: &mut Told, texts: &Texts, body: &str) -> Result<()> {
+    for line in body.lines() {
+        told.tell(line, check_changed_bay(alloc, texts.bay, line))?;
     }
     Ok(())
+}
+
+/// The lines of hostile octets.
+fn tell_hostile(alloc: Global, told: &mut Told, texts: &Texts, body: &str) -> Result<()> {
+    let mut hostile = Hostile::new(alloc);
+    for line in body.lines() {
+        told.tell(line, hostile.check(texts, line))?;
+    }
+    Ok(())
+}
+
+/// The cases of a section that rests on texts alone; whether it is one.
+fn tell_texts(
+    alloc: Global,
+    told: &mut Told,
+    texts: &Texts,
+    head: &str,
+    body: &str,
+) -> Result<bool> {
+    match first_word(head) {
+        ("report", rest) => {
+            let (status, _) = first_word(rest);
+            told.tell(head, check_scenario(alloc, texts, status, body))?;
+        }
+        ("bays", _) => tell_bays(alloc, told, texts, body)?,
+        ("eight", _) => told.tell(head, check_eight(alloc, texts, body))?,
+        ("fronts", _) => told.tell(head, check_fronts(alloc, texts, body))?,
+        ("hostile", _) => tell_hostile(alloc, told, texts, body)?,
+        ("jobs", _) => tell_jobs(alloc, told, body)?,
+        _ => return Ok(false),
+    }
+    Ok(true)
 }
 
 /// What is told of the cases of all sections.
@@ -152,20 +101,21 @@ fn run<R: Runtime<A = Global> + Net<Listener = TcpListener, Stream = TcpStream>>
     alloc: Global,
     text: &str,
 ) -> Result<String> {
-    let mut before = Before {
-        alloc,
-        input: "",
-        complaint: String::new(alloc),
-    };
+    let mut texts = Texts::new();
+    let mut commands = Commands::new(alloc);
     let mut told = Told::new(alloc);
     for section in sections_of(text)?.split(BETWEEN) {
         let (head, body) = head_and_body(section);
         let (kind, rest) = first_word(head);
         match kind {
             "note" => {}
-            "input" => before.input = body,
-            "file" | "octets" => make_file(rt, alloc, kind, rest, body)?,
-            _ => told.tell(head, before.agrees(rt, head, body))?,
+            "bay" => texts.bay = body,
+            "frame" => texts.frame = body,
+            "logic" => texts.logic = body,
+            "trace" => texts.trace = body,
+            "input" | "octets" => commands.make(rt, kind, rest, body)?,
+            _ if tell_texts(alloc, &mut told, &texts, head, body)? => {}
+            _ => told.tell(head, commands.check(rt, kind, rest, body))?,
         }
     }
     told.finish()

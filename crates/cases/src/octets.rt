@@ -1,13 +1,17 @@
 // Octets as cases spell them: in hexadecimal digits, `-` for none; `07*9` is nine times 07, and `+`
 // joins.
-use anyhow::Result;
+use anyhow::{Result, bail};
 use std::alloc::Global;
 
 /// Appends what one part spells: octets, or octets so many times.
 fn append_part(alloc: Global, part: &str, octets: &mut Vec<u8>) -> Result<()> {
     let (digits, times) = part.split_once("*").unwrap_or((part, "1"));
     let piece = hex::decode(alloc, digits)?;
-    for _ in 0..times.parse::<usize>()? {
+    let times = times.parse::<usize>()?;
+    if let [octet] = piece.as_slice() {
+        return Ok(octets.resize(octets.len().saturating_add(times), *octet)?);
+    }
+    for _ in 0..times {
         octets.extend_from_slice(piece.as_slice())?;
     }
     Ok(())
@@ -24,8 +28,11 @@ pub fn octets_of(alloc: Global, word: &str) -> Result<Vec<u8>> {
     Ok(octets)
 }
 
-/// Whether octets are those that a word spells.
-pub fn is_spelled(alloc: Global, octets: &[u8], word: &str) -> Result<bool> {
+/// Fails where octets aren't those that a word spells.
+pub fn check_octets(alloc: Global, found: &[u8], word: &str) -> Result<()> {
     let wanted = octets_of(alloc, word)?;
-    Ok(octets == wanted.as_slice())
+    if found != wanted.as_slice() {
+        bail!("it is {}", hex::encode(alloc, found)?);
+    }
+    Ok(())
 }

@@ -2,18 +2,32 @@
 use anyhow::{Result, bail};
 use std::alloc::Global;
 
-/// Fails where an answer isn't the one that is wanted.
-pub fn check_answer(found: &str, wanted: &str) -> Result<()> {
+/// Fails where a case is not as it says.
+pub fn check(holds: bool) -> Result<()> {
+    if !holds {
+        bail!("it is otherwise");
+    }
+    Ok(())
+}
+
+/// Fails where a text isn't the one that is wanted.
+pub fn check_text(found: &str, wanted: &str) -> Result<()> {
     if found != wanted {
         bail!("it is {found}");
     }
     Ok(())
 }
 
-/// What came of a case that fails where it is not as it says.
-pub fn outcome_of(checked: Result<()>) -> Result<bool> {
-    checked?;
-    Ok(true)
+/// Fails where the lines of a text aren't those that are wanted, and tells the first that differs.
+pub fn check_lines(found: &str, wanted: &str) -> Result<()> {
+    let mut lines = wanted.lines();
+    for line in found.lines() {
+        check_text(line, lines.next().unwrap_or(""))?;
+    }
+    if let Some(line) = lines.next() {
+        bail!("there is no {line}");
+    }
+    Ok(())
 }
 
 /// How many cases there were, how many came out otherwise than they say, and a line for each of
@@ -35,16 +49,13 @@ impl Told {
         }
     }
 
-    /// Tells what came of the case of a line: whether it is as it says, or why it could not be
-    /// looked at.
-    pub fn tell(&mut self, line: &str, outcome: Result<bool>) -> Result<()> {
+    /// Tells what came of the case of a line, which fails where it is not as it says.
+    pub fn tell(&mut self, line: &str, outcome: Result<()>) -> Result<()> {
         self.cases = self.cases.saturating_add(1);
-        match outcome {
-            Ok(true) => return Ok(()),
-            Ok(false) => writeln!(self.text, "not so: {line}")?,
-            Err(error) => writeln!(self.text, "not so: {line}\n    {error}")?,
+        if let Err(error) = outcome {
+            self.differing = self.differing.saturating_add(1);
+            writeln!(self.text, "not so: {line}\n    {error}")?;
         }
-        self.differing = self.differing.saturating_add(1);
         Ok(())
     }
 

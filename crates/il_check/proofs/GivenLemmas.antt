@@ -267,7 +267,7 @@ found c names meant (text.call timer args) =
 -- ---- what being right says
 
 -- an instruction that does not use the result is right on each
-allows_any : (r : Resolved) (t : Option ElementaryType) → uses_result r ≡ false
+pub allows_any : (r : Resolved) (t : Option ElementaryType) → uses_result r ≡ false
     → is_wrong r t ≡ false → allows r elementary.Bool ≡ true
 allows_any r None e ok = not_false _ (right_typed r (Some elementary.Bool) None e ok)
 allows_any r (Some k) e ok = sym (same_for_all r k e) ∙ not_false _ ok
@@ -300,7 +300,7 @@ loaded_some negated None e = absurd (cc)
 loaded_some negated (Some x) e = refl
 
 -- a load that is right leaves an operation
-load_some : (c : Checked) (negated : Bool) (g : Given) → IsGiven c g
+pub load_some : (c : Checked) (negated : Bool) (g : Given) → IsGiven c g
     → allows (Load negated g) elementary.Bool ≡ true
     → is_some (operation_in (Load negated g) None) ≡ true
 load_some c negated Missing given ok = absurd (cc)
@@ -312,7 +312,7 @@ load_some c negated (Number z) given ok =
     loaded_some negated _ (mapped_some (λ v. operand.Literal v) (number_in (own_type z) z)
     (own_fits z given))
 
-combined_some : (operator : Operator) (kind : ElementaryType) (negated : Bool)
+pub combined_some : (operator : Operator) (kind : ElementaryType) (negated : Bool)
     (o : Option TypedOperand) → is_some o ≡ true → is_some (combined operator kind negated o) ≡ true
 combined_some operator kind negated None e = absurd (cc)
 combined_some operator kind negated (Some x) e = refl
@@ -574,7 +574,7 @@ argument_some a e =
     mapped_some (λ o. record { input = a.input; operand = o })
     (operand_in (input_type a.input) a.given) e
 
-arguments_some : (args : GivenArguments) → arguments_fit args ≡ true
+pub arguments_some : (args : GivenArguments) → arguments_fit args ≡ true
     → is_some (arguments_in args) ≡ true
 arguments_some arguments.None e = refl
 arguments_some (arguments.One a) e = one_some (typed_argument a) (argument_some a e)

@@ -5,6 +5,7 @@ pub mod DeclaredLemmas
 pub mod EntryLemmas
 pub mod FaultlessLemmas
 pub mod GivenLemmas
+pub mod KeepingLemmas
 pub mod LabelLemmas
 pub mod LabellingLemmas
 pub mod LeastLemmas

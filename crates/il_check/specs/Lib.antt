@@ -9,6 +9,7 @@ pub mod Contents
 pub mod Declaring
 pub mod Faults
 pub mod Given
+pub mod Keeping
 pub mod Labelling
 pub mod OwnPlaces
 pub mod Program

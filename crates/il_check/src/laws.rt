@@ -1,11 +1,14 @@
 // Laws of the definitions. Each function does nothing, and its contract is the law.
-ghost use Rattle.std.specs.Prelude.{◌≡◌, ◌↔◌, ◌++◌, [], List, Ok, Option, Some};
+ghost use Rattle.std.specs.Prelude.{◌≡◌, ◌↔◌, ◌++◌, [], true, List, Ok, Option, Some};
+ghost use Rattle.std.specs.List.{list_all};
 ghost use Rattle.bay_base.specs.declared.types.ElementaryType.{ElementaryType};
 ghost use Rattle.bay_config.specs.declared.bay.Point.{Point};
+ghost use Rattle.il_text.specs.Grammar.{is_outer};
 ghost use Rattle.il_text.specs.Listing as text;
 ghost use Rattle.il_check.specs.Checking.{checked_of, initial_standing};
 ghost use Rattle.il_check.specs.Declaring.{names_in};
 ghost use Rattle.il_check.specs.Faults.{IsLeast, least_fault};
+ghost use Rattle.il_check.specs.Keeping.{Keeps};
 ghost use Rattle.il_check.specs.Labelling.{Becomes, Flows, IsWellTyped, Labelling, beginning, behind_all, coming_behind};
 ghost use Rattle.il_check.specs.OwnPlaces.{MeanOwnPlaces};
 ghost use Rattle.il_check.specs.Program.{Checked};
@@ -54,4 +57,13 @@ pub fn a_name_means_its_own_place()
     ensures { (points : List Point) (program : text.PlainProgram) (c : Checked)
         → checked_of points program ≡ Ok c
         → MeanOwnPlaces (names_in points program) c program.items }
+{}
+
+/// A right program keeps all that it says: what is left of a program of the grammar, with its
+/// places put back into names, is its declarations and its items, each in its order, with the same
+/// operators, modifiers, operands and nesting. An external is the point of its name.
+pub fn a_right_program_keeps_all_that_it_says()
+    ensures { (points : List Point) (program : text.PlainProgram) (c : Checked)
+        → checked_of points program ≡ Ok c → list_all is_outer program.items ≡ true
+        → Keeps points program c }
 {}

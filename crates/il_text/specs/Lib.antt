@@ -18,6 +18,7 @@ pub mod Symbols
 pub mod Texts
 pub mod Tokens
 pub mod Views
+pub mod Words
 -- Inner ones, which private functions, invariants and proofs cite, and no public clause.
 pub mod Declaring
 pub mod Durations
@@ -26,4 +27,3 @@ pub mod ListingViews
 pub mod ReaderViews
 pub mod Runs
 pub mod TokenViews
-pub mod Words

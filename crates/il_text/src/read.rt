@@ -1,5 +1,5 @@
 // Reads a program from a text.
-ghost use Rattle.std.specs.Prelude.{◌≡◌, ◌≢◌, ◌<◌, ◌≤◌, ◌+◌, true, false, drop, length, Ok, Err, OnOk, IfOk, IfErr};
+ghost use Rattle.std.specs.Prelude.{◌≡◌, ◌≢◌, ◌<◌, ◌≤◌, ◌+◌, true, false, drop, length, Ok, Err, OnOk, IfOk, IfErr, IsErrOf};
 ghost use Rattle.il_text.specs.Grammar.{rises, item_lines};
 ghost use Rattle.il_text.specs.ListingViews.{reached_of};
 ghost use Rattle.il_text.specs.Pieces.{opens as starts_comment};
@@ -36,14 +36,18 @@ struct Reader<'a> {
 /// Reads a program in Instruction List (IEC 61131-3:2003, 3.2 and annex B.2.1). The first faulty
 /// line is the refusal; within a line a bad token or literal comes before a bad line, and the
 /// leftmost of those before the others, then a bad line, then a parenthesis too deep, then a line
-/// too many. A text that ends early is a bad line at its last line. The lines of the items never
-/// fall.
+/// too many. A text that ends early is a bad line at its last line; an empty text takes no memory.
+/// The lines of the items never fall.
 pub fn read_program<'a>(alloc: Global, text: &'a str) -> Result<Program<'a>, TextFault>
     ensures ok { IfOk result (λ program. ReadsAs text.now (Ok (plain_program program))) }
     ensures refused { IfErr result (λ fault. fault ≢ OutOfMemory → ReadsAs text.now (Err fault)) }
     ensures lines { IfOk result
         (λ program. rises 0 (item_lines (plain_program program).items) ≡ true) }
+    ensures memory { IsErrOf result OutOfMemory → 0 < length text.now }
 {
+    if text.is_empty() {
+        return Err(TextFault::BadLine { line: 1 });
+    }
     let program = read_lines(alloc, text)?;
     Ok(program)
 }

@@ -4,8 +4,8 @@ use Rattle.toml.specs.View.{view, table_view, items_view}
 use Rattle.bay_config.specs.Bay.{section_name}
 use Rattle.bay_config.proofs.names.names_at.Goals as goal
 
-pub returns-in-Some-as_array : goal.returns-in-Some-as_array
-returns-in-Some-as_array c =
+pub returns-in-Some-as_array-clause-names : goal.returns-in-Some-as_array-clause-names
+returns-in-Some-as_array-clause-names c =
     let f = table_view c.args.file.now in
     let at : get_member (section_name c.args.which) f ≡ Some (view c.in-Some.value.now) =
     ap (λ k. get_member k f) (sym c.name.ensures) ∙ sym c.in-Some.ensures in

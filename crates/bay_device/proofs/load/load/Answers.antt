@@ -1,7 +1,7 @@
 use Rattle.bay_config.specs.Bay.{bay_of}
 use Rattle.il_text.specs.Reading.{program_of}
 use Rattle.bay_device.proofs.AcceptLemmas.{accepted-ok, refused-err}
-use Rattle.bay_device.proofs.IdleLemmas.{text-idle, text-timed}
+use Rattle.bay_device.proofs.IdleLemmas.{loaded-idle, text-loaded, text-timed}
 use Rattle.bay_device.proofs.TravelLemmas.{bay-travels}
 use Rattle.bay_device.proofs.load.load.Goals as goal
 
@@ -13,10 +13,13 @@ pub returns-clause-refused : goal.returns-clause-refused
 returns-clause-refused c =
     refused-err c.args.bay.now c.args.logic.now c.load_texts.result c.load_texts.ensures.device
 
-pub returns-clause-idle : goal.returns-clause-idle
-returns-clause-idle c =
-    text-idle (bay_of c.args.bay.now) (program_of c.args.logic.now) c.load_texts.result
+pub returns-clause-loaded : goal.returns-clause-loaded
+returns-clause-loaded c =
+    text-loaded (bay_of c.args.bay.now) (program_of c.args.logic.now) c.load_texts.result
     c.load_texts.ensures.device
+
+pub returns-clause-idle : goal.returns-clause-idle
+returns-clause-idle c = loaded-idle c.load_texts.result (returns-clause-loaded c)
 
 pub returns-clause-timed : goal.returns-clause-timed
 returns-clause-timed c =

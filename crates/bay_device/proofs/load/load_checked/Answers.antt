@@ -15,7 +15,7 @@ use Rattle.bay_device.proofs.load.load_checked.Goals as goal
 
 pub returns-in_err-verified-clause-device : goal.returns-in_err-verified-clause-device
 returns-in_err-verified-clause-device c =
-    let bay = c.args.bay in
+    let bay = c.args.bay.value in
     let program : Checked = checked_view c.args.typed in
     let fits : IsVerified bay.points c.in_ok-image.image =
     verified bay.points c.requires.checked.0 program c.requires.checked.1
@@ -24,14 +24,14 @@ returns-in_err-verified-clause-device c =
     let p = err_from_is_err_and c.from_residual-in_err-verified.result
     c.from_residual-in_err-verified.ensures.1 in
     rw (p.1, p.2)
-    (inl (only-memory _ (λ m. c.in_err-verified.ensures.exact m (rw c.as_slice.ensures fits))))
+    (inl (only-memory _ (λ m. c.in_err-verified.ensures.exact m (rw (c.as_slice.ensures, c.deref.ensures) fits))))
 
 pub returns-clause-runs : goal.returns-clause-runs
 returns-clause-runs c =
-    let bay = c.args.bay in
+    let bay = c.args.bay.value in
     let program : Checked = checked_view c.args.typed in
     let is = image-is program c.in_ok-image.image c.in_ok-image.ensures.image in
-    let fits = rw c.as_slice.ensures at c.in_ok-verified.ensures.accepted in
+    let fits = rw (c.as_slice.ensures, c.deref.ensures) at c.in_ok-verified.ensures.accepted in
     let first =
     runs-first program bay c.requires.bay
     (subst (λ (i : Image). IsVerified bay.points i) is fits)

@@ -1,15 +1,19 @@
 use Rattle.il_image.specs.Decoding.{decoded}
-use Rattle.bay_device.proofs.IdleLemmas.{image-idle, image-timed}
+use Rattle.bay_device.proofs.IdleLemmas.{image-loaded, image-timed, loaded-idle}
 use Rattle.bay_device.proofs.TravelLemmas.{bay-travels}
 use Rattle.bay_device.proofs.load.load_image.Goals as goal
 
-pub returns-clause-idle : goal.returns-clause-idle
-returns-clause-idle c =
-    image-idle c.in_ok-read.read (decoded c.args.image.now) c.load_octets.result
+pub returns-clause-loaded : goal.returns-clause-loaded
+returns-clause-loaded c =
+    image-loaded c.in_ok-boxed.boxed.value (decoded c.args.image.now) c.load_octets.result
     c.load_octets.ensures.ok
+
+pub returns-clause-idle : goal.returns-clause-idle
+returns-clause-idle c = loaded-idle c.load_octets.result (returns-clause-loaded c)
 
 pub returns-clause-timed : goal.returns-clause-timed
 returns-clause-timed c =
-    image-timed c.in_ok-read.read (decoded c.args.image.now) c.load_octets.result
-    (bay-travels c.args.bay.now c.in_ok-read.read c.in_ok-read.ensures.read)
+    image-timed c.in_ok-boxed.boxed.value (decoded c.args.image.now) c.load_octets.result
+    (rw c.in_ok-boxed.ensures.ok
+    (bay-travels c.args.bay.now c.in_ok-read.read c.in_ok-read.ensures.read))
     c.load_octets.ensures.ok

@@ -1,15 +1,36 @@
 use Rattle.std.proofs.Common.{arith}
-use Rattle.bay_io.proofs.ReadLemmas.{read_whole, read_too_much}
+use Rattle.bay_io.proofs.ReadLemmas.{HasRead-end, HasRead-few, HasRead-over, HasRead-step}
 use Rattle.bay_io.proofs.input.read_all.Goals as goal
 
-pub returns-in-Ok-eq0-clause-ok : goal.returns-in-Ok-eq0-clause-ok
-returns-in-Ok-eq0-clause-ok g c =
+pub returns-then-is_whole-clause-ok : goal.returns-then-is_whole-clause-ok
+returns-then-is_whole-clause-ok g c =
     let e = c.in-Ok-eq0.ensures in
-    read_whole _ _ _ _ _ _ c.loop-turn.invariant.read e.bytes.0 c.in-Ok-eq0.field-0-test
-    (e.bytes.1 c.in-Ok-eq0.field-0-test (omega arith))
+    HasRead-end _ _ _ _ _ _ _ _ c.loop-turn.invariant.read e.bytes.0 c.in-Ok-eq0.field-0-test
+    (e.bytes.1 c.in-Ok-eq0.field-0-test (omega arith)) c.if-is_whole.true
 
-pub returns-then-limit-len-clause-too_long : goal.returns-then-limit-len-clause-too_long
-returns-then-limit-len-clause-too_long g c =
+pub returns-in-Ok-eq0-clause-memory : goal.returns-in-Ok-eq0-clause-memory
+returns-in-Ok-eq0-clause-memory g c =
+    let e = c.in-Ok-eq0.ensures in
+    λ _. HasRead-few _ _ _ _ _ _ _ _ c.loop-turn.invariant.read e.bytes.0 c.args.limit
+    c.in-Ok-eq0.field-0-test (e.bytes.1 c.in-Ok-eq0.field-0-test (omega arith))
+    c.loop-turn.invariant.within
+
+pub returns-then-limit-count-clause-too_long : goal.returns-then-limit-count-clause-too_long
+returns-then-limit-count-clause-too_long g c =
     let e = c.in-Ok.ensures in
-    λ _. read_too_much _ _ _ _ _ _ _ c.loop-turn.invariant.read e.bytes.0 (omega arith)
-    (omega (arith, c.loop-turn.all.ok.0))
+    λ _. HasRead-over _ _ _ _ _ _ _ _ c.loop-turn.invariant.read e.bytes.0 c.args.limit
+    (omega arith) (omega arith)
+
+pub loop-turn-preserved : goal.loop-turn-preserved
+loop-turn-preserved g c =
+    let e = c.in-Ok.ensures in
+    record {
+      within = omega arith;
+      at_least = omega arith;
+      read =
+          HasRead-step _ _ _ _ _ _ _ _ c.loop-turn.invariant.read e.bytes.0
+          c.keep-is_whole.result _ (omega arith) c.keep-is_whole.ensures;
+      counted = omega arith;
+      quiet = rw c.loop-turn.invariant.quiet at e.failed;
+      sized = omega arith;
+    }

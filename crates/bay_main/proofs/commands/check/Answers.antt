@@ -1,9 +1,9 @@
 use Rattle.std.proofs.Common.{Ok, Err}
 use Rattle.bay_main.specs.Commands.{FilesReport}
-use Rattle.bay_main.specs.Files.{FilesData}
-use Rattle.bay_main.specs.Report.{CheckReport}
-use Rattle.bay_main.specs.Serve.{UnreadReport}
-use Rattle.bay_main.proofs.ReportLemmas.{Prints-weaker}
+use Rattle.bay_files.specs.Files.{FilesData}
+use Rattle.bay_main.specs.Check.{CheckReport}
+use Rattle.bay_report.specs.Report.{UnreadReport}
+use Rattle.bay_report.proofs.ReportLemmas.{Prints-weaker}
 use Rattle.bay_main.proofs.commands.check.Goals as goal
 
 pub returns-in-Ok : goal.returns-in-Ok

@@ -1,5 +1,5 @@
 use Rattle.std.proofs.Common.{Ok, Err, inr, refl}
-use Rattle.bay_main.specs.Files.{FilesData}
+use Rattle.bay_files.specs.Files.{FilesData}
 use Rattle.bay_main.proofs.commands.compile.Goals as goal
 
 pub returns-in-Ok : goal.returns-in-Ok

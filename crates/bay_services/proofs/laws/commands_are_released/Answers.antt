@@ -1,5 +1,9 @@
+use Rattle.bay_services.proofs.OperateLemmas.{answer-operates}
 use Rattle.bay_services.proofs.ReleaseLemmas.{commands-are, one-command, request-leaves}
 use Rattle.bay_services.proofs.laws.commands_are_released.Goals as goal
+
+pub returns-clause-operated : goal.returns-clause-operated
+returns-clause-operated c = answer-operates
 
 pub returns-clause-released : goal.returns-clause-released
 returns-clause-released c = commands-are

@@ -14,10 +14,10 @@ returns c =
     let now = c.args.now in
     let a = c.args.association in
     let inside = c.self.inside in
-    let cs = inside.connections in
-    let s : State = state_view cs inside.state in
+    let cs = inside.connections.value in
+    let s : State = state_view cs inside.state.value in
     let here : place_of a ≡ Some c.in-Some.place = sym c.place_of.ensures.value ∙ c.in-Some.is in
-    let talk = opened _ (sym c.is_open.ensures ∙ c.if-not-is_open.false) in
+    let talk = opened _ (sym (rw c.deref.ensures at c.is_open.ensures) ∙ c.if-not-is_open.false) in
     let some : connection_at (place_of a) s ≡ Some talk.0 =
     ap (λ (o : Option ℕ). connection_at o s) here ∙ talk.1 in
     let whole = ap (close_outcome now a s) some in
@@ -27,8 +27,8 @@ returns c =
     (record {
       answered =
           ap (λ (x : Step). let r : Result Step StepFault = Ok x in r) c.quiet.ensures
-          ∙ ap (λ (o : Option Sent). quiet_answer (Ok o)) (c.advance-ended.ensures.sent cs)
+          ∙ ap (λ (o : Option Sent). quiet_answer (Ok o)) (rw c.deref_mut.ensures.value at c.advance-ended.ensures.sent cs)
           ∙ sym (ap (λ (o : Outcome). o.answer) whole);
-      left = c.drop_connection.ensures ∙ ap (closed a) (c.advance-ended.ensures.after cs)
+      left = c.drop_connection.ensures ∙ ap (closed a) (rw c.deref_mut.ensures.value at c.advance-ended.ensures.after cs)
           ∙ sym (ap (λ (o : Outcome). o.after) whole);
     })

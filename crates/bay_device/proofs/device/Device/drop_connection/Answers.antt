@@ -8,8 +8,8 @@ pub returns : goal.returns
 returns c =
     let a = c.args.association in
     let inside = c.self.inside in
-    ap (λ (cs : List (Option Talk)). state_view cs c.drop_owner.new.self) c.put.ensures
-    ∙ ap (with_connection (Some c.args.place) None) (c.drop_owner.ensures inside.connections)
+    ap (λ (cs : List (Option Talk)). state_view cs c.drop_owner.new.self) (rw c.deref_mut.ensures.value at c.put.ensures)
+    ∙ ap (with_connection (Some c.args.place) None) (rw c.deref_mut-2.ensures.value at c.drop_owner.ensures inside.connections.value)
     ∙ sym (ap (λ (o : Option ℕ). with_connection o None
-    (without_owner a (state_view inside.connections inside.state))) c.requires)
+    (without_owner a (state_view inside.connections.value inside.state.value))) c.requires)
     ∙ ap (closed a) c.self.view_is

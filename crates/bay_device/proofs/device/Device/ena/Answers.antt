@@ -5,5 +5,5 @@ use Rattle.bay_device.proofs.device.Device.ena.Goals as goal
 
 pub returns : goal.returns
 returns c =
-    c.ena.ensures c.self.inside.connections
+    (rw c.deref.ensures at c.ena.ensures c.self.inside.connections.value)
     ∙ ap (λ (s : State). enabled_of s c.args.switch) c.self.view_is

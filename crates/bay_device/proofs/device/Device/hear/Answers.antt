@@ -20,8 +20,8 @@ returns c talk is_open =
     let place = c.args.place in
     let octets = c.args.octets.now in
     let inside = c.self.inside in
-    let cs = inside.connections in
-    let s : State = state_view cs inside.state in
+    let cs = inside.connections.value in
+    let s : State = state_view cs inside.state.value in
     let t : State = state_view cs c.drain.new.state in
     let own = c.in-Some.connection.talk in
     let why = result_err c.drain.result in
@@ -33,13 +33,14 @@ returns c talk is_open =
     ap (λ (o : Option ℕ). connection_at o s) c.requires.here in
     let same : own ≡ talk =
     same-talk own talk (connection_at (place_of a) s)
-    (sym (ap talk_in c.in-Some.is) ∙ c.take.ensures.value ∙ sym at) here in
+    (sym (ap talk_in c.in-Some.is) ∙ (rw c.deref_mut.ensures.value at c.take.ensures.value) ∙ sym at) here in
     let comes : ComesTo now a own octets (done_of s c.new-made.result) why
     (done_of t c.drain.new.made) =
     ended-at c.drain.result (λ (xs : List (Option Talk)) (w : Option Why). ComesTo now a own octets
-    (done_of (state_view xs inside.state) c.new-made.result) w
+    (done_of (state_view xs inside.state.value) c.new-made.result) w
     (done_of (state_view xs c.drain.new.state) c.drain.new.made))
-    c.drain.ensures.ok c.drain.ensures.err cs in
+    (rw c.deref_mut-2.ensures.value at c.drain.ensures.ok)
+    (rw c.deref_mut-2.ensures.value at c.drain.ensures.err) cs in
     let wanted : ComesTo now a talk octets (nothing_done s) why (done_of t c.drain.new.made) =
     subst (λ (u : Talk). ComesTo now a u octets (nothing_done s) why (done_of t c.drain.new.made))
     same
@@ -50,7 +51,7 @@ returns c talk is_open =
     ∙ ap (λ (w : Option Why). recv_after a c.drain.new.connection.talk
     (state_view c.take.new.self c.drain.new.state) w) c.err-why.ensures.value
     ∙ ap (λ (xs : List (Option Talk)). recv_after a c.drain.new.connection.talk
-    (state_view xs c.drain.new.state) why) c.take.ensures.rest
+    (state_view xs c.drain.new.state) why) (rw c.deref_mut.ensures.value at c.take.ensures.rest)
     ∙ after-taken a place t c.drain.new.connection.talk why c.requires.here
     ∙ left-if c.drain.result a t c.drain.new.connection.talk (left_by own octets)
     c.drain.ensures.left

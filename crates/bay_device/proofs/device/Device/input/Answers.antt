@@ -5,5 +5,5 @@ use Rattle.bay_device.proofs.device.Device.input.Goals as goal
 
 pub returns : goal.returns
 returns c =
-    c.input_place.ensures c.self.inside.connections
+    (rw c.deref.ensures at c.input_place.ensures c.self.inside.connections.value)
     ∙ ap (λ (s : State). input_place s c.args.name.now) c.self.view_is

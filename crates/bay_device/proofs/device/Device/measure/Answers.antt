@@ -13,12 +13,13 @@ pub returns-in_err-ended : goal.returns-in_err-ended
 returns-in_err-ended c =
     let inside = c.self.inside in
     let fits = c.ranges.value in
-    let quiet = simp to_z-of_z at c.measure.ensures inside.connections in
+    let quiet = rw c.deref_mut.ensures.value at
+    (simp to_z-of_z at c.measure.ensures inside.connections.value) in
     let p = err_from_is_err_and c.from_residual.result c.from_residual.ensures.1 in
     subst (λ (t : State). IsOutcome
     (measure_outcome c.args.now c.args.meter c.args.field c.args.value t
     (slice_get t.meters c.args.meter)) c.from_residual.result
-    (state_view inside.connections c.measure.new.self)) c.self.view_is
+    (state_view inside.connections.value c.measure.new.self)) c.self.view_is
     (record {
       answered = rw (p.1, p.2) (sym (ap quiet_answer c.in_err-ended.was) ∙ quiet.answered);
       left = quiet.left;
@@ -28,11 +29,12 @@ pub returns : goal.returns
 returns c =
     let inside = c.self.inside in
     let fits = c.ranges.value in
-    let quiet = simp to_z-of_z at c.measure.ensures inside.connections in
+    let quiet = rw c.deref_mut.ensures.value at
+    (simp to_z-of_z at c.measure.ensures inside.connections.value) in
     subst (λ (t : State). IsOutcome
     (measure_outcome c.args.now c.args.meter c.args.field c.args.value t
     (slice_get t.meters c.args.meter)) (let r : Result Step StepFault = Ok c.quiet.result in r)
-    (state_view inside.connections c.measure.new.self)) c.self.view_is
+    (state_view inside.connections.value c.measure.new.self)) c.self.view_is
     (record {
       answered =
           ap (λ (x : Step). let r : Result Step StepFault = Ok x in r) c.quiet.ensures

@@ -5,5 +5,5 @@ use Rattle.bay_device.proofs.device.Device.meter.Goals as goal
 
 pub returns : goal.returns
 returns c =
-    c.meter_place.ensures c.self.inside.connections
+    (rw c.deref.ensures at c.meter_place.ensures c.self.inside.connections.value)
     ∙ ap (λ (s : State). meter_place s c.args.id.now) c.self.view_is

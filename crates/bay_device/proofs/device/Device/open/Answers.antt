@@ -16,13 +16,13 @@ returns c =
     let now = c.args.now in
     let a = c.args.association in
     let inside = c.self.inside in
-    let cs = inside.connections in
+    let cs = inside.connections.value in
     let place = c.in-Some.place in
-    let s : State = state_view cs inside.state in
+    let s : State = state_view cs inside.state.value in
     let here : place_of a ≡ Some place = sym c.place_of.ensures.value ∙ c.in-Some.is in
     let none : connection_at (place_of a) s ≡ None =
     ap (λ (o : Option ℕ). connection_at o s) here
-    ∙ not-opened _ (sym c.is_open.ensures ∙ c.if-is_open.false) in
+    ∙ not-opened _ (sym (rw c.deref.ensures at c.is_open.ensures) ∙ c.if-is_open.false) in
     let whole =
     ap (λ (o : Option ℕ). open_outcome now a s o (connection_at (place_of a) s)) here
     ∙ ap (open_outcome now a s (Some place)) none in
@@ -33,13 +33,13 @@ returns c =
     (record {
       answered =
           ap (λ (x : Step). let r : Result Step StepFault = Ok x in r) c.quiet.ensures
-          ∙ ap (λ (o : Option Sent). quiet_answer (Ok o)) (c.advance-ended.ensures.sent cs)
+          ∙ ap (λ (o : Option Sent). quiet_answer (Ok o)) (rw c.deref_mut.ensures.value at c.advance-ended.ensures.sent cs)
           ∙ sym (ap (λ (o : Outcome). o.answer) whole);
       left = ap (λ (xs : List (Option Talk)). state_view xs c.advance-ended.new.self)
-          (c.put.ensures ∙ ap (λ (x : Client). slice_set cs place (Some x.talk))
+          ((rw c.deref_mut-2.ensures.value at c.put.ensures) ∙ ap (λ (x : Client). slice_set cs place (Some x.talk))
           c.new-connection.ensures)
           ∙ ap (with_connection (Some place) (Some (first_talk a)))
-          (c.advance-ended.ensures.after cs)
+          (rw c.deref_mut.ensures.value at c.advance-ended.ensures.after cs)
           ∙ sym (ap (λ (o : Option ℕ). with_connection o (Some (first_talk a)) (advanced now s))
           here)
           ∙ sym (ap (λ (o : Outcome). o.after) whole);

@@ -16,10 +16,10 @@ returns-then-is_empty c =
     let a = c.args.association in
     let octets = c.args.octets.now in
     let inside = c.self.inside in
-    let cs = inside.connections in
-    let s : State = state_view cs inside.state in
+    let cs = inside.connections.value in
+    let s : State = state_view cs inside.state.value in
     let here : place_of a ≡ Some c.in-Some.place = sym c.place_of.ensures.value ∙ c.in-Some.is in
-    let talk = opened _ (sym c.is_open.ensures ∙ c.if-not-is_open.false) in
+    let talk = opened _ (sym (rw c.deref.ensures at c.is_open.ensures) ∙ c.if-not-is_open.false) in
     let some : connection_at (place_of a) s ≡ Some talk.0 =
     ap (λ (o : Option ℕ). connection_at o s) here ∙ talk.1 in
     let none : octets ≡ [] =
@@ -27,11 +27,11 @@ returns-then-is_empty c =
     let told : Option Sent → Result Step StepFault = λ o. quiet_answer (Ok o) in
     let whole : Receives now a [] s (told (ended_at now s)) (advanced now s) =
     received-none now a s talk.0 some in
-    let new = c.advance-ended.ensures.after cs in
+    let new = rw c.deref_mut.ensures.value at c.advance-ended.ensures.after cs in
     let answered : (let r : Result Step StepFault = Ok c.quiet.result in r)
     ≡ told (ended_at now s) =
     ap (λ (x : Step). let r : Result Step StepFault = Ok x in r) c.quiet.ensures
-    ∙ ap told (c.advance-ended.ensures.sent cs) in
+    ∙ ap told (rw c.deref_mut.ensures.value at c.advance-ended.ensures.sent cs) in
     subst (λ (t : State). Receives now a octets t (Ok c.quiet.result)
     (state_view cs c.advance-ended.new.self)) c.self.view_is
     (subst (λ xs. Receives now a xs s (Ok c.quiet.result) (state_view cs c.advance-ended.new.self))
@@ -46,15 +46,15 @@ returns c =
     let a = c.args.association in
     let octets = c.args.octets.now in
     let inside = c.self.inside in
-    let cs = inside.connections in
-    let s : State = state_view cs inside.state in
+    let cs = inside.connections.value in
+    let s : State = state_view cs inside.state.value in
     let here : place_of a ≡ Some c.in-Some.place = sym c.place_of.ensures.value ∙ c.in-Some.is in
-    let talk = opened _ (sym c.is_open.ensures ∙ c.if-not-is_open.false) in
+    let talk = opened _ (sym (rw c.deref.ensures at c.is_open.ensures) ∙ c.if-not-is_open.false) in
     let some : connection_at (place_of a) s ≡ Some talk.0 =
     ap (λ (o : Option ℕ). connection_at o s) here ∙ talk.1 in
     let lent : 0 < length octets =
     grind (arith, nat_tests, c.is_empty.ensures, c.if-is_empty.false) in
-    let after = c.advance-ended.ensures.after cs in
+    let after = rw c.deref_mut.ensures.value at c.advance-ended.ensures.after cs in
     let still : connection_at (place_of a) (state_view cs c.advance-ended.new.self) ≡ Some talk.0 =
     ap (λ (o : Option ℕ). connection_at o (state_view cs c.advance-ended.new.self)) here
     ∙ talk.1 in
@@ -62,7 +62,7 @@ returns c =
     let own : HearsFrom now a octets (ended_at now s) (advanced now s) talk.0 c.hear.result
     c.hear.new.self =
     subst (λ (o : Option Sent). HearsFrom now a octets o (advanced now s) talk.0 c.hear.result
-    c.hear.new.self) (c.advance-ended.ensures.sent cs)
+    c.hear.new.self) (rw c.deref_mut.ensures.value at c.advance-ended.ensures.sent cs)
     (subst (λ (t : State). HearsFrom now a octets c.advance-ended.result t talk.0 c.hear.result
     c.hear.new.self) after heard) in
     subst (λ (t : State). Receives now a octets t (Ok c.hear.result) c.hear.new.self) c.self.view_is

@@ -13,7 +13,9 @@ use Rattle.bay_device.specs.declared.event.Event.{Event}
 use Rattle.bay_device.specs.declared.event.Event.TheVariants.{Open}
 use Rattle.bay_device.proofs.CommandLemmas.{all-commanded, all-single, all-timed}
 use Rattle.bay_device.proofs.EntryLemmas.{all-are-backed}
+use Rattle.bay_device.proofs.FreshLemmas.{all-fresh}
 use Rattle.bay_device.proofs.MeaningLemmas.{all-mean, all-run}
+use Rattle.bay_device.proofs.OperateLemmas.{all-operate-idle}
 use Rattle.bay_device.proofs.RunLemmas.{leads-none, leads-step, runs-all}
 use Rattle.bay_device.proofs.ToldLemmas.{told-backed}
 use Rattle.bay_device.proofs.device.Device.run.Goals as goal
@@ -29,6 +31,10 @@ returns-in_err-answers-clause-commanded c choices =
 pub returns-in_err-answers-clause-backed : goal.returns-in_err-answers-clause-backed
 returns-in_err-answers-clause-backed c none choices =
     all-are-backed choices c.args.events.now c.args.self.now c.has_places.ensures none
+
+pub returns-in_err-answers-clause-fresh : goal.returns-in_err-answers-clause-fresh
+returns-in_err-answers-clause-fresh c past came choices =
+    all-fresh past choices c.args.events.now c.args.self.now came
 
 pub loop-now-init : goal.loop-now-init
 loop-now-init c = record {
@@ -102,3 +108,13 @@ returns-clause-told c idle =
     let done = returns-clause-ok c in
     told-backed done.steps.choices c.args.events.now c.args.self.now c.loop-now.answers.items
     c.has_places.ensures idle done.steps.answered
+
+pub returns-clause-fresh : goal.returns-clause-fresh
+returns-clause-fresh c past came choices =
+    all-fresh past choices c.args.events.now c.args.self.now came
+
+pub returns-clause-operates : goal.returns-clause-operates
+returns-clause-operates c idle =
+    let done = returns-clause-ok c in
+    all-operate-idle done.steps.choices c.args.events.now c.args.self.now c.loop-now.answers.items
+    idle done.steps.answered

@@ -24,29 +24,30 @@ pub returns-clause-gives : goal.returns-clause-gives
 returns-clause-gives c =
     let now = c.args.now in
     let inside = c.self.inside in
-    let cs = inside.connections in
-    let s : State = state_view cs inside.state in
+    let cs = inside.connections.value in
+    let s : State = state_view cs inside.state.value in
     let new : State = state_view cs c.scan-steps.new.self in
-    let after = c.advance-ended.ensures.after cs in
+    let after = rw c.deref_mut.ensures.value at c.advance-ended.ensures.after cs in
     subst (λ (t : State). IsOutcome (scan_outcome now t)
     (told c.advance-ended.result c.new-2.result c.new-4.result c.scan-steps.result) new)
     c.self.view_is
     (record {
       answered =
           ap (λ (o : Option Sent). told o c.new-2.result c.new-4.result c.scan-steps.result)
-          (c.advance-ended.ensures.sent cs)
+          (rw c.deref_mut.ensures.value at c.advance-ended.ensures.sent cs)
           ∙ ap (λ (xs : List Sent). told (ended_at now s) xs c.new-4.result c.scan-steps.result)
           (c.new-2.ensures ∙ c.new.ensures.items)
           ∙ ap (λ (xs : List Command). told (ended_at now s) [] xs c.scan-steps.result)
           (c.new-4.ensures ∙ c.new-3.ensures.items)
           ∙ ap (told (ended_at now s) [] [])
-          (c.scan-steps.ensures.steps cs ∙ ap (λ (t : State). (ran_at now t).steps) after);
-      left = c.scan-steps.ensures.after cs ∙ ap (scanned now) after;
+          ((rw c.deref_mut-2.ensures.value at c.scan-steps.ensures.steps cs) ∙ ap (λ (t : State). (ran_at now t).steps) after);
+      left = (rw c.deref_mut-2.ensures.value at c.scan-steps.ensures.after cs) ∙ ap (scanned now) after;
     })
 
 pub returns-clause-halts : goal.returns-clause-halts
 returns-clause-halts c =
     let now = c.args.now in
-    let cs = c.self.inside.connections in
+    let cs = c.self.inside.connections.value in
     subst (λ (t : State). Halts now (advanced now t)) c.self.view_is
-    (subst (Halts now) (c.advance-ended.ensures.after cs) (c.scan-steps.ensures.halts cs))
+    (subst (Halts now) (rw c.deref_mut.ensures.value at c.advance-ended.ensures.after cs)
+    (rw c.deref_mut-2.ensures.value at c.scan-steps.ensures.halts cs))

@@ -3,11 +3,14 @@ use Rattle.bay_services.specs.Released.{AreTimed}
 use Rattle.bay_device.specs.Commands.{AreCommanded, IsSingle}
 use Rattle.bay_device.specs.Device.{State}
 use Rattle.bay_device.specs.Meaning.{Runs}
+use Rattle.bay_device.specs.Operates.{AreOperates}
 use Rattle.bay_device.specs.declared.event.Step.{Step}
 use Rattle.bay_device.specs.declared.fault.StepFault.{StepFault}
 use Rattle.bay_device.proofs.CommandLemmas.{step-commanded, step-single, step-timed}
 use Rattle.bay_device.proofs.EntryLemmas.{leading}
 use Rattle.bay_device.proofs.MeaningLemmas.{means-event, runs-still}
+use Rattle.bay_device.proofs.FreshLemmas.{came-fresh}
+use Rattle.bay_device.proofs.OperateLemmas.{step-operates}
 use Rattle.bay_device.proofs.RecvLemmas.{one-outcome}
 use Rattle.bay_device.proofs.ToldLemmas.{telling}
 use Rattle.bay_device.proofs.device.Device.step.Goals as goal
@@ -52,3 +55,16 @@ pub returns-clause-tells : goal.returns-clause-tells
 returns-clause-tells c names alike sized =
     telling names c.args.now c.args.event c.args.self.now c.do_event.result c.do_event.new.self
     alike sized (returns-clause-leads c)
+
+pub returns-clause-operates : goal.returns-clause-operates
+returns-clause-operates c names alike sized =
+    let steps = c.do_event.ensures.steps in
+    subst (λ (r : Result Step StepFault). IfOk r (AreOperates c.args.now c.args.event names
+    c.args.self.now.connections)) (sym steps.answered)
+    (step-operates names steps.choice c.args.now c.args.event c.args.self.now alike sized)
+
+pub returns-clause-fresh : goal.returns-clause-fresh
+returns-clause-fresh c past came =
+    let steps = c.do_event.ensures.steps in
+    came-fresh past c.args.now c.args.event c.args.self.now c.do_event.result steps.choice
+    steps.answered came

@@ -5,5 +5,5 @@ use Rattle.bay_device.proofs.device.Device.switch.Goals as goal
 
 pub returns : goal.returns
 returns c =
-    c.switch.ensures c.self.inside.connections
+    (rw c.deref.ensures at c.switch.ensures c.self.inside.connections.value)
     ∙ ap (λ (s : State). switch_place s c.args.id.now) c.self.view_is

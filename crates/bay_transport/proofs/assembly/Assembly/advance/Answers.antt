@@ -32,6 +32,7 @@ loop-used-preserved c =
       c.step.ensures.number ∙ c.loop-used.invariant.2,
       quiet_more c.args.self.now c.loop-used.self c.step.new.self c.args.piece.now
           c.loop-used.used c.in_ok-taken.taken c.loop-used.invariant.2 c.loop-used.invariant.3 t,
+      (rw c.in-More.is at c.in_ok-taken.ensures.shown) ∙ c.loop-used.invariant.4,
     )
 
 pub returns-in_default-clause-ok : goal.returns-in_default-clause-ok

@@ -10,6 +10,7 @@ invariant-loop-used l =
     × (l.self.number ≡ l.initial.self.number)
     × (run l.initial.self.number (left_of l.initial.self) (take l.used l.piece)
     ≡ record { doings = []; left = left_of l.self })
+    × (l.self.shown.items ≡ l.initial.self.shown.items)
 
 abbrev pub decreases-loop-used : goal.decreases-loop-used
 decreases-loop-used l = length l.piece - l.used

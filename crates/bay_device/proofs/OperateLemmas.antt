@@ -1,0 +1,323 @@
+-- The commands of events are the operates that are accepted in what they tell.
+use Rattle.std.proofs.Common.{◌≡◌, ℕ, ℤ, zero, suc, Bool, true, false, ◌&&◌, cond, nat_lt, List, [], ◌∷◌, ◌++◌, slice_get, Option, None, Some, Result, Ok, Err, IfOk, ◌⊎◌, inl, inr, refl, ap, sym, ◌∙◌, subst, arith, append-nil, append_assoc}
+use Rattle.std.specs.List.{Contains}
+use Rattle.std.proofs.lemmas.List.Elements.{Contains-append_cases, Contains-append_left, Contains-append_right}
+use Rattle.bay_config.specs.declared.bay.MeterField.{MeterField}
+use Rattle.bay_connection.specs.Talk.{Indication, Talk, Terms, answers, tells, releases, ends as ends-heard, fails, indications}
+use Rattle.bay_control.specs.Acts.{Entry}
+use Rattle.bay_mms.specs.Grammar.{answer_to}
+use Rattle.bay_nodes.specs.declared.switch.Switch.{Switch}
+use Rattle.bay_services.specs.Accepted.{AreNamedAlike, accepted_in, first_response, is_report, may_be_reported}
+use Rattle.bay_services.specs.Bay.{Bay}
+use Rattle.bay_services.specs.Entries.{entries_in, operates_in}
+use Rattle.bay_services.specs.declared.answer.Command.{Command}
+use Rattle.bay_services.specs.declared.client.Client.{Client}
+use Rattle.bay_services.proofs.OperateLemmas.{answer-operates, operates-append}
+use Rattle.bay_tree.specs.declared.leaf.Dbpos.{Dbpos}
+use Rattle.bay_device.specs.Device.{State, advanced, bay_of}
+use Rattle.bay_device.specs.Entries.{IsIdle, entries_at, entries_close, entries_closed, entries_heard, entries_octets, entries_of_event, entries_on, entries_open, entries_recv}
+use Rattle.bay_device.specs.Hearing.{Done, Heard, client_at, heard, on_heard, said, with_sent}
+use Rattle.bay_device.specs.Operates.{AllOperate, AreOperates, AreReplied, AreRepliedAt, IsReplied}
+use Rattle.bay_device.specs.Outcomes.{Outcome, close_outcome, connection_at, contact_outcome, event_outcome, input_outcome, last_moment, measure_outcome, nothing_done, octets_outcome, open_outcome, outcome, outcomes, place_of, recv_outcome, refused}
+use Rattle.bay_device.specs.Told.{AreTalks, behind_one, of_answer, pdus_in, talk_at, told_closed, told_heard, told_recv, told_step}
+use Rattle.bay_device.specs.declared.event.Event.{Event}
+use Rattle.bay_device.specs.declared.event.Event.TheVariants.{Open, Recv, Close, Contact, Input, Measure, Scan}
+use Rattle.bay_device.specs.declared.event.Step.{Step}
+use Rattle.bay_device.specs.declared.event.Why.{Why}
+use Rattle.bay_device.specs.declared.fault.StepFault.{StepFault}
+use Rattle.bay_device.specs.declared.fault.StepFault.TheVariants.{MomentTooLarge, TimeWentBack}
+use Rattle.bay_device.proofs.ToldLemmas.{idle-talks, none-accepted, outcome-told}
+
+-- ---- lists
+
+none-in : {A : Type 0} (x : A) → Contains [] x → ⊥
+none-in x (k, lt, is) = omega (arith, lt)
+
+only : {A : Type 0} (x : A) → Contains (x ∷ []) x
+only x = (0, omega arith, refl)
+
+-- ---- what was heard
+
+-- the commands then are those before, and those of these entries
+abbrev Adds : Done → List Entry → Heard → Type 0
+Adds d entries h = h.done.commands ≡ d.commands ++ operates_in entries
+
+on-adds : (now a : ℕ) (i : Indication) (d : Done) (later : Done → Heard)
+    (entries : Done → List Entry) → ((e : Done) → Adds e (entries e) (later e))
+    → Adds d (entries_on now a i d entries) (on_heard now a i d later)
+on-adds now a (answers octets) d later entries rest = rest (with_sent a octets d)
+on-adds now a (tells terms pdu) d later entries rest =
+    let c : Client = client_at now a terms d.state in
+    let b : Bay = bay_of d.state in
+    let e : Done = said now a terms pdu d in
+    let own : List Entry = entries_in c pdu b in
+    rest e
+    ∙ ap (λ cs. (d.commands ++ cs) ++ operates_in (entries e)) (answer-operates c pdu b)
+    ∙ append_assoc d.commands (operates_in own) (operates_in (entries e))
+    ∙ ap (λ cs. d.commands ++ cs) (sym (operates-append own (entries e)))
+on-adds now a (releases octets) d later entries rest = sym (append-nil d.commands)
+on-adds now a ends-heard d later entries rest = sym (append-nil d.commands)
+on-adds now a (fails code) d later entries rest = sym (append-nil d.commands)
+
+heard-adds : (choice : Option ℕ) (now a : ℕ) (is : List Indication) (d : Done)
+    → Adds d (entries_heard choice now a is d) (heard choice now a is d)
+heard-adds None now a [] d = sym (append-nil d.commands)
+heard-adds None now a (i ∷ is) d =
+    on-adds now a i d (heard None now a is) (entries_heard None now a is)
+    (heard-adds None now a is)
+heard-adds (Some zero) now a [] d = sym (append-nil d.commands)
+heard-adds (Some zero) now a (i ∷ is) d = sym (append-nil d.commands)
+heard-adds (Some (suc n)) now a [] d = sym (append-nil d.commands)
+heard-adds (Some (suc n)) now a (i ∷ is) d =
+    on-adds now a i d (heard (Some n) now a is) (entries_heard (Some n) now a is)
+    (heard-adds (Some n) now a is)
+
+-- ---- an event
+
+-- the commands of an answer are the operates of these entries
+abbrev Gives : List Entry → Result Step StepFault → Type 0
+Gives entries answer = IfOk answer (λ step. step.commands ≡ operates_in entries)
+
+closed-none : (now a : ℕ) (why : Option Why) → operates_in (entries_closed now a why) ≡ []
+closed-none now a None = refl
+closed-none now a (Some why) = refl
+
+octets-gives : (choice : Option ℕ) (now a : ℕ) (s : State) (talk : Talk) (octets : List ℕ)
+    → Gives (entries_octets choice now a s talk octets)
+    (octets_outcome choice now a s talk octets).answer
+octets-gives choice now a s talk [] = refl
+octets-gives choice now a s talk (octet ∷ octets) =
+    let is : List Indication = indications talk (octet ∷ octets) in
+    let d : Done = nothing_done (advanced now s) in
+    let own : List Entry = entries_heard choice now a is d in
+    let why : Option Why = (heard choice now a is d).why in
+    heard-adds choice now a is d ∙ sym (append-nil (operates_in own))
+    ∙ ap (λ cs. operates_in own ++ cs) (sym (closed-none now a why))
+    ∙ sym (operates-append own (entries_closed now a why))
+
+recv-gives : (choice : Option ℕ) (now a : ℕ) (octets : List ℕ) (s : State) (talk : Option Talk)
+    → Gives (entries_recv choice now a octets s talk)
+    (recv_outcome choice now a octets s talk).answer
+recv-gives choice now a octets s None = tt
+recv-gives choice now a octets s (Some talk) = octets-gives choice now a s talk octets
+
+open-gives : (now a : ℕ) (s : State) (o : Option ℕ) (talk : Option Talk)
+    → Gives (entries_open now a o talk) (open_outcome now a s o talk).answer
+open-gives now a s None talk = tt
+open-gives now a s (Some place) (Some talk) = tt
+open-gives now a s (Some place) None = refl
+
+close-gives : (now a : ℕ) (s : State) (talk : Option Talk)
+    → Gives (entries_close now a talk) (close_outcome now a s talk).answer
+close-gives now a s None = tt
+close-gives now a s (Some talk) = refl
+
+contact-gives : (now k : ℕ) (position : Dbpos) (s : State) (o : Option Switch)
+    → Gives [] (contact_outcome now k position s o).answer
+contact-gives now k position s None = tt
+contact-gives now k position s (Some switch) = refl
+
+input-gives : (now k : ℕ) (value : Bool) (s : State) (o : Option Bool)
+    → Gives [] (input_outcome now k value s o).answer
+input-gives now k value s None = tt
+input-gives now k value s (Some before) = refl
+
+measure-gives : (now k : ℕ) (field : MeterField) (value : ℤ) (s : State) (o : Option (List ℕ))
+    → Gives [] (measure_outcome now k field value s o).answer
+measure-gives now k field value s None = tt
+measure-gives now k field value s (Some id) = refl
+
+event-gives : (choice : Option ℕ) (now : ℕ) (event : Event) (s : State)
+    → Gives (entries_of_event choice now event s) (event_outcome choice now event s).answer
+event-gives choice now (Open a) s =
+    open-gives now a s (place_of a) (connection_at (place_of a) s)
+event-gives choice now (Recv a octets) s =
+    recv-gives choice now a octets.now s (connection_at (place_of a) s)
+event-gives choice now (Close a) s = close-gives now a s (connection_at (place_of a) s)
+event-gives choice now (Contact k position) s =
+    contact-gives now k position s (slice_get s.switches k)
+event-gives choice now (Input k value) s =
+    input-gives now k value s (slice_get s.input_values k)
+event-gives choice now (Measure k field value) s =
+    measure-gives now k field value s (slice_get s.meters k)
+event-gives choice now Scan s = refl
+
+gives-if : (b : Bool) (xs ys : List Entry) (x y : Outcome) → Gives xs x.answer → Gives ys y.answer
+    → Gives (cond b xs ys) (cond b x y).answer
+gives-if true xs ys x y p q = p
+gives-if false xs ys x y p q = q
+
+outcome-gives : (choice : Option ℕ) (now : ℕ) (event : Event) (s : State)
+    → Gives (entries_at choice now event s) (outcome choice now event s).answer
+outcome-gives choice now event s =
+    gives-if (nat_lt last_moment now) [] _ (refused MomentTooLarge s) _ tt
+    (gives-if (nat_lt now s.moment) [] _ (refused TimeWentBack s) _ tt
+    (event-gives choice now event s))
+
+-- ---- responses
+
+-- the first response is one of those that are sent, if there is one, and so are those behind it
+first-if : (reports : Bool) (pdu : List ℕ) (pdus : List (List ℕ)) (b : Bool)
+    → ((first_response reports pdus).0 ≡ []) ⊎ Contains pdus (first_response reports pdus).0
+    → ((cond b (first_response reports pdus) (pdu, pdus)).0 ≡ [])
+    ⊎ Contains (pdu ∷ pdus) (cond b (first_response reports pdus) (pdu, pdus)).0
+first-if reports pdu pdus true (inl none) = inl none
+first-if reports pdu pdus true (inr found) = inr (Contains-append_right (pdu ∷ []) pdus _ found)
+first-if reports pdu pdus false later = inr (Contains-append_left (pdu ∷ []) pdus pdu (only pdu))
+
+first-in : (reports : Bool) (pdus : List (List ℕ))
+    → ((first_response reports pdus).0 ≡ []) ⊎ Contains pdus (first_response reports pdus).0
+first-in reports [] = inl refl
+first-in reports (pdu ∷ pdus) =
+    first-if reports pdu pdus (reports && is_report pdu) (first-in reports pdus)
+
+behind-if : (reports : Bool) (pdu : List ℕ) (pdus : List (List ℕ)) (b : Bool) (x : List ℕ)
+    → (Contains (first_response reports pdus).1 x → Contains pdus x)
+    → Contains (cond b (first_response reports pdus) (pdu, pdus)).1 x → Contains (pdu ∷ pdus) x
+behind-if reports pdu pdus true x rest found =
+    Contains-append_right (pdu ∷ []) pdus x (rest found)
+behind-if reports pdu pdus false x rest found = Contains-append_right (pdu ∷ []) pdus x found
+
+behind-in : (reports : Bool) (pdus : List (List ℕ)) (x : List ℕ)
+    → Contains (first_response reports pdus).1 x → Contains pdus x
+behind-in reports [] x found = absurd (none-in x found)
+behind-in reports (pdu ∷ pdus) x found =
+    behind-if reports pdu pdus (reports && is_report pdu) x (behind-in reports pdus x) found
+
+behind-one-in : (pdus : List (List ℕ)) (x : List ℕ) → Contains (behind_one pdus) x
+    → Contains pdus x
+behind-one-in [] x found = absurd (none-in x found)
+behind-one-in (pdu ∷ pdus) x found = Contains-append_right (pdu ∷ []) pdus x found
+
+-- more was heard before, and more was sent
+replied-later : (now a : ℕ) (n : Bay) (i : Indication) (is : List Indication)
+    (rest pdus : List (List ℕ)) (x : Command)
+    → ((y : List ℕ) → Contains rest y → Contains pdus y) → IsReplied now a n is rest x
+    → IsReplied now a n (i ∷ is) pdus x
+replied-later now a n i is rest pdus x wider r = record {
+  terms = r.terms;
+  pdu = r.pdu;
+  asked = Contains-append_right (i ∷ []) is _ r.asked;
+  response = r.response;
+  replied = wider r.response r.replied;
+  accepts = r.accepts;
+}
+
+replied-own : (now a : ℕ) (n : Bay) (terms : Terms) (pdu : List ℕ) (is : List Indication)
+    (response : List ℕ) (pdus : List (List ℕ)) (x : Command)
+    → (response ≡ []) ⊎ Contains pdus response
+    → Contains (operates_in (accepted_in now a pdu n response)) x
+    → IsReplied now a n (tells terms pdu ∷ is) pdus x
+replied-own now a n terms pdu is response pdus x (inl none) own =
+    absurd (none-in x (subst (λ (cs : List Command). Contains cs x)
+    (ap (λ r. operates_in (accepted_in now a pdu n r)) none
+    ∙ ap operates_in (none-accepted now a n (answer_to pdu))) own))
+replied-own now a n terms pdu is response pdus x (inr found) own = record {
+  terms = terms;
+  pdu = pdu;
+  asked = Contains-append_left (tells terms pdu ∷ []) is _ (only (tells terms pdu));
+  response = response;
+  replied = found;
+  accepts = own;
+}
+
+replied-heard : (now a : ℕ) (n : Bay) (is : List Indication) (pdus : List (List ℕ)) (x : Command)
+    → Contains (operates_in (told_heard now a n is pdus)) x → IsReplied now a n is pdus x
+replied-heard now a n [] pdus x found = absurd (none-in x found)
+replied-heard now a n (answers octets ∷ is) pdus x found =
+    replied-later now a n (answers octets) is (behind_one pdus) pdus x (behind-one-in pdus)
+    (replied-heard now a n is (behind_one pdus) x found)
+replied-heard now a n (tells terms pdu ∷ is) pdus x found =
+    let may : Bool = may_be_reported (answer_to pdu) in
+    let response = first_response may pdus in
+    let own : List Entry = accepted_in now a pdu n response.0 in
+    let rest : List Entry = told_heard now a n is response.1 in
+    elim (Contains-append_cases (operates_in own) (operates_in rest) x
+    (subst (λ (cs : List Command). Contains cs x) (operates-append own rest) found)) [
+      | inl here ↦ replied-own now a n terms pdu is response.0 pdus x (first-in may pdus) here
+      | inr later ↦ replied-later now a n (tells terms pdu) is response.1 pdus x (behind-in may pdus)
+          (replied-heard now a n is response.1 x later)
+    ]
+replied-heard now a n (releases octets ∷ is) pdus x found = absurd (none-in x found)
+replied-heard now a n (ends-heard ∷ is) pdus x found = absurd (none-in x found)
+replied-heard now a n (fails code ∷ is) pdus x found = absurd (none-in x found)
+
+told-closed-none : (now : ℕ) (entries : List Entry) (closed : Option (ℕ × Why))
+    → operates_in (entries ++ told_closed now closed) ≡ operates_in entries
+told-closed-none now entries None = ap operates_in (append-nil entries)
+told-closed-none now entries (Some closed) =
+    operates-append entries (told_closed now (Some closed)) ∙ append-nil (operates_in entries)
+
+replied-recv : (now a : ℕ) (n : Bay) (octets : List ℕ) (talk : Option Talk) (step : Step)
+    → step.commands
+    ≡ operates_in (told_recv now a n octets talk step.sent ++ told_closed now step.closed)
+    → AreReplied now a n octets talk step
+replied-recv now a n octets None step is = is ∙ told-closed-none now [] step.closed
+replied-recv now a n octets (Some talk) step is = λ x found.
+    let told : List Entry = told_heard now a n (indications talk octets) (pdus_in step.sent) in
+    replied-heard now a n (indications talk octets) (pdus_in step.sent) x
+    (subst (λ (cs : List Command). Contains cs x)
+    (is ∙ told-closed-none now told step.closed) found)
+
+replied-step : (now : ℕ) (event : Event) (n : Bay) (talks : List (Option Talk)) (step : Step)
+    → step.commands ≡ operates_in (told_step now event n talks step)
+    → AreRepliedAt now event n talks step
+replied-step now (Open a) n talks step is = is
+replied-step now (Recv a octets) n talks step is =
+    replied-recv now a n octets.now (talk_at (place_of a) talks) step is
+replied-step now (Close a) n talks step is = is
+replied-step now (Contact k position) n talks step is = is
+replied-step now (Input k value) n talks step is = is
+replied-step now (Measure k field value) n talks step is = is
+replied-step now Scan n talks step is = is
+
+-- ---- steps
+
+told-gives : (answer : Result Step StepFault) (entries : List Entry) (now : ℕ) (event : Event)
+    (n : Bay) (talks : List (Option Talk)) → Gives entries answer
+    → of_answer [] (told_step now event n talks) answer ≡ entries
+    → IfOk answer (AreOperates now event n talks)
+told-gives (Ok step) entries now event n talks gives told =
+    let is : step.commands ≡ operates_in (told_step now event n talks step) =
+    gives ∙ ap operates_in (sym told) in
+    record { operated = is; replied = replied-step now event n talks step is }
+told-gives (Err fault) entries now event n talks gives told = tt
+
+pub step-operates : (n : Bay) (choice : Option ℕ) (now : ℕ) (event : Event) (s : State)
+    → AreNamedAlike n (bay_of s) → AreTalks s.connections
+    → IfOk (outcome choice now event s).answer (AreOperates now event n s.connections)
+step-operates n choice now event s alike sized =
+    told-gives (outcome choice now event s).answer (entries_at choice now event s) now event n
+    s.connections (outcome-gives choice now event s)
+    (outcome-told n now s alike sized choice event).told
+
+all-operate : (n : Bay) (choices : List (Option ℕ)) (events : List (ℕ × Event)) (s : State)
+    → AreNamedAlike n (bay_of s) → AreTalks s.connections
+    → AllOperate n s.connections events (outcomes choices events s).answers
+all-operate n choices [] s alike sized = tt
+all-operate n [] (e ∷ es) s alike sized =
+    let o : Outcome = outcome None e.0 e.1 s in
+    let t = outcome-told n e.0 s alike sized None e.1 in (
+      step-operates n None e.0 e.1 s alike sized,
+      subst (λ (talks : List (Option Talk)). AllOperate n talks es (outcomes [] es o.after).answers)
+          t.left (all-operate n [] es o.after t.alike t.sized),
+    )
+all-operate n (choice ∷ choices) (e ∷ es) s alike sized =
+    let o : Outcome = outcome choice e.0 e.1 s in
+    let t = outcome-told n e.0 s alike sized choice e.1 in (
+      step-operates n choice e.0 e.1 s alike sized,
+      subst (λ (talks : List (Option Talk)).
+          AllOperate n talks es (outcomes choices es o.after).answers)
+          t.left (all-operate n choices es o.after t.alike t.sized),
+    )
+
+-- on a device as load made it
+pub all-operate-idle : (choices : List (Option ℕ)) (events : List (ℕ × Event)) (s : State)
+    (replies : List (Result Step StepFault)) → IsIdle s
+    → replies ≡ (outcomes choices events s).answers
+    → AllOperate (bay_of s) s.connections events replies
+all-operate-idle choices events s replies idle is =
+    subst (λ (rs : List (Result Step StepFault)). AllOperate (bay_of s) s.connections events rs)
+    (sym is)
+    (all-operate (bay_of s) choices events s
+    (record { domain = refl; switches = refl; names = refl }) (idle-talks s idle))

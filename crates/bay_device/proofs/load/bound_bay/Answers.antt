@@ -1,0 +1,138 @@
+use Rattle.std.proofs.Common.{◌≡◌, None, List, length, subst, ap, sym, ◌∙◌, arith}
+use Rattle.std.proofs.lemmas.List.{length-map}
+use Rattle.bay_config.specs.declared.bay.Bay.{Bay}
+use Rattle.bay_control.specs.Decisions as control
+use Rattle.bay_nodes.specs.declared.switch.Switch.{Switch}
+use Rattle.bay_process.proofs.NodeLemmas.{has-switches, have-meters, have-selected}
+use Rattle.bay_process.proofs.ToldLemmas.{none-told}
+use Rattle.bay_process.specs.Controls.{HaveSelected}
+use Rattle.bay_process.specs.Layout.{Layout, layout_of, meters_of, switches_of}
+use Rattle.bay_process.specs.declared.switch.BoundSwitch.{BoundSwitch}
+use Rattle.bay_services.specs.Bay.{shown}
+use Rattle.bay_services.specs.Bay as services
+use Rattle.bay_services.specs.Places.{ArePlaced}
+use Rattle.bay_tree.specs.declared.row.Row.{Row}
+use Rattle.bay_device.proofs.LoadLemmas.{bound-to, shows-first}
+use Rattle.bay_device.proofs.load.bound_bay.Goals as goal
+
+pub bound_rows-requires-clause-switches_there : goal.bound_rows-requires-clause-switches_there
+bound_rows-requires-clause-switches_there c =
+    rw (c.take_items-rows.ensures.value, c.deref_mut.ensures.value)
+    (has-switches c.args.bay.value c.in_ok-nodes.nodes.switches.items c.requires
+    (rw c.deref.ensures at c.in_ok-nodes.ensures.switches_named))
+
+pub bound_rows-requires-clause-meters_there : goal.bound_rows-requires-clause-meters_there
+bound_rows-requires-clause-meters_there c =
+    rw (c.take_items-rows.ensures.value, c.deref_mut.ensures.value)
+    (have-meters c.args.bay.value c.in_ok-nodes.nodes.meters.items c.requires
+    (rw c.deref.ensures at c.in_ok-nodes.ensures.meters_named))
+
+pub shown_rows-requires : goal.shown_rows-requires
+shown_rows-requires c =
+    let bay : Bay = c.args.bay.value in
+    let did = c.in_ok-bound.ensures in
+    let nodes = c.in_ok-nodes.nodes.switches.items in
+    let named = rw c.deref.ensures at c.in_ok-nodes.ensures.switches_named in
+    let sized = rw c.deref.ensures at c.in_ok-nodes.ensures.switches_sized in
+    let taken =
+    rw (c.deref_mut-2.ensures.value, c.deref_mut.ensures.value) at
+    c.take_items-switches.ensures.value in
+    let f =
+    bound-to bay nodes (layout_of c.in_ok-bound.bound.tree) c.args.writes.now _
+    c.in_ok-bound.bound.switches.items named sized taken did.of_switches in
+    let count : c.len.result ≡ length nodes = omega (arith, c.len.ensures, f.sized, sized) in
+    let tree : c.in_ok-bound.bound.tree ≡ bay.rows =
+    did.tree ∙ rw c.deref_mut.ensures.value at c.take_items-rows.ensures.value in
+    subst (λ (t : List Row). HaveSelected t c.len.result) (sym tree)
+    (subst (λ n. HaveSelected bay.rows n) (sym count)
+    (have-selected bay nodes c.requires named))
+
+pub invariant_of-result : goal.invariant_of-result
+invariant_of-result c =
+    let bay : Bay = c.args.bay.value in
+    let named = rw c.deref.ensures at c.in_ok-nodes.ensures.switches_named in
+    let sized = rw c.deref.ensures at c.in_ok-nodes.ensures.switches_sized in
+    let taken =
+    rw (c.deref_mut-2.ensures.value, c.deref_mut.ensures.value) at
+    c.take_items-switches.ensures.value in
+    let layout : Layout = layout_of c.in_ok-bound.bound.tree in
+    let f =
+    bound-to bay c.in_ok-nodes.nodes.switches.items layout c.args.writes.now _
+    c.in_ok-bound.bound.switches.items named sized taken c.in_ok-bound.ensures.of_switches in
+    let placed : ArePlaced layout c.in_ok-bound.bound.switches.items =
+    λ k b h. record { named = (f.placed k b h).named; leaf_typed = (f.placed k b h).leaf_typed } in
+    let count : length (switches_of c.new.result) ≡ c.len.result = omega (
+      arith,
+      c.len.ensures,
+      c.in_ok-bound.bound.switches.ok,
+      f.sized,
+      ap (λ (bs : List BoundSwitch). length (switches_of bs)) c.new.ensures ∙ ap length f.switches,
+    ) in
+    record {
+      placed =
+          subst (λ (l : Layout). ArePlaced l c.new.result) (sym c.in_ok-control_rows.ensures.layout)
+          (subst (ArePlaced layout) (sym c.new.ensures) placed);
+      controlled = c.in_ok-control_rows.ensures.named;
+      sized = c.in_ok-control_rows.ensures.sized ∙ sym count;
+      shows = shows-first c.new-controls.result _ c.len.result (length (switches_of c.new.result))
+          c.in_ok-bound.bound.tree c.shown_rows.new.tree c.new-controls.ensures count
+          c.in_ok-control_rows.ensures.rows;
+    }
+
+pub returns : goal.returns
+returns c =
+    let bay : Bay = c.args.bay.value in
+    let did = c.in_ok-bound.ensures in
+    let named = rw c.deref.ensures at c.in_ok-nodes.ensures.switches_named in
+    let sized = rw c.deref.ensures at c.in_ok-nodes.ensures.switches_sized in
+    let taken =
+    rw (c.deref_mut-2.ensures.value, c.deref_mut.ensures.value) at
+    c.take_items-switches.ensures.value in
+    let f =
+    bound-to bay c.in_ok-nodes.nodes.switches.items (layout_of c.in_ok-bound.bound.tree)
+    c.args.writes.now _ c.in_ok-bound.bound.switches.items named sized taken did.of_switches in
+    let count : c.len.result ≡ length bay.switches =
+    omega (arith, c.len.ensures, c.in_ok-bound.bound.switches.ok, f.sized) in
+    let shows : c.shown_rows.new.tree ≡ shown None (length bay.switches) bay.rows =
+    c.in_ok-control_rows.ensures.rows ∙ ap (λ n. shown None n c.in_ok-bound.bound.tree) count
+    ∙ ap (shown None (length bay.switches))
+    (did.tree ∙ rw c.deref_mut.ensures.value at c.take_items-rows.ensures.value) in
+    let seen : Bay → services.Bay =
+    λ b. record {
+      domain = b.domain;
+      vendor = b.vendor;
+      model = b.model;
+      revision = b.revision;
+      switches = switches_of c.new.result;
+      rows = c.shown_rows.new.tree;
+      controls = c.new-controls.result;
+    } in
+    record {
+      served =
+          ap seen c.into_inner-domain.ensures ∙ ap seen c.deref_mut-2.ensures.value
+          ∙ ap seen c.deref_mut.ensures.value
+          ∙ ap (λ (ss : List Switch). let b : services.Bay = record (seen bay) { switches = ss } in
+          b) (ap switches_of c.new.ensures ∙ f.switches)
+          ∙ ap (λ (rs : List Row). let b : services.Bay =
+          record (seen bay) { switches = bay.switches; rows = rs } in b) shows
+          ∙ ap (λ (cs : control.State). let b : services.Bay = record (seen bay) {
+            switches = bay.switches;
+            rows = shown None (length bay.switches) bay.rows;
+            controls = cs;
+          } in b) (rw c.deref-2.ensures at c.new-controls.ensures);
+      age = ap (λ (b : Bay). b.scan_max_age_ms) c.into_inner-domain.ensures
+          ∙ ap (λ (b : Bay). b.scan_max_age_ms) c.deref_mut-2.ensures.value
+          ∙ ap (λ (b : Bay). b.scan_max_age_ms) c.deref_mut.ensures.value;
+      inputs = ap (λ (b : Bay). b.inputs) c.into_inner-domain.ensures
+          ∙ ap (λ (b : Bay). b.inputs) c.deref_mut-2.ensures.value
+          ∙ ap (λ (b : Bay). b.inputs) c.deref_mut.ensures.value;
+      ids = ap meters_of c.new-2.ensures ∙ did.ids
+          ∙ rw (c.deref-3.ensures, c.deref_mut-2.ensures.value, c.deref_mut.ensures.value) at
+          c.as_slice.ensures;
+      bound = rw (c.in_ok-control_rows.ensures.layout, c.new.ensures) f.placed;
+      metered = rw (c.in_ok-control_rows.ensures.layout, c.new-2.ensures) did.of_meters;
+      told_stands =
+          rw did.told (none-told c.in_ok-bound.bound.switches.items c.shown_rows.new.tree);
+      told_sized = ap length did.told ∙ length-map c.in_ok-bound.bound.switches.items _
+          ∙ sym (ap length c.new.ensures);
+    }

@@ -1,0 +1,30 @@
+-- What load makes of a bay, beside the machine of its program.
+use Rattle.std.specs.Prelude.{◌≡◌, List, length, None}
+use Rattle.bay_config.specs.declared.bay.Bay.{Bay}
+use Rattle.bay_config.specs.declared.bay.Source.{Source}
+use Rattle.bay_control.specs.Decisions.{controls_of, initial}
+use Rattle.bay_process.specs.Layout.{AreBound, AreMetersBound, layout_of, meters_of}
+use Rattle.bay_process.specs.Told.{AreTold}
+use Rattle.bay_services.specs.Bay.{shown}
+use Rattle.bay_services.specs.Views.{bay_view}
+use Rattle.bay_device.specs.declared.load.BoundBay.{BoundBay}
+
+-- A bay is bound, with nothing selected: clients see what the file says, its switches and meters
+-- have the rows that their names name, and nothing is told of a scan.
+pub record IsBoundBay (bay : Bay) (writes : List Source) (b : BoundBay) : Type 0 where
+  pub served : bay_view b.bay ≡ record {
+    domain = bay.domain;
+    vendor = bay.vendor;
+    model = bay.model;
+    revision = bay.revision;
+    switches = bay.switches;
+    rows = shown None (length bay.switches) bay.rows;
+    controls = initial (controls_of bay.switches);
+  }
+  pub age : b.scan_max_age_ms ≡ bay.scan_max_age_ms
+  pub inputs : b.inputs ≡ bay.inputs
+  pub ids : meters_of b.meters ≡ bay.meters
+  pub bound : AreBound (layout_of b.bay.tree) writes b.bay.switches
+  pub metered : AreMetersBound (layout_of b.bay.tree) b.meters
+  pub told_stands : AreTold b.bay.tree b.told
+  pub told_sized : length b.told ≡ length b.bay.switches

@@ -1,0 +1,93 @@
+-- What stands behind a command: a scan that is not too old, since which no contact, no input and no
+-- measure has changed. It is said of what the process tells after each event, and nothing here looks
+-- at what a device notes of its scans.
+use Rattle.std.specs.Prelude.{ℕ, ◌≡◌, ◌≢◌, ◌+◌, ◌≤◌, All, List, [], ◌∷◌, ◌++◌, Option, None, Result, IfOk, IsOk}
+use Rattle.bay_config.specs.declared.bay.Bay.{Bay}
+use Rattle.bay_config.specs.declared.bay.MeterField.{MeterField}
+use Rattle.bay_nodes.specs.Names.{StatusNames, meter_names, position_names}
+use Rattle.bay_nodes.specs.Node.{class_of, node_name}
+use Rattle.bay_nodes.specs.declared.switch.SwitchKind.{SwitchKind}
+use Rattle.bay_process.specs.Names.{field_names}
+use Rattle.bay_tree.specs.Rows.{leaf_of}
+use Rattle.bay_tree.specs.declared.row.Row.{Row}
+use Rattle.il_image.specs.Images.{Image}
+use Rattle.bay_device.specs.Device.{State}
+use Rattle.bay_device.specs.Load.{initial_device}
+use Rattle.bay_device.specs.Outcomes.{Outcome, outcome}
+use Rattle.bay_device.specs.Steps.{Steps}
+use Rattle.bay_device.specs.declared.event.Event.{Event}
+use Rattle.bay_device.specs.declared.event.Event.TheVariants.{Scan}
+use Rattle.bay_device.specs.declared.event.Step.{Step}
+use Rattle.bay_device.specs.declared.fault.StepFault.{StepFault}
+
+-- ---- what the process tells
+
+-- A value and its quality are the same before and after.
+pub record IsSameStatus (names : StatusNames) (before after : List Row) : Type 0 where
+  pub value : leaf_of names.value after ≡ leaf_of names.value before
+  pub quality : leaf_of names.quality after ≡ leaf_of names.quality before
+
+-- The process tells the same before and after: of each node XCBR and XSWI the position with its
+-- quality, each input, and of each meter each field with its quality.
+pub record IsSameProcess (before after : State) : Type 0 where
+  pub positions : (kind : SwitchKind) (number : ℕ)
+      → IsSameStatus (position_names (node_name (class_of kind) number)) before.rows after.rows
+  pub inputs : after.input_values ≡ before.input_values
+  pub measures : (k : ℕ) (field : MeterField)
+      → IsSameStatus (field_names field (meter_names k)) before.rows after.rows
+
+-- ---- what has happened
+
+-- A device as load made it, of some bay file and some image.
+pub record IsLoaded (s : State) : Type 0 where
+  pub bay : Bay
+  pub image : Image
+  pub is : s ≡ initial_device bay image
+
+-- an event at a moment, its answer, and the device after it
+pub record Past : Type 0 where
+  pub now : ℕ
+  pub event : Event
+  pub answer : Result Step StepFault
+  pub after : State
+
+-- A device came so far by these events since load, the last of them first.
+abbrev pub Came : List Past → State → Type 0
+Came [] s = IsLoaded s
+Came (p ∷ past) s = (s ≡ p.after)
+    × ((before : State) × Came past before × Steps p.now p.event before p.answer p.after)
+
+-- ---- commands
+
+-- Among these events is a scan that was done, at most so many milliseconds before a moment; after
+-- each event since, the process tells what it told after the scan.
+pub record HasScan (now age : ℕ) (past : List Past) : Type 0 where
+  pub since : List Past
+  pub scan : Past
+  pub earlier : List Past
+  pub split : past ≡ since ++ scan ∷ earlier
+  pub scanned : scan.event ≡ Scan
+  pub done : IsOk scan.answer
+  pub recent : now ≤ scan.now + age
+  pub unchanged : All (λ (p : Past). IsSameProcess scan.after p.after) since
+
+-- A step at a moment has a command only where there is such a scan.
+abbrev pub IsFresh : ℕ → ℕ → List Past → Result Step StepFault → Type 0
+IsFresh now age past answer = IfOk answer (λ step. step.commands ≢ [] → HasScan now age past)
+
+-- these events, and then one with this outcome
+unfoldable pub with_event : ℕ → Event → Outcome → List Past → List Past
+with_event now event o past =
+    record { now = now; event = event; answer = o.answer; after = o.after } ∷ past
+
+-- So it is of each step of a list of events, with the events before it.
+abbrev pub AllFresh : List Past → List (Option ℕ) → List (ℕ × Event) → State → Type 0
+AllFresh past choices [] s = Unit {0}
+AllFresh past [] (e ∷ es) s =
+    IsFresh e.0 s.scan_max_age_ms past (outcome None e.0 e.1 s).answer
+    × AllFresh (with_event e.0 e.1 (outcome None e.0 e.1 s) past) [] es
+    (outcome None e.0 e.1 s).after
+AllFresh past (choice ∷ choices) (e ∷ es) s =
+    IsFresh e.0 s.scan_max_age_ms past (outcome choice e.0 e.1 s).answer
+    × AllFresh (with_event e.0 e.1 (outcome choice e.0 e.1 s) past) choices es
+    (outcome choice e.0 e.1 s).after

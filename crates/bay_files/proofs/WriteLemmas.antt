@@ -1,0 +1,56 @@
+-- How far the tries of a write have come.
+use Rattle.std.proofs.Common.{◌≡◌, ℕ, suc, ◌+◌, Bool, true, false, List, Option, None, Some, Result, Ok, Err, inl, inr, refl}
+use Rattle.bay_files.specs.Files.{WritesWhole, beside_name}
+use Rattle.bay_files.specs.declared.files.FileFault.{FileFault}
+use Rattle.bay_files.specs.declared.files.FileFault.TheVariants.{Failed, OutOfMemory}
+
+module _ {F : Type 0} (writes : F → List ℕ → List ℕ → List ℕ → Result Bool FileFault → F → Type 0)
+    (name octets : List ℕ) (old : F) where
+  -- what is left to be tried goes on to all of it
+  pub record Tried (left number : ℕ) (mid : F) : Type 0 where
+    pub goes : (new : F) (fault : Option FileFault)
+        → WritesWhole writes left number name octets mid new fault
+        → WritesWhole writes 100 0 name octets old new fault
+
+  pub Tried-start : Tried 100 0 old
+  Tried-start = record { goes = λ new fault all. all }
+
+  module _ (left more number : ℕ) (mid : F) (tried : Tried left number mid) (e : left ≡ suc more)
+    where
+      -- something has the name
+      pub Tried-taken : (new : F) (b : Bool) → b ≡ false
+          → writes mid name (beside_name name number) octets (Ok b) new
+          → Tried more (number + 1) new
+      unfolding WritesWhole
+      Tried-taken new true is wrote = absurd cc
+      Tried-taken new false is wrote = record {
+        goes = λ last fault all. tried.goes last fault (rw e (inl (Ok false, new, wrote, all)));
+      }
+
+      -- it was written
+      pub Tried-done : (new : F) (b : Bool) → b ≡ true
+          → writes mid name (beside_name name number) octets (Ok b) new
+          → WritesWhole writes 100 0 name octets old new None
+      unfolding WritesWhole
+      Tried-done new true is wrote =
+          tried.goes new None (rw e (inl (Ok true, new, wrote, (refl, refl))))
+      Tried-done new false is wrote = absurd cc
+
+      -- it could not be written
+      pub Tried-fails : (new : F) (fault : FileFault)
+          → writes mid name (beside_name name number) octets (Err fault) new
+          → WritesWhole writes 100 0 name octets old new (Some fault)
+      unfolding WritesWhole
+      Tried-fails new fault wrote =
+          tried.goes new (Some fault) (rw e (inl (Err fault, new, wrote, (refl, refl))))
+
+      -- there is no memory for the name
+      pub Tried-stops : WritesWhole writes 100 0 name octets old mid (Some OutOfMemory)
+      unfolding WritesWhole
+      Tried-stops = tried.goes mid (Some OutOfMemory) (rw e (inr (refl, refl)))
+
+  -- all names are taken
+  pub Tried-end : (left number : ℕ) (mid : F) → Tried left number mid → left ≡ 0
+      → WritesWhole writes 100 0 name octets old mid (Some Failed)
+  unfolding WritesWhole
+  Tried-end left number mid tried e = tried.goes mid (Some Failed) (rw e (refl, refl))

@@ -1,9 +1,0 @@
-use Rattle.std.proofs.Common.{drop}
-use Rattle.bay_main.proofs.AnswerLemmas.{Rest}
-use Rattle.bay_main.specs.TurnLines.{closings_text}
-use Rattle.bay_main.proofs.turns.put_closings.Given as goal
-
-abbrev pub invariant-loop-entry : goal.invariant-loop-entry
-invariant-loop-entry g l =
-    Rest g.W.Write.contents l.initial.outbox l.initial.writer (closings_text l.moment l.closed)
-    (closings_text l.moment (drop l.entry-index l.closed)) l.outbox l.writer

@@ -1,0 +1,42 @@
+-- What is done at a line of the trace.
+use Rattle.std.proofs.Common.{◌≡◌, ℕ, ◌<◌, nat_lt, Bool, true, false, cond, List, Option, None, arith, refl, ap, subst, ◌∙◌}
+use Rattle.std.proofs.lemmas.Bool.Decides.{nat_tests}
+use Rattle.bay_device.specs.Device.{State}
+use Rattle.bay_device.specs.Outcomes.{Outcome, outcome}
+use Rattle.bay_device.specs.declared.event.Event.{Event}
+use Rattle.bay_io.specs.Sent.{Puts}
+use Rattle.bay_io.specs.Watched.{Writing}
+use Rattle.bay_replay.specs.Answering.{Does}
+use Rattle.bay_replay.specs.LineAnswers.{Replaying, event_answer, memory_answer, named_answer, unread}
+use Rattle.bay_report.specs.Lines.{step_text}
+use Rattle.bay_trace.specs.Placing.{anywhere, count_of, placed_event}
+use Rattle.bay_trace.specs.Trace.{NamedData}
+use Rattle.bay_trace.proofs.PlacingLemmas.{same-anywhere}
+
+-- what an event comes to is told by what is taken for it
+pub Does-same : {W : Type 0} (contents : W → Option (List ℕ)) (old : Writing W) (now : ℕ)
+    (event other : Event) (before : State) (new : Writing W) (after : State)
+    → anywhere event ≡ other → Does contents old now event before new after
+    → Does contents old now other before new after
+Does-same contents old now event other before new after e d =
+    let same : outcome d.choice now event before ≡ outcome d.choice now other before =
+    same-anywhere d.choice now event before ∙ ap (λ f. outcome d.choice now f before) e in
+    record {
+      choice = d.choice;
+      text = subst (λ (o : Outcome). Puts contents old (step_text now o.answer o.after) new) same
+          d.text;
+      left_is = d.left_is ∙ ap (λ (o : Outcome). o.after) same;
+    }
+
+-- ---- what is taken for a line
+
+pub memory-said : (now : ℕ) (event : NamedData) (r : Replaying) → r.room < count_of event
+    → named_answer unread now event r ≡ memory_answer r
+memory-said now event r lt = by_test (nat_lt r.room (count_of event)) refl
+  where
+    by_test : (v : Bool) → nat_lt r.room (count_of event) ≡ v
+        → named_answer unread now event r ≡ memory_answer r
+    by_test true is =
+        ap (λ v. cond v (memory_answer r)
+        (event_answer None now (placed_event r.device event) (count_of event) r)) is
+    by_test false is = absurd (grind (arith, nat_tests))

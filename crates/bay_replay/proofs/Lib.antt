@@ -1,0 +1,4 @@
+pub mod AnswerLemmas
+pub mod LoadLemmas
+pub mod PartLemmas
+pub mod ProgressLemmas

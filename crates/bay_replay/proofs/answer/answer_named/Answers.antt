@@ -1,0 +1,40 @@
+use Rattle.std.proofs.Common.{refl, sym, ap₂, ◌∙◌}
+use Rattle.bay_replay.specs.LineAnswers.{Replaying, heard, unread}
+use Rattle.bay_replay.proofs.AnswerLemmas.{Does-same, memory-said}
+use Rattle.bay_trace.proofs.PlacingLemmas.{took, took-not}
+use Rattle.bay_trace.specs.Placing.{placed_event}
+use Rattle.bay_trace.specs.TraceView.{named_view}
+use Rattle.bay_replay.proofs.answer.answer_named.Goals as goal
+
+pub returns-then-is_err : goal.returns-then-is_err
+returns-then-is_err g c =
+    let event = named_view c.args.event in
+    let r : Replaying = record { device = c.args.device.now; room = c.args.octets.now.room } in
+    let is =
+    memory-said c.args.moment event r
+    (took-not event _ _ c.take_octets.result (sym c.is_err.ensures.value ∙ c.if-is_err.true)
+    c.take_octets.ensures) in
+    record {
+      choice = unread;
+      text = rw is c.put.ensures;
+      last = rw is refl;
+      left_is = λ e. absurd cc;
+    }
+
+pub returns : goal.returns
+returns g c =
+    let event = named_view c.args.event in
+    let r : Replaying = record { device = c.args.device.now; room = c.args.octets.now.room } in
+    let done =
+    Does-same g.W.Write.contents c.args.writer.now c.args.moment c.placed_event-event.result
+    (placed_event r.device event) r.device c.answer_event.new.writer c.answer_event.new.device
+    c.placed_event-event.ensures c.answer_event.ensures in
+    let room =
+    took event _ _ c.take_octets.result (sym c.is_err.ensures.value ∙ c.if-is_err.false)
+    c.take_octets.ensures in
+    record {
+      choice = heard done.choice;
+      text = done.text;
+      last = refl;
+      left_is = λ e. ap₂ (λ d n. record { device = d; room = n }) done.left_is room.room;
+    }

@@ -1,0 +1,51 @@
+use Rattle.std.proofs.Common.{◌≡◌, ◌∙◌, sym, ap, length, arith}
+use Rattle.std.proofs.lemmas.Bool.Decides.{nat_tests}
+use Rattle.bay_io.proofs.SentLemmas.{Puts-nil}
+use Rattle.bay_report.specs.TextLines.{lines_of}
+use Rattle.bay_report.proofs.PieceLemmas.{lines-cut}
+use Rattle.bay_report.proofs.ReportLemmas.{nil_from_length}
+use Rattle.bay_replay.proofs.ProgressLemmas.{Progress-cut, Progress-fault, Progress-last, Progress-start, Progress-step, no-lines}
+use Rattle.bay_replay.proofs.replay.replay_device.Goals as goal
+
+pub loop-rest-init : goal.loop-rest-init
+loop-rest-init g c = record {
+  progress = rw c.new-octets.ensures
+      (Progress-start c.report.result c.args.device.now (lines_of c.args.trace.now)
+      c.report.ensures c.put_report.ensures);
+  bound = omega arith;
+}
+
+pub returns-then-answer_line : goal.returns-then-answer_line
+returns-then-answer_line g c =
+    let said = c.answer_line.ensures in
+    let cut = lines-cut _ _ _ c.cut_line.ensures.cuts in
+    Progress-last c.loop-rest.invariant.progress c.finish.new.writer 3 c.finish.result
+    (Progress-fault c.loop-rest.invariant.progress said.choice _ _ cut
+    (sym said.last ∙ c.if-answer_line.true)) said.text c.finish.ensures.finishes
+    c.finish.ensures.status
+
+pub returns-then-has_failed : goal.returns-then-has_failed
+returns-then-has_failed g c =
+    let said = c.answer_line.ensures in
+    let cut = lines-cut _ _ _ c.cut_line.ensures.cuts in
+    Progress-cut (Progress-step c.loop-rest.invariant.progress said.choice _ _ cut
+    (sym said.last ∙ c.if-answer_line.false) said.text) _
+    (sym c.if-has_failed.ensures)
+
+pub loop-rest-preserved : goal.loop-rest-preserved
+loop-rest-preserved g c =
+    let said = c.answer_line.ensures in
+    let cut = lines-cut _ _ _ c.cut_line.ensures.cuts in
+    record {
+      progress = rw (said.left_is c.if-answer_line.false)
+          (Progress-step c.loop-rest.invariant.progress said.choice _ _ cut
+          (sym said.last ∙ c.if-answer_line.false) said.text);
+      bound = omega (arith, c.cut_line.ensures.shorter, c.loop-rest.invariant.bound);
+    }
+
+pub returns : goal.returns
+returns g c =
+    let zero : length c.loop-rest.rest.now ≡ 0 = grind (arith, nat_tests) in
+    Progress-last c.loop-rest.invariant.progress c.finish-2.new.writer 0 c.finish-2.result
+    (no-lines _ _ _ (ap lines_of (nil_from_length c.loop-rest.rest.now zero))) (Puts-nil _)
+    c.finish-2.ensures.finishes c.finish-2.ensures.status

@@ -1,0 +1,77 @@
+// What is printed for a line of the trace.
+ghost use Rattle.std.specs.Prelude.{◌≡◌};
+ghost use Rattle.bay_replay.specs.Answering.{Answers, Does};
+ghost use Rattle.bay_replay.specs.LineAnswers.{line_answer, named_answer};
+ghost use Rattle.bay_trace.specs.Trace.{trace_line_of};
+ghost use Rattle.bay_trace.specs.TraceView.{named_view};
+
+use bay_device::device::Device;
+use bay_device::event::Event;
+use bay_io::writer::WatchedWriter;
+use bay_report::lines::{put_step, put_unreadable};
+use bay_trace::octets::LineOctets;
+use bay_trace::placing::{placed_event, take_octets};
+use bay_trace::trace::{NamedEvent, TraceLine, read_trace_line};
+use std::io::Write;
+
+/// Does an event, and writes what is printed for it.
+fn answer_event<W: Write>(
+    writer: &mut WatchedWriter<W>,
+    device: &mut Device,
+    moment: u64,
+    event: Event<'_>,
+)
+    ensures { Does W.contents writer.old moment event.entry device.old writer.new device.new }
+{
+    let answer = device.step(moment, event);
+    put_step(writer, device, moment, &answer);
+}
+
+/// Does what happens, and writes what is printed for it. Whether the replay ends there, as there is
+/// no memory for its octets.
+fn answer_named<W: Write>(
+    writer: &mut WatchedWriter<W>,
+    device: &mut Device,
+    octets: &mut LineOctets,
+    moment: u64,
+    event: NamedEvent<'_>,
+) -> bool
+    ensures { Answers W.contents writer.old
+        (λ choice. named_answer choice moment (named_view event.entry)
+        (record { device = device.old; room = octets.old.room })) writer.new
+        (record { device = device.new; room = octets.new.room }) result }
+{
+    if take_octets(octets, &event).is_err() {
+        writer.put(b"fault memory\n");
+        return true;
+    }
+    let event = placed_event(device, octets.as_slice(), event);
+    answer_event(writer, device, moment, event);
+    false
+}
+
+/// Does what the line with this number says, and writes what is printed for it. Whether the replay
+/// ends there, as the line can't be read, or there is no memory for its octets.
+pub fn answer_line<W: Write>(
+    writer: &mut WatchedWriter<W>,
+    device: &mut Device,
+    octets: &mut LineOctets,
+    number: usize,
+    line: &[u8],
+) -> bool
+    ensures { Answers W.contents writer.old
+        (λ choice. line_answer choice number (trace_line_of line.now)
+        (record { device = device.old; room = octets.old.room })) writer.new
+        (record { device = device.new; room = octets.new.room }) result }
+{
+    match read_trace_line(line) {
+        None => {
+            put_unreadable(writer, number);
+            true
+        }
+        Some(TraceLine::Blank) => false,
+        Some(TraceLine::At { moment, event }) => {
+            answer_named(writer, device, octets, moment, event)
+        }
+    }
+}

@@ -1,0 +1,124 @@
+// Reads a scenario, replays it, and writes its report.
+ghost use Rattle.std.specs.Prelude.{◌+◌, ◌≤◌, length};
+ghost use Rattle.bay_replay.specs.Replay.{DeviceReport, LoadsReport, IsReport, IsReplay, Replays};
+ghost use Rattle.bay_report.specs.Report.{Prints};
+ghost use Rattle.bay_replay.specs.Scenario.{scenario_limit};
+ghost use Rattle.bay_report.specs.TextLines.{lines_of};
+ghost use Rattle.bay_replay.specs.ScenarioView.{scenario_view};
+
+use crate::answer::answer_line;
+use crate::scenario::{Scenario, cut_scenario};
+use bay_device::device::Device;
+use bay_io::input::read_all;
+pub use bay_io::outbox::WriteFault;
+use bay_io::reader::WatchedReader;
+use bay_io::writer::WatchedWriter;
+use bay_report::load::load_octets;
+use bay_report::output::{CLEAN, FAULT, finish, write_refusal, write_text, write_unread};
+use bay_report::report::put_report;
+use bay_report::text_lines::cut_line;
+use bay_trace::octets::LineOctets;
+use std::alloc::Global;
+use std::io::{Read, Write};
+
+/// The most octets that a scenario may have.
+const SCENARIO_LIMIT: usize = 16_777_216;
+
+/// Writes the line of a device's load, replays a trace on it line by line, and writes as it goes.
+fn replay_device<W: Write>(
+    alloc: Global,
+    device: &mut Device,
+    trace: &[u8],
+    writer: &mut WatchedWriter<W>,
+) -> Result<u8, WriteFault>
+    requires { length trace.now ≤ scenario_limit }
+    ensures { Prints W.contents (DeviceReport device.old (lines_of trace.now)) writer.old writer.new
+        result }
+{
+    put_report(writer, device.report());
+    let mut octets = LineOctets::new(alloc);
+    let mut rest = trace;
+    let mut number = 1usize;
+    while !rest.is_empty() {
+        let (line, after) = cut_line(rest);
+        if answer_line(writer, device, &mut octets, number, line) {
+            return finish(writer, FAULT);
+        }
+        if writer.has_failed() {
+            return Err(WriteFault);
+        }
+        number += 1;
+        rest = after;
+    }
+    finish(writer, CLEAN)
+}
+
+/// Loads the parts of a scenario, and replays the trace.
+fn replay_parts<W: Write>(
+    alloc: Global,
+    scenario: Scenario<'_>,
+    writer: &mut WatchedWriter<W>,
+) -> Result<u8, WriteFault>
+    requires { length scenario.trace.now ≤ scenario_limit }
+    ensures { Prints W.contents (LoadsReport (scenario_view scenario.entry)) writer.old writer.new
+        result }
+{
+    match load_octets(alloc, scenario.bay, scenario.logic) {
+        Ok(mut device) => replay_device(alloc, &mut device, scenario.trace, writer),
+        Err(fault) => write_refusal(writer, fault),
+    }
+}
+
+/// Replays a scenario that is in memory.
+fn replay_scenario<W: Write>(
+    alloc: Global,
+    text: &[u8],
+    writer: &mut WatchedWriter<W>,
+) -> Result<u8, WriteFault>
+    requires { length text.now ≤ scenario_limit }
+    ensures { Prints W.contents (IsReport text.now) writer.old writer.new result }
+{
+    match cut_scenario(text) {
+        Some(scenario) => replay_parts(alloc, scenario, writer),
+        None => write_text(writer, b"fault 120 line 0\n", FAULT),
+    }
+}
+
+/// Reads a scenario from a reader, and writes its report to a writer: the exit status, which is 0,
+/// 1 where the load is refused, or 3 for a fault.
+///
+/// A scenario of more than 16,777,216 octets is a fault, and so is a read that fails. Of a reader
+/// of which a read has failed before, and of such a writer, nothing is asked.
+pub fn replay_watched<R: Read, W: Write>(
+    alloc: Global,
+    reader: &mut WatchedReader<R>,
+    writer: &mut WatchedWriter<W>,
+) -> Result<u8, WriteFault>
+    // What was written and flushed is a whole text of the report, and the status is the report's;
+    // or a write or a flush has failed, and a front of such a text was written.
+    ensures printed { Prints W.contents
+        (IsReplay (R.remaining reader.old.inner) reader.new.has_failed) writer.old writer.new
+        result }
+    ensures reads { reader.new.reads ≤ reader.old.reads + scenario_limit + 1 }
+{
+    match read_all(alloc, reader, SCENARIO_LIMIT) {
+        Ok(input) => replay_scenario(alloc, input.as_slice(), writer),
+        Err(fault) => write_unread(fault, writer),
+    }
+}
+
+/// The same from any reader to any writer, which are taken.
+///
+/// Nothing says of them whether a read or a write has failed, so a fault of either may be told at
+/// any time; whoever wants it told only where one failed watches them.
+pub fn replay_run<R: Read + Drop, W: Write + Drop>(
+    alloc: Global,
+    reader: R,
+    writer: W,
+) -> Result<u8, WriteFault>
+    ensures { Replays R.remaining W.contents reader writer result }
+{
+    let mut reader = WatchedReader::new(reader);
+    let mut writer = WatchedWriter::new(writer);
+    replay_watched(alloc, &mut reader, &mut writer)
+}

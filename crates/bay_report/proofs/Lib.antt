@@ -1,0 +1,4 @@
+pub mod FeedLemmas
+pub mod HexLemmas
+pub mod PieceLemmas
+pub mod ReportLemmas

@@ -1,0 +1,171 @@
+-- Lemmas on what is printed.
+use Rattle.std.proofs.Common.{◌≡◌, ℕ, zero, suc, ◌+◌, ◌<◌, ◌≤◌, ◌==◌, Bool, true, false, List, [], ◌∷◌, ◌++◌, length, drop, get_or, cond, nat_lt, Option, None, Some, Result, Ok, Err, IfOk, slice_get, subst, refl, ap, sym, ◌∙◌, arith, add-one, append_assoc, MatchBool}
+use Rattle.std.proofs.Math.Seq.{drop-cons}
+use Rattle.std.proofs.lemmas.Bool.Decides.{nat_tests}
+use Rattle.std.proofs.lemmas.Option.{get_or_from_slice_get, slice_get_past}
+use Rattle.bay_device.specs.Device.{State}
+use Rattle.bay_device.specs.LookUps.{enabled_of, may_close, may_open}
+use Rattle.bay_device.specs.declared.event.Sent.{Sent}
+use Rattle.bay_io.proofs.SentLemmas.{SendsPart-more, Sends-rest, Sends-rest_part}
+use Rattle.bay_io.specs.Sent.{Finishes, Puts, Sends, SendsPart}
+use Rattle.bay_io.specs.Watched.{Writing}
+use Rattle.bay_io.specs.declared.outbox.WriteFault.{WriteFault}
+use Rattle.bay_nodes.specs.declared.switch.Switch.{Switch}
+use Rattle.bay_report.specs.Lines.{command_text, commands_text, send_text, sends_text, switch_part, switches_text}
+use Rattle.bay_report.specs.Report.{Prints}
+use Rattle.bay_services.specs.declared.answer.Command.{Command}
+
+within : (ss : List Switch) (j : ℕ) → j < length ss → (x : Switch) × (slice_get ss j ≡ Some x)
+within [] j h = absurd (omega arith)
+within (x ∷ ss) zero h = (x, refl)
+within (x ∷ ss) (suc j) h = within ss j (omega arith)
+
+-- a place that is not told of has no switch
+pub no-switch : (s : State) (k : ℕ) → None ≡ enabled_of s k
+    → [] ≡ switch_part s k (slice_get s.switches k)
+no-switch s k e = by_test (nat_lt k (length s.switches)) refl
+  where
+    by_test : (b : Bool) → nat_lt k (length s.switches) ≡ b
+        → [] ≡ switch_part s k (slice_get s.switches k)
+    by_test true is =
+        let some : enabled_of s k ≡ Some (may_open s k, may_close s k) =
+        ap (λ b. cond b (Some (may_open s k, may_close s k)) None) is in
+        absurd cc
+    by_test false is =
+        let past : length s.switches ≤ k = grind (arith, nat_tests) in
+        sym (ap (switch_part s k) (slice_get_past s.switches k past))
+
+-- one switch more is told
+pub switches-turn : (s : State) (k : ℕ) (switches : List Switch) → k < length switches
+    → switches_text s k (drop k switches)
+    ≡ switch_part s k (slice_get switches k) ++ switches_text s (k + 1) (drop (k + 1) switches)
+switches-turn s k switches lt =
+    let w = within switches k lt in
+    let here : get_or switches k w.0 ≡ w.0 = get_or_from_slice_get switches k w.0 w.0 w.1 in
+    let next : drop k switches ≡ w.0 ∷ drop (k + 1) switches =
+    rw (add-one, drop-cons switches k w.0) (ap (λ x. x ∷ drop (suc k) switches) here) in
+    let part : switch_part s k (slice_get switches k) ≡ switch_part s k (Some w.0) =
+    ap (switch_part s k) w.1 in
+    ap (λ ss. switches_text s k ss) next
+    ∙ ap (λ p. p ++ switches_text s (k + 1) (drop (k + 1) switches)) (sym part)
+
+pub sends-turn : (now : ℕ) (sends : List Sent) (k : ℕ) (sent : Sent) → sent ≡ get_or sends k sent
+    → k < length sends → sends_text now (drop k sends)
+    ≡ send_text now sent ++ sends_text now (drop (k + 1) sends)
+sends-turn now sends k sent is lt =
+    let next : drop k sends ≡ sent ∷ drop (k + 1) sends =
+    rw (add-one, drop-cons sends k sent) (ap (λ x. x ∷ drop (suc k) sends) (sym is)) in
+    ap (sends_text now) next
+
+pub commands-turn : (now : ℕ) (s : State) (commands : List Command) (k : ℕ) (d : Command)
+    → k < length commands
+    → commands_text now s (drop k commands)
+    ≡ command_text now s (get_or commands k d) ++ commands_text now s (drop (k + 1) commands)
+commands-turn now s commands k d lt =
+    let next : drop k commands ≡ get_or commands k d ∷ drop (k + 1) commands =
+    rw (add-one, drop-cons commands k d) refl in
+    ap (commands_text now s) next
+
+pub nil_from_length : (xs : List ℕ) → length xs ≡ 0 → xs ≡ []
+nil_from_length [] e = refl
+nil_from_length (x ∷ xs) e = absurd (omega arith)
+
+-- ---- what becomes of a text that may be printed
+
+module _ {W : Type 0} {contents : W → Option (List ℕ)} (May : List ℕ → ℕ → Type 0) where
+  -- a text was put, and all was written out
+  pub Prints-last : {old mid : Writing W} {text : List ℕ} (new : Writing W) (status : ℕ)
+      (r : Result ℕ WriteFault) → May text status → Puts contents old text mid
+      → Finishes contents mid new r → IfOk r (λ s. s ≡ status) → Prints contents May old new r
+  Prints-last {old} {mid} {text} new status (Ok s) told put ends is = by_failed mid.has_failed
+      refl put.sent
+    where
+      by_failed : (b : Bool) → mid.has_failed ≡ b
+          → MatchBool b (SendsPart (contents old.inner) (contents mid.inner) (old.pending ++ text))
+          (Sends (contents old.inner) (contents mid.inner) (old.pending ++ text) mid.pending)
+          → Prints contents May old new (Ok s)
+      by_failed true failed sent = let well = ends.0 in absurd cc
+      by_failed false failed sent = (
+        record {
+          text = text;
+          told = subst (May text) (sym is) told;
+          appended = Sends-rest (contents old.inner) (contents mid.inner) (contents new.inner)
+              (old.pending ++ text) mid.pending sent ends.1;
+        },
+        (ends.2, ends.3.0, ends.3.1),
+      )
+  Prints-last {old} {mid} {text} new status (Err fault) told put ends is = (
+    record {
+      text = text;
+      status = status;
+      told = told;
+      part = by_failed mid.has_failed refl put.sent;
+    },
+    ends.2,
+  )
+    where
+      by_failed : (b : Bool) → mid.has_failed ≡ b
+          → MatchBool b (SendsPart (contents old.inner) (contents mid.inner) (old.pending ++ text))
+          (Sends (contents old.inner) (contents mid.inner) (old.pending ++ text) mid.pending)
+          → SendsPart (contents old.inner) (contents new.inner) (old.pending ++ text)
+      by_failed true failed sent =
+          subst (λ x. SendsPart (contents old.inner) x (old.pending ++ text))
+          (sym (ap contents (ends.1 failed))) sent
+      by_failed false failed sent =
+          Sends-rest_part (contents old.inner) (contents mid.inner) (contents new.inner)
+          (old.pending ++ text) mid.pending sent ends.0
+
+  -- a front of a text was put, and a write has failed
+  pub Prints-cut : {old new : Writing W} {front : List ℕ} (more : List ℕ) (status : ℕ)
+      (fault : WriteFault) → May (front ++ more) status → Puts contents old front new
+      → new.has_failed ≡ true → Prints contents May old new (Err fault)
+  Prints-cut {old} {new} {front} more status fault told put failed = (
+    record {
+      text = front ++ more;
+      status = status;
+      told = told;
+      part = SendsPart-more (contents old.inner) (contents new.inner) (old.pending ++ front) more
+          (old.pending ++ (front ++ more)) (by_failed new.has_failed failed put.sent)
+          (sym (append_assoc old.pending front more));
+    },
+    failed,
+  )
+    where
+      by_failed : (b : Bool) → b ≡ true
+          → MatchBool b (SendsPart (contents old.inner) (contents new.inner) (old.pending ++ front))
+          (Sends (contents old.inner) (contents new.inner) (old.pending ++ front) new.pending)
+          → SendsPart (contents old.inner) (contents new.inner) (old.pending ++ front)
+      by_failed true e sent = sent
+      by_failed false e sent = absurd cc
+
+pub Prints-weaker : {W : Type 0} (contents : W → Option (List ℕ)) (May Might : List ℕ → ℕ → Type 0)
+    (old new : Writing W) (r : Result ℕ WriteFault)
+    → ((text : List ℕ) (status : ℕ) → May text status → Might text status)
+    → Prints contents May old new r → Prints contents Might old new r
+Prints-weaker contents May Might old new (Ok status) wider p = (
+  record { text = p.0.text; told = wider p.0.text status p.0.told; appended = p.0.appended },
+  p.1,
+)
+Prints-weaker contents May Might old new (Err fault) wider p = (
+  record {
+    text = p.0.text;
+    status = p.0.status;
+    told = wider p.0.text p.0.status p.0.told;
+    part = p.0.part;
+  },
+  p.1,
+)
+
+pub chosen : {A : Type 0} (B : Type 0) (b : Bool) → b ≡ true → A → MatchBool b A B
+chosen B true e a = a
+chosen B false e a = absurd cc
+
+pub other : (A : Type 0) {B : Type 0} (b : Bool) → b ≡ false → B → MatchBool b A B
+other A true e x = absurd cc
+other A false e x = x
+
+pub is-zero : (status : ℕ) → status ≡ 0 → (status == 0) ≡ true
+is-zero status e = grind (arith, nat_tests)
+
+pub is-not : (status : ℕ) → (status ≡ 0 → ⊥) → (status == 0) ≡ false
+is-not status isnt = grind (arith, nat_tests)

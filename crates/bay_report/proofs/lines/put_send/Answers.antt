@@ -1,0 +1,11 @@
+use Rattle.std.proofs.Common.{ap}
+use Rattle.std.specs.Fmt.{decimal}
+use Rattle.hex.specs.Hex.{encode_lower}
+use Rattle.bay_io.proofs.SentLemmas.{Puts-then, Puts-as}
+use Rattle.bay_report.proofs.lines.put_send.Goals as goal
+
+pub returns : goal.returns
+returns g c =
+    Puts-then (Puts-then (Puts-then (Puts-then (Puts-then (c.put_number.ensures) (c.put.ensures))
+    (Puts-as _ (ap decimal c.from.ensures) c.put_number-2.ensures)) (c.put-2.ensures)) (Puts-as _
+    (ap encode_lower c.as_slice.ensures) c.put_digits.ensures)) (c.put-3.ensures)

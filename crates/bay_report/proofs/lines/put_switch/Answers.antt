@@ -1,0 +1,9 @@
+use Rattle.std.proofs.Common.{◌∙◌}
+use Rattle.bay_io.proofs.SentLemmas.{Puts-then, Puts-as}
+use Rattle.bay_report.proofs.lines.put_switch.Goals as goal
+
+pub returns : goal.returns
+returns g c =
+    Puts-then (Puts-then (Puts-then (c.put.ensures) (Puts-as _ c.as_bytes.ensures.value
+    c.put_short.ensures)) (c.put-2.ensures)) (Puts-as _ (c.as_slice.ensures ∙ c.digits.ensures)
+    c.put-3.ensures)

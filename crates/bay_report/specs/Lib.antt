@@ -1,0 +1,4 @@
+pub mod Lines
+pub mod Load
+pub mod Report
+pub mod TextLines

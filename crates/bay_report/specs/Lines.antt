@@ -1,0 +1,121 @@
+-- The lines that are printed for an event.
+use Rattle.std.specs.Prelude.{ℕ, ◌+◌, Bool, List, ◌∷◌, ◌++◌, slice_get, codes, Option, None, Some, Result, Ok, Err, if◌then◌else◌, []}
+use Rattle.std.specs.Fmt.{decimal}
+use Rattle.hex.specs.Hex.{encode_lower}
+use Rattle.bay_nodes.specs.declared.switch.Switch.{Switch}
+use Rattle.bay_services.specs.declared.answer.Command.{Command}
+use Rattle.bay_device.specs.Code.{step_code_of}
+use Rattle.bay_device.specs.Device.{State}
+use Rattle.bay_device.specs.LookUps.{may_open, may_close}
+use Rattle.bay_device.specs.declared.event.Sent.{Sent}
+use Rattle.bay_device.specs.declared.event.Step.{Step}
+use Rattle.bay_device.specs.declared.event.Why.{Why}
+use Rattle.bay_device.specs.declared.event.Why.TheVariants.{Ended, Fault, Memory}
+use Rattle.bay_device.specs.declared.fault.StepFault.{StepFault}
+
+-- TRUE is 1
+abbrev pub digit_of : Bool → List ℕ
+digit_of b = if b then codes "1" else codes "0"
+
+-- a switch's id, and whether it may be opened and closed
+abbrev pub switch_text : List ℕ → Bool → Bool → List ℕ
+switch_text id opens closes =
+    codes " " ++ id ++ codes "=" ++ (digit_of opens ++ digit_of closes)
+
+-- the part of a scan's line on the switch at a place, if there is one
+abbrev pub switch_part : State → ℕ → Option Switch → List ℕ
+switch_part s k None = []
+switch_part s k (Some switch) = switch_text switch.id (may_open s k) (may_close s k)
+
+-- the parts on switches, from place k on
+abbrev pub switches_text : State → ℕ → List Switch → List ℕ
+switches_text s k [] = []
+switches_text s k (switch ∷ switches) =
+    switch_part s k (Some switch) ++ switches_text s (k + 1) switches
+
+-- the line of a scan: the moment, the number of instructions that were executed, and each switch
+abbrev pub scan_text : ℕ → ℕ → State → List ℕ
+scan_text now steps s =
+    decimal now ++ codes " scan steps=" ++ decimal steps ++ switches_text s 0 s.switches
+    ++ codes "\n"
+
+-- the scan, if there was one
+abbrev pub ran_text : ℕ → Option ℕ → State → List ℕ
+ran_text now None s = []
+ran_text now (Some steps) s = scan_text now steps s
+
+-- ---- octets, commands and closings
+
+-- the line of octets that are sent to an association
+abbrev pub send_text : ℕ → Sent → List ℕ
+send_text now sent =
+    decimal now ++ codes " send " ++ decimal sent.association ++ codes " "
+    ++ encode_lower sent.octets ++ codes "\n"
+
+-- a line for each PDU that is sent
+abbrev pub sends_text : ℕ → List Sent → List ℕ
+sends_text now [] = []
+sends_text now (sent ∷ more) = send_text now sent ++ sends_text now more
+
+-- what tells of an end, if anything does
+abbrev pub ended_text : ℕ → Option Sent → List ℕ
+ended_text now None = []
+ended_text now (Some sent) = send_text now sent
+
+-- the position that is commanded
+abbrev pub order_text : Bool → List ℕ
+order_text on = if on then codes " on\n" else codes " off\n"
+
+-- the line of a command to the switch with this id
+abbrev pub command_line : ℕ → List ℕ → Bool → List ℕ
+command_line now id on = decimal now ++ codes " command " ++ id ++ order_text on
+
+abbrev pub command_part : ℕ → Bool → Option Switch → List ℕ
+command_part now on None = []
+command_part now on (Some switch) = command_line now switch.id on
+
+abbrev pub command_text : ℕ → State → Command → List ℕ
+command_text now s command = command_part now command.on (slice_get s.switches command.switch)
+
+-- a line for each command
+abbrev pub commands_text : ℕ → State → List Command → List ℕ
+commands_text now s [] = []
+commands_text now s (command ∷ more) = command_text now s command ++ commands_text now s more
+
+-- why an association was closed: 0 where its client has ended it
+abbrev pub why_text : Why → List ℕ
+why_text Ended = codes "0\n"
+why_text (Fault code) = decimal code ++ codes "\n"
+why_text Memory = codes "memory\n"
+
+-- the line of an association that the device has closed
+abbrev pub closing_text : ℕ → ℕ → Why → List ℕ
+closing_text now a why =
+    decimal now ++ codes " closed " ++ decimal a ++ codes " " ++ why_text why
+
+-- the line of an association that was closed
+abbrev pub closed_text : ℕ → Option (ℕ × Why) → List ℕ
+closed_text now None = []
+closed_text now (Some closed) = closing_text now closed.0 closed.1
+
+-- ---- events
+
+-- the line of a refusal with this number
+abbrev pub refusal_line : ℕ → ℕ → List ℕ
+refusal_line now code = decimal now ++ codes " refused " ++ decimal code ++ codes "\n"
+
+-- what is printed for an event that was done, by its answer and the device after it: what tells of
+-- an end, what is sent, the commands, the scan, and the association that was closed
+abbrev pub done_text : ℕ → Step → State → List ℕ
+done_text now step s =
+    ended_text now step.ended ++ sends_text now step.sent ++ commands_text now s step.commands
+    ++ ran_text now step.scan s ++ closed_text now step.closed
+
+-- what is printed for an event
+abbrev pub step_text : ℕ → Result Step StepFault → State → List ℕ
+step_text now (Err fault) s = refusal_line now (step_code_of fault)
+step_text now (Ok step) s = done_text now step s
+
+-- the line of an event that is not understood
+abbrev pub unreadable_text : ℕ → List ℕ
+unreadable_text k = codes "fault 120 line " ++ decimal k ++ codes "\n"

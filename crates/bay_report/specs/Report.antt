@@ -1,0 +1,70 @@
+-- What is printed of a load and of a fault, with which status, and how it reached a writer.
+use Rattle.bay_device.specs.declared.fault.LoadFault.TheVariants.{Refused, OutOfMemory}
+use Rattle.bay_device.specs.declared.fault.LoadFault.{LoadFault}
+use Rattle.bay_device.specs.declared.report.Report.{Report}
+use Rattle.bay_io.specs.Sent.{SendsPart}
+use Rattle.bay_io.specs.Watched.{Writing}
+use Rattle.bay_io.specs.declared.input.ReadFault.TheVariants as unread
+use Rattle.bay_io.specs.declared.input.ReadFault.{ReadFault}
+use Rattle.bay_io.specs.declared.outbox.WriteFault.{WriteFault}
+use Rattle.std.specs.Fmt.{decimal}
+use Rattle.std.specs.Io.KnownBytes.{Appends}
+use Rattle.std.specs.Prelude.{◌≡◌, ℕ, ◌==◌, true, false, List, [], ◌++◌, codes, Option, Result, Ok, Err, if◌then◌else◌}
+
+-- a refusal at a line of the program, or one that has none
+abbrev pub numbered_refusal : ℕ → ℕ → List ℕ
+numbered_refusal code line =
+    if line == 0 then codes "load refused " ++ (decimal code ++ codes "\n")
+    else codes "load refused " ++ decimal code ++ codes " line " ++ (decimal line ++ codes "\n")
+
+-- the line that says why a load is refused
+abbrev pub refusal_of : LoadFault → List ℕ
+refusal_of OutOfMemory = codes "load refused memory\n"
+refusal_of (Refused code line) = numbered_refusal code line
+
+-- the line of a load: how many instructions the program has, how many values lie on its stack at
+-- most, and how many instructions a scan executes at most
+abbrev pub report_text : Report → List ℕ
+report_text report =
+    codes "instructions=" ++ decimal report.instructions ++ codes " depth="
+    ++ decimal report.depth ++ codes " budget=" ++ (decimal report.budget ++ codes "\n")
+
+-- the text and the status of a refused load
+abbrev pub Refuses : LoadFault → List ℕ → ℕ → Type 0
+Refuses fault text status = (text ≡ refusal_of fault) × (status ≡ 1)
+
+-- the writer took what was pending and a whole text of those that may be printed
+pub record Reports (May : List ℕ → ℕ → Type 0) (pending : List ℕ) (old new : Option (List ℕ))
+    (status : ℕ) : Type 0 where
+  pub text : List ℕ
+  pub told : May text status
+  pub appended : Appends old new (pending ++ text)
+
+-- the writer took a front of these
+pub record ReportsPart (May : List ℕ → ℕ → Type 0) (pending : List ℕ) (old new : Option (List ℕ))
+    : Type 0 where
+  pub text : List ℕ
+  pub status : ℕ
+  pub told : May text status
+  pub part : SendsPart old new (pending ++ text)
+
+-- this text and this status alone
+abbrev pub IsLast : List ℕ → ℕ → List ℕ → ℕ → Type 0
+IsLast last answered text status = (text ≡ last) × (status ≡ answered)
+
+-- a replay answers the status of a text that may be printed, after all of it reached the writer and
+-- was flushed; or a write or a flush failed, and the writer took a front of such a text
+abbrev pub Prints : {W : Type 0} → (W → Option (List ℕ)) → (List ℕ → ℕ → Type 0) → Writing W
+    → Writing W → Result ℕ WriteFault → Type 0
+Prints contents May old new (Ok status) =
+    Reports May old.pending (contents old.inner) (contents new.inner) status
+    × ((new.pending ≡ []) × (new.has_failed ≡ false) × (new.is_flushed ≡ true))
+Prints contents May old new (Err fault) =
+    ReportsPart May old.pending (contents old.inner) (contents new.inner)
+    × (new.has_failed ≡ true)
+
+-- the text and the status where a file can't be read
+abbrev pub UnreadReport : ReadFault → List ℕ → ℕ → Type 0
+UnreadReport unread.TooLong text status = IsLast (codes "fault 121\n") 3 text status
+UnreadReport unread.Failed text status = IsLast (codes "fault 121\n") 3 text status
+UnreadReport unread.OutOfMemory text status = IsLast (codes "fault memory\n") 3 text status

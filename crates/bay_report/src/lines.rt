@@ -1,0 +1,275 @@
+// The lines that are printed for an event.
+ghost use Rattle.std.specs.Prelude.{◌≡◌, ◌≤◌, ◌*◌, ◌∷◌, [], ◌++◌, codes, length, slice_get};
+ghost use Rattle.std.specs.Fmt.{decimal};
+ghost use Rattle.hex.specs.Hex.{encode_lower};
+ghost use Rattle.bay_io.specs.Sent.{Puts};
+ghost use Rattle.bay_report.specs.Lines.{digit_of, switch_text, switch_part, switches_text, scan_text, ran_text, send_text, sends_text, ended_text, order_text, command_line, command_text, commands_text, why_text, closing_text, closed_text, refusal_line, done_text, step_text, unreadable_text};
+
+use bay_device::device::Device;
+use bay_device::event::{Sent, Step, Why};
+use bay_device::fault::StepFault;
+use bay_io::writer::WatchedWriter;
+use bay_services::answer::Command;
+use std::io::Write;
+
+/// How many octets are written in digits at a time.
+const CHUNK: usize = 256;
+
+/// The digit of a truth value.
+fn digit(truth: bool) -> u8
+    ensures { result ∷ [] ≡ digit_of truth }
+{
+    b'0' + u8::from(truth)
+}
+
+/// The digits that say whether a switch may be opened and closed.
+fn digits(opens: bool, closes: bool) -> [u8; 2]
+    ensures { result ≡ digit_of opens ++ digit_of closes }
+{
+    [digit(opens), digit(closes)]
+}
+
+/// Writes the part of a scan's line on one switch: its id, and whether it may be opened and closed.
+fn put_switch<W: Write>(writer: &mut WatchedWriter<W>, id: &str, opens: bool, closes: bool)
+    ensures { Puts W.contents writer.old (switch_text id.now opens closes) writer.new }
+{
+    writer.put(b" ");
+    writer.put_short(id.as_bytes());
+    writer.put(b"=");
+    writer.put(digits(opens, closes).as_slice());
+}
+
+/// Writes the part of a scan's line on the switch at a place, if there is one.
+fn put_place<W: Write>(writer: &mut WatchedWriter<W>, device: &Device, place: usize)
+    ensures { Puts W.contents writer.old
+        (switch_part device.now place (slice_get device.now.switches place)) writer.new }
+{
+    let Some(id) = device.id(place) else {
+        return;
+    };
+    let Some((opens, closes)) = device.ena(place) else {
+        return;
+    };
+    put_switch(writer, id, opens, closes);
+}
+
+/// Writes the parts of a scan's line on the switches.
+fn put_switches<W: Write>(writer: &mut WatchedWriter<W>, device: &Device)
+    ensures { Puts W.contents writer.old (switches_text device.now 0 device.now.switches)
+        writer.new }
+{
+    for place in 0..device.switch_count() {
+        put_place(writer, device, place);
+    }
+}
+
+/// Writes the line of a scan.
+fn put_scan<W: Write>(writer: &mut WatchedWriter<W>, device: &Device, moment: u64, steps: u32)
+    ensures { Puts W.contents writer.old (scan_text moment steps device.now) writer.new }
+{
+    writer.put_number(moment);
+    writer.put(b" scan steps=");
+    writer.put_number(u64::from(steps));
+    put_switches(writer, device);
+    writer.put(b"\n");
+}
+
+/// Writes the line of a scan, if there was one.
+fn put_ran<W: Write>(writer: &mut WatchedWriter<W>, device: &Device, moment: u64, scan: Option<u32>)
+    ensures { Puts W.contents writer.old (ran_text moment scan device.now) writer.new }
+{
+    match scan {
+        Some(steps) => put_scan(writer, device, moment, steps),
+        None => {}
+    }
+}
+
+/// Writes the line of a refusal with this number.
+#[cold]
+pub fn put_refusal<W: Write>(writer: &mut WatchedWriter<W>, moment: u64, code: u8)
+    ensures { Puts W.contents writer.old (refusal_line moment code) writer.new }
+{
+    writer.put_number(moment);
+    writer.put(b" refused ");
+    writer.put_number(u64::from(code));
+    writer.put(b"\n");
+}
+
+/// Writes the digits of a chunk of octets, by way of room for them.
+fn put_chunk<W: Write>(writer: &mut WatchedWriter<W>, room: &mut [u8], chunk: &[u8])
+    requires { 2 * length chunk.now ≤ length room.old }
+    ensures { Puts W.contents writer.old (encode_lower chunk.now) writer.new }
+{
+    let digits = &mut room[..2 * chunk.len()];
+    let _ = hex::encode_to_slice(chunk, digits);
+    writer.put(digits);
+}
+
+/// Writes octets in hexadecimal digits.
+fn put_digits<W: Write>(writer: &mut WatchedWriter<W>, octets: &[u8])
+    ensures { Puts W.contents writer.old (encode_lower octets.now) writer.new }
+{
+    let mut room = [0u8; 2 * CHUNK];
+    let mut rest = octets;
+    while !rest.is_empty() {
+        let (chunk, after) = rest.split_at(rest.len().min(CHUNK));
+        put_chunk(writer, &mut room, chunk);
+        rest = after;
+    }
+}
+
+/// Writes the line of octets that are sent.
+#[cold]
+fn put_send<W: Write>(writer: &mut WatchedWriter<W>, moment: u64, sent: &Sent)
+    ensures { Puts W.contents writer.old (send_text moment sent.now) writer.new }
+{
+    writer.put_number(moment);
+    writer.put(b" send ");
+    writer.put_number(u64::from(sent.association));
+    writer.put(b" ");
+    put_digits(writer, sent.octets.as_slice());
+    writer.put(b"\n");
+}
+
+/// Writes the lines of all that is sent.
+fn put_sends<W: Write>(writer: &mut WatchedWriter<W>, moment: u64, sends: &[Sent])
+    ensures { Puts W.contents writer.old (sends_text moment sends.now) writer.new }
+{
+    for sent in sends {
+        put_send(writer, moment, sent);
+    }
+}
+
+/// Writes the line of what tells of an end, if anything does.
+fn put_ended<W: Write>(writer: &mut WatchedWriter<W>, moment: u64, ended: &Option<Sent>)
+    ensures { Puts W.contents writer.old (ended_text moment ended.now) writer.new }
+{
+    match ended {
+        Some(sent) => put_send(writer, moment, sent),
+        None => {}
+    }
+}
+
+/// How the line of a command ends.
+fn order(on: bool) -> &'static [u8]
+    ensures { result.now ≡ order_text on }
+{
+    if on { b" on\n" } else { b" off\n" }
+}
+
+/// Writes the line of a command to the switch with this id.
+#[cold]
+fn put_command_line<W: Write>(writer: &mut WatchedWriter<W>, moment: u64, id: &str, on: bool)
+    ensures { Puts W.contents writer.old (command_line moment id.now on) writer.new }
+{
+    writer.put_number(moment);
+    writer.put(b" command ");
+    writer.put(id.as_bytes());
+    writer.put(order(on));
+}
+
+/// Writes the line of a command.
+fn put_command<W: Write>(
+    writer: &mut WatchedWriter<W>,
+    device: &Device,
+    moment: u64,
+    command: Command,
+)
+    ensures { Puts W.contents writer.old (command_text moment device.now command) writer.new }
+{
+    match device.id(command.switch) {
+        Some(id) => put_command_line(writer, moment, id, command.on),
+        None => {}
+    }
+}
+
+/// Writes the lines of all commands.
+pub fn put_commands<W: Write>(
+    writer: &mut WatchedWriter<W>,
+    device: &Device,
+    moment: u64,
+    commands: &[Command],
+)
+    ensures { Puts W.contents writer.old (commands_text moment device.now commands.now) writer.new }
+{
+    for command in commands {
+        put_command(writer, device, moment, *command);
+    }
+}
+
+/// Writes why an association was closed, as the last of its line.
+fn put_why<W: Write>(writer: &mut WatchedWriter<W>, why: Why)
+    ensures { Puts W.contents writer.old (why_text why) writer.new }
+{
+    match why {
+        Why::Ended => writer.put(b"0\n"),
+        Why::Fault(code) => {
+            writer.put_number(u64::from(code));
+            writer.put(b"\n");
+        }
+        Why::Memory => writer.put(b"memory\n"),
+    }
+}
+
+/// Writes the line of an association that was closed.
+#[cold]
+pub fn put_closing_line<W: Write>(
+    writer: &mut WatchedWriter<W>,
+    moment: u64,
+    association: u16,
+    why: Why,
+)
+    ensures { Puts W.contents writer.old (closing_text moment association why) writer.new }
+{
+    writer.put_number(moment);
+    writer.put(b" closed ");
+    writer.put_number(u64::from(association));
+    writer.put(b" ");
+    put_why(writer, why);
+}
+
+/// Writes the line of the association that was closed, if one was.
+fn put_closed<W: Write>(writer: &mut WatchedWriter<W>, moment: u64, closed: Option<(u16, Why)>)
+    ensures { Puts W.contents writer.old (closed_text moment closed) writer.new }
+{
+    match closed {
+        Some((association, why)) => put_closing_line(writer, moment, association, why),
+        None => {}
+    }
+}
+
+/// Writes what is printed for an event that was done.
+fn put_done<W: Write>(writer: &mut WatchedWriter<W>, device: &Device, moment: u64, step: &Step)
+    ensures { Puts W.contents writer.old (done_text moment step.now device.now) writer.new }
+{
+    put_ended(writer, moment, &step.ended);
+    put_sends(writer, moment, step.sent.as_slice());
+    put_commands(writer, device, moment, step.commands.as_slice());
+    put_ran(writer, device, moment, step.scan);
+    put_closed(writer, moment, step.closed);
+}
+
+/// Writes what is printed for an event, by its answer and the device after it.
+pub fn put_step<W: Write>(
+    writer: &mut WatchedWriter<W>,
+    device: &Device,
+    moment: u64,
+    answer: &Result<Step, StepFault>,
+)
+    ensures { Puts W.contents writer.old (step_text moment answer.now device.now) writer.new }
+{
+    match answer {
+        Err(fault) => put_refusal(writer, moment, fault.code()),
+        Ok(step) => put_done(writer, device, moment, step),
+    }
+}
+
+/// Writes the line that says which line can't be read.
+#[cold]
+pub fn put_unreadable<W: Write>(writer: &mut WatchedWriter<W>, number: usize)
+    ensures { Puts W.contents writer.old (unreadable_text number) writer.new }
+{
+    writer.put(b"fault 120 line ");
+    writer.put_number(number as u64);
+    writer.put(b"\n");
+}

@@ -1,0 +1,110 @@
+// A device from the octets of a bay file and of a program or an image.
+ghost use Rattle.std.specs.Prelude.{◌≡◌, ◌≢◌, Ok, Err, IfOk, IfErr};
+ghost use Rattle.bay_base.specs.Exact.{Gives};
+ghost use Rattle.bay_config.specs.Bay.{bay_of};
+ghost use Rattle.bay_services.specs.Released.{AreTimed};
+ghost use Rattle.il_image.specs.Decoding.{decoded};
+ghost use Rattle.bay_device.specs.Entries.{IsIdle};
+ghost use Rattle.bay_device.specs.Load.{of_bay, Loads};
+ghost use Rattle.bay_device.specs.declared.fault.LoadFault.TheVariants.{OutOfMemory};
+ghost use Rattle.bay_report.specs.Load.{file_of, text_of, load_of, LoadsTo};
+ghost use Rattle.il_text.specs.declared.fault.TextFault.TheVariants.{BadToken};
+
+use bay_config::fault::BayFault;
+use bay_config::read::read_bay;
+use bay_device::device::Device;
+use bay_device::fault::LoadFault;
+use bay_device::load::{load, load_image};
+use il_text::fault::TextFault;
+use std::alloc::Global;
+
+/// What the octets beside a bay file are.
+#[derive(Clone, Copy, Debug, PartialEq, Eq)]
+pub enum Form {
+    /// A program in Instruction List.
+    Logic,
+    /// An image.
+    Image,
+}
+
+/// The refusal of a bay file, or else of a program that is not in UTF-8: a bad token at its first
+/// line.
+fn refuse_logic(alloc: Global, bay: &str) -> Result<Device, LoadFault>
+    ensures device { Gives LoadFault.OutOfMemory (λ device. device) result
+        (of_bay (bay_of bay.now) (Err (BadToken 1))) }
+    // Nothing is selected, and no association is open; each switch that can be operated takes some
+    // time.
+    ensures idle { IfOk result IsIdle }
+    ensures timed { IfOk result (λ device. AreTimed device.controls.controls) }
+{
+    let _bay = read_bay(alloc, bay)?;
+    Err(LoadFault::from(TextFault::BadToken { line: 1 }))
+}
+
+/// The device of the text of a bay file and the octets of a program.
+fn load_logic(alloc: Global, bay: &str, logic: &[u8]) -> Result<Device, LoadFault>
+    ensures device { Gives LoadFault.OutOfMemory (λ device. device) result
+        (of_bay (bay_of bay.now) (text_of logic.now)) }
+    // Nothing is selected, and no association is open; each switch that can be operated takes some
+    // time.
+    ensures idle { IfOk result IsIdle }
+    ensures timed { IfOk result (λ device. AreTimed device.controls.controls) }
+{
+    match std::str::from_utf8(logic) {
+        Ok(logic) => load(alloc, bay, logic),
+        Err(_) => refuse_logic(alloc, bay),
+    }
+}
+
+/// The device of the octets of a bay file and of a program. A bay file that is not in UTF-8 is no
+/// TOML.
+pub fn load_octets(alloc: Global, bay: &[u8], logic: &[u8]) -> Result<Device, LoadFault>
+    ensures device { Gives LoadFault.OutOfMemory (λ device. device) result
+        (load_of bay.now logic.now) }
+    // Nothing is selected, and no association is open; each switch that can be operated takes some
+    // time.
+    ensures idle { IfOk result IsIdle }
+    ensures timed { IfOk result (λ device. AreTimed device.controls.controls) }
+{
+    match std::str::from_utf8(bay) {
+        Ok(bay) => load_logic(alloc, bay, logic),
+        Err(_) => Err(LoadFault::from(BayFault::BadToml)),
+    }
+}
+
+/// The device of the octets of a bay file and of an image.
+fn load_image_octets(alloc: Global, bay: &[u8], image: &[u8]) -> Result<Device, LoadFault>
+    ensures ok { IfOk result (λ device. Loads (file_of bay.now) (decoded image.now) (Ok device)) }
+    ensures refused { IfErr result
+        (λ e. e ≢ OutOfMemory → Loads (file_of bay.now) (decoded image.now) (Err e)) }
+    // Nothing is selected, and no association is open; each switch that can be operated takes some
+    // time.
+    ensures idle { IfOk result IsIdle }
+    ensures timed { IfOk result (λ device. AreTimed device.controls.controls) }
+{
+    match std::str::from_utf8(bay) {
+        Ok(bay) => load_image(alloc, bay, image),
+        Err(_) => Err(LoadFault::from(BayFault::BadToml)),
+    }
+}
+
+/// The device of the octets of a bay file and of a program or an image, before its first event.
+pub fn load_program(
+    alloc: Global,
+    bay: &[u8],
+    form: Form,
+    program: &[u8],
+) -> Result<Device, LoadFault>
+    ensures ok { IfOk result (λ device. LoadsTo bay.now form program.now (Ok device)) }
+    ensures refused { IfErr result
+        (λ e. e ≢ OutOfMemory → LoadsTo bay.now form program.now (Err e)) }
+    // Nothing is selected, and no association is open; each switch that can be operated takes some
+    // time.
+    ensures idle { IfOk result IsIdle }
+    ensures timed { IfOk result (λ device. AreTimed device.controls.controls) }
+{
+    match form {
+        Form::Logic => load_octets(alloc, bay, program),
+        Form::Image => load_image_octets(alloc, bay, program),
+    }
+}

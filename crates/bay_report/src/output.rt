@@ -1,0 +1,81 @@
+// What is written at once, and the status that it stands for.
+ghost use Rattle.std.specs.Prelude.{◌≡◌, IfOk};
+ghost use Rattle.bay_io.specs.Sent.{Finishes};
+ghost use Rattle.bay_report.specs.Report.{IsLast, Prints, Refuses, UnreadReport, report_text};
+
+use crate::report::{put_load_refusal, put_report};
+use bay_device::fault::LoadFault;
+use bay_device::report::Report;
+use bay_io::input::ReadFault;
+use bay_io::outbox::WriteFault;
+use bay_io::writer::WatchedWriter;
+use std::io::Write;
+
+/// The status of what met no fault.
+pub const CLEAN: u8 = 0;
+
+/// The status where the load is refused.
+pub const REFUSED: u8 = 1;
+
+/// What is told where there is no memory after a load.
+pub const NO_MEMORY: &[u8] = b"fault memory\n";
+
+/// The status of a fault in a trace, in reading or in writing, and of want of memory after a load.
+pub const FAULT: u8 = 3;
+
+/// Writes out all that was put, with the status that it stands for.
+pub fn finish<W: Write>(writer: &mut WatchedWriter<W>, status: u8) -> Result<u8, WriteFault>
+    ensures finishes { Finishes W.contents writer.old writer.new result }
+    ensures status { IfOk result (λ s. s ≡ status) }
+{
+    writer.finish()?;
+    Ok(status)
+}
+
+/// Writes a text that is all that is written, with the status that it stands for.
+pub fn write_text<W: Write>(
+    writer: &mut WatchedWriter<W>,
+    text: &[u8],
+    status: u8,
+) -> Result<u8, WriteFault>
+    ensures { Prints W.contents (IsLast text.now status) writer.old writer.new result }
+{
+    writer.put(text);
+    finish(writer, status)
+}
+
+/// Writes the line of a refused load.
+pub fn write_refusal<W: Write>(
+    writer: &mut WatchedWriter<W>,
+    fault: LoadFault,
+) -> Result<u8, WriteFault>
+    ensures { Prints W.contents (Refuses fault) writer.old writer.new result }
+{
+    put_load_refusal(writer, fault);
+    finish(writer, REFUSED)
+}
+
+/// Writes the line of a load.
+pub fn write_report<W: Write>(
+    writer: &mut WatchedWriter<W>,
+    report: Report,
+) -> Result<u8, WriteFault>
+    ensures { Prints W.contents (IsLast (report_text report) 0) writer.old writer.new result }
+{
+    put_report(writer, report);
+    finish(writer, CLEAN)
+}
+
+/// Writes why a file could not be read.
+pub fn write_unread<W: Write>(
+    fault: ReadFault,
+    writer: &mut WatchedWriter<W>,
+) -> Result<u8, WriteFault>
+    ensures { Prints W.contents (UnreadReport fault) writer.old writer.new result }
+{
+    match fault {
+        ReadFault::OutOfMemory => write_text(writer, NO_MEMORY, FAULT),
+        ReadFault::TooLong => write_text(writer, b"fault 121\n", FAULT),
+        ReadFault::Failed => write_text(writer, b"fault 121\n", FAULT),
+    }
+}

@@ -1,0 +1,65 @@
+// What is printed for a load.
+ghost use Rattle.std.specs.Prelude.{◌≡◌, ◌++◌, codes};
+ghost use Rattle.std.specs.Fmt.{decimal};
+ghost use Rattle.bay_io.specs.Sent.{Puts};
+ghost use Rattle.bay_report.specs.Report.{refusal_of};
+ghost use Rattle.bay_report.specs.Report as spec;
+
+use bay_device::fault::LoadFault;
+use bay_device::report::Report;
+use bay_io::writer::WatchedWriter;
+use std::io::Write;
+
+/// Writes a number, as the last of its line.
+fn put_last_number<W: Write>(writer: &mut WatchedWriter<W>, number: u64)
+    ensures { Puts W.contents writer.old (decimal number ++ codes "\n") writer.new }
+{
+    writer.put_number(number);
+    writer.put(b"\n");
+}
+
+/// Writes the line of a refusal at a line of the program.
+fn put_line_refusal<W: Write>(writer: &mut WatchedWriter<W>, code: u8, line: usize)
+    ensures { Puts W.contents writer.old
+        (codes "load refused " ++ decimal code ++ codes " line "
+        ++ (decimal line ++ codes "\n")) writer.new }
+{
+    writer.put(b"load refused ");
+    writer.put_number(u64::from(code));
+    writer.put(b" line ");
+    put_last_number(writer, line as u64);
+}
+
+/// Writes the line of a refusal, by its number and its line, which is 0 where there is none.
+fn put_numbered_refusal<W: Write>(writer: &mut WatchedWriter<W>, code: u8, line: usize)
+    ensures { Puts W.contents writer.old (spec.numbered_refusal code line) writer.new }
+{
+    if line != 0 {
+        return put_line_refusal(writer, code, line);
+    }
+    writer.put(b"load refused ");
+    put_last_number(writer, u64::from(code));
+}
+
+/// Writes the line that says why a load is refused.
+pub fn put_load_refusal<W: Write>(writer: &mut WatchedWriter<W>, fault: LoadFault)
+    ensures { Puts W.contents writer.old (refusal_of fault) writer.new }
+{
+    match fault {
+        LoadFault::OutOfMemory => writer.put(b"load refused memory\n"),
+        LoadFault::Refused { code, line } => put_numbered_refusal(writer, code, line),
+    }
+}
+
+/// Writes the line of a load: how many instructions the program has, how many values lie on its
+/// stack at most, and how many instructions a scan executes at most.
+pub fn put_report<W: Write>(writer: &mut WatchedWriter<W>, report: Report)
+    ensures { Puts W.contents writer.old (spec.report_text report) writer.new }
+{
+    writer.put(b"instructions=");
+    writer.put_number(u64::from(report.instructions));
+    writer.put(b" depth=");
+    writer.put_number(u64::from(report.depth));
+    writer.put(b" budget=");
+    put_last_number(writer, u64::from(report.budget));
+}

@@ -1,0 +1,29 @@
+// The lines of a text.
+ghost use Rattle.std.specs.Prelude.{◌≡◌, ◌∷◌, [], ◌<◌, length};
+ghost use Rattle.bay_report.specs.TextLines.{without_end, CutsLine};
+
+use memchr::memchr_iter;
+
+/// A line without the CR that may stand before its LF.
+fn without_return(line: &[u8]) -> &[u8]
+    ensures { result.now ≡ without_end (13 ∷ []) line.now }
+{
+    match line.strip_suffix(b"\r") {
+        Some(line) => line,
+        None => line,
+    }
+}
+
+/// The first line without its end, which is LF or CR LF, and what follows it.
+#[inline(always)]
+pub fn cut_line(text: &[u8]) -> (&[u8], &[u8])
+    requires { 0 < length text.now }
+    ensures cuts { CutsLine text.now result.0.now result.1.now }
+    ensures shorter { length result.1.now < length text.now }
+{
+    // An iterator looks at the next 32 octets first, and a line is short.
+    match memchr_iter(b'\n', text).next() {
+        Some(at) => (without_return(&text[..at]), &text[at + 1..]),
+        None => (text, &text[text.len()..]),
+    }
+}

@@ -1,0 +1,22 @@
+use Rattle.std.proofs.Common.{Ok}
+use Rattle.bay_serving.proofs.ServeLemmas.{line-fails}
+use Rattle.bay_serve.specs.Calls.{Called}
+use Rattle.bay_serving.proofs.serve.serve_device.Goals as goal
+
+pub returns-in_err-write_report : goal.returns-in_err-write_report
+returns-in_err-write_report g c =
+    line-fails (Called g.L.Link.does g.L.Link.failures) g.H.Host.does g.W.Write.contents
+    c.args.numbers c.args.trace.now c.args.device c.report.result c.report.ensures
+    c.args.host.now c.args.writer.now
+    c.write_report.new.writer c.in_err-write_report.field-0.0 c.in_err-write_report.ensures
+    c.from_residual.result c.from_residual.ensures.0
+
+pub returns : goal.returns
+returns g c = record {
+  report = c.report.result;
+  is = c.report.ensures;
+  middle = c.write_report.new.writer;
+  told = Ok c.in_ok-write_report.field-0;
+  printed = c.in_ok-write_report.ensures;
+  goes_on = c.serve_port.ensures;
+}

@@ -1,0 +1,53 @@
+use Rattle.std.proofs.Common.{◌≡◌, ◌+◌, ◌-◌, suc, arith}
+use Rattle.std.proofs.lemmas.Bool.Decides.{nat_tests}
+use Rattle.bay_serving.proofs.ServeLemmas.{Reached-done, Reached-ends, Reached-fails}
+use Rattle.bay_serving.proofs.ServeLemmas.{may-pause}
+use Rattle.bay_serve.specs.Calls.{Called}
+use Rattle.bay_serving.proofs.serving.serve_lines.Goals as goal
+
+pub returns-in_err-status : goal.returns-in_err-status
+returns-in_err-status g c =
+    let more : c.args.turns - c.loop-turn.turn ≡ suc (c.args.turns - (c.loop-turn.turn + 1)) =
+    grind (arith, nat_tests) in
+    Reached-fails (Called g.L.Link.does g.L.Link.failures) g.H.Host.does g.W.Write.contents _ _ _ _
+    _ _ _ _ _ c.loop-turn.invariant.reached _ _ c.next_line-line.ensures.first
+    c.next_line-line.ensures.others more
+    (record {
+      link = c.try_turn.new.link.link;
+      held = c.try_turn.new.server;
+      host = c.try_turn.new.host;
+    }) c.try_turn.new.writer _ c.from_residual.result
+    c.from_residual.ensures.0 c.in_err-status.ensures
+
+pub returns-in-Ends : goal.returns-in-Ends
+returns-in-Ends g c =
+    let more : c.args.turns - c.loop-turn.turn ≡ suc (c.args.turns - (c.loop-turn.turn + 1)) =
+    grind (arith, nat_tests) in
+    Reached-ends (Called g.L.Link.does g.L.Link.failures) g.H.Host.does g.W.Write.contents _ _ _ _ _
+    _ _ _ _ c.loop-turn.invariant.reached _ _ c.next_line-line.ensures.first
+    c.next_line-line.ensures.others more
+    (record {
+      link = c.try_turn.new.link.link;
+      held = c.try_turn.new.server;
+      host = c.try_turn.new.host;
+    }) c.try_turn.new.writer _ _ c.in-Ends.is c.in_ok-status.ensures
+
+pub loop-turn-preserved : goal.loop-turn-preserved
+loop-turn-preserved g c =
+    let more : c.args.turns - c.loop-turn.turn ≡ suc (c.args.turns - (c.loop-turn.turn + 1)) =
+    grind (arith, nat_tests) in
+    record {
+      within = grind (arith, nat_tests);
+      reached =
+          Reached-done (Called g.L.Link.does g.L.Link.failures) g.H.Host.does g.W.Write.contents _ _
+          _ _ _ _ _ _ _ c.loop-turn.invariant.reached _ _ c.next_line-line.ensures.first
+          c.next_line-line.ensures.others more
+          (record {
+            link = c.try_turn.new.link.link;
+            held = c.try_turn.new.server;
+            host = c.try_turn.new.host;
+          }) _ c.try_turn.new.writer _ _ c.in-Done.is
+          c.in_ok-status.ensures
+          (may-pause (Called g.L.Link.does g.L.Link.failures) g.H.Host.does g.W.Write.contents _
+          _ _ _ c.rest.ensures);
+    }

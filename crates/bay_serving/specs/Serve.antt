@@ -1,0 +1,111 @@
+-- What the command to serve comes to: files are read and loaded, a port is bound, and turns are
+-- served.
+use Rattle.std.specs.Prelude.{◌≡◌, ℕ, List, replicate, codes, Option, None, Some, Result, Ok, Err, ◌⊎◌, []}
+use Rattle.bay_device.specs.Device.{State}
+use Rattle.bay_device.specs.Report.{IsReport as IsReportOf}
+use Rattle.bay_device.specs.declared.report.Report.{Report}
+use Rattle.bay_device.specs.declared.fault.LoadFault.{LoadFault}
+use Rattle.bay_device.specs.declared.fault.LoadFault.TheVariants.{OutOfMemory as wants_memory}
+use Rattle.bay_io.specs.Watched.{Writing}
+use Rattle.bay_io.specs.declared.input.ReadFault.{ReadFault}
+use Rattle.bay_io.specs.declared.outbox.WriteFault.{WriteFault}
+use Rattle.bay_files.specs.Files.{FilesData, ReadsBoth, ReadsNamed}
+use Rattle.bay_serving.specs.Host.{HostCall, Binds}
+use Rattle.bay_report.specs.Load.{LoadsTo}
+use Rattle.bay_report.specs.Report.{IsLast, Prints, Refuses, UnreadReport, report_text}
+use Rattle.bay_report.specs.TextLines.{lines_of}
+use Rattle.bay_serving.specs.ServeReport.{ServesTurns, told_lines}
+use Rattle.bay_report.specs.declared.load.Form.{Form}
+use Rattle.bay_serving.specs.declared.serve.Numbers.{Numbers}
+use Rattle.bay_serve.specs.Calls.{Call}
+
+-- the names of the command's files: the bay, a program or an image, and the trace, if it was given
+pub record FileNames : Type 0 where
+  pub bay : List ℕ
+  pub form : Form
+  pub program : List ℕ
+  pub trace : Option (List ℕ)
+
+module _ {L H W : Type 0} (step : L → Call → L → Type 0) (acts : H → HostCall L → H → Type 0)
+    (contents : W → Option (List ℕ)) where
+  -- the port can't be had, which is told; or it is served; or there is no memory for the server,
+  -- which is told
+  abbrev pub ServesBound : Numbers → List ℕ → State → Option L → H → H → Writing W → Writing W
+      → Result ℕ WriteFault → Type 0
+  ServesBound numbers trace s None host after old new answer =
+      Prints contents (IsLast (codes "fault 121\n") 3) old new answer × (after ≡ host)
+  ServesBound numbers trace s (Some link) host after old new answer =
+      ServesTurns step acts contents numbers.turns (told_lines 1 (lines_of trace))
+      (record {
+        link = link;
+        held = record { device = s; queues = replicate 8 [] };
+        host = host;
+      }) old after new answer
+      ⊎ (Prints contents (IsLast (codes "fault memory\n") 3) old new answer × (after ≡ host))
+
+  -- the port is bound
+  pub record BindsPort (numbers : Numbers) (trace : List ℕ) (s : State) (before after : H)
+      (old new : Writing W) (answer : Result ℕ WriteFault) : Type 0 where
+    pub had : Option L
+    pub host : H
+    pub binds : acts before (Binds numbers.port had) host
+    pub goes_on : ServesBound numbers trace s had host after old new answer
+
+  -- what follows a load's line: the port, where the line was printed
+  abbrev pub FollowsLine : Numbers → List ℕ → State → H → H → Writing W → Writing W
+      → Result ℕ WriteFault → Result ℕ WriteFault → Type 0
+  FollowsLine numbers trace s before after old new (Err fault) answer =
+      (new ≡ old) × (after ≡ before) × (answer ≡ Err fault)
+  FollowsLine numbers trace s before after old new (Ok status) answer =
+      BindsPort numbers trace s before after old new answer
+
+  -- a device is served: its load's line is printed, and then the port is bound
+  pub record ServesDevice (numbers : Numbers) (trace : List ℕ) (s : State) (before after : H)
+      (old new : Writing W) (answer : Result ℕ WriteFault) : Type 0 where
+    pub report : Report
+    pub is : IsReportOf s.machine.image report
+    pub middle : Writing W
+    pub told : Result ℕ WriteFault
+    pub printed : Prints contents (IsLast (report_text report) 0) old middle told
+    pub goes_on : FollowsLine numbers trace s before after middle new told answer
+
+  -- what was loaded is served; of a refused load the refusal is printed
+  abbrev pub ServesLoaded : Numbers → List ℕ → Result State LoadFault → H → H → Writing W
+      → Writing W → Result ℕ WriteFault → Type 0
+  ServesLoaded numbers trace (Err fault) before after old new answer =
+      Prints contents (Refuses fault) old new answer × (after ≡ before)
+  ServesLoaded numbers trace (Ok s) before after old new answer =
+      ServesDevice numbers trace s before after old new answer
+
+  -- what was read is loaded and served; its load may want memory
+  pub record LoadsServed (numbers : Numbers) (form : Form) (both : FilesData) (trace : List ℕ)
+      (before after : H) (old new : Writing W) (answer : Result ℕ WriteFault) : Type 0 where
+    pub loaded : Result State LoadFault
+    pub loads : LoadsTo both.bay form both.program loaded ⊎ (loaded ≡ Err wants_memory)
+    pub goes_on : ServesLoaded numbers trace loaded before after old new answer
+
+  abbrev pub ServesTrace : Numbers → Form → FilesData → Result (List ℕ) ReadFault → H → H
+      → Writing W → Writing W → Result ℕ WriteFault → Type 0
+  ServesTrace numbers form both (Err fault) before after old new answer =
+      Prints contents (UnreadReport fault) old new answer × (after ≡ before)
+  ServesTrace numbers form both (Ok trace) before after old new answer =
+      LoadsServed numbers form both trace before after old new answer
+
+  abbrev pub ServesRead : {F : Type 0} → (F → List ℕ → Result (List ℕ) ReadFault → Type 0) → F
+      → Numbers → Form → Option (List ℕ) → Result FilesData ReadFault → H → H → Writing W
+      → Writing W → Result ℕ WriteFault → Type 0
+  ServesRead reads files numbers form trace (Err fault) before after old new answer =
+      Prints contents (UnreadReport fault) old new answer × (after ≡ before)
+  ServesRead reads files numbers form trace (Ok both) before after old new answer =
+      (read : Result (List ℕ) ReadFault) × ReadsNamed reads files trace read
+      × ServesTrace numbers form both read before after old new answer
+
+  -- The bay and the program or the image are read, then the trace, if it was named; one that can't
+  -- be read is told. What they load to is served.
+  pub record ServesFiles {F : Type 0} (reads : F → List ℕ → Result (List ℕ) ReadFault → Type 0)
+      (files : F) (named : FileNames) (numbers : Numbers) (before after : H) (old new : Writing W)
+      (answer : Result ℕ WriteFault) : Type 0 where
+    pub read : Result FilesData ReadFault
+    pub is_read : ReadsBoth reads files named.bay named.program read
+    pub goes_on : ServesRead reads files numbers named.form named.trace read before after old new
+        answer

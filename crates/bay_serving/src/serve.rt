@@ -1,0 +1,191 @@
+// Files are read, loaded and served.
+ghost use Rattle.std.specs.Prelude.{◌≡◌, None, Ok, Err, false, replicate, IfErr, IfOk};
+ghost use Rattle.bay_services.specs.Released.{AreTimed};
+ghost use Rattle.bay_files.specs.Files.{ReadsNamed};
+ghost use Rattle.bay_report.specs.Report.{Prints, UnreadReport};
+ghost use Rattle.bay_serving.specs.Serve.{LoadsServed, ServesBound, ServesDevice, ServesFiles, ServesRead, BindsPort};
+ghost use Rattle.bay_serve.specs.Calls.{Called};
+ghost use Rattle.bay_serve.specs.Served.{text_in};
+
+use crate::host::Host;
+use crate::serving::serve_turns;
+use bay_device::device::Device;
+use bay_files::files::{BothFiles, FileSystem, read_both};
+use bay_io::input::ReadFault;
+use bay_io::outbox::WriteFault;
+use bay_io::writer::WatchedWriter;
+use bay_report::load::{Form, load_program};
+use bay_report::output::{FAULT, NO_MEMORY, write_refusal, write_report, write_text, write_unread};
+use bay_serve::link::Link;
+use bay_serve::server::Server;
+use std::alloc::Global;
+use std::io::Write;
+
+/// On which port clients are served, and for how many turns.
+#[derive(Clone, Copy)]
+pub struct Numbers {
+    pub port: u16,
+    pub turns: u32,
+}
+
+/// What is served, by the names of its files: the bay, a program or an image, and the trace of the
+/// process.
+#[derive(Clone, Copy)]
+pub struct Named<'a> {
+    pub bay: &'a str,
+    pub form: Form,
+    pub program: &'a str,
+    pub trace: Option<&'a str>,
+}
+
+/// Serves a device over the link of a port, if there was one.
+fn serve_link<L: Link + Drop, H: Host<L>, W: Write>(
+    alloc: Global,
+    device: Device,
+    link: Option<L>,
+    host: &mut H,
+    trace: &[u8],
+    numbers: Numbers,
+    writer: &mut WatchedWriter<W>,
+) -> Result<u8, WriteFault>
+    requires closed { device.connections ≡ replicate 8 None }
+    requires timed { AreTimed device.controls.controls }
+    ensures { ServesBound (Called L.does L.failures) H.does W.contents numbers trace.now device link
+        host.old host.new writer.old writer.new result }
+{
+    let Some(link) = link else {
+        return write_text(writer, b"fault 121\n", FAULT);
+    };
+    match Server::new(alloc, device) {
+        Ok(server) => serve_turns(alloc, server, link, host, trace, numbers.turns, writer),
+        Err(_) => write_text(writer, NO_MEMORY, FAULT),
+    }
+}
+
+/// Binds a port, and serves a device on it.
+fn serve_port<L: Link + Drop, H: Host<L>, W: Write>(
+    alloc: Global,
+    device: Device,
+    host: &mut H,
+    trace: &[u8],
+    numbers: Numbers,
+    writer: &mut WatchedWriter<W>,
+) -> Result<u8, WriteFault>
+    requires closed { device.connections ≡ replicate 8 None }
+    requires timed { AreTimed device.controls.controls }
+    ensures { BindsPort (Called L.does L.failures) H.does W.contents numbers trace.now device
+        host.old host.new writer.old writer.new result }
+{
+    let link = host.bind(numbers.port);
+    serve_link(alloc, device, link, host, trace, numbers, writer)
+}
+
+/// Writes the line of a device's load, and then serves it.
+fn serve_device<L: Link + Drop, H: Host<L>, W: Write>(
+    alloc: Global,
+    device: Device,
+    host: &mut H,
+    trace: &[u8],
+    numbers: Numbers,
+    writer: &mut WatchedWriter<W>,
+) -> Result<u8, WriteFault>
+    requires closed { device.connections ≡ replicate 8 None }
+    requires timed { AreTimed device.controls.controls }
+    ensures { ServesDevice (Called L.does L.failures) H.does W.contents numbers trace.now device
+        host.old host.new writer.old writer.new result }
+{
+    write_report(writer, device.report())?;
+    serve_port(alloc, device, host, trace, numbers, writer)
+}
+
+/// Loads what was read of a bay file and of a program or an image, and serves it.
+fn serve_octets<L: Link + Drop, H: Host<L>, W: Write>(
+    alloc: Global,
+    form: Form,
+    both: &BothFiles,
+    host: &mut H,
+    trace: &[u8],
+    numbers: Numbers,
+    writer: &mut WatchedWriter<W>,
+) -> Result<u8, WriteFault>
+    ensures { LoadsServed (Called L.does L.failures) H.does W.contents numbers form
+        (record { bay = both.now.bay.items; program = both.now.program.items }) trace.now host.old
+        host.new writer.old writer.new result }
+{
+    match load_program(alloc, both.bay.as_slice(), form, both.program.as_slice()) {
+        Ok(device) => serve_device(alloc, device, host, trace, numbers, writer),
+        Err(fault) => write_refusal(writer, fault),
+    }
+}
+
+/// The file of a name, or nothing where there is no name.
+fn read_named<F: FileSystem>(
+    alloc: Global,
+    files: &F,
+    name: Option<&str>,
+) -> Result<Vec<u8>, ReadFault>
+    ensures ok { IfOk result
+        (λ octets. ReadsNamed F.reads files.now (text_in name.entry) (Ok octets.items)) }
+    ensures err { IfErr result
+        (λ fault. ReadsNamed F.reads files.now (text_in name.entry) (Err fault)) }
+{
+    match name {
+        Some(name) => files.read(alloc, name),
+        None => Ok(Vec::new(alloc)),
+    }
+}
+
+/// Reads the trace, if it was named, and serves what was read.
+fn serve_read<F: FileSystem, L: Link + Drop, H: Host<L>, W: Write>(
+    alloc: Global,
+    named: Named<'_>,
+    both: &BothFiles,
+    files: &F,
+    host: &mut H,
+    numbers: Numbers,
+    writer: &mut WatchedWriter<W>,
+) -> Result<u8, WriteFault>
+    ensures { ServesRead (Called L.does L.failures) H.does W.contents F.reads files.now numbers
+        named.entry.form (text_in named.entry.trace)
+        (Ok (record { bay = both.now.bay.items; program = both.now.program.items })) host.old
+        host.new writer.old writer.new result }
+{
+    match read_named(alloc, files, named.trace) {
+        Ok(trace) => serve_octets(
+            alloc,
+            named.form,
+            both,
+            host,
+            trace.as_slice(),
+            numbers,
+            writer,
+        ),
+        Err(fault) => write_unread(fault, writer),
+    }
+}
+
+/// Serves files by their names: the bay is read, then the program or the image, then the trace;
+/// they are loaded, and the line of the load is written; the port is bound; and so many turns are
+/// served.
+pub fn serve<F: FileSystem, L: Link + Drop, H: Host<L>, W: Write>(
+    alloc: Global,
+    named: Named<'_>,
+    files: &F,
+    host: &mut H,
+    numbers: Numbers,
+    writer: &mut WatchedWriter<W>,
+) -> Result<u8, WriteFault>
+    ensures { ServesFiles (Called L.does L.failures) H.does W.contents F.reads files.now
+        (record {
+          bay = named.entry.bay.now;
+          form = named.entry.form;
+          program = named.entry.program.now;
+          trace = text_in named.entry.trace;
+        }) numbers host.old
+        host.new writer.old writer.new result }
+{
+    match read_both(alloc, files, named.bay, named.program) {
+        Ok(both) => serve_read(alloc, named, &both, files, host, numbers, writer),
+        Err(fault) => write_unread(fault, writer),
+    }
+}

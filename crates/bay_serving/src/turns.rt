@@ -1,0 +1,132 @@
+// The lines that are printed for a turn of a server.
+ghost use Rattle.std.specs.Prelude.{◌≡◌};
+ghost use Rattle.bay_io.specs.Sent.{Puts};
+ghost use Rattle.bay_device.specs.declared.event.Why.TheVariants.{Fault};
+ghost use Rattle.bay_report.specs.Lines.{closing_text};
+ghost use Rattle.bay_report.specs.Report.{IsLast, Prints};
+ghost use Rattle.bay_serve.specs.Code.{code_of};
+ghost use Rattle.bay_serving.specs.ServeReport.{TellsTurn};
+ghost use Rattle.bay_serving.specs.TurnLines.{closings_text, memories_text, refusal_text, turn_text, unserved_text};
+ghost use Rattle.bay_serving.specs.TurnLines as spec;
+
+use bay_device::device::Device;
+use bay_device::event::Why;
+use bay_io::outbox::WriteFault;
+use bay_io::writer::WatchedWriter;
+use bay_report::lines::{put_closing_line, put_commands, put_refusal, put_unreadable};
+use bay_report::output::{CLEAN, FAULT, finish, write_text};
+use bay_serve::fault::ServeFault;
+use bay_serve::told::{Closing, Turn};
+use std::io::Write;
+
+/// Writes the line of a refusal, if there was one.
+fn put_refused<W: Write>(writer: &mut WatchedWriter<W>, moment: u64, refused: Option<u8>)
+    ensures { Puts W.contents writer.old (refusal_text moment refused) writer.new }
+{
+    match refused {
+        Some(code) => put_refusal(writer, moment, code),
+        None => {}
+    }
+}
+
+/// Writes the line of an association that was closed, with the number of the reason.
+fn put_entry<W: Write>(writer: &mut WatchedWriter<W>, moment: u64, entry: (u16, Closing))
+    ensures { Puts W.contents writer.old (closing_text moment entry.0 (Fault (code_of entry.1)))
+        writer.new }
+{
+    let (association, closing) = entry;
+    put_closing_line(writer, moment, association, Why::Fault(closing.code()));
+}
+
+/// Writes the lines of the associations that were closed.
+fn put_closings<W: Write>(writer: &mut WatchedWriter<W>, moment: u64, closed: &[(u16, Closing)])
+    ensures { Puts W.contents writer.old (closings_text moment closed.now) writer.new }
+{
+    for entry in closed {
+        put_entry(writer, moment, *entry);
+    }
+}
+
+/// Writes the lines of those that were closed for want of memory.
+fn put_memories<W: Write>(writer: &mut WatchedWriter<W>, moment: u64, memory: &[u16])
+    ensures { Puts W.contents writer.old (memories_text moment memory.now) writer.new }
+{
+    for association in memory {
+        put_closing_line(writer, moment, *association, Why::Memory);
+    }
+}
+
+/// Writes what is printed for a turn.
+fn put_turn<W: Write>(writer: &mut WatchedWriter<W>, device: &Device, moment: u64, turn: &Turn)
+    ensures { Puts W.contents writer.old (turn_text moment turn.now device.now) writer.new }
+{
+    put_refused(writer, moment, turn.refused);
+    put_commands(writer, device, moment, turn.commands.as_slice());
+    put_closings(writer, moment, turn.closed.as_slice());
+    put_memories(writer, moment, turn.memory.as_slice());
+}
+
+/// Whether a turn tells nothing.
+fn is_quiet(turn: &Turn) -> bool
+    ensures { result ≡ spec.is_quiet turn.now }
+{
+    turn.refused.is_none()
+        && turn.commands.as_slice().is_empty()
+        && turn.closed.as_slice().is_empty()
+        && turn.memory.as_slice().is_empty()
+}
+
+/// Writes the lines of a turn, and flushes them.
+fn write_turn<W: Write>(
+    writer: &mut WatchedWriter<W>,
+    device: &Device,
+    moment: u64,
+    turn: &Turn,
+) -> Result<u8, WriteFault>
+    ensures { Prints W.contents (IsLast (turn_text moment turn.now device.now) 0) writer.old
+        writer.new result }
+{
+    put_turn(writer, device, moment, turn);
+    finish(writer, CLEAN)
+}
+
+/// Writes the lines of a turn, and flushes them; where it tells nothing the writer is left alone.
+pub fn tell_turn<W: Write>(
+    writer: &mut WatchedWriter<W>,
+    device: &Device,
+    moment: u64,
+    turn: &Turn,
+) -> Result<u8, WriteFault>
+    ensures { TellsTurn W.contents moment turn.now device.now writer.old writer.new result }
+{
+    if is_quiet(turn) {
+        Ok(CLEAN)
+    } else {
+        write_turn(writer, device, moment, turn)
+    }
+}
+
+/// Writes which line of the trace can't be read.
+fn write_bad_line<W: Write>(writer: &mut WatchedWriter<W>, number: usize) -> Result<u8, WriteFault>
+    ensures { Prints W.contents (IsLast (unserved_text ServeFault.BadLine number) 3) writer.old
+        writer.new result }
+{
+    put_unreadable(writer, number);
+    finish(writer, FAULT)
+}
+
+/// Writes why a turn is not done, by the number of its line of the trace.
+pub fn write_unserved<W: Write>(
+    writer: &mut WatchedWriter<W>,
+    fault: ServeFault,
+    number: usize,
+) -> Result<u8, WriteFault>
+    ensures { Prints W.contents (IsLast (unserved_text fault number) 3) writer.old writer.new
+        result }
+{
+    match fault {
+        ServeFault::BadLine => write_bad_line(writer, number),
+        ServeFault::MomentTooLarge => write_text(writer, b"fault 114\n", FAULT),
+        ServeFault::OutOfMemory => write_text(writer, b"fault memory\n", FAULT),
+    }
+}

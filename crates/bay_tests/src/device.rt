@@ -1,0 +1,234 @@
+// A device as a library is called: its look-ups, a run of events, the image of its program, and
+// what its refusals are told as.
+use crate::session::{CONFIRM, REQUEST, has_octets, octets_of};
+use bay_device::device::Device;
+use bay_device::event::{Event, Step};
+use bay_device::fault::{LoadFault, StepFault};
+use bay_device::load::{load, load_image};
+use bay_io::outbox::WriteFault;
+use bay_tree::leaf::Dbpos;
+use std::alloc::{AllocError, Global};
+use std::test::Fail;
+
+const BAY: &str =
+    "bay = { domain = \"B\", vendor = \"V\", model = \"M\", revision = \"1\", scan_max_age_ms = 0 }
+switch = [{ id = \"QA1\", kind = \"breaker\", control = \"status\" },
+ { id = \"QB1\", kind = \"disconnector\", control = \"status\" }]
+input = [{ name = \"ES\" }, { name = \"LK\" }]
+meter = [{ id = \"M1\" }]
+";
+
+const LOGIC: &str = "PROGRAM P
+VAR_EXTERNAL
+QA1_OPEN, QB1_ENA_OPN, QB1_ENA_CLS : BOOL;
+END_VAR
+LD QA1_OPEN
+ST QB1_ENA_OPN
+ST QB1_ENA_CLS
+END_PROGRAM
+";
+
+/// The image of the program in version 1, up to the number of the version and from there on.
+const IMAGE: [&str; 2] = [
+    "494c4243",
+    "00030100085141315f4f50454e01010b5142315f454e415f4f504e01010b5142315f454e415f434c5300000000000d02000607000008000108000201",
+];
+
+/// Names in any case, names of others, and how many there are of each.
+fn finds(device: &Device) -> bool {
+    let switches = [
+        device.switch("qb1"),
+        device.switch("QA1"),
+        device.switch("QB2"),
+    ];
+    let inputs = [device.input("es"), device.input("Lk"), device.input("M1")];
+    let meters = [device.meter("m1"), device.meter("ES")];
+    switches == [Some(1), Some(0), None]
+        && inputs == [Some(0), Some(1), None]
+        && meters == [Some(0), None]
+        && [
+            device.switch_count(),
+            device.input_count(),
+            device.meter_count(),
+        ] == [2, 2, 1]
+        && [device.id(0), device.id(1), device.id(2)] == [Some("QA1"), Some("QB1"), None]
+        && [device.ena(0), device.ena(2)] == [Some((false, false)), None]
+}
+
+/// The same of a device of its own.
+fn a_device_finds(alloc: Global) -> Result<bool, LoadFault> {
+    match load(alloc, BAY, LOGIC) {
+        Ok(device) => Ok(finds(&device)),
+        Err(fault) => Err(fault),
+    }
+}
+
+#[test]
+fn look_ups(rt: HostRuntime) -> Result<(), Fail> {
+    assert!(rt; a_device_finds(rt.alloc())?);
+    Ok(())
+}
+
+/// The numbers of refusals, 0 for an event that was done.
+fn codes_of(alloc: Global, answers: &[Result<Step, StepFault>]) -> Result<Vec<u8>, AllocError> {
+    let mut codes = Vec::new(alloc);
+    for answer in answers {
+        match answer {
+            Ok(_) => codes.push(0)?,
+            Err(fault) => codes.push(fault.code())?,
+        }
+    }
+    Ok(codes)
+}
+
+/// The answers of a device to events of the process, of which the second is a scan.
+fn runs_process(alloc: Global, device: &mut Device) -> Result<bool, Fail> {
+    let position = Dbpos::Off;
+    let answers = device.run(&[
+        (
+            1000,
+            Event::Contact {
+                switch: 0,
+                position,
+            },
+        ),
+        (1000, Event::Scan),
+        (
+            999,
+            Event::Contact {
+                switch: 0,
+                position,
+            },
+        ),
+        (
+            1001,
+            Event::Contact {
+                switch: 2,
+                position,
+            },
+        ),
+        (
+            4_294_967_296_000,
+            Event::Contact {
+                switch: 2,
+                position,
+            },
+        ),
+    ])?;
+    let codes = codes_of(alloc, answers.as_slice())?;
+    let is_scanned = match answers.as_slice() {
+        [_, Ok(step), ..] => step.scan == Some(6),
+        _ => false,
+    };
+    Ok(is_scanned && codes.as_slice() == [0, 0, 110, 113, 114].as_slice())
+}
+
+/// Octets of association 1.
+fn heard(octets: &[u8]) -> Event<'_> {
+    Event::Recv {
+        association: 1,
+        octets,
+    }
+}
+
+/// Whether an event has sent the answer to a request for a transport connection.
+fn is_confirmed(alloc: Global, answer: Option<&Result<Step, StepFault>>) -> Result<bool, Fail> {
+    match answer {
+        Some(Ok(step)) => match step.sent.as_slice() {
+            [sent] => has_octets(alloc, sent.octets.as_slice(), &[CONFIRM]),
+            _ => Ok(false),
+        },
+        _ => Ok(false),
+    }
+}
+
+/// The answers of a device to events of associations, and to octets of none.
+fn runs_talk(alloc: Global, device: &mut Device) -> Result<bool, Fail> {
+    let request = octets_of(alloc, &[REQUEST])?;
+    let other = Event::Recv {
+        association: 2,
+        octets: &[0],
+    };
+    let answers = device.run(&[
+        (2000, Event::Open { association: 1 }),
+        (2000, heard(request.as_slice())),
+        (2000, heard(&[])),
+        (2000, other),
+        (2000, Event::Close { association: 1 }),
+        (2000, Event::Close { association: 1 }),
+        (2000, heard(&[])),
+    ])?;
+    let codes = codes_of(alloc, answers.as_slice())?;
+    let is_confirmed = is_confirmed(alloc, answers.as_slice().get(1))?;
+    Ok(is_confirmed && codes.as_slice() == [0, 0, 0, 111, 0, 111, 111].as_slice())
+}
+
+/// The answers of a device to both.
+fn runs_all(alloc: Global, device: &mut Device) -> Result<bool, Fail> {
+    Ok(
+        runs_process(alloc, device)?
+            && runs_talk(alloc, device)?
+            && device.ena(1) == Some((true, true)),
+    )
+}
+
+/// The same of a device of its own.
+fn a_device_runs(alloc: Global) -> Result<bool, Fail> {
+    match load(alloc, BAY, LOGIC) {
+        Ok(mut device) => runs_all(alloc, &mut device),
+        Err(fault) => Err(Fail::from(fault)),
+    }
+}
+
+#[test]
+fn runs(rt: HostRuntime) -> Result<(), Fail> {
+    assert!(rt; a_device_runs(rt.alloc())?);
+    Ok(())
+}
+
+/// A device gives the image in version 2.
+fn gives_image(alloc: Global, device: &Device) -> Result<bool, Fail> {
+    has_octets(
+        alloc,
+        device.image()?.as_slice(),
+        &[IMAGE[0], "02", IMAGE[1]],
+    )
+}
+
+/// The same of the device of an image in version 1.
+fn a_device_gives_image(alloc: Global, first: &[u8]) -> Result<bool, Fail> {
+    match load_image(alloc, BAY, first) {
+        Ok(device) => gives_image(alloc, &device),
+        Err(fault) => Err(Fail::from(fault)),
+    }
+}
+
+#[test]
+fn images(rt: HostRuntime) -> Result<(), Fail> {
+    let first = octets_of(rt.alloc(), &[IMAGE[0], "01", IMAGE[1]])?;
+    assert!(rt; a_device_gives_image(rt.alloc(), first.as_slice())?);
+    Ok(())
+}
+
+/// What refused loads, refused events and a failed write are told as.
+fn messages_text(alloc: Global) -> Result<String, AllocError> {
+    format!(in alloc;
+        "{}, {}, {}, {}, {}, {}",
+        LoadFault::Refused { code: 70, line: 2 },
+        LoadFault::OutOfMemory,
+        StepFault::MomentTooLarge,
+        StepFault::TimeWentBack,
+        StepFault::NoSuchPoint,
+        WriteFault
+    )
+}
+
+#[test]
+fn messages(rt: HostRuntime) -> Result<(), Fail> {
+    let wanted = "fault 70 at line 2, out of memory, the moment is too large, \
+        the moment is before the last event's, there is no such switch, input or meter, \
+        a write failed";
+    let found = messages_text(rt.alloc())?;
+    assert_eq!(rt; found.as_str(), wanted);
+    Ok(())
+}

@@ -1,0 +1,16 @@
+use Rattle.std.proofs.Common.{◌≡◌, ℕ, Option, Some, None, refl, sym, ◌∙◌, arith}
+use Rattle.bay_words.specs.Jobs.{number_of}
+use Rattle.bay_words.proofs.JobLemmas.{parsed-number, unparsed-number}
+use Rattle.bay_words.proofs.words.turns_of.Goals as goal
+
+pub returns : goal.returns
+returns c = by_answer c.ok.result refl
+  where
+    by_answer : (o : Option ℕ) → c.ok.result ≡ o
+        → c.ok.result ≡ number_of 0 4294967295 c.args.value.now
+    by_answer None is =
+        is ∙ sym (unparsed-number 32 0 4294967295 c.args.value.now c.parse.result
+        c.parse.ensures.value.0 refl (sym c.ok.ensures.value ∙ is))
+    by_answer (Some n) is =
+        is ∙ sym (parsed-number 32 0 4294967295 c.args.value.now c.parse.result
+        c.parse.ensures.value.0 refl (omega arith) n (sym c.ok.ensures.value ∙ is) (omega arith))

@@ -1,0 +1,34 @@
+-- A task and a job without their places in memory.
+use Rattle.std.specs.Prelude.{string_bytes, option_map, List, ℕ}
+use Rattle.std.specs.Borrow.{Bor}
+use Rattle.bay_words.specs.declared.task.Program.{Program}
+use Rattle.bay_words.specs.declared.task.Program.TheVariants.{Logic, Image}
+use Rattle.bay_words.specs.declared.task.Task.{Task}
+use Rattle.bay_words.specs.declared.task.Task.TheVariants.{Check, Replay, Serve, Compile}
+use Rattle.bay_words.specs.declared.words.Job.{Job}
+use Rattle.bay_words.specs.Jobs.{JobData}
+
+-- a program and a task, without where their texts lie
+abbrev pub program_view : Program (Bor (List ℕ)) → Program (List ℕ)
+program_view (Logic name) = Logic name.now
+program_view (Image name) = Image name.now
+
+abbrev pub task_view : Task (Bor (List ℕ)) → Task (List ℕ)
+task_view (Check bay program) = Check bay.now (program_view program)
+task_view Replay = Replay
+task_view (Serve bay program port turns trace) =
+    Serve bay.now (program_view program) port turns (option_map (λ name. name.now) trace)
+task_view (Compile bay logic out) = Compile bay.now logic.now out.now
+
+-- a job, as definitions see it
+abbrev pub job_view : Job → JobData
+job_view job = record {
+  verb = job.verb;
+  bay = option_map string_bytes job.bay;
+  logic = option_map string_bytes job.logic;
+  image = option_map string_bytes job.image;
+  out = option_map string_bytes job.out;
+  trace = option_map string_bytes job.trace;
+  port = job.port;
+  turns = job.turns;
+}

@@ -1,0 +1,185 @@
+-- The commands of the program, and what some words ask for.
+use Rattle.std.specs.Prelude.{ℕ, true, List, ◌∷◌, codes, Option, None, Some, option_and_then, option_map, if◌then◌else◌, []}
+use Rattle.std.specs.Str.{bytes_eq}
+use Rattle.std.specs.Str.Parse.{digits_value, without_leading_plus}
+use Rattle.clap.specs.Words.{App, Row, Rule, Text, first_of, fault_of, new_app, new_rule, subcommand_of, with_rule, with_subcommand}
+use Rattle.clap.specs.Kinds.{Kinds}
+use Rattle.clap.specs.ValueTests.{is_unsigned_in}
+use Rattle.clap.specs.declared.builder.ArgAction.TheVariants.{Set}
+use Rattle.clap.specs.declared.builder.value_parser.ValueParser.TheVariants as vp
+use Rattle.bay_words.specs.declared.words.Verb.{Verb}
+use Rattle.bay_words.specs.declared.words.Verb.TheVariants as verb
+use Rattle.bay_words.specs.declared.task.Program.{Program}
+use Rattle.bay_words.specs.declared.task.Program.TheVariants.{Logic, Image}
+use Rattle.bay_words.specs.declared.task.Task.{Task}
+use Rattle.bay_words.specs.declared.task.Task.TheVariants.{Check, Replay, Serve, Compile}
+
+-- `--NAME F`
+abbrev pub file_rule : Text → Rule
+file_rule name = record (new_rule name) { long = Some name; value_names = 1; action = Some Set }
+
+-- the same, which has to be there
+abbrev pub needed_rule : Text → Rule
+needed_rule name = record (file_rule name) { required = true }
+
+-- `--NAME N`, a number from the least to the greatest, which has to be there
+abbrev pub number_rule : Text → ℕ → ℕ → Rule
+number_rule name least greatest =
+    record (needed_rule name) { parser = Some (vp.Unsigned least greatest) }
+
+-- `[--logic F] [--image F]`
+abbrev pub with_program : App → App
+with_program app = with_rule (with_rule app (file_rule (codes "logic"))) (file_rule (codes "image"))
+
+-- `check --bay F [--logic F] [--image F]`
+abbrev pub check_app : App
+check_app = with_program (with_rule (new_app (codes "check")) (needed_rule (codes "bay")))
+
+-- `serve --bay F [--logic F] [--image F] --port N --turns N [--trace F]`, with a port from 1 to
+-- 65535 and turns below 2 ^ 32
+abbrev pub serve_app : App
+serve_app =
+    let named = with_program (with_rule (new_app (codes "serve")) (needed_rule (codes "bay"))) in
+    with_rule (with_rule (with_rule named (number_rule (codes "port") 1 65535))
+    (number_rule (codes "turns") 0 4294967295)) (file_rule (codes "trace"))
+
+-- the words of `replay`
+abbrev pub replay_app : App
+replay_app = new_app (codes "replay")
+
+-- `compile --bay F --logic F --out F`
+abbrev pub compile_app : App
+compile_app =
+    with_rule (with_rule (with_rule (new_app (codes "compile")) (needed_rule (codes "bay")))
+    (needed_rule (codes "logic"))) (needed_rule (codes "out"))
+
+-- a verb has to be there; with no word at all the answer is the help
+abbrev pub program_app : App
+program_app =
+    let named = new_app (codes "bayctl") in
+    record named {
+      top = record named.top
+          { no_binary_name = true; subcommand_required = true; arg_required_else_help = true };
+    }
+
+-- the program with all its commands
+abbrev pub job_app : App
+job_app =
+    with_subcommand (with_subcommand
+    (with_subcommand (with_subcommand program_app check_app.top) replay_app.top) serve_app.top)
+    compile_app.top
+
+-- ---- what is to be done
+
+-- the number that decimal digits write, before which a plus may stand, from the least to the
+-- greatest
+abbrev pub number_of : ℕ → ℕ → Text → Option ℕ
+number_of least greatest text =
+    if is_unsigned_in least greatest text then Some (digits_value 10 (without_leading_plus text))
+    else None
+
+-- the port and the number of turns, where they were given
+abbrev pub port_in : List Row → Option ℕ
+port_in rows = option_and_then (number_of 1 65535) (first_of (codes "port") rows)
+
+abbrev pub turns_in : List Row → Option ℕ
+turns_in rows = option_and_then (number_of 0 4294967295) (first_of (codes "turns") rows)
+
+-- the one or the other, and not both
+abbrev pub either : Option Text → Option Text → Option (Program Text)
+either (Some logic) None = Some (Logic logic)
+either (Some logic) (Some image) = None
+either None (Some image) = Some (Image image)
+either None None = None
+
+-- the program in Instruction List or the compiled one
+abbrev pub program_in : List Row → Option (Program Text)
+program_in rows = either (first_of (codes "logic") rows) (first_of (codes "image") rows)
+
+-- what `check` asks for: its bay and its program
+abbrev pub check_in : List Row → Option (Task Text)
+check_in rows =
+    option_and_then (λ bay. option_map (λ program. Check bay program) (program_in rows))
+    (first_of (codes "bay") rows)
+
+-- what `serve` asks for: the same, both numbers, and a trace, if one was named
+abbrev pub serve_in : List Row → Option (Task Text)
+serve_in rows =
+    option_and_then (λ bay. option_and_then (λ program. option_and_then (λ port. option_map
+    (λ turns. Serve bay program port turns (first_of (codes "trace") rows)) (turns_in rows))
+    (port_in rows)) (program_in rows)) (first_of (codes "bay") rows)
+
+-- what `compile` asks for: its three files
+abbrev pub compile_in : List Row → Option (Task Text)
+compile_in rows =
+    option_and_then (λ bay. option_and_then (λ logic. option_map (λ out. Compile bay logic out)
+    (first_of (codes "out") rows)) (first_of (codes "logic") rows)) (first_of (codes "bay") rows)
+
+-- what a subcommand asks for with its values
+abbrev pub named_task : Text → List Row → Option (Task Text)
+named_task name rows =
+    if bytes_eq name (codes "check") then check_in rows
+    else if bytes_eq name (codes "replay") then Some Replay
+    else if bytes_eq name (codes "serve") then serve_in rows
+    else if bytes_eq name (codes "compile") then compile_in rows
+    else None
+
+abbrev pub entered_task : Option (Text × List Row) → Option (Task Text)
+entered_task = option_and_then (λ p. named_task p.0 p.1)
+
+-- what was read of words that have these faults as a command line
+abbrev pub faultless : Kinds → Option (Text × List Row) → Option (Text × List Row)
+faultless [] read = read
+faultless (kind ∷ kinds) read = None
+
+-- the subcommand and the values of words, by what `clap` reads in them; there is none where `clap`
+-- refuses them
+abbrev pub asked_in : List Text → Option (Text × List Row)
+asked_in words = faultless (fault_of job_app words) (subcommand_of job_app words)
+
+-- what the words ask for
+abbrev pub task_in : List Text → Option (Task Text)
+task_in words = entered_task (asked_in words)
+
+-- ---- as a record of all options
+
+-- what is to be done, the files that were named, and the numbers that were given
+pub record JobData : Type 0 where
+  pub verb : Verb
+  pub bay : Option Text
+  pub logic : Option Text
+  pub image : Option Text
+  pub out : Option Text
+  pub trace : Option Text
+  pub port : Option ℕ
+  pub turns : Option ℕ
+
+abbrev pub verb_of : Task Text → Verb
+verb_of (Check bay program) = verb.Check
+verb_of Replay = verb.Replay
+verb_of (Serve bay program port turns trace) = verb.Serve
+verb_of (Compile bay logic out) = verb.Compile
+
+-- a verb with the values of its options
+abbrev pub with_options : List Row → Verb → JobData
+with_options rows verb = record {
+  verb = verb;
+  bay = first_of (codes "bay") rows;
+  logic = first_of (codes "logic") rows;
+  image = first_of (codes "image") rows;
+  out = first_of (codes "out") rows;
+  trace = first_of (codes "trace") rows;
+  port = port_in rows;
+  turns = turns_in rows;
+}
+
+-- the job of a subcommand and its values, if they ask for something
+abbrev pub named_job : Text → List Row → Option JobData
+named_job name rows = option_map (λ task. with_options rows (verb_of task)) (named_task name rows)
+
+abbrev pub entered_job : Option (Text × List Row) → Option JobData
+entered_job = option_and_then (λ p. named_job p.0 p.1)
+
+-- the job that the words ask for
+abbrev pub job_in : List Text → Option JobData
+job_in words = entered_job (asked_in words)

@@ -1,0 +1,168 @@
+// The program as `clap` knows it: its commands and their options.
+ghost use Rattle.std.specs.Prelude.{◌≡◌, false, IfOk};
+ghost use Rattle.clap.specs.Words.{app_of, with_rule};
+ghost use Rattle.clap.specs.declared.builder.command.Command.TheViews.{out-Command as fields_of};
+ghost use Rattle.bay_words.specs.Jobs.{file_rule, needed_rule, number_rule, check_app, replay_app, serve_app, compile_app, program_app, job_app};
+ghost use Rattle.bay_words.specs.Jobs as spec;
+
+use clap::builder::ValueParser;
+use clap::{Arg, ArgAction, Command};
+use std::alloc::{AllocError, Global};
+
+/// The command with one more option, `--ID F`.
+fn with_file<'a>(
+    alloc: Global,
+    command: Command<'a>,
+    id: &'a str,
+    help: &'a str,
+) -> Result<Command<'a>, AllocError>
+    ensures app { IfOk result
+        (λ c. app_of c ≡ with_rule (app_of command.entry) (file_rule id.entry.now)) }
+    ensures globals { IfOk result
+        (λ c. (fields_of c).has_globals ≡ (fields_of command.entry).has_globals) }
+{
+    let file = Arg::new(alloc, id)
+        .long(id)
+        .value_name("F")
+        .help(help)
+        .action(ArgAction::Set);
+    let command = command.arg(file)?;
+    Ok(command)
+}
+
+/// The command with one more option, `--ID F`, which has to be there.
+fn with_needed_file<'a>(
+    alloc: Global,
+    command: Command<'a>,
+    id: &'a str,
+    help: &'a str,
+) -> Result<Command<'a>, AllocError>
+    ensures app { IfOk result
+        (λ c. app_of c ≡ with_rule (app_of command.entry) (needed_rule id.entry.now)) }
+    ensures globals { IfOk result
+        (λ c. (fields_of c).has_globals ≡ (fields_of command.entry).has_globals) }
+{
+    let file = Arg::new(alloc, id)
+        .long(id)
+        .value_name("F")
+        .help(help)
+        .required(true)
+        .action(ArgAction::Set);
+    let command = command.arg(file)?;
+    Ok(command)
+}
+
+/// The command with one more option, `--ID N`, which has to be there, and whose value is a number
+/// from the least to the greatest.
+fn with_number<'a>(
+    alloc: Global,
+    command: Command<'a>,
+    id: &'a str,
+    least: u64,
+    greatest: u64,
+    help: &'a str,
+) -> Result<Command<'a>, AllocError>
+    ensures app { IfOk result
+        (λ c. app_of c ≡ with_rule (app_of command.entry) (number_rule id.entry.now least greatest)) }
+    ensures globals { IfOk result
+        (λ c. (fields_of c).has_globals ≡ (fields_of command.entry).has_globals) }
+{
+    let number = Arg::new(alloc, id)
+        .long(id)
+        .value_name("N")
+        .help(help)
+        .required(true)
+        .value_parser(ValueParser::unsigned(least, greatest))
+        .action(ArgAction::Set);
+    let command = command.arg(number)?;
+    Ok(command)
+}
+
+/// The command with the options of a program, of which one has to be there, and not both.
+fn with_program<'a>(alloc: Global, command: Command<'a>) -> Result<Command<'a>, AllocError>
+    ensures app { IfOk result (λ c. app_of c ≡ spec.with_program (app_of command.entry)) }
+    ensures globals { IfOk result
+        (λ c. (fields_of c).has_globals ≡ (fields_of command.entry).has_globals) }
+{
+    let command = command.after_help("Exactly one of --logic and --image is wanted.");
+    let command = with_file(alloc, command, "logic", "The program in Instruction List")?;
+    let image = "The compiled program, in place of --logic";
+    let command = with_file(alloc, command, "image", image)?;
+    Ok(command)
+}
+
+/// `check`, with its options.
+fn check_command<'a>(alloc: Global) -> Result<Command<'a>, AllocError>
+    ensures app { IfOk result (λ c. app_of c ≡ check_app) }
+    ensures local { IfOk result (λ c. (fields_of c).has_globals ≡ false) }
+{
+    let about = "Loads a bay with a program, and tells what came of it";
+    let command = Command::new(alloc, "check").about(about);
+    let command = with_needed_file(alloc, command, "bay", "The bay file")?;
+    let command = with_program(alloc, command)?;
+    Ok(command)
+}
+
+/// `serve`, with its options.
+fn serve_command<'a>(alloc: Global) -> Result<Command<'a>, AllocError>
+    ensures app { IfOk result (λ c. app_of c ≡ serve_app) }
+    ensures local { IfOk result (λ c. (fields_of c).has_globals ≡ false) }
+{
+    let about = "Serves clients on 127.0.0.1";
+    let command = Command::new(alloc, "serve").about(about);
+    let command = with_needed_file(alloc, command, "bay", "The bay file")?;
+    let command = with_program(alloc, command)?;
+    let port = "The port on which clients are served";
+    let command = with_number(alloc, command, "port", 1, 65_535, port)?;
+    let turns = "How many turns are served";
+    let command = with_number(alloc, command, "turns", 0, 4_294_967_295, turns)?;
+    let trace = "What happens to the process, a line each turn";
+    let command = with_file(alloc, command, "trace", trace)?;
+    Ok(command)
+}
+
+/// `compile`, with its options.
+fn compile_command<'a>(alloc: Global) -> Result<Command<'a>, AllocError>
+    ensures app { IfOk result (λ c. app_of c ≡ compile_app) }
+    ensures local { IfOk result (λ c. (fields_of c).has_globals ≡ false) }
+{
+    let command = Command::new(alloc, "compile").about("Compiles a program for a bay");
+    let command = with_needed_file(alloc, command, "bay", "The bay file")?;
+    let command = with_needed_file(alloc, command, "logic", "The program in Instruction List")?;
+    let out = "Where the compiled program is written";
+    let command = with_needed_file(alloc, command, "out", out)?;
+    Ok(command)
+}
+
+/// `replay`, which has none.
+fn replay_command<'a>(alloc: Global) -> Command<'a>
+    ensures app { app_of result ≡ replay_app }
+    ensures local { (fields_of result).has_globals ≡ false }
+{
+    Command::new(alloc, "replay").about("Replays the scenario on standard input")
+}
+
+/// The program, before its commands.
+fn program_command<'a>(alloc: Global) -> Result<Command<'a>, AllocError>
+    ensures { IfOk result (λ c. app_of c ≡ program_app) }
+{
+    let command = Command::new(alloc, "bayctl")
+        .about("The controller of one bay")
+        .no_binary_name(true)
+        .subcommand_required(true)
+        .arg_required_else_help(true)
+        .bin_name("bayctl")?;
+    Ok(command)
+}
+
+/// The program with all that it can be asked for.
+pub fn job_command<'a>(alloc: Global) -> Result<Command<'a>, AllocError>
+    ensures { IfOk result (λ c. app_of c ≡ job_app) }
+{
+    let command = program_command(alloc)?;
+    let command = command.subcommand(check_command(alloc)?)?;
+    let command = command.subcommand(replay_command(alloc))?;
+    let command = command.subcommand(serve_command(alloc)?)?;
+    let command = command.subcommand(compile_command(alloc)?)?;
+    Ok(command)
+}

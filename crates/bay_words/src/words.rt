@@ -1,0 +1,321 @@
+// What the words of a command line ask for.
+ghost use Rattle.std.specs.Prelude.{◌≡◌, ◌⊎◌, map, Some, None, IfOk, IfErr, option_map, string_bytes};
+ghost use Rattle.clap.specs.Words.{first_of, rows_of, found_of, kind_of, subcommand_rows_of};
+ghost use Rattle.bay_words.specs.Jobs.{asked_in, compile_in, check_in, job_in, number_of, program_in, serve_in, task_in};
+ghost use Rattle.bay_words.specs.Jobs as spec;
+ghost use Rattle.bay_words.specs.JobView.{job_view, program_view, task_view};
+
+use crate::command::job_command;
+use crate::task::{Program, Task};
+use clap::error::ErrorKind;
+use clap::{ArgMatches, Error};
+use std::alloc::{AllocError, Global};
+use thiserror::Error;
+
+/// What the program does.
+#[derive(Clone, Copy, Debug, PartialEq, Eq)]
+pub enum Verb {
+    /// Loads a bay with a program or an image, and tells what came of it.
+    Check,
+    /// Replays a scenario.
+    Replay,
+    /// Serves clients.
+    Serve,
+    /// Compiles a program to an image.
+    Compile,
+}
+
+/// What a command line asks for: what is to be done, the names of the files that were given, and
+/// the numbers.
+#[derive(Debug, Drop)]
+pub struct Job {
+    pub verb: Verb,
+    /// The bay file.
+    pub bay: Option<String>,
+    /// The program in Instruction List.
+    pub logic: Option<String>,
+    /// The compiled program, in place of the program.
+    pub image: Option<String>,
+    /// Where the compiled program is written.
+    pub out: Option<String>,
+    /// The trace of the process that is served, line by line.
+    pub trace: Option<String>,
+    /// The port of 127.0.0.1 on which clients are served, from 1 on.
+    pub port: Option<u16>,
+    /// How many turns are served.
+    pub turns: Option<u32>,
+}
+
+/// Why words ask for nothing that is done.
+#[derive(Debug, Drop, Error)]
+pub enum WordsFault {
+    /// The text says what is wrong with them, or is the help that they ask for.
+    #[error("{0}")]
+    Refused(String),
+    #[error("out of memory")]
+    OutOfMemory,
+}
+
+/// The first value of an option.
+fn value_of<'a>(found: &ArgMatches<'a>, id: &str) -> Option<&'a str>
+    ensures { option_map (λ s. s.now) result ≡ first_of id.now (rows_of (found_of found.now)) }
+{
+    found.get_str(id)
+}
+
+/// The port that a value stands for: a number from 1 to 65,535.
+fn port_of(value: &str) -> Option<u16>
+    ensures { result ≡ number_of 1 65535 value.now }
+{
+    let port = value.parse::<u16>().ok()?;
+    if port == 0 { None } else { Some(port) }
+}
+
+/// The number of turns that a value stands for: one from 0 to 4,294,967,295.
+fn turns_of(value: &str) -> Option<u32>
+    ensures { result ≡ number_of 0 4294967295 value.now }
+{
+    value.parse::<u32>().ok()
+}
+
+/// The port that was given.
+fn port_in(found: &ArgMatches<'_>) -> Option<u16>
+    ensures { result ≡ spec.port_in (rows_of (found_of found.now)) }
+{
+    let value = value_of(found, "port")?;
+    port_of(value)
+}
+
+/// The number of turns that was given.
+fn turns_in(found: &ArgMatches<'_>) -> Option<u32>
+    ensures { result ≡ spec.turns_in (rows_of (found_of found.now)) }
+{
+    let value = value_of(found, "turns")?;
+    turns_of(value)
+}
+
+/// The program or the image that was named, if it is one of the two.
+fn program_from<'a>(found: &ArgMatches<'a>) -> Option<Program<&'a str>>
+    ensures { option_map program_view result ≡ program_in (rows_of (found_of found.now)) }
+{
+    match (value_of(found, "logic"), value_of(found, "image")) {
+        (Some(logic), None) => Some(Program::Logic(logic)),
+        (None, Some(image)) => Some(Program::Image(image)),
+        (Some(_), Some(_)) => None,
+        (None, None) => None,
+    }
+}
+
+/// What `check` asks for.
+fn check_from<'a>(found: &ArgMatches<'a>) -> Option<Task<&'a str>>
+    ensures { option_map task_view result ≡ check_in (rows_of (found_of found.now)) }
+{
+    let bay = value_of(found, "bay")?;
+    let program = program_from(found)?;
+    Some(Task::Check { bay, program })
+}
+
+/// What `serve` asks for.
+fn serve_from<'a>(found: &ArgMatches<'a>) -> Option<Task<&'a str>>
+    ensures { option_map task_view result ≡ serve_in (rows_of (found_of found.now)) }
+{
+    let bay = value_of(found, "bay")?;
+    let program = program_from(found)?;
+    let port = port_in(found)?;
+    let turns = turns_in(found)?;
+    let trace = value_of(found, "trace");
+    Some(Task::Serve {
+        bay,
+        program,
+        port,
+        turns,
+        trace,
+    })
+}
+
+/// What `compile` asks for.
+fn compile_from<'a>(found: &ArgMatches<'a>) -> Option<Task<&'a str>>
+    ensures { option_map task_view result ≡ compile_in (rows_of (found_of found.now)) }
+{
+    let bay = value_of(found, "bay")?;
+    let logic = value_of(found, "logic")?;
+    let out = value_of(found, "out")?;
+    Some(Task::Compile { bay, logic, out })
+}
+
+/// What a subcommand asks for with its options.
+fn named_task<'a>(name: &str, found: &ArgMatches<'a>) -> Option<Task<&'a str>>
+    ensures { option_map task_view result ≡ spec.named_task name.now (rows_of (found_of found.now)) }
+{
+    match name {
+        "check" => check_from(found),
+        "replay" => Some(Task::Replay),
+        "serve" => serve_from(found),
+        "compile" => compile_from(found),
+        _ => None,
+    }
+}
+
+/// What the words of a parse ask for.
+fn task_from<'a>(matches: &ArgMatches<'a>) -> Option<Task<&'a str>>
+    ensures { option_map task_view result ≡ spec.entered_task (subcommand_rows_of matches.now) }
+{
+    let (name, found) = matches.subcommand()?;
+    named_task(name, found)
+}
+
+/// What a task does.
+fn verb_of(task: &Task<&str>) -> Verb
+    ensures { result ≡ spec.verb_of (task_view task.now) }
+{
+    match task {
+        Task::Check { .. } => Verb::Check,
+        Task::Replay => Verb::Replay,
+        Task::Serve { .. } => Verb::Serve,
+        Task::Compile { .. } => Verb::Compile,
+    }
+}
+
+/// A copy of an option's value.
+fn option_of(alloc: Global, found: &ArgMatches<'_>, id: &str) -> Result<Option<String>, AllocError>
+    ensures { IfOk result (λ o. option_map string_bytes o
+        ≡ first_of id.now (rows_of (found_of found.now))) }
+{
+    match value_of(found, id) {
+        Some(value) => {
+            let value = String::from_str(alloc, value)?;
+            Ok(Some(value))
+        }
+        None => Ok(None),
+    }
+}
+
+/// A verb with the values of its options.
+fn with_options(alloc: Global, found: &ArgMatches<'_>, verb: Verb) -> Result<Job, AllocError>
+    ensures { IfOk result (λ j. job_view j ≡ spec.with_options (rows_of (found_of found.now)) verb) }
+{
+    let bay = option_of(alloc, found, "bay")?;
+    let logic = option_of(alloc, found, "logic")?;
+    let image = option_of(alloc, found, "image")?;
+    let out = option_of(alloc, found, "out")?;
+    let trace = option_of(alloc, found, "trace")?;
+    let port = port_in(found);
+    let turns = turns_in(found);
+    Ok(Job {
+        verb,
+        bay,
+        logic,
+        image,
+        out,
+        trace,
+        port,
+        turns,
+    })
+}
+
+/// The job of a subcommand and its options, if they ask for a task.
+fn named_job(alloc: Global, name: &str, found: &ArgMatches<'_>) -> Result<Option<Job>, AllocError>
+    ensures { IfOk result
+        (λ j. option_map job_view j ≡ spec.named_job name.now (rows_of (found_of found.now))) }
+{
+    match named_task(name, found) {
+        Some(task) => {
+            let job = with_options(alloc, found, verb_of(&task))?;
+            Ok(Some(job))
+        }
+        None => Ok(None),
+    }
+}
+
+/// The job that a parse found.
+fn job_from(alloc: Global, matches: &ArgMatches<'_>) -> Result<Option<Job>, AllocError>
+    ensures { IfOk result
+        (λ j. option_map job_view j ≡ spec.entered_job (subcommand_rows_of matches.now)) }
+{
+    match matches.subcommand() {
+        Some((name, found)) => named_job(alloc, name, found),
+        None => Ok(None),
+    }
+}
+
+/// How a command is used that wants either a program or an image.
+fn usage_of(name: Option<&str>) -> &'static str {
+    match name {
+        Some("serve") => {
+            "bayctl serve --bay <F> <--logic <F>|--image <F>> --port <N> --turns <N> [--trace <F>]"
+        }
+        _ => "bayctl check --bay <F> <--logic <F>|--image <F>>",
+    }
+}
+
+/// The refusal of a command with both or neither of a program and an image.
+fn refused_files(alloc: Global, name: Option<&str>) -> WordsFault {
+    let usage = usage_of(name);
+    match format!(in alloc;
+        "error: exactly one of --logic and --image is wanted\n\nUsage: {usage}\n\nFor more information, try '--help'.\n"
+    ) {
+        Ok(text) => WordsFault::Refused(text),
+        Err(_) => WordsFault::OutOfMemory,
+    }
+}
+
+/// The refusal of words, as `clap` says it.
+fn refused_by(alloc: Global, error: &Error) -> WordsFault
+    ensures { kind_of error.now ≡ ErrorKind.OutOfMemory → result ≡ WordsFault.OutOfMemory }
+{
+    if error.kind() == ErrorKind::OutOfMemory {
+        return WordsFault::OutOfMemory;
+    }
+    match format!(in alloc; "{error}") {
+        Ok(text) => WordsFault::Refused(text),
+        Err(_) => WordsFault::OutOfMemory,
+    }
+}
+
+/// What `clap` reads in words.
+fn matches_of<'a>(alloc: Global, words: &'a [&'a str]) -> Result<ArgMatches<'a>, WordsFault>
+    ensures ok { IfOk result
+        (λ m. asked_in (map (λ w. w.now) words.entry.now) ≡ subcommand_rows_of m) }
+    ensures refused { IfErr result
+        (λ e. (e ≡ WordsFault.OutOfMemory)
+        ⊎ (asked_in (map (λ w. w.now) words.entry.now) ≡ None)) }
+{
+    let command = match job_command(alloc) {
+        Ok(command) => command,
+        Err(_) => return Err(WordsFault::OutOfMemory),
+    };
+    match command.try_get_matches_from(words) {
+        Ok(matches) => Ok(matches),
+        Err(error) => Err(refused_by(alloc, &error)),
+    }
+}
+
+/// What the words after the program's name ask for: a check of a bay file and either a program or
+/// an image, a replay, to serve the same as a check on a port for a number of turns, which may have
+/// a trace, or to compile a bay file and a program to an image. Words that ask for help are refused
+/// with it.
+pub fn task_of<'a>(alloc: Global, words: &'a [&'a str]) -> Result<Task<&'a str>, WordsFault>
+    ensures ok { IfOk result (λ t. task_in (map (λ w. w.now) words.entry.now) ≡ Some (task_view t)) }
+    ensures refused { IfErr result
+        (λ e. (e ≡ WordsFault.OutOfMemory) ⊎ (task_in (map (λ w. w.now) words.entry.now) ≡ None)) }
+{
+    let matches = matches_of(alloc, words)?;
+    match task_from(&matches) {
+        Some(task) => Ok(task),
+        None => Err(refused_files(alloc, matches.subcommand_name())),
+    }
+}
+
+/// The same as a record of all options that were given.
+pub fn job_of<'a>(alloc: Global, words: &'a [&'a str]) -> Result<Job, WordsFault>
+    ensures ok { IfOk result (λ j. job_in (map (λ w. w.now) words.entry.now) ≡ Some (job_view j)) }
+    ensures refused { IfErr result
+        (λ e. (e ≡ WordsFault.OutOfMemory) ⊎ (job_in (map (λ w. w.now) words.entry.now) ≡ None)) }
+{
+    let matches = matches_of(alloc, words)?;
+    match job_from(alloc, &matches) {
+        Ok(Some(job)) => Ok(job),
+        Ok(None) => Err(refused_files(alloc, matches.subcommand_name())),
+        Err(_) => Err(WordsFault::OutOfMemory),
+    }
+}

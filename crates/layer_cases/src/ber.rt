@@ -1,0 +1,196 @@
+// Values of BER, one by one and one after another, and the octets that they are written in.
+ghost use Rattle.std.specs.Prelude.{◌<◌, ◌≤◌};
+
+use anyhow::{Context, Result, bail};
+use bay_ber::content::{Bits, bits_of, bool_of, int_of};
+use bay_ber::fault::BerFault;
+use bay_ber::tag::{Class, Tag};
+use bay_ber::tlv::read_tlv;
+use bay_ber::values::{Values, whole_value};
+use bay_ber::writer::{Writer, element_length};
+use cases::octets::{check_octets, octets_of};
+use cases::told::{check, check_text};
+use cases::words::first_word;
+use std::alloc::Global;
+
+/// The most octets of a content that is written.
+const MOST: usize = 16_777_216;
+
+/// A tag: `u`, `a`, `c` or `p` for its class, `+` where it is constructed, and its number.
+fn tag_of(word: &str) -> Result<Tag> {
+    let (class, rest) = word.split_at_checked(1).context("no tag")?;
+    let class = match class {
+        "u" => Class::Universal,
+        "a" => Class::Application,
+        "c" => Class::ContextSpecific,
+        "p" => Class::Private,
+        _ => bail!("what class is this: {word}"),
+    };
+    Ok(Tag {
+        class,
+        constructed: rest.starts_with("+"),
+        number: rest.trim_start_matches("+").parse::<u8>()?,
+    })
+}
+
+/// A value is that of a word, `TAG:CONTENT`.
+fn check_value(alloc: Global, tag: Tag, content: &[u8], word: &str) -> Result<()> {
+    let (wanted, octets) = word.split_once(":").context("no content")?;
+    check(tag == tag_of(wanted)?)?;
+    check_octets(alloc, content, octets)
+}
+
+/// A fault is that of a word, `fault:NUMBER`.
+fn check_fault(alloc: Global, fault: BerFault, word: &str) -> Result<()> {
+    check_text(format!(in alloc; "fault:{}", fault.code())?.as_str(), word)
+}
+
+/// The value at the front of octets, and what is behind it; or their fault.
+fn check_front(alloc: Global, octets: &[u8], words: &str) -> Result<()> {
+    let (value, behind) = first_word(words);
+    match read_tlv(octets) {
+        Ok(tlv) => {
+            check_value(alloc, tlv.tag, tlv.content, value)?;
+            check_octets(alloc, tlv.rest, behind)
+        }
+        Err(fault) => check_fault(alloc, fault, value),
+    }
+}
+
+/// What stands next in octets: a value, `end`, or a fault.
+fn check_next(alloc: Global, values: &mut Values<'_>, word: &str) -> Result<()> {
+    match values.next_value() {
+        Ok(Some(value)) => check_value(alloc, value.tag, value.content, word),
+        Ok(None) => check_text("end", word),
+        Err(fault) => check_fault(alloc, fault, word),
+    }
+}
+
+/// What stands in octets, in turn.
+fn check_values(alloc: Global, octets: &[u8], words: &str) -> Result<()> {
+    let mut values = Values::new(octets);
+    for word in words.split(" ") {
+        check_next(alloc, &mut values, word)?;
+    }
+    Ok(())
+}
+
+/// The one value that octets are, or `none`.
+fn check_whole(alloc: Global, octets: &[u8], word: &str) -> Result<()> {
+    match whole_value(octets) {
+        Some(value) => check_value(alloc, value.tag, value.content, word),
+        None => check_text("none", word),
+    }
+}
+
+/// What a content spells, as Rust's `{:?}` prints it: an integer, a truth value, or bits.
+fn content_text(alloc: Global, kind: &str, content: &[u8]) -> Result<String> {
+    Ok(match kind {
+        "int" => format!(in alloc; "{:?}", int_of(content).ok())?,
+        "bool" => format!(in alloc; "{:?}", bool_of(content).ok())?,
+        _ => format!(in alloc; "{:?}", bits_of(content).ok())?,
+    })
+}
+
+/// Bits: how many, and the octets that hold them.
+fn put_bits(writer: &mut Writer, tag: Tag, count: &str, octets: &[u8]) -> Result<()>
+    requires { tag.number < 31 }
+{
+    let count = count.parse::<usize>()?;
+    if octets.len() > 8 || count > 8 * octets.len() {
+        bail!("{count} bits");
+    }
+    Ok(writer.bits(tag, Bits { octets, count })?)
+}
+
+/// Makes what was written since a place the content of a value.
+fn nest_from(writer: &mut Writer, tag: Tag, place: &str) -> Result<()>
+    requires { tag.number < 31 }
+{
+    let start = place.parse::<usize>()?;
+    let len = writer.len();
+    if start > len || len - start > MOST {
+        bail!("no place: {place}");
+    }
+    Ok(writer.nest_from(start, tag)?)
+}
+
+/// Writes octets of a kind under a tag: as they are, as bits, or the others into them.
+fn put_octets(writer: &mut Writer, kind: &str, tag: Tag, octets: &[u8]) -> Result<()>
+    requires { tag.number < 31 }
+{
+    if octets.len() > MOST {
+        bail!("too many octets");
+    }
+    match kind {
+        "octets" => Ok(writer.octets(tag, octets)?),
+        "nest" => Ok(writer.nest(tag, octets)?),
+        _ => put_bits(writer, tag, kind, octets),
+    }
+}
+
+/// Writes a value of a kind under a tag.
+fn put(alloc: Global, writer: &mut Writer, kind: &str, tag: Tag, what: &str) -> Result<()>
+    requires { tag.number < 31 }
+{
+    match kind {
+        "int" => Ok(writer.int(tag, what.parse::<i64>()?)?),
+        "bool" => Ok(writer.boolean(tag, what.parse::<bool>()?)?),
+        "text" if what.len() <= MOST => Ok(writer.text(tag, what)?),
+        "around" => nest_from(writer, tag, what),
+        "nest" => {
+            let inner = std::mem::replace(writer, Writer::new(alloc)).finish();
+            put_octets(writer, kind, tag, inner.as_slice())
+        }
+        _ => put_octets(writer, kind, tag, octets_of(alloc, what)?.as_slice()),
+    }
+}
+
+/// Writes what a word says, `KIND:TAG:WHAT`, or looks how much was written, `len:COUNT`.
+fn put_word(alloc: Global, writer: &mut Writer, word: &str) -> Result<()> {
+    let (kind, rest) = word.split_once(":").context("no tag")?;
+    if kind == "len" {
+        return check(writer.len() == rest.parse::<usize>()?);
+    }
+    let (tag, what) = rest.split_once(":").unwrap_or((rest, "-"));
+    let tag = tag_of(tag)?;
+    if tag.number > 30 {
+        bail!("a tag of two octets: {word}");
+    }
+    put(alloc, writer, kind, tag, what)
+}
+
+/// The octets that are written by what the words say, one after another.
+fn check_built(alloc: Global, word: &str, words: &str) -> Result<()> {
+    let mut writer = Writer::new(alloc);
+    for word in words.split(" ") {
+        put_word(alloc, &mut writer, word)?;
+    }
+    check_octets(alloc, writer.finish().as_slice(), word)
+}
+
+/// A case of BER: its kind, its octets, and what they are.
+pub fn check_ber(alloc: Global, line: &str) -> Result<()> {
+    let (kind, words) = first_word(line);
+    let (word, wanted) = first_word(words);
+    match kind {
+        "built" => return check_built(alloc, word, wanted),
+        "length" => {
+            return check(element_length(word.parse::<u32>()?) == wanted.parse::<u64>()?);
+        }
+        _ => {}
+    }
+    let octets = octets_of(alloc, word)?;
+    match kind {
+        "front" => check_front(alloc, octets.as_slice(), wanted),
+        "values" => check_values(alloc, octets.as_slice(), wanted),
+        "whole" => check_whole(alloc, octets.as_slice(), wanted),
+        "int" | "bool" | "bits" => {
+            check_text(
+                content_text(alloc, kind, octets.as_slice())?.as_str(),
+                wanted,
+            )
+        }
+        _ => bail!("what is this: {kind}"),
+    }
+}

@@ -1,0 +1,212 @@
+// A bay's controls, call by call.
+//
+// `bay` has the control of each switch of a bay, whose controls are asked from then on: `status`,
+// `direct/TRAVEL`, `sbo/TIMEOUT/TRAVEL` or `sbo-enhanced/TIMEOUT/TRAVEL`, with milliseconds. The
+// other lines are `QUESTION -> ANSWER`: `MS select A K`, `MS select-with A K ASK`, `MS operate A K
+// ASK VIEW` and `MS cancel A K`, whose answer is `ok` or the number of the cause; `MS advance`,
+// whose answer is the place of the switch whose execution ran out, or `none`; `contact K POSITION`,
+// whether it ends the execution; `close A`, which ends the association's selection; `selected`, the
+// place of the selected switch, or `none`; `keep`, which takes what stands, and `restore`, which
+// puts it back.
+//
+// An ASK is `POSITION,CATEGORY/IDENTITY` with `on` or `off` and the identity's octets, and `,test`
+// for a test. A VIEW is the position, `fresh` or `stale`, and EnaOpn and EnaCls, as `01`.
+use crate::rows::position_of;
+use anyhow::{Context, Result, bail};
+use arrayvec::ArrayVec;
+use bay_config::read::read_bay;
+use bay_control::cause::AddCause;
+use bay_control::controls::Controls;
+use bay_control::request::{Ask, Origin, View};
+use bay_control::selection::Standing;
+use cases::octets::octets_of;
+use cases::told::check_text;
+use cases::words::{first_word, words_of};
+use std::alloc::{AllocError, Global};
+
+/// Whether a word is the first of two; it is to be one of them.
+fn is_first(word: &str, first: &str, second: &str) -> Result<bool> {
+    if word != first && word != second {
+        bail!("neither {first} nor {second}: {word}");
+    }
+    Ok(word == first)
+}
+
+/// Who asks, as `CATEGORY/IDENTITY`.
+fn origin_of(alloc: Global, word: &str) -> Result<Origin> {
+    let (category, identity) = word.split_once("/").context("no identity")?;
+    let octets = octets_of(alloc, identity)?;
+    let mut ident = ArrayVec::new();
+    if ident.try_extend_from_slice(octets.as_slice()).is_err() {
+        bail!("the identity has more than 64 octets");
+    }
+    Ok(Origin {
+        cat: category.parse::<i8>().context(category)?,
+        ident,
+    })
+}
+
+/// What is asked for.
+fn ask_of(alloc: Global, word: &str) -> Result<Ask> {
+    let (position, rest) = word.split_once(",").context("no originator")?;
+    let (origin, test) = rest.split_once(",").unwrap_or((rest, "live"));
+    Ok(Ask {
+        on: is_first(position, "on", "off")?,
+        test: is_first(test, "test", "live")?,
+        origin: origin_of(alloc, origin)?,
+    })
+}
+
+/// What is seen of a switch.
+fn view_of(position: &str, age: &str, released: &str) -> Result<View> {
+    let (opens, closes) = released.split_at_checked(1).context("no released ways")?;
+    Ok(View {
+        pos: position_of(position)?,
+        fresh: is_first(age, "fresh", "stale")?,
+        ena_opn: is_first(opens, "1", "0")?,
+        ena_cls: is_first(closes, "1", "0")?,
+    })
+}
+
+/// The place of a switch, or `none`.
+fn place_text(alloc: Global, place: Option<usize>) -> Result<String, AllocError> {
+    match place {
+        Some(place) => format!(in alloc; "{place}"),
+        None => String::from_str(alloc, "none"),
+    }
+}
+
+/// Nothing, or the cause of a refusal.
+fn answer_text(alloc: Global, answer: Result<(), AddCause>) -> Result<String, AllocError> {
+    match answer {
+        Ok(()) => String::from_str(alloc, "ok"),
+        Err(cause) => format!(in alloc; "{}", cause.code()),
+    }
+}
+
+/// Appends the entry of the bay file for a switch whose control is so.
+fn put_switch(text: &mut String, number: usize, control: &str) -> Result<(), AllocError> {
+    let (control, times) = control.split_once("/").unwrap_or((control, ""));
+    write!(
+        text,
+        "{{ id = \"Q{number}\", kind = \"breaker\", control = \"{control}\""
+    )?;
+    if let Some((timeout, travel)) = times.split_once("/") {
+        write!(text, ", sbo_timeout_ms = {timeout}, travel_ms = {travel}")?;
+    } else if !times.is_empty() {
+        write!(text, ", travel_ms = {times}")?;
+    }
+    text.push_str(" },\n")
+}
+
+/// A bay file with these controls.
+fn bay_text(alloc: Global, controls: &str) -> Result<String, AllocError> {
+    let mut text = String::from_str(
+        alloc,
+        "bay = { domain = \"B\", vendor = \"V\", model = \"M\", revision = \"1\", scan_max_age_ms = 0 }\nswitch = [\n",
+    )?;
+    for (number, control) in controls.split(" ").enumerate() {
+        put_switch(&mut text, number, control)?;
+    }
+    text.push_str("]\n")?;
+    Ok(text)
+}
+
+/// The controls of a bay with these.
+fn controls_of(alloc: Global, controls: &str) -> Result<Controls> {
+    let text = bay_text(alloc, controls)?;
+    let bay = read_bay(alloc, text.as_str())?;
+    Ok(Controls::new(&bay))
+}
+
+/// The controls of a bay, and what was taken of them.
+#[derive(Drop)]
+pub struct Session {
+    alloc: Global,
+    controls: Controls,
+    kept: Option<Standing>,
+}
+
+impl Session {
+    /// The controls of a bay with one switch.
+    pub fn new(alloc: Global) -> Result<Session> {
+        Ok(Session {
+            alloc,
+            controls: controls_of(alloc, "status")?,
+            kept: None,
+        })
+    }
+
+    /// A request of an association at a switch, at a moment.
+    fn request(&mut self, now: u64, words: &[&str]) -> Result<Result<(), AddCause>> {
+        let [what, association, switch, rest @ ..] = words else {
+            bail!("no request");
+        };
+        let association = association.parse::<u16>()?;
+        let switch = switch.parse::<usize>()?;
+        Ok(match (*what, rest) {
+            ("select", []) => self.controls.select(association, switch, now),
+            ("cancel", []) => self.controls.cancel(association, switch, now),
+            ("select-with", [ask]) => {
+                let ask = ask_of(self.alloc, ask)?;
+                self.controls.select_with(association, switch, ask, now)
+            }
+            ("operate", [ask, position, age, released]) => {
+                let ask = ask_of(self.alloc, ask)?;
+                let view = view_of(position, age, released)?;
+                self.controls.operate(association, switch, ask, view, now)
+            }
+            _ => bail!("there is no request {what}"),
+        })
+    }
+
+    /// What is asked at a moment.
+    fn timed(&mut self, moment: &str, words: &[&str]) -> Result<String> {
+        let now = moment.parse::<u64>().context("no moment")?;
+        if let ["advance"] = words {
+            return Ok(place_text(self.alloc, self.controls.advance(now))?);
+        }
+        let answer = self.request(now, words)?;
+        Ok(answer_text(self.alloc, answer)?)
+    }
+
+    /// `contact`: the switch, and its position.
+    fn contact(&mut self, switch: &str, position: &str) -> Result<String> {
+        let switch = switch.parse::<usize>()?;
+        let ends = self.controls.contact(switch, position_of(position)?);
+        Ok(format!(in self.alloc; "{ends}")?)
+    }
+
+    /// `restore`.
+    fn restore(&mut self) -> Result<()> {
+        let kept = self.kept.take().context("nothing was taken")?;
+        self.controls.restore(kept);
+        Ok(())
+    }
+
+    /// The answer to a question.
+    fn answer(&mut self, words: &[&str]) -> Result<String> {
+        match words {
+            ["selected"] => return Ok(place_text(self.alloc, self.controls.selected())?),
+            ["contact", switch, position] => return self.contact(switch, position),
+            ["keep"] => self.kept = Some(self.controls.standing()),
+            ["restore"] => self.restore()?,
+            ["close", association] => self.controls.drop_owner(association.parse::<u16>()?),
+            [moment, rest @ ..] => return self.timed(moment, rest),
+            [] => bail!("no question"),
+        }
+        Ok(String::from_str(self.alloc, "ok")?)
+    }
+
+    /// A bay, or a question with its answer.
+    pub fn check(&mut self, line: &str) -> Result<()> {
+        if let ("bay", controls) = first_word(line) {
+            self.controls = controls_of(self.alloc, controls)?;
+            self.kept = None;
+            return Ok(());
+        }
+        let (question, wanted) = line.split_once(" -> ").context("no answer")?;
+        let words = words_of(self.alloc, question)?;
+        check_text(self.answer(words.as_slice())?.as_str(), wanted)
+    }
+}

@@ -1,0 +1,128 @@
+// Octets, and what they ask.
+use anyhow::{Result, bail};
+use bay_mms::control::{cancel_of, operate_of};
+use bay_mms::data::Data;
+use bay_mms::fault::{ControlFault, MmsFault};
+use bay_mms::request::{Call, Request, read_initiate, read_request};
+use cases::octets::octets_of;
+use cases::told::{check, check_text};
+use cases::words::first_word;
+use std::alloc::Global;
+
+/// Writes down a service that is asked for, in words.
+fn put_call(text: &mut String, call: &Call<'_>) -> Result<()> {
+    match call {
+        Call::Identify => text.push_str("identify")?,
+        Call::Names {
+            class,
+            scope,
+            after,
+        } => write!(text, "names {class} {scope:?} {after:?}")?,
+        Call::Attributes(name) => write!(text, "attributes {name:?}")?,
+        Call::Read(names) => write!(text, "read {names:?}")?,
+        Call::Write { names, values } => write!(text, "write {names:?} {values:?}")?,
+    }
+    Ok(())
+}
+
+/// Writes down a request in words.
+fn put_request(text: &mut String, request: &Request<'_>) -> Result<()> {
+    match request {
+        Request::Initiate(proposal) => write!(text, "{proposal:?}")?,
+        Request::Conclude => text.push_str("conclude")?,
+        Request::Confirmed { id, call } => {
+            write!(text, "{id} ")?;
+            put_call(text, call)?;
+        }
+    }
+    Ok(())
+}
+
+/// Writes down a fault by its number, and its invoke id, or `-` where it has none.
+fn put_fault(text: &mut String, fault: MmsFault) -> Result<()> {
+    let number = fault.code().unwrap_or(0);
+    match fault {
+        MmsFault::BadPdu(Some(id)) | MmsFault::UnknownService(id) | MmsFault::TooMany(id) => {
+            write!(text, "{number} {id}")?;
+        }
+        MmsFault::BadPdu(None) | MmsFault::OutOfMemory => write!(text, "{number} -")?,
+    }
+    Ok(())
+}
+
+/// Octets ask what words say, or have the fault that they say.
+fn check_asked(alloc: Global, octets: &[u8], wanted: &str) -> Result<()> {
+    let mut text = String::new(alloc);
+    match read_request(alloc, octets) {
+        Ok(request) => put_request(&mut text, &request)?,
+        Err(fault) => put_fault(&mut text, fault)?,
+    }
+    check_text(text.as_str(), wanted)
+}
+
+/// Octets are this request, which with one octet less is a bad PDU without an invoke id; and an
+/// initiate just where they are one.
+fn check_whole(alloc: Global, octets: &[u8], wanted: &str) -> Result<()> {
+    check(read_initiate(octets).is_some() == wanted.starts_with("Proposal"))?;
+    check_asked(alloc, octets, wanted)?;
+    match octets {
+        [less @ .., _] => check_asked(alloc, less, "30 -"),
+        [] => bail!("no octets"),
+    }
+}
+
+/// Octets are this request, which with one octet more is a bad PDU of this invoke id.
+fn check_request(alloc: Global, octets: &mut Vec<u8>, words: &str) -> Result<()> {
+    let (id, wanted) = first_word(words);
+    check_whole(alloc, octets.as_slice(), wanted)?;
+    octets.push(0)?;
+    let bad = format!(in alloc; "30 {id}")?;
+    check_asked(alloc, octets.as_slice(), bad.as_str())
+}
+
+/// A fault by its number, and what it is told as.
+fn fault_words(alloc: Global, fault: ControlFault) -> Result<String> {
+    Ok(format!(in alloc; "{} {fault}", fault.code())?)
+}
+
+/// The operate or the cancel that data are, or their fault, in words.
+fn control_words(alloc: Global, kind: &str, written: &Data<'_>) -> Result<String> {
+    if kind == "operate" {
+        return match operate_of(written) {
+            Ok(operate) => Ok(format!(in alloc; "{operate:?}")?),
+            Err(fault) => fault_words(alloc, fault),
+        };
+    }
+    match cancel_of(written) {
+        Ok(cancel) => Ok(format!(in alloc; "{cancel:?}")?),
+        Err(fault) => fault_words(alloc, fault),
+    }
+}
+
+/// The first value of a write is this operate or cancel, or has this fault.
+fn check_written(alloc: Global, kind: &str, octets: &[u8], wanted: &str) -> Result<()> {
+    let Request::Confirmed {
+        id: _,
+        call: Call::Write { names: _, values },
+    } = read_request(alloc, octets)?
+    else {
+        bail!("this is no write");
+    };
+    match values.as_slice() {
+        [first, ..] => check_text(control_words(alloc, kind, first)?.as_str(), wanted),
+        [] => bail!("nothing is written"),
+    }
+}
+
+/// A case of what octets ask: its kind, the octets, and what it is in words.
+pub fn check_requested(alloc: Global, line: &str) -> Result<()> {
+    let (kind, words) = first_word(line);
+    let (octets, wanted) = first_word(words);
+    let mut octets = octets_of(alloc, octets)?;
+    match kind {
+        "request" => check_request(alloc, &mut octets, wanted),
+        "no-request" => check_asked(alloc, octets.as_slice(), wanted),
+        "operate" | "cancel" => check_written(alloc, kind, octets.as_slice(), wanted),
+        _ => bail!("what is this: {kind}"),
+    }
+}

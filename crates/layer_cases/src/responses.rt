@@ -1,0 +1,225 @@
+// Responses and reports, and the octets that they are written in.
+use crate::rows::position_of;
+use crate::written::check_written;
+use anyhow::{Result, bail};
+use bay_base::text::Text;
+use bay_mms::control::{Operate, Origin};
+use bay_mms::report::{ControlError, write_failed_termination, write_failure, write_termination};
+use bay_mms::response::{Agreed, ErrorClass, RejectReason, Response, Service, write_response};
+use bay_mms::results::{ReadResponse, WriteResponse};
+use bay_tree::tree::Tree;
+use cases::octets::octets_of;
+use cases::words::{first_word, truth_of, words_of};
+use std::alloc::Global;
+
+/// The names of a page.
+fn names_of(alloc: Global, words: &[&str]) -> Result<Vec<Text>> {
+    let mut names = Vec::new(alloc);
+    for name in words {
+        names.push(Text::from_str(alloc, name)?)?;
+    }
+    Ok(names)
+}
+
+/// Appends what is read of a variable: `value:` and its name, `text:` and a text in its place, or
+/// `failure:` and a number.
+fn add_read(response: &mut ReadResponse, tree: &Tree, word: &str) -> Result<()> {
+    match word.split_once(":") {
+        Some(("value", name)) => response.value(tree, tree.find(name)?)?,
+        Some(("text", text)) => response.text(text)?,
+        Some(("failure", number)) => response.failure(number.parse::<u8>()?)?,
+        _ => bail!("what is read: {word}"),
+    }
+    Ok(())
+}
+
+/// The octets of what is read of variables, each by a word.
+fn read(alloc: Global, tree: &Tree, id: u32, words: &[&str]) -> Result<Vec<u8>> {
+    let mut response = ReadResponse::new(alloc);
+    for word in words {
+        add_read(&mut response, tree, word)?;
+    }
+    Ok(response.finish(id)?)
+}
+
+/// The octets of what comes of writes, each `success` or a number.
+fn write(alloc: Global, id: u32, words: &[&str]) -> Result<Vec<u8>> {
+    let mut response = WriteResponse::new(alloc);
+    for word in words {
+        match word.parse::<u8>() {
+            Ok(number) => response.failure(number)?,
+            Err(_) => response.success()?,
+        }
+    }
+    Ok(response.finish(id)?)
+}
+
+/// What is agreed: the size, how many may be outstanding on either side, the nesting or `-`, and
+/// the parameters.
+fn agreed_of(words: &[&str]) -> Result<Agreed> {
+    match words {
+        [size, calling, called, nesting, parameters] => Ok(Agreed {
+            size: size.parse::<u32>()?,
+            calling: calling.parse::<u32>()?,
+            called: called.parse::<u32>()?,
+            nesting: nesting.parse::<i64>().ok(),
+            parameters: parameters.parse::<u8>()?,
+        }),
+        _ => bail!("five words are wanted"),
+    }
+}
+
+/// The octets of a response of a kind, which is made of words alone, of which the first is mostly
+/// its id. They stand in one function: the borrow checker wants the types of a response's parts
+/// named where one is written.
+fn plain(alloc: Global, kind: &str, id: Option<u32>, words: &[&str]) -> Result<Vec<u8>> {
+    let written = match (kind, id, words) {
+        ("initiate", _, _) => write_response(alloc, &Response::Initiate(agreed_of(words)?)),
+        ("conclude", _, _) => write_response(alloc, &Response::Conclude),
+        ("identify", Some(id), [_, vendor, model, revision]) => {
+            let service = Service::Identify {
+                vendor,
+                model,
+                revision,
+            };
+            write_response(alloc, &Response::Confirmed { id, service })
+        }
+        ("error", Some(id), [_, "no-such-object"]) => {
+            let class = ErrorClass::NoSuchObject;
+            write_response(alloc, &Response::Error { id, class })
+        }
+        ("error", Some(id), [_, "resource"]) => {
+            let class = ErrorClass::Resource;
+            write_response(alloc, &Response::Error { id, class })
+        }
+        ("reject", id, [_, "unrecognized-service"]) => {
+            let reason = RejectReason::UnrecognizedService;
+            write_response(alloc, &Response::Reject { id, reason })
+        }
+        ("reject", id, [_, "invalid-pdu"]) => {
+            let reason = RejectReason::InvalidPdu;
+            write_response(alloc, &Response::Reject { id, reason })
+        }
+        _ => bail!("what response is this: {kind}"),
+    };
+    Ok(written?)
+}
+
+/// The octets of a page: whether more names follow, and the names.
+fn page(alloc: Global, id: u32, more: &str, words: &[&str]) -> Result<Vec<u8>> {
+    let names = names_of(alloc, words)?;
+    let service = Service::Names {
+        names: names.as_slice(),
+        more: truth_of(more)?,
+    };
+    Ok(write_response(alloc, &Response::Confirmed { id, service })?)
+}
+
+/// The octets of the type of a row.
+fn attributes(alloc: Global, tree: &Tree, id: u32, name: &str) -> Result<Vec<u8>> {
+    let handle = tree.find(name)?;
+    let service = Service::Attributes { tree, handle };
+    Ok(write_response(alloc, &Response::Confirmed { id, service })?)
+}
+
+/// The octets of a response: its kind, its invoke id, and the other words.
+fn response(alloc: Global, tree: &Tree, kind: &str, words: &[&str]) -> Result<Vec<u8>> {
+    let [id, rest @ ..] = words else {
+        return plain(alloc, kind, None, words);
+    };
+    let number = id.parse::<u32>().ok();
+    match (kind, number, rest) {
+        ("names", Some(id), [more, names @ ..]) => page(alloc, id, more, names),
+        ("attributes", Some(id), [name]) => attributes(alloc, tree, id, name),
+        ("read", Some(id), _) => read(alloc, tree, id, rest),
+        ("write", Some(id), _) => write(alloc, id, rest),
+        _ => plain(alloc, kind, number, words),
+    }
+}
+
+/// The eight octets of a moment.
+fn moment_of(alloc: Global, word: &str) -> Result<[u8; 8]> {
+    let octets = octets_of(alloc, word)?;
+    match octets.as_slice() {
+        [a, b, c, d, e, f, g, h] => Ok([*a, *b, *c, *d, *e, *f, *g, *h]),
+        _ => bail!("no moment: {word}"),
+    }
+}
+
+/// An operate of an identity: its value, category, identity, number, moment, whether it is a test,
+/// and its check.
+fn operate_of<'a>(alloc: Global, words: &[&str], or_ident: &'a [u8]) -> Result<Operate<'a>> {
+    match words {
+        [value, category, _, number, moment, test, check] => Ok(Operate {
+            ctl_val: truth_of(value)?,
+            origin: Origin {
+                or_cat: category.parse::<i8>()?,
+                or_ident,
+            },
+            ctl_num: number.parse::<u8>()?,
+            t: moment_of(alloc, moment)?,
+            test: truth_of(test)?,
+            check: position_of(check)?,
+        }),
+        _ => bail!("seven words are wanted"),
+    }
+}
+
+/// The octets of a report on an operate of an identity: of a failure an object and a cause come
+/// before the domain, the item and the operate.
+fn report(alloc: Global, kind: &str, words: &[&str], identity: &[u8]) -> Result<Vec<u8>> {
+    match (kind, words) {
+        ("termination", [domain, item, operate @ ..]) => {
+            let operate = operate_of(alloc, operate, identity)?;
+            Ok(write_termination(alloc, domain, item, &operate)?)
+        }
+        ("failed", [cause, object, domain, item, operate @ ..]) => {
+            let operate = operate_of(alloc, operate, identity)?;
+            let failure = ControlError {
+                object,
+                origin: operate.origin,
+                ctl_num: operate.ctl_num,
+                add_cause: cause.parse::<u8>()?,
+            };
+            Ok(write_failed_termination(alloc, &failure, domain, item, &operate)?)
+        }
+        ("failure", [object, category, _, number, cause]) => {
+            let failure = ControlError {
+                object,
+                origin: Origin {
+                    or_cat: category.parse::<i8>()?,
+                    or_ident: identity,
+                },
+                ctl_num: number.parse::<u8>()?,
+                add_cause: cause.parse::<u8>()?,
+            };
+            Ok(write_failure(alloc, &failure)?)
+        }
+        _ => bail!("what report is this: {kind}"),
+    }
+}
+
+/// The octets of a response or a report.
+fn written(alloc: Global, tree: &Tree, kind: &str, words: &[&str]) -> Result<Vec<u8>> {
+    let identity = match (kind, words) {
+        ("termination", [_, _, _, _, identity, ..])
+        | ("failed", [_, _, _, _, _, _, identity, ..])
+        | ("failure", [_, _, identity, ..]) => octets_of(alloc, identity)?,
+        _ => return response(alloc, tree, kind, words),
+    };
+    report(alloc, kind, words, identity.as_slice())
+}
+
+/// A response or a report is written in these octets: its octets, its kind, and its words.
+pub fn check_response(alloc: Global, tree: &Tree, octets: &str, line: &str) -> Result<()> {
+    let (kind, rest) = first_word(line);
+    let mut words = Vec::new(alloc);
+    if !rest.is_empty() {
+        words = words_of(alloc, rest)?;
+    }
+    check_written(
+        alloc,
+        written(alloc, tree, kind, words.as_slice())?.as_slice(),
+        octets,
+    )
+}
