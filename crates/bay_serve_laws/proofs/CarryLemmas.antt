@@ -1,6 +1,6 @@
 -- What the queue of one association carries.
-use Rattle.std.proofs.Common.{◌≡◌, ◌≢◌, ℕ, ◌+◌, ◌<◌, ◌≤◌, ◌==◌, Bool, true, false, if◌then◌else◌, List, [], ◌∷◌, ◌++◌, length, get_or, set, Option, Some, None, Result, Ok, Err, refl, ap, sym, ◌∙◌, subst, arith, append_assoc, append-nil}
-use Rattle.std.proofs.lemmas.Bool.{eqb-true, eq-eqb}
+use Rattle.std.proofs.Common.{◌≡◌, ◌≢◌, ℕ, ◌+◌, ◌<◌, ◌≤◌, ◌==◌, Bool, true, false, if◌then◌else◌, List, [], ◌∷◌, ◌++◌, length, get_or, set, Option, Some, None, Result, Ok, Err, refl, ap, sym, ◌∙◌, subst, arith, append_assoc, append-nil, length-append}
+use Rattle.std.proofs.lemmas.Bool.{eqb-true, eq-eqb, leb-false}
 use Rattle.std.proofs.lemmas.List.{get_or-set_same, get_or-set_other, length-set}
 use Rattle.bay_device.specs.Device.{State}
 use Rattle.bay_device.specs.Outcomes.{place_of}
@@ -11,6 +11,7 @@ use Rattle.bay_serve.specs.Standings.{filled, takes_replies}
 use Rattle.bay_serve.specs.Turns.{Turning, has_room, is_up, put_all, put_at, put_ended, put_quiet, put_sent, put_told, put_whole, queue_of, standing_of, stands, with_device, with_noted, with_queue}
 use Rattle.bay_serve.specs.declared.standing.Standing.{Standing}
 use Rattle.bay_serve.specs.declared.standing.Standing.TheVariants.{Steady, Full, Leaving, LeavingFull, Gone}
+use Rattle.bay_serve_laws.specs.Causes.{is_queue_full, tells}
 use Rattle.bay_serve_laws.specs.Flows.{all_to, answer_to, end_to, octets_to}
 use Rattle.bay_serve_laws.proofs.QuietLemmas.{IsQuiet}
 use Rattle.bay_serve_laws.proofs.UpLemmas.{number-of, place-of, up_at}
@@ -19,7 +20,7 @@ use Rattle.bay_serve_laws.proofs.UpLemmas.{number-of, place-of, up_at}
 abbrev pub MayLose : Standing → Bool → List ℕ → List ℕ → Type 0
 MayLose Steady true queue lost = lost ≡ []
 MayLose Steady false queue lost = queue ≡ []
-MayLose Full up queue lost = Unit {0}
+MayLose Full up queue lost = 262144 < length queue + length lost
 MayLose Leaving up queue lost = (lost ≡ []) × (up ≡ false)
 MayLose LeavingFull up queue lost = up ≡ false
 MayLose Gone up queue lost = (queue ≡ []) × (up ≡ false)
@@ -41,14 +42,25 @@ pub record IsSound (now : ℕ) (s : Turning) : Type 0 where
 pub record Carried (now p : ℕ) (held taken sent : List ℕ) (s : Turning) : Type 0 where
   pub sound : IsSound now s
   pub carries : Carries taken held sent (standing_of p s) (is_up p s) (queue_of p s)
+  -- where its queue is told to be full, more is lost than there is room for
+  pub full : tells is_queue_full (p + 1) s.noted.closed ≡ true → 262144 < length carries.lost
 
-pub Carries-as : (taken held sent : List ℕ) (x y : Standing) (u v : Bool) (q r : List ℕ)
+abbrev pub Carries-as : (taken held sent : List ℕ) (x y : Standing) (u v : Bool) (q r : List ℕ)
     → Carries taken held sent x u q → y ≡ x → v ≡ u → r ≡ q
     → Carries taken held sent y v r
-Carries-as taken held sent x y u v q r c e f g =
-    subst (λ z. Carries taken held sent z v r) (sym e)
-    (subst (λ z. Carries taken held sent x z r) (sym f)
-    (subst (λ z. Carries taken held sent x u z) (sym g) c))
+Carries-as taken held sent x y u v q r c e f g = record {
+  lost = c.lost;
+  is = ap (λ l. taken ++ (l ++ c.lost)) g ∙ c.is;
+  may = subst (λ z. MayLose z v r c.lost) (sym e) (subst (λ z. MayLose x z r c.lost) (sym f)
+      (subst (λ z. MayLose x u z c.lost) (sym g) c.may));
+}
+
+-- more is lost
+pub longer : (n : ℕ) (lost more : List ℕ) → n < length lost → n < length (lost ++ more)
+longer n lost more h = omega (arith, h, length-append lost more)
+
+pub longer-behind : (n : ℕ) (front lost : List ℕ) → n < length lost → n < length (front ++ lost)
+longer-behind n front lost h = omega (arith, h, length-append front lost)
 
 pub Carried-sent : (now p : ℕ) (held taken sent more : List ℕ) (s : Turning)
     → Carried now p held taken sent s → sent ≡ more → Carried now p held taken more s
@@ -76,22 +88,23 @@ may-take LeavingFull u q lost e m = absurd (cc)
 may-take Gone u q lost e m = absurd (cc)
 
 may-fill : (x : Standing) (u : Bool) (q lost : List ℕ) → takes_replies x u ≡ true
-    → MayLose x u q lost → (more : List ℕ) → MayLose (filled x) u q more
-may-fill Steady true q lost e m more = tt
-may-fill Steady false q lost e m more = absurd (cc)
-may-fill Full u q lost e m more = absurd (cc)
-may-fill Leaving u q lost e m more = m.1
-may-fill LeavingFull u q lost e m more = absurd (cc)
-may-fill Gone u q lost e m more = absurd (cc)
+    → MayLose x u q lost → (more : List ℕ) → 262144 < length q + length more
+    → MayLose (filled x) u q more
+may-fill Steady true q lost e m more over = over
+may-fill Steady false q lost e m more over = absurd (cc)
+may-fill Full u q lost e m more over = absurd (cc)
+may-fill Leaving u q lost e m more over = m.1
+may-fill LeavingFull u q lost e m more over = absurd (cc)
+may-fill Gone u q lost e m more over = absurd (cc)
 
 may-drop : (x : Standing) (u : Bool) (q lost : List ℕ) → takes_replies x u ≡ false
-    → MayLose x u q lost → (more : List ℕ) → MayLose x u q more
-may-drop Steady true q lost e m more = absurd (cc)
-may-drop Steady false q lost e m more = m
-may-drop Full u q lost e m more = tt
-may-drop Leaving u q lost e m more = absurd (cc)
-may-drop LeavingFull u q lost e m more = m
-may-drop Gone u q lost e m more = m
+    → MayLose x u q lost → (more : List ℕ) → length lost ≤ length more → MayLose x u q more
+may-drop Steady true q lost e m more le = absurd (cc)
+may-drop Steady false q lost e m more le = m
+may-drop Full u q lost e m more le = omega (arith, m, le)
+may-drop Leaving u q lost e m more le = absurd (cc)
+may-drop LeavingFull u q lost e m more le = m
+may-drop Gone u q lost e m more le = m
 
 -- more was sent, and is lost
 pub also-lost : (taken held sent q lost more : List ℕ) → taken ++ (q ++ lost) ≡ held ++ sent
@@ -109,12 +122,12 @@ also-held taken held sent q lost more n e =
     ∙ also-lost taken held sent q lost more e
 
 put-here_if : (b r : Bool) (now p : ℕ) (held taken sent octets : List ℕ) (s : Turning) → p < 8
-    → takes_replies (standing_of p s) (is_up p s) ≡ b
+    → takes_replies (standing_of p s) (is_up p s) ≡ b → has_room (queue_of p s) octets ≡ r
     → Carried now p held taken sent s
     → Carried now p held taken (sent ++ octets)
     (if b then (if r then with_queue p (queue_of p s ++ octets) s
     else with_noted (stands p (filled (standing_of p s)) s.noted) s) else s)
-put-here_if true true now p held taken sent octets s h e c =
+put-here_if true true now p held taken sent octets s h e room c =
     let q = queue_of p s in
     let f = c.carries in
     let take = may-take (standing_of p s) (is_up p s) q f.lost e f.may in
@@ -133,8 +146,9 @@ put-here_if true true now p held taken sent octets s h e c =
         moment = c.sound.moment;
       };
       carries = Carries-as taken held (sent ++ octets) _ _ _ _ _ _ put refl refl here;
+      full = λ t. absurd (omega (arith, c.full t, ap length take.0));
     }
-put-here_if true false now p held taken sent octets s h e c =
+put-here_if true false now p held taken sent octets s h e room c =
     let q = queue_of p s in
     let x = standing_of p s in
     let f = c.carries in
@@ -144,7 +158,12 @@ put-here_if true false now p held taken sent octets s h e c =
     record {
       lost = f.lost ++ octets;
       is = also-lost taken held sent q f.lost octets f.is;
-      may = may-fill x (is_up p s) q f.lost e f.may (f.lost ++ octets);
+      may = may-fill x (is_up p s) q f.lost e f.may (f.lost ++ octets)
+          (omega (
+            arith,
+            leb-false (length q + length octets) 262144 room,
+            length-append f.lost octets,
+          ));
     } in
     record {
       sound = record {
@@ -153,8 +172,9 @@ put-here_if true false now p held taken sent octets s h e c =
         moment = c.sound.moment;
       };
       carries = Carries-as taken held (sent ++ octets) _ _ _ _ _ _ put here refl refl;
+      full = λ t. longer 262144 f.lost octets (c.full t);
     }
-put-here_if false r now p held taken sent octets s h e c =
+put-here_if false r now p held taken sent octets s h e room c =
     let q = queue_of p s in
     let f = c.carries in
     record {
@@ -162,8 +182,10 @@ put-here_if false r now p held taken sent octets s h e c =
       carries = record {
         lost = f.lost ++ octets;
         is = also-lost taken held sent q f.lost octets f.is;
-        may = may-drop (standing_of p s) (is_up p s) q f.lost e f.may (f.lost ++ octets);
+        may = may-drop (standing_of p s) (is_up p s) q f.lost e f.may (f.lost ++ octets)
+            (omega (arith, length-append f.lost octets));
       };
+      full = λ t. longer 262144 f.lost octets (c.full t);
     }
 
 put-here : (now p : ℕ) (held taken sent octets : List ℕ) (s : Turning) → p < 8
@@ -171,7 +193,7 @@ put-here : (now p : ℕ) (held taken sent octets : List ℕ) (s : Turning) → p
     → Carried now p held taken (sent ++ octets) (put_at (Some p) octets s)
 put-here now p held taken sent octets s h c =
     put-here_if (takes_replies (standing_of p s) (is_up p s)) (has_room (queue_of p s) octets) now p
-    held taken sent octets s h refl c
+    held taken sent octets s h refl refl c
 
 -- ---- what is done at another place
 
@@ -187,6 +209,7 @@ other-queue now p i held taken sent q s n c =
         moment = c.sound.moment;
       };
       carries = Carries-as taken held sent _ _ _ _ _ _ c.carries refl refl there;
+      full = c.full;
     }
 
 pub other-standing : (now p i : ℕ) (held taken sent : List ℕ) (x : Standing) (s : Turning) → i ≢ p
@@ -202,6 +225,7 @@ other-standing now p i held taken sent x s n c =
         moment = c.sound.moment;
       };
       carries = Carries-as taken held sent _ _ _ _ _ _ c.carries there refl refl;
+      full = c.full;
     }
 
 put-there : (now p : ℕ) (held taken sent octets : List ℕ) (o : Option ℕ) (s : Turning)
@@ -285,6 +309,7 @@ put_told-carried now p held taken sent (Err fault) s h q c =
       sound = record
           { queues = c.sound.queues; standings = c.sound.standings; moment = c.sound.moment };
       carries = c.carries;
+      full = c.full;
     }) (sym (append-nil sent))
 put_told-carried now p held taken sent (Ok step) s h q c =
     put_quiet-carried now p held taken sent (Ok step) s h q c
@@ -297,4 +322,5 @@ device-carried now p held taken sent d s h e c =
     record {
       sound = record { queues = c.sound.queues; standings = c.sound.standings; moment = h };
       carries = Carries-as taken held sent _ _ _ _ _ _ c.carries refl e refl;
+      full = c.full;
     }

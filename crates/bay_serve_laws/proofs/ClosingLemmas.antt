@@ -15,7 +15,7 @@ use Rattle.bay_trace.specs.Trace.{NamedData}
 use Rattle.bay_serve.specs.Calls.{Heard, Octets, Silence, Over, Broken}
 use Rattle.bay_serve.specs.Offers.{Offer}
 use Rattle.bay_serve.specs.Standings.{filled, is_full, is_leaving, is_told}
-use Rattle.bay_serve.specs.Turns.{Held, Noted, Reading, Script, Turning, after_accept, after_each, after_line, after_reads, after_scan, begun, cut_off, first_full, free_place, hung_up, is_up, leaves, left_by, offer_calls, offer_one, offer_of, on_heard, opened, put_all, put_answer, put_ended, queue_at, read_one, settled, standing_in, standing_of, stands, stepped, taken_in, told, told_of, told_why, turned, with_device}
+use Rattle.bay_serve.specs.Turns.{Held, Noted, Reading, Script, Turning, after_accept, after_each, after_line, after_reads, after_scan, begun, cut_off, first_full, free_place, goes, hung_up, is_up, leaves, left_by, offer_calls, offer_one, offer_of, on_heard, opened, put_answer, queue_at, read_one, settled, standing_in, standing_of, stands, stepped, taken_in, told, told_of, told_why, turned, with_device}
 use Rattle.bay_serve.specs.declared.standing.Standing.{Standing}
 use Rattle.bay_serve.specs.declared.standing.Standing.TheVariants.{Steady, Full, Leaving, LeavingFull, Gone}
 use Rattle.bay_serve.specs.declared.told.Closing.{Closing}
@@ -26,7 +26,7 @@ use Rattle.bay_serve_laws.specs.Telling.{AreTold, IsAmong, IsToldAs, IsToldOf, T
 use Rattle.bay_serve_laws.proofs.CarryLemmas.{MayLose}
 use Rattle.bay_serve_laws.proofs.CutLemmas.{Well}
 use Rattle.bay_serve_laws.proofs.DoneLemmas.{IsBoth, done-append}
-use Rattle.bay_serve_laws.proofs.KeepLemmas.{IsNoted, keep_all, keep_each, keep_ended, keep_line, keep_offer, keep_on_accept, keep_read, keep_scan, keep_settled, keep_taken}
+use Rattle.bay_serve_laws.proofs.KeepLemmas.{Each, IsNoted, keep_each, keep_line, keep_offer, keep_on_accept, keep_read, keep_rest, keep_scan, keep_settled, keep_taken}
 use Rattle.bay_serve_laws.proofs.PartLemmas.{Part-accept, Part-each, Part-line, Part-offer, Part-read, Part-scan}
 use Rattle.bay_serve_laws.proofs.QuietLemmas.{IsQuiet, at_any_moment, outcome-quiet, placed-quiet}
 use Rattle.bay_serve_laws.proofs.ReadFlows.{accept-moves, begun-fresh, read-moves}
@@ -109,13 +109,18 @@ why-grown l m place (Fault code) g =
 why-grown l m place Memory g =
     memory-grown (is_told (standing_in place m)) l m (place + 1) g
 
-grown-kept : (l : Noted) → IsNoted (Grown l)
+goes-grown : (l n : Noted) (place : ℕ) (why : Closing) → Grown l n → Grown l (goes place why n)
+goes-grown l n place why g =
+    stands-grown l (told place why n) place Gone
+    (told-grown (is_told (standing_in place n)) l n (place + 1, why) g)
+
+grown-kept : (l : Noted) → IsNoted Each (Grown l)
 grown-kept l = record {
   fills = λ place n g. stands-grown l n place (filled (standing_in place n)) g;
-  leaving = λ place why n low g. stands-grown l (told_why place why n) place Leaving
+  leaving = λ place why n low may g. stands-grown l (told_why place why n) place Leaving
       (why-grown l n place why g);
-  going = λ place why n low g. stands-grown l (told place why n) place Gone
-      (told-grown (is_told (standing_in place n)) l n (place + 1, why) g);
+  going = λ place why n low may g. goes-grown l n place why g;
+  overflows = λ place n low g. goes-grown l n place closing.QueueFull g;
   found = λ n place g e. subst (λ (k : ℕ). place < k) g.sized
       (position-Some is_full n.standings place Steady e).0;
   parts = λ place n e g. stands-grown l n place Gone g;
@@ -157,7 +162,7 @@ are-both (x ∷ xs) ys closed memory h k = (h.0, are-both xs ys closed memory h.
 
 -- ---- events that close nothing
 
-abbrev AllQuiet : List ChosenEvent → Type 0
+abbrev pub AllQuiet : List ChosenEvent → Type 0
 AllQuiet [] = Unit {0}
 AllQuiet (e ∷ es) = IsWithoutOctets e.1 × AllQuiet es
 
@@ -190,24 +195,24 @@ settled_in-quiet now (suc count) s =
     next None s later more = tt
     next (Some place) s later more = (tt, more _)
 
-settled-quiet : (now : ℕ) (s : Turning) → AllQuiet (settled_events now s)
+pub settled-quiet : (now : ℕ) (s : Turning) → AllQuiet (settled_events now s)
 unfolding settled_events
 settled-quiet now s = settled_in-quiet now 8 s
 
-accept-quiet : (now : ℕ) (place : Option ℕ) (taken : Option Bool) (s : Turning)
+pub accept-quiet : (now : ℕ) (place : Option ℕ) (taken : Option Bool) (s : Turning)
     → AllQuiet (accept_events_at now place taken s)
 accept-quiet now None taken s = tt
 accept-quiet now (Some place) None s = tt
 accept-quiet now (Some place) (Some false) s = tt
 accept-quiet now (Some place) (Some true) s = (tt, settled-quiet now (opened now place s))
 
-line-quiet : (now : ℕ) (line : Option NamedData) (s : Turning) → HasNoOctets line
+pub line-quiet : (now : ℕ) (line : Option NamedData) (s : Turning) → HasNoOctets line
     → AllQuiet (line_events now line s)
 line-quiet now None s h = tt
 line-quiet now (Some named) s h =
     (placed-quiet s.server.device named h, settled-quiet now (told_of now named s))
 
-offer-quiet : (now place : ℕ) (o : Offer) (s : Turning) → AllQuiet (offer_events now place o s)
+pub offer-quiet : (now place : ℕ) (o : Offer) (s : Turning) → AllQuiet (offer_events now place o s)
 offer-quiet now place o s =
     if_leaving (is_leaving (standing_of place s)) (is_up place s) (offer_of place o s).failed
   where
@@ -261,7 +266,7 @@ Tells-quiet now s t events device grown q = record {
 -- ---- what comes from an association
 
 -- an answer to octets of an association closes no other
-abbrev IsOwn : ℕ → Option (ℕ × Why) → Type 0
+abbrev pub IsOwn : ℕ → Option (ℕ × Why) → Type 0
 IsOwn a None = Unit {0}
 IsOwn a (Some x) = x.0 ≡ a
 
@@ -279,7 +284,7 @@ recv-own : (choice : Option ℕ) (now a : ℕ) (octets : List ℕ) (s : State) (
 recv-own choice now a octets s None = tt
 recv-own choice now a octets s (Some talk) = octets-own choice now a s talk octets
 
-outcome-own : (choice : Option ℕ) (now a : ℕ) (octets : List ℕ) (s : State)
+pub outcome-own : (choice : Option ℕ) (now a : ℕ) (octets : List ℕ) (s : State)
     → IsOwn a (closed_in (outcome choice now (Recv a (lying octets)) s).answer)
 outcome-own choice now a octets s =
     at_any_moment (λ o. IsOwn a (closed_in o.answer)) choice now (Recv a (lying octets)) s (λ f. tt)
@@ -326,13 +331,9 @@ answer-told : (now place : ℕ) (answer : Result Step StepFault) (s : Turning)
 answer-told now place (Err fault) s sized e own = tt
 answer-told now place (Ok step) s sized e own =
     let left : Turning = left_by place step.closed s in
-    let k = grown-kept left.noted in
-    let first = Grown-refl left.noted (left-sized place step.closed s sized) in
-    let sent : Turning = put_all step.sent (put_ended step.ended left) in
     let grown =
-    k.orders step.commands sent.noted
-    (keep_all (Grown left.noted) k now step.sent (put_ended step.ended left)
-    (keep_ended (Grown left.noted) k now step.ended left first)) in
+    keep_rest Each (Grown left.noted) (grown-kept left.noted) now place step s
+    (Grown-refl left.noted (left-sized place step.closed s sized)) in
     of-grown step.closed left.noted (put_answer place (Ok step) s).noted grown
     (left-told place step.closed s e own)
 
@@ -340,7 +341,7 @@ taken-grown : (now place : ℕ) (choice : Option ℕ) (octets : List ℕ) (s : T
     → length s.noted.standings ≡ 8 → place < 8
     → Grown s.noted (taken_in now place choice octets s).noted
 taken-grown now place choice octets s sized low =
-    keep_taken (Grown s.noted) (grown-kept s.noted) now place choice octets s low
+    keep_taken Each (Grown s.noted) (grown-kept s.noted) now place choice octets s low tt
     (Grown-refl s.noted sized)
 
 heard-told : (now place : ℕ) (choice : Option ℕ) (heard : Heard) (s : Turning)
@@ -356,7 +357,7 @@ heard-told now place choice (Octets octets) s sized e low =
     (outcome-own choice now (place + 1) octets s.server.device) in
     let sized_then = (taken-grown now place choice octets s sized low).sized in
     let grown : Grown t.noted u.noted =
-    keep_settled (Grown t.noted) (grown-kept t.noted) now t (Grown-refl t.noted sized_then) in (
+    keep_settled Each (Grown t.noted) (grown-kept t.noted) now t (Grown-refl t.noted sized_then) in (
       of-grown (closed_in o.answer) t.noted u.noted grown first,
       quiet-told now (settled_events now t) o.after u.noted.closed u.noted.memory
           (settled-quiet now t),
@@ -383,7 +384,7 @@ read-told now place r s true sized e low =
 read-told now place r s false sized e low = tt
 
 -- an association that is open was not told of
-up-untold : (x : Standing) (up : Bool) (q lost : List ℕ) → MayLose x up q lost → up ≡ true
+pub up-untold : (x : Standing) (up : Bool) (q lost : List ℕ) → MayLose x up q lost → up ≡ true
     → is_told x ≡ false
 up-untold Steady up q lost m e = refl
 up-untold Full up q lost m e = refl
@@ -417,7 +418,7 @@ module _ (now : ℕ) (h : Held) (past : now ≤ last_moment) where
       let w = (all i low).well.carried in
       record {
         device = (Part-read ⊥ now i r s).device;
-        grown = keep_read (Grown s.noted) (grown-kept s.noted) now i r s low
+        grown = keep_read Each (Grown s.noted) (grown-kept s.noted) now i r s low tt
             (Grown-refl s.noted w.sound.standings);
         told = read-told now i r s (is_up i s) w.sound.standings
             (up-untold (standing_of i s) (is_up i s) _ w.carries.lost w.carries.may) low;
@@ -455,26 +456,27 @@ module _ (now : ℕ) (h : Held) (past : now ≤ last_moment) where
       let to1 : Tells now s0 (accept_events now script.accepted s0) s1 =
       Tells-quiet now s0 s1 (accept_events now script.accepted s0)
       (Part-accept ⊥ now script.accepted s0).device
-      (keep_on_accept (Grown s0.noted) (grown-kept s0.noted) now (free_place s0.server)
+      (keep_on_accept Each (Grown s0.noted) (grown-kept s0.noted) now (free_place s0.server)
       script.accepted s0 (Grown-refl s0.noted refl))
       (accept-quiet now (free_place s0.server) script.accepted s0) in
       let to2 = reads-tell 0 script.readings s1 (omega (arith, readings)) all to1.grown.sized in
       let to3 : Tells now s2 (line_events now line s2) s3 =
       Tells-quiet now s2 s3 (line_events now line s2)
       (Part-line ⊥ now line s2 (λ q. absurd q)).device
-      (keep_line (Grown s2.noted) (grown-kept s2.noted) now line s2
+      (keep_line Each (Grown s2.noted) (grown-kept s2.noted) now line s2
       (Grown-refl s2.noted to2.grown.sized)) (line-quiet now line s2 silent) in
       let to4 : Tells now s3 (scan_events now s3) s4 =
       Tells-quiet now s3 s4 (scan_events now s3) (Part-scan ⊥ now s3).device
-      (keep_scan (Grown s3.noted) (grown-kept s3.noted) now s3
+      (keep_scan Each (Grown s3.noted) (grown-kept s3.noted) now s3
       (Grown-refl s3.noted to3.grown.sized)) (tt, settled-quiet now (stepped now Scan s3)) in
       let last = events_of_each (offer_one now) (offer_events now) 0 script.offers s4 in
       let to5 : Tells now s4 last s5 =
       Tells-quiet now s4 s5 last
       (Part-each ⊥ now (offer_one now) (offer_calls now) (offer_events now) (Part-offer ⊥ now) 0
       script.offers s4).device
-      (keep_each (Grown s4.noted) (grown-kept s4.noted) now (offer_one now)
-      (keep_offer (Grown s4.noted) (grown-kept s4.noted) now) 0 script.offers s4
+      (keep_each Each (Grown s4.noted) (grown-kept s4.noted) now (offer_one now)
+      (λ q o u g. keep_offer Each (Grown s4.noted) (grown-kept s4.noted) now q o u g tt) 0
+      script.offers s4
       (omega (arith, offers)) (Grown-refl s4.noted to4.grown.sized))
       (offers-quiet now 0 script.offers s4) in
       Tells-trans now s0 s4 s5 _ _

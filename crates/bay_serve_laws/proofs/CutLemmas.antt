@@ -1,5 +1,5 @@
 -- Associations that are closed at once.
-use Rattle.std.proofs.Common.{◌≡◌, ◌≢◌, ℕ, zero, suc, ◌+◌, ◌<◌, ◌≤◌, ◌==◌, Bool, true, false, List, [], ◌∷◌, ◌++◌, length, get_or, set, Option, Some, None, refl, ap, sym, ◌∙◌, subst, arith}
+use Rattle.std.proofs.Common.{◌≡◌, ◌≢◌, ℕ, zero, suc, ◌+◌, ◌<◌, ◌≤◌, ◌==◌, Bool, true, false, List, [], ◌∷◌, ◌++◌, length, get_or, set, Option, Some, None, refl, ap, sym, ◌∙◌, subst, arith, length-append, ◌⊎◌, inl, inr}
 use Rattle.std.proofs.lemmas.Bool.{eqb-true, eq-eqb}
 use Rattle.std.proofs.lemmas.List.{get_or-set_same, length-set}
 use Rattle.std.proofs.lemmas.List.Quantifiers.{position-Some}
@@ -9,17 +9,20 @@ use Rattle.bay_device.specs.declared.event.Event.TheVariants.{Close}
 use Rattle.bay_serve.specs.Calls.{Call, Closes}
 use Rattle.bay_serve.specs.Standings.{is_full, is_leaving}
 use Rattle.bay_serve.specs.Turns.{Noted, Turning, cut_off, first_full, is_up, put_quiet, queue_of, settled, settled_in, settled_next, settling, settling_in, settling_next, standing_of, stepped, told, with_device, with_noted, with_queue}
-use Rattle.bay_serve.specs.declared.standing.Standing.TheVariants.{Steady, Full, Gone}
+use Rattle.bay_serve.specs.declared.standing.Standing.{Standing}
+use Rattle.bay_serve.specs.declared.standing.Standing.TheVariants.{Steady, Full, Leaving, LeavingFull, Gone}
 use Rattle.bay_serve.specs.declared.told.Closing.{Closing}
 use Rattle.bay_serve.specs.declared.told.Closing.TheVariants as closing
+use Rattle.bay_serve_laws.specs.Causes.{is_queue_full, tells}
 use Rattle.bay_serve_laws.specs.Events.{ChosenEvent, closing_of, settled_events, settled_in_events, settled_next_events}
 use Rattle.bay_serve_laws.specs.Flows.{answer_to, taken_of}
-use Rattle.bay_serve_laws.proofs.CarryLemmas.{Carried, Carries, Carries-as, IsSound, also-lost, device-carried, other-queue, other-standing, put_quiet-carried}
+use Rattle.bay_serve_laws.proofs.CarryLemmas.{Carried, Carries, Carries-as, IsSound, MayLose, also-lost, device-carried, longer, longer-behind, other-queue, other-standing, put_quiet-carried}
 use Rattle.bay_serve_laws.proofs.MoveLemmas.{Moves, Moves-none, Moves-one, Moves-trans}
 use Rattle.bay_serve_laws.proofs.PutLemmas.{Puts, put_quiet-puts, told-standings}
 use Rattle.bay_serve_laws.proofs.QuietLemmas.{outcome-quiet}
 use Rattle.bay_serve_laws.proofs.SameLemmas.{Same, put_quiet-same}
 use Rattle.bay_serve_laws.proofs.StandingLemmas.{AreCalm, full-is, goes-kept, goes-remaining, none-full, none-remains, remaining, remaining-le}
+use Rattle.bay_serve_laws.proofs.TellsLemmas.{full-by, stepped-closed, told-other}
 use Rattle.bay_serve_laws.proofs.UpLemmas.{close-outcome-far, close-outcome-here, outcome-moment, up_at}
 
 -- ---- how associations stand
@@ -112,11 +115,12 @@ settled-kept now i s e = kept_in now 8 i s e
 
 -- ---- an association that is closed at once, seen from one of them
 
--- notes with the same standings
+-- notes with the same standings, in which it is told no more that the queue was full
 pub noted-carried : (now p : ℕ) (held taken sent : List ℕ) (n : Noted) (s : Turning)
-    → n.standings ≡ s.noted.standings → Carried now p held taken sent s
-    → Carried now p held taken sent (with_noted n s)
-noted-carried now p held taken sent n s e c = record {
+    → n.standings ≡ s.noted.standings
+    → tells is_queue_full (p + 1) n.closed ≡ tells is_queue_full (p + 1) s.noted.closed
+    → Carried now p held taken sent s → Carried now p held taken sent (with_noted n s)
+noted-carried now p held taken sent n s e same c = record {
   sound = record {
     queues = c.sound.queues;
     standings = ap length e ∙ c.sound.standings;
@@ -124,6 +128,7 @@ noted-carried now p held taken sent n s e c = record {
   };
   carries =
       Carries-as taken held sent _ _ _ _ _ _ c.carries (ap (λ l. get_or l p Steady) e) refl refl;
+  full = λ t. c.full (sym same ∙ t);
 }
 
 cut-far : (now p i : ℕ) (held taken sent : List ℕ) (why : Closing) (s : Turning) → p < 8 → i ≢ p
@@ -147,16 +152,18 @@ cut-far now p i held taken sent why s h n c =
     let y : Turning = with_noted (told i why t.noted) x in
     other-standing now p i held taken more Gone y n
     (noted-carried now p held taken more (told i why t.noted) x (told-standings i why t.noted)
-    (other-queue now p i held taken more [] t n put))
+    (told-other p i why t.noted n) (other-queue now p i held taken more [] t n put))
 
 -- what is taken and a rest are what was held and sent; the rest is lost
 pub cut-lost : (now p : ℕ) (held taken sent rest : List ℕ) (why : Closing) (s : Turning) → p < 8
     → now ≤ last_moment → IsSound now s → taken ++ rest ≡ held ++ sent
+    → ((is_queue_full why ≡ true) ⊎ (tells is_queue_full (p + 1) s.noted.closed ≡ true)
+    → 262144 < length rest)
     → Carried now p held taken
     (sent ++ answer_to (p + 1) (outcome None now (Close (p + 1)) s.server.device).answer)
     (cut_off now why p s)
 unfolding cut_off
-cut-lost now p held taken sent rest why s h past sound is =
+cut-lost now p held taken sent rest why s h past sound is over =
     let o = outcome None now (Close (p + 1)) s.server.device in
     let t : Turning = put_quiet o.answer (with_device o.after s) in
     let n : Noted = told p why t.noted in
@@ -188,29 +195,51 @@ cut-lost now p held taken sent rest why s h past sound is =
         moment = subst (λ (d : State). d.moment ≤ now) (sym same.device) before;
       };
       carries = Carries-as taken held (sent ++ more) _ _ _ _ _ _ lost gone up empty;
+      full = λ e. longer 262144 rest more
+          (elim (full-by p why t.noted e) [
+            | inl f ↦ over (inl f)
+            | inr f ↦ over (inr (sym (ap (tells is_queue_full (p + 1))
+                (stepped-closed now (Close (p + 1)) s)) ∙ f))
+          ]);
     }
 
+-- what is lost with a queue that is full
+full-lost : (x : Standing) (u : Bool) (q lost : List ℕ) → x ≡ Full → MayLose x u q lost
+    → 262144 < length (q ++ lost)
+full-lost Steady u q lost e m = absurd (cc)
+full-lost Full u q lost e m = omega (arith, m, length-append q lost)
+full-lost Leaving u q lost e m = absurd (cc)
+full-lost LeavingFull u q lost e m = absurd (cc)
+full-lost Gone u q lost e m = absurd (cc)
+
 cut_if : (b : Bool) (now p i : ℕ) (held taken sent : List ℕ) (why : Closing) (s : Turning) → p < 8
-    → now ≤ last_moment → (i == p) ≡ b → Carried now p held taken sent s
+    → now ≤ last_moment → (is_queue_full why ≡ true → standing_of i s ≡ Full) → (i == p) ≡ b
+    → Carried now p held taken sent s
     → Carried now p held taken
     (sent ++ answer_to (p + 1) (outcome None now (Close (i + 1)) s.server.device).answer)
     (cut_off now why i s)
-cut_if true now p i held taken sent why s h past e c =
+cut_if true now p i held taken sent why s h past full e c =
+    let f = c.carries in
     subst (λ j. Carried now p held taken
     (sent ++ answer_to (p + 1) (outcome None now (Close (j + 1)) s.server.device).answer)
     (cut_off now why j s)) (sym (eqb-true i p e))
-    (cut-lost now p held taken sent (queue_of p s ++ c.carries.lost) why s h past c.sound
-    c.carries.is)
-cut_if false now p i held taken sent why s h past e c =
+    (cut-lost now p held taken sent (queue_of p s ++ f.lost) why s h past c.sound f.is
+    (λ v. elim v [
+      | inl q ↦ full-lost (standing_of p s) (is_up p s) (queue_of p s) f.lost
+          (ap (λ j. standing_of j s) (sym (eqb-true i p e)) ∙ full q) f.may
+      | inr t ↦ longer-behind 262144 (queue_of p s) f.lost (c.full t)
+    ]))
+cut_if false now p i held taken sent why s h past full e c =
     cut-far now p i held taken sent why s h (λ q. let same : (i == p) ≡ true = eq-eqb i p q in cc) c
 
 pub cut-carried : (now p i : ℕ) (held taken sent : List ℕ) (why : Closing) (s : Turning) → p < 8
-    → now ≤ last_moment → Carried now p held taken sent s
+    → now ≤ last_moment → (is_queue_full why ≡ true → standing_of i s ≡ Full)
+    → Carried now p held taken sent s
     → Carried now p held taken
     (sent ++ answer_to (p + 1) (outcome None now (Close (i + 1)) s.server.device).answer)
     (cut_off now why i s)
-cut-carried now p i held taken sent why s h past c =
-    cut_if (i == p) now p i held taken sent why s h past refl c
+cut-carried now p i held taken sent why s h past full c =
+    cut_if (i == p) now p i held taken sent why s h past full refl c
 
 pub cut-device : (now i : ℕ) (why : Closing) (s : Turning)
     → (cut_off now why i s).server.device ≡ (outcome None now (Close (i + 1)) s.server.device).after
@@ -228,28 +257,30 @@ pub record Well (now p : ℕ) (held taken sent : List ℕ) (s : Turning) : Type 
 
 module _ (now p : ℕ) (held : List ℕ) (h : p < 8) (past : now ≤ last_moment) where
   pub cut-moves : (i : ℕ) (why : Closing) (s : Turning) (calls : List Call)
-      → taken_of (p + 1) calls ≡ []
+      → (is_queue_full why ≡ true → standing_of i s ≡ Full) → taken_of (p + 1) calls ≡ []
       → Moves (Carried now p held) (Carried now p held) now p s calls (closing_of i ∷ [])
       (cut_off now why i s)
-  cut-moves i why s calls none =
+  cut-moves i why s calls full none =
       Moves-one (Carried now p held) (Carried now p held) now p s (cut_off now why i s) calls
       (closing_of i) (cut-device now i why s) none
-      (λ taken sent c. cut-carried now p i held taken sent why s h past c)
+      (λ taken sent c. cut-carried now p i held taken sent why s h past full c)
 
   next-moves : (o : Option ℕ) (s : Turning) (f : Turning → Turning) (calls : Turning → List Call)
-      (events : Turning → List ChosenEvent)
+      (events : Turning → List ChosenEvent) → first_full s.noted ≡ o
       → ((t : Turning) → Moves (Carried now p held) (Carried now p held) now p t (calls t)
       (events t) (f t))
       → Moves (Carried now p held) (Carried now p held) now p s (settling_next now o s calls)
       (settled_next_events now o s events) (settled_next now o s f)
-  next-moves None s f calls events later =
+  next-moves None s f calls events is later =
       Moves-none (Carried now p held) (Carried now p held) now p s s [] refl refl
       (λ taken sent c. c)
-  next-moves (Some place) s f calls events later =
+  next-moves (Some place) s f calls events is later =
       let t : Turning = cut_off now closing.QueueFull place s in
       Moves-trans (Carried now p held) (Carried now p held) (Carried now p held) now p s t (f t)
       (Closes (place + 1) ∷ []) (calls t) (closing_of place ∷ []) (events t)
-      (cut-moves place closing.QueueFull s (Closes (place + 1) ∷ []) refl) (later t)
+      (cut-moves place closing.QueueFull s (Closes (place + 1) ∷ [])
+      (λ e. full-is (standing_of place s)
+      (position-Some is_full s.noted.standings place Steady is).1) refl) (later t)
 
   settled_in-moves : (count : ℕ) (s : Turning)
       → Moves (Carried now p held) (Carried now p held) now p s (settling_in now count s)
@@ -259,7 +290,7 @@ module _ (now p : ℕ) (held : List ℕ) (h : p < 8) (past : now ≤ last_moment
       (λ taken sent c. c)
   settled_in-moves (suc count) s =
       next-moves (first_full s.noted) s (settled_in now count) (settling_in now count)
-      (settled_in_events now count) (settled_in-moves count)
+      (settled_in_events now count) refl (settled_in-moves count)
 
   settled-carried : (s : Turning)
       → Moves (Carried now p held) (Carried now p held) now p s (settling now s)

@@ -5,6 +5,9 @@ pub mod SameLemmas
 pub mod PartLemmas
 pub mod StandingLemmas
 pub mod UpLemmas
+pub mod KeepLemmas
+pub mod TellingLemmas
+pub mod TellsLemmas
 pub mod CarryLemmas
 pub mod PutLemmas
 pub mod MoveLemmas
@@ -13,7 +16,7 @@ pub mod CutLemmas
 pub mod ReadFlows
 pub mod OfferFlows
 pub mod TurnFlows
-pub mod KeepLemmas
-pub mod TellingLemmas
 pub mod ClosingLemmas
 pub mod RoomLemmas
+pub mod CauseLemmas
+pub mod CauseFlows

@@ -1,5 +1,6 @@
 -- The lines that a turn takes.
-use Rattle.std.proofs.Common.{ℕ, List, Option, Some, None, refl}
+use Rattle.std.proofs.Common.{◌≡◌, ℕ, List, [], Option, Some, None, refl}
+use Rattle.bay_trace.specs.Placing.{AreOctets}
 use Rattle.bay_trace.specs.Trace.{LineData, NamedData, blank, at_moment, connects, receives, disconnects, contact, input, measure, scan, process_event, process_of, trace_line_of}
 use Rattle.bay_serve.specs.Served.{line_in}
 use Rattle.bay_serve_laws.specs.Events.{HasNoOctets}
@@ -22,6 +23,20 @@ event-process (contact id position) = refl
 event-process (input name value) = refl
 event-process (measure id field value) = refl
 event-process scan = tt
+
+process_quiet : (named : NamedData) → process_event named ≡ Some named → AreOctets named []
+process_quiet (connects a) e = tt
+process_quiet (receives a octets) e = absurd (cc)
+process_quiet (disconnects a) e = tt
+process_quiet (contact id position) e = tt
+process_quiet (input name value) e = tt
+process_quiet (measure id field value) e = tt
+process_quiet scan e = tt
+
+-- what tells of the process has no octets
+pub process-quiet : (line : Option NamedData) → IsOfProcess line → HasNoOctets line
+process-quiet None h = tt
+process-quiet (Some named) h = process_quiet named h
 
 told-quiet : (line : Option LineData) → HasNoOctets (process_of line)
 told-quiet None = tt

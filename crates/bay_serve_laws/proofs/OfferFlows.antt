@@ -1,5 +1,5 @@
 -- One association through the offers.
-use Rattle.std.proofs.Common.{◌≡◌, ◌≢◌, ℕ, zero, suc, ◌+◌, ◌<◌, ◌≤◌, ◌==◌, Bool, true, false, if◌then◌else◌, List, [], ◌∷◌, ◌++◌, length, get_or, set, None, refl, ap, sym, ◌∙◌, subst, arith, append_assoc, append-nil}
+use Rattle.std.proofs.Common.{◌≡◌, ◌≢◌, ℕ, zero, suc, ◌+◌, ◌<◌, ◌≤◌, ◌==◌, Bool, true, false, if◌then◌else◌, List, [], ◌∷◌, ◌++◌, length, get_or, set, None, refl, ap, sym, ◌∙◌, subst, arith, append_assoc, append-nil, inl, inr}
 use Rattle.std.proofs.lemmas.Bool.{eqb-true, eq-eqb}
 use Rattle.std.proofs.lemmas.List.{get_or-set_same, length-set}
 use Rattle.bay_device.specs.Outcomes.{last_moment, outcome}
@@ -13,7 +13,7 @@ use Rattle.bay_serve.specs.declared.standing.Standing.TheVariants.{Steady, Full,
 use Rattle.bay_serve.specs.declared.told.Closing.TheVariants as closing
 use Rattle.bay_serve_laws.specs.Events.{closing_of, failed_events, offer_events, settled_events}
 use Rattle.bay_serve_laws.specs.Flows.{answer_to, taken_of}
-use Rattle.bay_serve_laws.proofs.CarryLemmas.{Carried, Carries, Carries-as, MayLose, other-queue, other-standing}
+use Rattle.bay_serve_laws.proofs.CarryLemmas.{Carried, Carries, Carries-as, MayLose, longer-behind, other-queue, other-standing}
 use Rattle.bay_serve_laws.proofs.CutLemmas.{Well, calm-moves, cut-device, cut-kept, cut-lost, cut-moves, settled-kept, settled-moves}
 use Rattle.bay_serve_laws.proofs.MoveLemmas.{Moves, Moves-none, Moves-trans, moved, offered-other, offered-taken, taken-append}
 use Rattle.bay_serve_laws.proofs.ReadFlows.{well-open}
@@ -66,6 +66,7 @@ parted-here now p held taken sent o s h leaving w =
           moment = c.sound.moment;
         };
         carries = Carries-as (taken ++ t) held sent _ _ _ _ _ _ lost gone down empty;
+        full = λ e. longer-behind 262144 made.left f.lost (c.full e);
       };
       calm = goes-calm s.noted.standings p w.calm;
     }
@@ -98,6 +99,7 @@ kept-here now p held taken sent o s h up w =
           moment = c.sound.moment;
         };
         carries = Carries-as (taken ++ t) held sent _ _ _ _ _ _ kept refl refl here;
+        full = λ e. absurd (omega (arith, c.full e, ap length whole.0));
       };
       calm = w.calm;
     }
@@ -116,6 +118,10 @@ cut-here now p held taken sent o s h past w =
     w.carried.sound
     (taken-more taken t made.left q f.lost (held ++ sent) (offered-taken (p + 1) q o.takes o.fails)
     f.is)
+    (λ v. elim v [
+      | inl e ↦ absurd (cc)
+      | inr e ↦ longer-behind 262144 made.left f.lost (w.carried.full e)
+    ])
 
 module _ (now p : ℕ) (held : List ℕ) (h : p < 8) (past : now ≤ last_moment) where
   -- the connection is closed, and what did not fit then is dealt with
@@ -239,7 +245,8 @@ module _ (now p : ℕ) (held : List ℕ) (h : p < 8) (past : now ≤ last_moment
       Moves-trans (Well now p held) (Carried now p held) (Well now p held) now p s t (settled now t)
       calls (Closes (i + 1) ∷ settling now t) (closing_of i ∷ []) (settled_events now t)
       (calm-moves now p held h past s t calls (closing_of i ∷ [])
-      (cut-moves now p held h past i closing.LinkFailed s calls (not_taken i o s n)))
+      (cut-moves now p held h past i closing.LinkFailed s calls (λ e. absurd (cc))
+      (not_taken i o s n)))
       (closed-moves t i)
   far-failed false i o s n =
       let left = (offer_of i o s).left in

@@ -28,7 +28,8 @@ IsQuiet (Ok step) = SaysLittle step
 contact-quiet : (now k : ℕ) (position : Dbpos) (s : State) (switch : Option Switch)
     → IsQuiet (contact_outcome now k position s switch).answer
 contact-quiet now k position s None = tt
-contact-quiet now k position s (Some switch) = record { sent = refl; commands = refl; closed = refl }
+contact-quiet now k position s (Some switch) =
+    record { sent = refl; commands = refl; closed = refl }
 
 input-quiet : (now k : ℕ) (value : Bool) (s : State) (before : Option Bool)
     → IsQuiet (input_outcome now k value s before).answer

@@ -20,6 +20,7 @@ use Rattle.bay_serve.specs.Turns.{Held, Noted, Reading, Turning, accept_calls, a
 use Rattle.bay_serve.specs.declared.standing.Standing.{Standing}
 use Rattle.bay_serve.specs.declared.standing.Standing.TheVariants.{Steady, Full, Leaving, LeavingFull, Gone}
 use Rattle.bay_serve.specs.declared.told.Closing.TheVariants as closing
+use Rattle.bay_serve_laws.specs.Causes.{is_queue_full, tells}
 use Rattle.bay_serve_laws.specs.Events.{accept_events, accept_events_at, closing_of, heard_events, line_events, read_events, scan_events, settled_events, surely}
 use Rattle.bay_serve_laws.specs.Flows.{IsOfProcess, IsTidy, all_to, answer_to, end_to, taken_of}
 use Rattle.bay_serve_laws.proofs.CarryLemmas.{Carried, Carried-sent, Carries, Carries-as, IsSound, MayLose, device-carried, other-standing, put_all-carried, put_ended-carried, put_quiet-carried, put_told-carried}
@@ -29,6 +30,7 @@ use Rattle.bay_serve_laws.proofs.PutLemmas.{told_why-standings}
 use Rattle.bay_serve_laws.proofs.QuietLemmas.{outcome-quiet}
 use Rattle.bay_serve_laws.proofs.SameLemmas.{Commands, Same, put_answer-commands, put_quiet-same, put_told-same}
 use Rattle.bay_serve_laws.proofs.StandingLemmas.{AreCalm, all-steady}
+use Rattle.bay_serve_laws.proofs.TellsLemmas.{why-not_full}
 use Rattle.bay_serve_laws.proofs.UpLemmas.{HeardOpen, LeftOpen, close-outcome-far, close-outcome-here, contact-outcome-up, input-outcome-up, measure-outcome-up, open-outcome-up, outcome-moment, recv-outcome-far, recv-outcome-here, scan-outcome-up, up_at}
 
 -- ---- before anything was done
@@ -40,6 +42,7 @@ pub record Fresh (now p : ℕ) (held taken sent : List ℕ) (s : Turning) : Type
   pub steady : standing_of p s ≡ Steady
   pub is : taken ++ queue_of p s ≡ held ++ sent
   pub empty : is_up p s ≡ false → queue_of p s ≡ []
+  pub untold : tells is_queue_full (p + 1) s.noted.closed ≡ false
 
 pub begun-fresh : (now p : ℕ) (h : Held) → p < 8 → IsTidy h → h.device.moment ≤ now
     → Fresh now p (queue_at p h) [] [] (begun h)
@@ -49,6 +52,7 @@ begun-fresh now p h low tidy before = record {
   steady = all-steady p;
   is = sym (append-nil (queue_at p h));
   empty = tidy.empty p low;
+  untold = refl;
 }
 
 may-begin : (u : Bool) (q : List ℕ) → (u ≡ false → q ≡ []) → MayLose Steady u q []
@@ -69,6 +73,7 @@ fresh-carried now p held taken sent d s f before up =
     record {
       sound = record { queues = f.sound.queues; standings = f.sound.standings; moment = before };
       carries = Carries-as taken held sent _ _ _ _ _ _ start f.steady refl refl;
+      full = λ t. absurd (let g : true ≡ false = sym t ∙ f.untold in cc);
     }
 
 -- ---- an association that the device leaves
@@ -113,6 +118,7 @@ left-carried now p held taken sent why d s h w before up down =
         moment = before;
       };
       carries = Carries-as taken held sent _ _ _ _ _ _ leaving marked down refl;
+      full = λ t. c.full (sym (why-not_full p p why s.noted) ∙ t);
     }
 
 left_by-far : (now p i : ℕ) (held taken sent : List ℕ) (closed : Option (ℕ × Why)) (s : Turning)
@@ -122,7 +128,8 @@ left_by-far now p i held taken sent None s n c = c
 left_by-far now p i held taken sent (Some closed) s n c =
     let m : Noted = told_why i closed.1 s.noted in
     other-standing now p i held taken sent Leaving (with_noted m s) n
-    (noted-carried now p held taken sent m s (told_why-standings i closed.1 s.noted) c)
+    (noted-carried now p held taken sent m s (told_why-standings i closed.1 s.noted)
+    (why-not_full p i closed.1 s.noted) c)
 
 -- ---- an answer to octets
 
@@ -149,7 +156,7 @@ answer-carried now p i held taken sent (Ok step) s h r =
     Carried-sent now p held taken _ _ all both
     (append_assoc sent (end_to (p + 1) step.ended) (all_to (p + 1) step.sent)) in
     noted-carried now p held taken _
-    (record all.noted { commands = all.noted.commands ++ step.commands }) all refl whole
+    (record all.noted { commands = all.noted.commands ++ step.commands }) all refl refl whole
 
 ready-far : (now p i : ℕ) (held taken sent : List ℕ) (answer : Result Step StepFault) (s : Turning)
     → i ≢ p → Carried now p held taken sent s
@@ -352,7 +359,7 @@ module _ (now p : ℕ) (held : List ℕ) (h : p < 8) (past : now ≤ last_moment
       let calls = Reads (i + 1) 4096 Broken ∷ Closes (i + 1) ∷ [] in
       then-moves now p held h past s t calls (closing_of i)
       (calm-moves now p held h past s t calls (closing_of i ∷ [])
-      (cut-moves now p held h past i closing.LinkFailed s calls refl))
+      (cut-moves now p held h past i closing.LinkFailed s calls (λ e. absurd (cc)) refl))
 
   read_if : (b : Bool) (i : ℕ) (r : Reading) (s : Turning) → is_up i s ≡ b
       → Moves (Well now p held) (Well now p held) now p s

@@ -1,5 +1,5 @@
 -- What each part of a turn puts into queues is within their room; and a server as it is made.
-use Rattle.std.proofs.Common.{◌≡◌, ℕ, zero, suc, ◌+◌, ◌-◌, ◌<◌, ◌≤◌, All, Bool, true, false, cond, List, [], ◌∷◌, ◌++◌, drop, get_or, leb, length, replicate, Option, Some, None, Result, Ok, Err, refl, subst, sym, arith, ◌⊎◌, inl, inr}
+use Rattle.std.proofs.Common.{◌≡◌, ℕ, zero, suc, ◌+◌, ◌<◌, ◌≤◌, All, Bool, true, false, cond, List, [], ◌∷◌, ◌++◌, drop, get_or, leb, length, replicate, Option, Some, None, Result, Ok, Err, refl, subst, sym, arith, ◌⊎◌, inl, inr}
 use Rattle.std.proofs.lemmas.Bool.{leb-true}
 use Rattle.std.proofs.lemmas.List.{get_or-replicate, length-append, length-drop}
 use Rattle.std.proofs.lemmas.Bool.Decides.{leb_tells}

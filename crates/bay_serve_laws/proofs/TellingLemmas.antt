@@ -8,20 +8,20 @@ use Rattle.bay_device.specs.declared.event.Why.{Why}
 use Rattle.bay_device.specs.declared.event.Why.TheVariants.{Ended, Fault, Memory}
 use Rattle.bay_trace.specs.Trace.{NamedData}
 use Rattle.bay_serve.specs.Standings.{filled, is_full, is_leaving, is_told}
-use Rattle.bay_serve.specs.Turns.{Held, Noted, Script, first_full, leaves, nothing_noted, standing_in, stands, turned}
+use Rattle.bay_serve.specs.Turns.{Held, Noted, Script, first_full, goes, leaves, nothing_noted, standing_in, stands, turned}
 use Rattle.bay_serve.specs.declared.standing.Standing.{Standing}
 use Rattle.bay_serve.specs.declared.standing.Standing.TheVariants.{Steady, Full, Leaving, LeavingFull, Gone}
 use Rattle.bay_serve.specs.declared.told.Closing.{Closing}
 use Rattle.bay_serve.specs.declared.told.Closing.TheVariants as closing
 use Rattle.bay_serve_laws.specs.Telling.{and_if, closings_of, times_in, times_told}
-use Rattle.bay_serve_laws.proofs.KeepLemmas.{IsNoted, keep_turn}
+use Rattle.bay_serve_laws.proofs.KeepLemmas.{Each, IsNoted, keep_turn}
 
 -- ---- counting
 
-same_number : (p : ℕ) → (p + 1 == p + 1) ≡ true
+pub same_number : (p : ℕ) → (p + 1 == p + 1) ≡ true
 same_number p = grind (arith, nat_tests)
 
-other_number : (q p : ℕ) → q ≢ p → (q + 1 == p + 1) ≡ false
+pub other_number : (q p : ℕ) → q ≢ p → (q + 1 == p + 1) ≡ false
 other_number q p ne = grind (arith, nat_tests)
 
 and_more : (b : Bool) (x y n : ℕ) → x ≡ y + n → and_if b x ≡ and_if b y + n
@@ -42,7 +42,7 @@ times_more a (x ∷ xs) ys =
 
 -- ---- how an association stands
 
-filled_told : (x : Standing) → is_told (filled x) ≡ is_told x
+pub filled_told : (x : Standing) → is_told (filled x) ≡ is_told x
 filled_told Steady = refl
 filled_told Full = refl
 filled_told Leaving = refl
@@ -204,19 +204,24 @@ leaves_once place (Fault code) n low o =
 leaves_once place Memory n low o =
     memory_if (is_told (standing_in place n)) place Leaving n low refl refl o
 
+goes_once : (place : ℕ) (why : Closing) (n : Noted) → place < 8 → AreOnce n
+    → AreOnce (goes place why n)
+goes_once place why n low o =
+    closing_if (is_told (standing_in place n)) place Gone why n low refl refl o
+
 -- ---- a turn
 
 first_low : (n : Noted) (place : ℕ) → AreOnce n → first_full n ≡ Some place → place < 8
 first_low n place o e =
     subst (λ (k : ℕ). place < k) o.sized (position-Some is_full n.standings place Steady e).0
 
-once_kept : IsNoted AreOnce
+once_kept : IsNoted Each AreOnce
 once_kept = record {
   fills = λ place n o. stand_once place (filled (standing_in place n)) n
       (λ e. sym (filled_told (standing_in place n)) ∙ e) o;
-  leaving = leaves_once;
-  going = λ place why n low o.
-      closing_if (is_told (standing_in place n)) place Gone why n low refl refl o;
+  leaving = λ place why n low may o. leaves_once place why n low o;
+  going = λ place why n low may o. goes_once place why n low o;
+  overflows = λ place n low o. goes_once place closing.QueueFull n low o;
   found = first_low;
   parts = λ place n is o. stand_once place Gone n (told_if Gone refl _) o;
   orders = λ commands n o. record {
@@ -238,4 +243,5 @@ pub told_once : (now : ℕ) (line : Option NamedData) (script : Script) (h : Hel
     → times_told (place + 1) (turned now line script h).noted.closed
     (turned now line script h).noted.memory ≤ 1
 told_once now line script h place reads offers =
-    ((keep_turn AreOnce once_kept now line script h reads offers nothing_once).once place).few
+    ((keep_turn Each AreOnce once_kept now (λ q. tt) line script h reads offers nothing_once).once
+    place).few

@@ -9,7 +9,7 @@ use Rattle.bay_serve.specs.declared.standing.Standing.{Standing}
 use Rattle.bay_serve.specs.declared.standing.Standing.TheVariants.{Steady, Full, Leaving, LeavingFull, Gone}
 use Rattle.bay_serve_laws.specs.Events.{ChosenEvent, done_at, events_of_each, offer_events, read_events, turn_events}
 use Rattle.bay_serve_laws.specs.Flows.{IsInTime, IsOfProcess, IsTidy, LosesNothing, sent_to, taken_of}
-use Rattle.bay_serve_laws.proofs.CarryLemmas.{MayLose}
+use Rattle.bay_serve_laws.proofs.CarryLemmas.{MayLose, longer-behind}
 use Rattle.bay_serve_laws.proofs.CutLemmas.{Well}
 use Rattle.bay_serve_laws.proofs.MoveLemmas.{Moves, Moves-none, Moves-trans}
 use Rattle.bay_serve_laws.proofs.OfferFlows.{each-left, offer-moves}
@@ -101,6 +101,8 @@ loses-nothing now line script h tidy time told offers =
             kept = kept_at (standing_of p t) (is_up p t) (queue_of p t) f.lost f.may (w.calm p)
                 (left p low);
           };
+      full = λ p low told. longer-behind 262144 (queue_of p t) (well p low).carried.carries.lost
+          ((well p low).carried.full told);
       tidy = record {
         sized = (well 0 (omega arith)).carried.sound.queues;
         empty = λ p low down.

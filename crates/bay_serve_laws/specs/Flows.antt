@@ -1,5 +1,5 @@
 -- The octets of one association through a turn.
-use Rattle.std.specs.Prelude.{◌≡◌, ℕ, ◌+◌, ◌<◌, ◌≤◌, ◌==◌, Bool, false, if◌then◌else◌, List, [], ◌∷◌, ◌++◌, length, take, Option, Some, None, IfSome, Result, Ok, Err, ◌⊎◌}
+use Rattle.std.specs.Prelude.{◌≡◌, ℕ, ◌+◌, ◌<◌, ◌≤◌, ◌==◌, Bool, true, false, if◌then◌else◌, List, [], ◌∷◌, ◌++◌, length, take, Option, Some, None, IfSome, Result, Ok, Err, ◌⊎◌}
 use Rattle.bay_device.specs.Outcomes.{last_moment}
 use Rattle.bay_device.specs.declared.event.Sent.{Sent}
 use Rattle.bay_device.specs.declared.event.Step.{Step}
@@ -7,6 +7,7 @@ use Rattle.bay_device.specs.declared.fault.StepFault.{StepFault}
 use Rattle.bay_trace.specs.Trace.{NamedData, process_event}
 use Rattle.bay_serve.specs.Calls.{Call, Accepts, Reads, Writes, Closes}
 use Rattle.bay_serve.specs.Turns.{Held, Script, is_up_in, queue_at, turn_calls, turned}
+use Rattle.bay_serve_laws.specs.Causes.{is_queue_full, tells}
 use Rattle.bay_serve_laws.specs.Events.{done_at, turn_events}
 
 -- ---- what the link takes
@@ -80,8 +81,12 @@ FlowsAt now line script h place =
     (queue_at place (turned now line script h).server)
     (is_up_in place (turned now line script h).server)
 
--- So it is for each association, and the server is tidy again.
+-- So it is for each association, and the server is tidy again; where it is told that a queue was
+-- full, the link left more of its octets than there is room for.
 pub record LosesNothing (now : ℕ) (line : Option NamedData) (script : Script) (h : Held)
     : Type 0 where
   pub flows : (place : ℕ) → place < 8 → FlowsAt now line script h place
+  pub full : (place : ℕ) (low : place < 8)
+      → tells is_queue_full (place + 1) (turned now line script h).noted.closed ≡ true
+      → 262144 < length (flows place low).rest
   pub tidy : IsTidy (turned now line script h).server

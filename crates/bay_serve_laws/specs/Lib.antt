@@ -6,6 +6,7 @@ pub use Rattle.bay_serve.specs.Served
 pub use Rattle.bay_serve.specs.Turns
 pub use Rattle.bay_trace.specs.Trace
 -- Its own definitions.
+pub mod Causes
 pub mod Events
 pub mod Faults
 pub mod Flows

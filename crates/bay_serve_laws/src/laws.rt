@@ -6,6 +6,7 @@ ghost use Rattle.bay_serve.specs.Calls.{Called};
 ghost use Rattle.bay_serve.specs.Served.{Serves, line_in};
 ghost use Rattle.bay_serve.specs.Turns.{Held, Script, turned};
 ghost use Rattle.bay_serve.specs.declared.told.Turn.{Turn};
+ghost use Rattle.bay_serve_laws.specs.Causes.{HasItsCause};
 ghost use Rattle.bay_serve_laws.specs.Events.{HasNoOctets, IsItsEvents};
 ghost use Rattle.bay_serve_laws.specs.Faults.{tells_failure};
 ghost use Rattle.bay_serve_laws.specs.Flows.{IsInTime, IsOfProcess, IsTidy, LosesNothing};
@@ -42,6 +43,17 @@ pub fn what_the_device_closes_is_told()
         → length script.offers ≡ 8 → TellsClosings now line script h }
 {}
 
+/// Why an association was closed in a turn, read off the calls on its link and the device's
+/// answers: that its link failed is told exactly where a read or a write of it failed, and neither
+/// its client nor the device had closed it; that it ended is told where a read brought the end of
+/// its client; and that its queue was full is told only where nothing else closed it.
+pub fn each_closing_has_its_cause()
+    ensures { (now : ℕ) (line : Option NamedData) (script : Script) (h : Held) → IsTidy h
+        → IsInTime now h → IsOfProcess line → length script.readings ≡ 8
+        → length script.offers ≡ 8 → (place : ℕ) → place < 8
+        → HasItsCause now line script h (place + 1) }
+{}
+
 /// The device after a turn is the device that the turn's events make of the device before, each at
 /// the turn's moment; and the commands that the turn tells are those of their answers, in their
 /// order. The events are: one association is opened at most; of each association its octets come,
@@ -56,7 +68,8 @@ pub fn a_turn_is_its_events()
 
 /// What the link takes of an association in a turn, and then what its queue holds, is what the
 /// queue held and then what the device sent to it in the turn; of an association that is closed
-/// after the turn the link took a front of that, and its queue is empty.
+/// after the turn the link took a front of that, and its queue is empty. Where it is told that a
+/// queue was full, more than 262,144 octets were left.
 pub fn octets_are_neither_lost_nor_repeated()
     ensures octets { (now : ℕ) (line : Option NamedData) (script : Script) (h : Held) → IsTidy h
         → IsInTime now h → IsOfProcess line →
