@@ -13,11 +13,12 @@ ENUMS = {
     'OrCat': {0: 'not-supported', 1: 'bay-control', 2: 'station-control', 3: 'remote-control',
               4: 'automatic-bay', 5: 'automatic-station', 6: 'automatic-remote', 7: 'maintenance',
               8: 'process'}}
+CONSTRAINTS = ('MX', 'ST', 'CO', 'CF', 'DC')  # in the order of MMS (IEC 61850-8-1)
 # What MMS has for a basic type (IEC 61850-8-1, clause 8).
 MMS_TYPES = {
     'BOOLEAN': 'boolean', 'INT32': 'integer 32', 'INT8U': 'unsigned 8', 'INT32U': 'unsigned 32',
     'Enum': 'integer 8', 'Dbpos': 'bit-string 2', 'Check': 'bit-string 2',
-    'Quality': 'bit-string -13', 'Timestamp': 'utc-time', 'Octet64': 'octet-string -64',
+    'Quality': 'bit-string 13', 'Timestamp': 'utc-time', 'Octet64': 'octet-string -64',
     'VisString129': 'visible-string -129', 'VisString255': 'visible-string -255',
     'ObjRef': 'visible-string -129'}
 LACKING = """\
@@ -261,7 +262,7 @@ class Reader:
         for found in self.children(self.template('LNodeType', kind), 'DO'):
             for constraint, part in self.object(found.get('type')).items():
                 shape.setdefault(constraint, {})[found.get('name')] = part
-        return shape
+        return {constraint: shape[constraint] for constraint in CONSTRAINTS if constraint in shape}
 
     def object(self, kind):
         """The attributes of a data object, by their functional constraints."""
