@@ -1,13 +1,12 @@
 -- What stands before a PDU of MMS in its TSDU.
-use Rattle.std.proofs.Common.{◌≡◌, ℕ, suc, pos, ◌+◌, ◌*◌, ◌/◌, ◌%◌, ◌<◌, ◌≤◌, ◌^◌, false, cond, List, [], ◌∷◌, ◌++◌, length, refl, sym, ap, ◌∙◌, arith, inl, inr}
-use Rattle.std.specs.Int.{byte_at, bytes_high_first}
+use Rattle.std.proofs.Common.{◌≡◌, ℕ, pos, ◌+◌, ◌*◌, ◌/◌, ◌%◌, ◌<◌, ◌≤◌, ◌^◌, false, cond, List, [], ◌∷◌, ◌++◌, length, refl, sym, ap, ◌∙◌, arith, inl, inr}
 use Rattle.std.proofs.lemmas.Bool.{cases_lt, lt-ltb, le-ltb, ne_eqb}
 use Rattle.std.proofs.lemmas.List.{append_assoc, length-append}
-use Rattle.std.proofs.Math.Nat.{div-eq_of_lt}
 use Rattle.bay_ber.specs.declared.tag.Tag.{Tag}
 use Rattle.bay_ber.specs.Spelling.{octet_of}
 use Rattle.bay_ber.specs.Writing.{length_octets, element, element_length, is_needless, without_needless, integer_octets}
 use Rattle.bay_ber.proofs.SizeLemmas.{length-element-is}
+use Rattle.bay_ber.proofs.SmallLemmas.{eight_bytes, id_one}
 use Rattle.bay_ber.proofs.WriteLemmas.{octets_needed-1, octets_needed-2, long_is}
 use Rattle.bay_mms.specs.Tags.{constructed, sequence, int_tag}
 use Rattle.bay_assoc.specs.Tags.{application}
@@ -31,29 +30,6 @@ length_three n some low =
     ∙ ap (λ (b : ℕ). 0x82 ∷ b ∷ n % 256 ∷ []) high
 
 -- ---- identifiers
-
-no_byte : (k n : ℕ) → n < 256 ^ suc k → byte_at (suc k) n ≡ 0
-no_byte k n few = rw (div-eq_of_lt few) refl
-
-eight_bytes : (n : ℕ) → n < 65536
-    → bytes_high_first 8 n ≡ 0 ∷ 0 ∷ 0 ∷ 0 ∷ 0 ∷ 0 ∷ n / 256 ∷ n % 256 ∷ []
-eight_bytes n few =
-    let high : byte_at 1 n ≡ n / 256 = omega arith in
-    rw (
-      no_byte 6 n (omega arith),
-      no_byte 5 n (omega arith),
-      no_byte 4 n (omega arith),
-      no_byte 3 n (omega arith),
-      no_byte 2 n (omega arith),
-      no_byte 1 n (omega arith),
-      high,
-    ) refl
-
-pub id_one : (n : ℕ) → n < 128 → integer_octets (pos n) ≡ n ∷ []
-id_one n few =
-    let high : n / 256 ≡ 0 = omega arith in
-    let low : n % 256 ≡ n = omega arith in
-    ap without_needless (eight_bytes n (omega arith)) ∙ rw (high, low, lt-ltb n 128 few) refl
 
 not_needless : (high low : ℕ) → high < 128 → 128 ≤ high * 256 + low → is_needless high low ≡ false
 not_needless high low few some =

@@ -6,6 +6,7 @@ pub mod LastLemmas
 pub mod ModeLemmas
 pub mod RefusalLemmas
 pub mod SpduLemmas
+pub mod TextLemmas
 pub mod UnitLemmas
 pub mod ValueBackLemmas
 pub mod ValueLemmas

@@ -1,10 +1,10 @@
 // The canonical texts of each layer.
-ghost use Rattle.std.specs.Prelude.{◌≡◌, ◌+◌, ◌*◌, ◌^◌, ◌<◌, ◌≤◌, ◌∷◌, [], ◌++◌, length, option_map, pos, Some, OnOk, IfOk};
+ghost use Rattle.std.specs.Prelude.{◌≡◌, ◌+◌, ◌<◌, ◌≤◌, ◌++◌, length, option_map, OnOk, IfOk};
 ghost use Rattle.std.specs.Option.{ForSome};
+ghost use Rattle.bay_ber.specs.Sheets.{put};
 ghost use Rattle.bay_ber.specs.Writing.{element};
 ghost use Rattle.bay_mms.specs.Tags.{constructed};
-ghost use Rattle.bay_assoc.specs.Presentation.{user_in};
-ghost use Rattle.bay_assoc.specs.Tags.{external_tag};
+ghost use Rattle.bay_assoc.specs.Tags.{oid_tag, external_tag, mms_application};
 ghost use Rattle.bay_assoc.specs.Texts.{size_text, unit_text, accept_text, disconnect_text, transfer_text, carried_text, user_text, result_text, results_text, selector_text, connected_text, associated_text, release_text};
 
 use crate::hearing::Accepted;
@@ -74,109 +74,107 @@ fn disconnect(alloc: Global, user: &[u8]) -> Result<Vec<u8>, AllocError>
 }
 
 // Writes a value in a context.
-fn put_carried(writer: &mut Writer, tag: Tag, id: u16, value: &[u8]) -> Result<(), AllocError>
-    requires low { tag.number < 31 }
-    requires short { length value.now < 2 ^ 31 }
-    ensures text { OnOk result (writer.new ≡ writer.old ++ carried_text tag id value.now) }
-    ensures few { OnOk result (length writer.new ≤ length writer.old + length value.now + 26) }
+#[tactic(auto, using(bay_ber::proofs::SheetLemmas::sheet_rules))]
+fn put_carried(writer: &mut Writer, tag: Tag, id: u16, value: &[u8])
+    requires { tag.number < 31 }
+    ensures { writer.new ≡ put writer.old (carried_text tag id value.now) }
 {
-    let start = writer.len();
-    writer.int(Tag::universal(2), i64::from(id))?;
-    writer.octets(Tag::context_constructed(0), value)?;
-    writer.nest_from(start, tag)?;
-    Ok(())
+    let start = writer.open(tag);
+    writer.int(Tag::universal(2), i64::from(id));
+    writer.octets(Tag::context_constructed(0), value);
+    writer.close(start);
 }
 
 // Writes fully encoded user data.
-fn put_user(writer: &mut Writer, id: u16, value: &[u8]) -> Result<(), AllocError>
-    requires { length value.now < 2 ^ 31 }
-    ensures text { OnOk result (writer.new ≡ writer.old ++ user_text id value.now) }
-    ensures few { OnOk result (length writer.new ≤ length writer.old + length value.now + 32) }
+#[tactic(auto, using(bay_ber::proofs::SheetLemmas::sheet_rules))]
+fn put_user(writer: &mut Writer, id: u16, value: &[u8])
+    ensures { writer.new ≡ put writer.old (user_text id value.now) }
 {
-    let start = writer.len();
-    put_carried(writer, Tag::sequence(), id, value)?;
-    writer.nest_from(start, Tag::application_constructed(1))?;
-    Ok(())
+    let start = writer.open(Tag::application_constructed(1));
+    put_carried(writer, Tag::sequence(), id, value);
+    writer.close(start);
 }
 
 // What comes of a context.
-fn put_result(writer: &mut Writer, accepted: Accepted, context: &Context) -> Result<(), AllocError>
-    ensures text { OnOk result (writer.new ≡ writer.old ++ result_text accepted context.now) }
-    ensures few { OnOk result (length writer.new ≤ length writer.old + 13) }
+fn put_result(writer: &mut Writer, accepted: Accepted, context: &Context)
+    ensures { writer.new ≡ put writer.old (result_text accepted context.now) }
 {
     if context.id == accepted.acse || context.id == accepted.mms {
-        writer.octets(Tag::sequence(), &[0x80, 0x01, 0x00, 0x81, 0x02, 0x51, 0x01])
+        writer.octets(Tag::sequence(), &[0x80, 0x01, 0x00, 0x81, 0x02, 0x51, 0x01]);
     } else {
-        writer.octets(Tag::sequence(), &[0x80, 0x01, 0x02])
+        writer.octets(Tag::sequence(), &[0x80, 0x01, 0x02]);
     }
 }
 
 // What comes of each context.
-fn put_each(writer: &mut Writer, accepted: Accepted, contexts: &[Context]) -> Result<(), AllocError>
-    ensures text { OnOk result (writer.new ≡ writer.old ++ results_text accepted contexts.now) }
-    ensures few { OnOk result (length writer.new ≤ length writer.old + 13 * length contexts.now) }
+fn put_each(writer: &mut Writer, accepted: Accepted, contexts: &[Context])
+    ensures { writer.new ≡ put writer.old (results_text accepted contexts.now) }
 {
     for context in contexts {
-        put_result(writer, accepted, context)?;
+        put_result(writer, accepted, context);
     }
-    Ok(())
 }
 
 // Writes the list of the results, one for each context that was offered.
-fn put_results(
-    writer: &mut Writer,
-    accepted: Accepted,
-    contexts: &[Context],
-) -> Result<(), AllocError>
-    requires { length contexts.now ≤ 16 }
-    ensures text { OnOk result
-        (writer.new ≡ writer.old ++ element (constructed 5) (results_text accepted contexts.now)) }
-    ensures few { OnOk result (length writer.new ≤ length writer.old + 214) }
+#[tactic(auto, using(bay_ber::proofs::SheetLemmas::sheet_rules))]
+fn put_results(writer: &mut Writer, accepted: Accepted, contexts: &[Context])
+    ensures { writer.new ≡ put writer.old
+        (element (constructed 5) (results_text accepted contexts.now)) }
 {
-    let start = writer.len();
-    put_each(writer, accepted, contexts)?;
-    writer.nest_from(start, Tag::context_constructed(5))?;
-    Ok(())
+    let start = writer.open(Tag::context_constructed(5));
+    put_each(writer, accepted, contexts);
+    writer.close(start);
 }
 
 // Writes the selector of the one called, where it came.
-fn put_selector(writer: &mut Writer, called: Option<&[u8]>) -> Result<(), AllocError>
-    requires { ForSome called (λ octets. length octets.now ≤ 16) }
-    ensures text { OnOk result
-        (writer.new
-        ≡ writer.old ++ selector_text (option_map (λ octets. octets.now) called.entry)) }
-    ensures few { OnOk result (length writer.new ≤ length writer.old + 22) }
+#[tactic(auto, using(bay_ber::proofs::SheetLemmas::put_nil))]
+fn put_selector(writer: &mut Writer, called: Option<&[u8]>)
+    ensures { writer.new ≡ put writer.old
+        (selector_text (option_map (λ octets. octets.now) called.entry)) }
 {
     if let Some(octets) = called {
-        writer.octets(Tag::context(3), octets)?;
+        writer.octets(Tag::context(3), octets);
     }
-    Ok(())
 }
 
 // Writes the parameters of the normal mode, with a value of ACSE.
+#[tactic(auto, using(bay_ber::proofs::SheetLemmas::sheet_rules))]
 fn put_normal(
     writer: &mut Writer,
     called: Option<&[u8]>,
     contexts: &[Context],
     accepted: Accepted,
     value: &[u8],
-) -> Result<(), AllocError>
-    requires selector { ForSome called (λ octets. length octets.now ≤ 16) }
-    requires contexts { length contexts.now ≤ 16 }
-    requires short { length value.now < 10_000 }
-    ensures text { OnOk result
-        (writer.new ≡ writer.old
-        ++ element (constructed 2) (selector_text (option_map (λ octets. octets.now) called.entry)
+)
+    ensures { writer.new ≡ put writer.old
+        (element (constructed 2) (selector_text (option_map (λ octets. octets.now) called.entry)
         ++ (element (constructed 5) (results_text accepted contexts.now)
         ++ user_text accepted.acse value.now))) }
-    ensures few { OnOk result (length writer.new ≤ length writer.old + length value.now + 274) }
 {
-    let start = writer.len();
-    put_selector(writer, called)?;
-    put_results(writer, accepted, contexts)?;
-    put_user(writer, accepted.acse, value)?;
-    writer.nest_from(start, Tag::context_constructed(2))?;
-    Ok(())
+    let start = writer.open(Tag::context_constructed(2));
+    put_selector(writer, called);
+    put_results(writer, accepted, contexts);
+    put_user(writer, accepted.acse, value);
+    writer.close(start);
+}
+
+// Writes the answer to a request for a connection.
+#[tactic(auto, using(bay_ber::proofs::SheetLemmas::sheet_rules))]
+fn put_connected(
+    writer: &mut Writer,
+    called: Option<&[u8]>,
+    contexts: &[Context],
+    accepted: Accepted,
+    value: &[u8],
+)
+    ensures { writer.new ≡ put writer.old
+        (connected_text (option_map (λ octets. octets.now) called.entry) contexts.now accepted
+        value.now) }
+{
+    let start = writer.open(Tag::universal_constructed(17));
+    writer.octets(Tag::context_constructed(0), &[0x80, 0x01, 0x01]);
+    put_normal(writer, called, contexts, accepted, value);
+    writer.close(start);
 }
 
 /// The answer to a request for a connection (CPA), with a value of ACSE.
@@ -189,62 +187,85 @@ pub(crate) fn connected(
 ) -> Result<Vec<u8>, AllocError>
     requires selector { ForSome called (λ octets. length octets.now ≤ 16) }
     requires contexts { length contexts.now ≤ 16 }
-    requires short { length value.now < 10_000 }
+    requires short { length value.now ≤ 271 }
     ensures text { IfOk result
         (λ octets. octets.items
         ≡ connected_text (option_map (λ octets. octets.now) called.entry) contexts.now accepted
         value.now) }
-    ensures few { IfOk result (λ octets. length octets.items ≤ length value.now + 289) }
+    ensures few { IfOk result (λ octets. length octets.items ≤ 560) }
 {
-    let mut writer = Writer::new(alloc);
-    writer.octets(Tag::context_constructed(0), &[0x80, 0x01, 0x01])?;
-    put_normal(&mut writer, called, contexts, accepted, value)?;
-    writer.nest_from(0, Tag::universal_constructed(17))?;
-    Ok(writer.finish())
+    let mut writer = Writer::new(alloc, 560)?;
+    put_connected(&mut writer, called, contexts, accepted, value);
+    Ok(writer.finish_held())
+}
+
+// The object identifier of the application context of MMS.
+#[tactic(auto, unfolding(bay_ber::specs::Writing::element, bay_ber::specs::Writing::length_octets))]
+fn application_context() -> &'static [u8]
+    ensures { result.now ≡ element oid_tag mms_application }
+{
+    &[0x06, 0x05, 0x28, 0xCA, 0x22, 0x02, 0x03]
 }
 
 // Writes the user information, which is one external.
-fn put_information(writer: &mut Writer, mms: u16, pdu: &[u8]) -> Result<(), AllocError>
-    requires { length pdu.now < 10_000 }
-    ensures text { OnOk result
-        (writer.new ≡ writer.old
-        ++ element (constructed 30) (carried_text external_tag mms pdu.now)) }
-    ensures few { OnOk result (length writer.new ≤ length writer.old + length pdu.now + 32) }
+#[tactic(auto, using(bay_ber::proofs::SheetLemmas::sheet_rules))]
+fn put_information(writer: &mut Writer, mms: u16, pdu: &[u8])
+    ensures { writer.new ≡ put writer.old
+        (element (constructed 30) (carried_text external_tag mms pdu.now)) }
 {
-    let start = writer.len();
-    put_carried(writer, Tag::universal_constructed(8), mms, pdu)?;
-    writer.nest_from(start, Tag::context_constructed(30))?;
-    Ok(())
+    let start = writer.open(Tag::context_constructed(30));
+    put_carried(writer, Tag::universal_constructed(8), mms, pdu);
+    writer.close(start);
+}
+
+// Writes the answer to a request for an association.
+#[tactic(auto, using(bay_ber::proofs::SheetLemmas::sheet_rules))]
+fn put_associated(writer: &mut Writer, mms: u16, pdu: &[u8])
+    ensures { writer.new ≡ put writer.old (associated_text mms pdu.now) }
+{
+    let start = writer.open(Tag::application_constructed(1));
+    writer.octets(Tag::context_constructed(1), application_context());
+    writer.octets(Tag::context_constructed(2), &[0x02, 0x01, 0x00]);
+    writer.octets(Tag::context_constructed(3), &[0xA1, 0x03, 0x02, 0x01, 0x00]);
+    put_information(writer, mms, pdu);
+    writer.close(start);
 }
 
 /// The answer to a request for an association (AARE), with a PDU of MMS.
-#[tactic(auto, unfolding(bay_ber::specs::Writing::element, bay_ber::specs::Writing::length_octets))]
 pub(crate) fn associated(alloc: Global, mms: u16, pdu: &[u8]) -> Result<Vec<u8>, AllocError>
-    requires { length pdu.now < 10_000 }
+    requires { length pdu.now ≤ 200 }
     ensures text { IfOk result (λ octets. octets.items ≡ associated_text mms pdu.now) }
-    ensures few { IfOk result (λ octets. length octets.items ≤ length pdu.now + 71) }
+    ensures few { IfOk result (λ octets. length octets.items ≤ 271) }
 {
-    let mut writer = Writer::new(alloc);
-    writer.octets(
-        Tag::context_constructed(1),
-        &[0x06, 0x05, 0x28, 0xCA, 0x22, 0x02, 0x03],
-    )?;
-    writer.octets(Tag::context_constructed(2), &[0x02, 0x01, 0x00])?;
-    writer.octets(Tag::context_constructed(3), &[0xA1, 0x03, 0x02, 0x01, 0x00])?;
-    put_information(&mut writer, mms, pdu)?;
-    writer.nest_from(0, Tag::application_constructed(1))?;
-    Ok(writer.finish())
+    let mut writer = Writer::new(alloc, 271)?;
+    put_associated(&mut writer, mms, pdu);
+    Ok(writer.finish_held())
+}
+
+// The RLRE.
+#[tactic(auto, unfolding(bay_ber::specs::Writing::element, bay_ber::specs::Writing::length_octets))]
+fn release() -> &'static [u8]
+    ensures { result.now ≡ release_text }
+{
+    &[0x63, 0x03, 0x80, 0x01, 0x00]
+}
+
+// The RLRE in the context of ACSE, as user data.
+fn release_user(alloc: Global, acse: u16) -> Result<Vec<u8>, AllocError>
+    ensures text { IfOk result (λ octets. octets.items ≡ user_text acse release_text) }
+    ensures few { IfOk result (λ octets. length octets.items ≤ 41) }
+{
+    let mut writer = Writer::new(alloc, 41)?;
+    put_user(&mut writer, acse, release());
+    Ok(writer.finish_held())
 }
 
 /// The DISCONNECT that answers a request for a release, with its RLRE.
-#[tactic(auto, unfolding(bay_ber::specs::Writing::element, bay_ber::specs::Writing::length_octets))]
 pub(crate) fn released(alloc: Global, acse: u16) -> Result<Vec<u8>, AllocError>
     ensures text { IfOk result
         (λ octets. octets.items ≡ disconnect_text (user_text acse release_text)) }
     ensures few { IfOk result (λ octets. length octets.items ≤ 100) }
 {
-    let mut writer = Writer::new(alloc);
-    put_user(&mut writer, acse, &[0x63, 0x03, 0x80, 0x01, 0x00])?;
-    let user = writer.finish();
+    let user = release_user(alloc, acse)?;
     disconnect(alloc, user.as_slice())
 }

@@ -4,8 +4,11 @@ pub mod KnownLemmas
 pub mod ListingLemmas
 pub mod OctetLemmas
 pub mod ReadLemmas
+pub mod SheetLemmas
 pub mod ShortestLemmas
 pub mod SizeLemmas
+pub mod SmallLemmas
 pub mod TagLemmas
 pub mod ValueLemmas
 pub mod WriteLemmas
+pub mod WriterLemmas

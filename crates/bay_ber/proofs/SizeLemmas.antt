@@ -1,5 +1,5 @@
 -- How long written values are.
-use Rattle.std.proofs.Common.{◌≡◌, ℕ, ◌+◌, ◌*◌, ◌^◌, ◌<◌, ◌≤◌, ℤ, List, ◌++◌, length, arith, inl, inr}
+use Rattle.std.proofs.Common.{◌≡◌, ℕ, ◌+◌, ◌*◌, ◌^◌, ◌<◌, ◌≤◌, ℤ, List, length, arith, inl, inr}
 use Rattle.std.specs.Int.{w64, to_be_bytes, cast_unsigned}
 use Rattle.std.proofs.lemmas.Bool.{cases_lt, lt-ltb, le-ltb}
 use Rattle.std.proofs.lemmas.List.{length-append}
@@ -21,7 +21,7 @@ few_needed n =
       ]
     ]
 
-length-length_octets : (n : ℕ) → length (length_octets n) ≤ 5
+pub length-length_octets : (n : ℕ) → length (length_octets n) ≤ 5
 length-length_octets n =
     elim (cases_lt n 128) [
       | inl small ↦ omega (arith, length-short n small)
@@ -38,31 +38,6 @@ length-element tag content =
       length-append (length_octets (length content)) content,
       length-length_octets (length content),
     )
-
--- a length has at most five octets
-pub length_few : (count : ℕ) (old new : List ℕ) → new ≡ old ++ length_octets count
-    → length new ≤ length old + 5
-length_few count old new is =
-    rw is (omega (arith, length-append old (length_octets count), length-length_octets count))
-
--- how much longer octets are behind which a value was written
-pub grows : (tag : Tag) (old new first middle last : List ℕ)
-    → new ≡ old ++ element tag (first ++ middle ++ last)
-    → length new ≤ length old + (length first + length middle + length last) + 6
-grows tag old new first middle last is =
-    let content = first ++ middle ++ last in
-    rw is (omega (
-      arith,
-      length-append old (element tag content),
-      length-element tag content,
-      length-append (first ++ middle) last,
-      length-append first middle,
-    ))
-
-pub grows_by : (tag : Tag) (old new content : List ℕ) → new ≡ old ++ element tag content
-    → length new ≤ length old + length content + 6
-grows_by tag old new content is =
-    rw is (omega (arith, length-append old (element tag content), length-element tag content))
 
 pub length-element-is : (tag : Tag) (content : List ℕ)
     → length (element tag content) ≡ element_length (length content)

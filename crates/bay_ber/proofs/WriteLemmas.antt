@@ -1,9 +1,9 @@
 -- What is written is spelled, and no spelling is shorter.
-use Rattle.std.proofs.Common.{◌≡◌, ℕ, suc, ◌+◌, ◌-◌, ◌*◌, ◌/◌, ◌%◌, ◌^◌, ◌<◌, ◌≤◌, ℤ, pos, negsuc, ◌-ℤ◌, FitsSigned, Bool, true, false, cond, eqb, ltb, List, [], ◌∷◌, ◌++◌, length, get_or, take, drop, fold, refl, sym, ap, ◌∙◌, arith, inl, inr}
+use Rattle.std.proofs.Common.{◌≡◌, ℕ, suc, ◌+◌, ◌-◌, ◌*◌, ◌/◌, ◌%◌, ◌^◌, ◌<◌, ◌≤◌, ℤ, pos, negsuc, ◌-ℤ◌, FitsSigned, Bool, true, false, cond, eqb, ltb, List, [], ◌∷◌, ◌++◌, length, get_or, take, fold, refl, sym, ap, ◌∙◌, arith, inl, inr}
 use Rattle.std.specs.Int.{w64, bytes_high_first, to_be_bytes, from_be_bytes, cast_unsigned}
 use Rattle.std.proofs.lemmas.Bool.{cases_lt, ltb-true, ltb-false, lt-ltb, le-ltb, eqb-true, eqb-false}
 use Rattle.std.proofs.lemmas.Int.{ints}
-use Rattle.std.proofs.lemmas.List.{length-append, length-take-le, length-drop, take_at, drop_at, take-append-le, drop-append-le}
+use Rattle.std.proofs.lemmas.List.{length-append, length-take-le}
 use Rattle.std.proofs.lemmas.Nat.{from_be_bytes-to_be_bytes_8, mul-add-lt}
 use Rattle.std.proofs.Math.Nat.{pow-suc}
 use Rattle.bay_ber.specs.declared.tag.Tag.{Tag}
@@ -11,7 +11,7 @@ use Rattle.bay_ber.specs.Octets.{number_of}
 use Rattle.bay_ber.specs.Spelling.{octet_of, IsLength, Spells}
 use Rattle.bay_ber.specs.Reading.{Begins}
 use Rattle.bay_ber.specs.Content.{signed_of, IsInteger, HasBits, IsBits, IsTruth}
-use Rattle.bay_ber.specs.Writing.{octets_needed, length_octets, header, element, truth_octets, is_needless, without_needless, integer_octets, cleared, bit_octets, bit_string_octets}
+use Rattle.bay_ber.specs.Writing.{octets_needed, length_octets, element, truth_octets, is_needless, without_needless, integer_octets, cleared, bit_octets, bit_string_octets}
 use Rattle.bay_ber.proofs.ContentLemmas.{signed_of-low, signed_of-high}
 use Rattle.bay_ber.proofs.ReadLemmas.{IsBytes, chosen}
 
@@ -230,28 +230,3 @@ bit_string_is octets count enough short = (
 )
 
 -- ---- nesting in place
-
--- a header behind the octets, moved in front of the last of them
-pub nested_in_place : (tag : Tag) (count start written : ℕ) (old middle new : List ℕ)
-    → start ≤ length old → written ≡ length old → count ≡ written - start
-    → middle ≡ old ++ header tag count
-    → new ≡ take start middle ++ (drop written middle ++ take (written - start) (drop start middle))
-    → new ≡ take start old ++ element tag (drop start old)
-unfolding header element
-nested_in_place tag count start written old middle new within size counted added moved =
-    let n : length (drop start old) ≡ count = length-drop start old ∙ omega arith in
-    let front : take start (old ++ header tag count) ≡ take start old =
-    take-append-le start old (header tag count) within in
-    let behind : drop written (old ++ header tag count) ≡ header tag count =
-    drop_at old (header tag count) written (sym size) in
-    let last : take (written - start) (drop start (old ++ header tag count)) ≡ drop start old =
-    ap (λ (ys : List ℕ). take (written - start) ys)
-    (drop-append-le start old (header tag count) within)
-    ∙ take_at (drop start old) (header tag count) (written - start) (omega arith) in
-    moved ∙ rw (added, front, behind, last, n) refl
-
--- a value is a head and the content behind it
-pub element-header : (tag : Tag) (content : List ℕ)
-    → element tag content ≡ header tag (length content) ++ content
-unfolding header element
-element-header tag content = refl

@@ -1,8 +1,8 @@
 pub mod Code
 pub mod Content
-pub mod Growth
 pub mod Octets
 pub mod Reading
+pub mod Sheets
 pub mod Spelling
 pub mod Tags
 pub mod Values

@@ -16,10 +16,6 @@ unfoldable pub length_octets : ℕ → List ℕ
 length_octets n =
     if nat_lt n 128 then n ∷ [] else (128 + octets_needed n) ∷ bytes_high_first (octets_needed n) n
 
--- a tag of one octet and the shortest length of a content of so many octets
-unfoldable pub header : Tag → ℕ → List ℕ
-header tag count = octet_of tag ∷ length_octets count
-
 -- a tag of one octet, the shortest length, and the content
 unfoldable pub element : Tag → List ℕ → List ℕ
 element tag content = octet_of tag ∷ (length_octets (length content) ++ content)

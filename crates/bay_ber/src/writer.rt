@@ -1,18 +1,22 @@
-// A writer of the canonical spelling.
-ghost use Rattle.std.specs.Prelude.{◌≡◌, ◌+◌, ◌-◌, ◌*◌, ◌^◌, ◌<◌, ◌≤◌, [], ◌∷◌, ◌++◌, length, take, drop, OnOk, OnErr};
-ghost use Rattle.bay_ber.specs.Growth.{Extends};
-ghost use Rattle.bay_ber.specs.Writing.{length_octets, header, truth_octets, integer_octets, bit_string_octets};
+// A writer of the canonical spelling into room that is taken once.
+ghost use Rattle.std.specs.Prelude.{◌≡◌, ◌+◌, ◌<◌, ◌≤◌, ◌++◌, ◌∷◌, [], length, take, drop, false, Some, is_none, vec_len, vec_capacity, pos, IfOk, IfSome};
+ghost use Rattle.std.specs.Option.{option_map};
+ghost use Rattle.bay_ber.specs.Spelling.{octet_of};
+ghost use Rattle.bay_ber.specs.Writing.{length_octets, element, truth_octets, integer_octets};
 ghost use Rattle.bay_ber.specs.Writing as spec;
+ghost use Rattle.bay_ber.specs.Sheets.{empty, put, closed, message, wrapped, IsEnd, IsOpen};
 
-use crate::content::Bits;
 use crate::tag::Tag;
 use std::alloc::{AllocError, Global};
 use std::marker::Model;
 
+/// How many octets there are for heads in front of the text.
+pub const HEADROOM: usize = 32;
+
 // How many octets a length needs behind the first.
 fn octets_needed(length: u32) -> usize
     ensures needed { result ≡ spec.octets_needed length }
-    ensures some { 0 < result }
+    ensures some { 1 ≤ result }
     ensures few { result ≤ 4 }
 {
     match length {
@@ -23,92 +27,72 @@ fn octets_needed(length: u32) -> usize
     }
 }
 
-// Appends the shortest spelling of a length.
+// Appends octets, for which there is room.
+fn extend(octets: &mut Vec<u8>, more: &[u8])
+    requires { length octets.old.items + length more.now ≤ vec_capacity octets.old }
+    ensures items { octets.new.items ≡ octets.old.items ++ more.now }
+    ensures capacity { vec_capacity octets.old ≤ vec_capacity octets.new }
+{
+    match octets.extend_from_slice(more) {
+        Ok(()) => {}
+        Err(_) => unreachable!(),
+    }
+}
+
+// Writes octets over those from a place on.
+fn overwrite(octets: &mut Vec<u8>, place: usize, more: &[u8])
+    requires { place + length more.now ≤ length octets.old.items }
+    ensures items { octets.new.items ≡ take place octets.old.items
+        ++ (more.now ++ drop (place + length more.now) octets.old.items) }
+    ensures capacity { vec_capacity octets.old ≤ vec_capacity octets.new }
+{
+    octets[place..place + more.len()].copy_from_slice(more);
+}
+
+// Puts octets, for which there is room, in front of those from a place on.
+fn insert(octets: &mut Vec<u8>, place: usize, more: &[u8])
+    requires place { place ≤ length octets.old.items }
+    requires room { length octets.old.items + length more.now ≤ vec_capacity octets.old }
+    ensures items { octets.new.items
+        ≡ take place octets.old.items ++ (more.now ++ drop place octets.old.items) }
+    ensures capacity { vec_capacity octets.old ≤ vec_capacity octets.new }
+{
+    let end = octets.len();
+    extend(octets, more);
+    octets.copy_within(place..end, place + more.len());
+    overwrite(octets, place, more);
+}
+
+// How many octets the shortest length takes more than one.
 #[tactic(auto, unfolding(crate::specs::Writing::length_octets))]
-fn append_length(out: &mut Vec<u8>, length: u32) -> Result<(), AllocError>
-    ensures ok { OnOk result (out.new.items ≡ out.old.items ++ length_octets length) }
-    ensures err { OnErr result (Extends out.old.items out.new.items) }
+fn octets_more(count: u32) -> usize
+    ensures more { result + 1 ≡ length (length_octets count) }
+    ensures few { result ≤ 4 }
 {
-    if length < 0x80 {
-        out.push(length as u8)?;
-        return Ok(());
+    match count {
+        0..=0x7F => 0,
+        _ => octets_needed(count),
     }
-    let needed = octets_needed(length);
-    out.push(0x80 + needed as u8)?;
-    out.extend_from_slice(&length.to_be_bytes()[4 - needed..])?;
-    Ok(())
 }
 
-// Appends a tag and the shortest spelling of a length. A refused call may leave some of its octets
-// at the end.
-#[tactic(auto, unfolding(crate::specs::Writing::header))]
-fn append_header(out: &mut Vec<u8>, tag: Tag, count: u32) -> Result<(), AllocError>
-    requires { tag.number < 31 }
-    ensures ok { OnOk result (out.new.items ≡ out.old.items ++ header tag count) }
-    ensures few { OnOk result (length out.new.items ≤ length out.old.items + 6) }
-    ensures err { OnErr result (Extends out.old.items out.new.items) }
+// Writes the shortest length, for which there is room, in the place of one octet.
+#[tactic(auto, unfolding(crate::specs::Writing::length_octets))]
+fn write_length(octets: &mut Vec<u8>, place: usize, size: u32)
+    requires place { place < length octets.old.items }
+    requires room { length octets.old.items + length (length_octets size)
+        ≤ vec_capacity octets.old + 1 }
+    ensures items { octets.new.items
+        ≡ take place octets.old.items
+        ++ (length_octets size ++ drop (place + 1) octets.old.items) }
+    ensures capacity { vec_capacity octets.old ≤ vec_capacity octets.new }
 {
-    out.push(tag.octet())?;
-    append_length(out, count)?;
-    Ok(())
-}
-
-// Moves the octets from the second place on, six at most, before those from the first.
-fn move_forward(octets: &mut Vec<u8>, start: usize, middle: usize)
-    requires start { start ≤ middle }
-    requires middle { middle ≤ length octets.old.items }
-    requires few { length octets.old.items ≤ middle + 6 }
-    ensures { octets.new.items
-        ≡ take start octets.old.items
-        ++ (drop middle octets.old.items ++ take (middle - start) (drop start octets.old.items)) }
-{
-    let count = octets.len() - middle;
-    let mut moved = [0; 6];
-    moved[..count].copy_from_slice(&octets[middle..]);
-    octets.copy_within(start..middle, start + count);
-    octets[start..start + count].copy_from_slice(&moved[..count]);
-}
-
-// Appends a value. A refused call may leave some of its octets at the end.
-#[tactic(auto, unfolding(crate::specs::Writing::element, crate::specs::Writing::header, crate::specs::Writing::length_octets))]
-fn append_value(out: &mut Vec<u8>, tag: Tag, content: &[u8]) -> Result<(), AllocError>
-    requires low { tag.number < 31 }
-    requires short { length content.now < 2 ^ 32 }
-    ensures ok { OnOk result (out.new.items ≡ out.old.items ++ spec.element tag content.now) }
-    ensures err { OnErr result (Extends out.old.items out.new.items) }
-{
-    out.reserve(6 + content.len())?;
-    if content.len() < 0x80 {
-        out.extend_from_slice(&[tag.octet(), content.len() as u8])?;
-    } else {
-        append_header(out, tag, content.len() as u32)?;
+    if size < 0x80 {
+        octets[place] = size as u8;
+        return;
     }
-    out.extend_from_slice(content)?;
-    Ok(())
-}
-
-// Appends a value whose content has three parts. A refused call may leave some of its octets at the
-// end.
-fn append(
-    out: &mut Vec<u8>,
-    tag: Tag,
-    first: &[u8],
-    middle: &[u8],
-    last: &[u8],
-) -> Result<(), AllocError>
-    requires low { tag.number < 31 }
-    requires short { length first.now + length middle.now + length last.now < 2 ^ 32 }
-    ensures ok { OnOk result
-        (out.new.items ≡ out.old.items ++ spec.element tag (first.now ++ middle.now ++ last.now)) }
-    ensures err { OnErr result (Extends out.old.items out.new.items) }
-{
-    out.reserve(6 + first.len() + middle.len() + last.len())?;
-    out.push(tag.octet())?;
-    append_length(out, (first.len() + middle.len() + last.len()) as u32)?;
-    out.extend_from_slice(first)?;
-    out.extend_from_slice(middle)?;
-    out.extend_from_slice(last)?;
-    Ok(())
+    let needed = octets_needed(size);
+    octets[place] = 0x80 + needed as u8;
+    insert(octets, place + 1, &size.to_be_bytes()[4 - needed..]);
 }
 
 // Whether the first of two octets says no more than the sign of the second.
@@ -137,6 +121,17 @@ fn without_needless(octets: &[u8]) -> &[u8]
     &octets[last..]
 }
 
+// The number, where it is 0 to 127.
+fn small_of(value: i64) -> Option<u8>
+    ensures { IfSome result (λ small. (value ≡ pos small) × (small < 128)) }
+{
+    if value >= 0 && value < 128 {
+        Some(value as u8)
+    } else {
+        None
+    }
+}
+
 /// How many octets the content of an integer has.
 pub fn integer_length(value: i64) -> usize
     ensures value { result ≡ length (integer_octets value) }
@@ -157,210 +152,246 @@ pub fn element_length(count: u32) -> u64
     u64::from(count) + header
 }
 
-/// A writer of values one after another, which contracts see as the octets written so far. Each
-/// value is written under a tag whose number is below 31, with the shortest length. Where memory is
-/// wanting nothing is appended.
+/// A writer of a text, which contracts see as a `Sheet`. Its room is taken once, when it is made. A
+/// text that is longer than the limit is not held, and the writer is over from then on.
 #[derive(Drop)]
 pub struct Writer {
+    // The room for heads, and the text behind it.
     octets: Vec<u8>,
+    // Where the heads begin.
+    first: usize,
+    limit: usize,
+    over: bool,
 }
 
 impl Model for Writer {
-    ghost use Rattle.std.specs.Prelude.{ℕ, List};
+    ghost use Rattle.std.specs.Prelude.{length, vec_capacity};
+    ghost use Rattle.bay_ber.specs.Sheets.{Sheet, IsSound, sheet_of};
 
-    ghost Value = { List ℕ };
+    ghost Value = { Sheet };
 
-    ghost view = { λ w. w.octets.items };
+    ghost view = { λ w. sheet_of w.limit w.first w.over w.octets.items };
+
+    ghost invariant = { λ w. IsSound (length w.octets.items) (vec_capacity w.octets) w.first w.limit };
 }
 
 impl Writer {
-    /// A writer that has written nothing.
-    pub fn new(alloc: Global) -> Self
-        ensures { result ≡ [] }
+    /// A writer of a text of at most so many octets. All its room is taken here.
+    pub fn new(alloc: Global, limit: u32) -> Result<Self, AllocError>
+        ensures { IfOk result (λ writer. writer ≡ empty limit) }
     {
-        Writer {
-            octets: Vec::new(alloc),
-        }
+        let limit = limit as usize;
+        let mut octets = Vec::with_capacity(alloc, HEADROOM + limit)?;
+        extend(&mut octets, &[0; HEADROOM]);
+        Ok(Writer {
+            octets,
+            first: HEADROOM,
+            limit,
+            over: false,
+        })
     }
 
-    /// A writer that goes on behind these octets.
-    pub fn behind(octets: Vec<u8>) -> Self
-        ensures { result ≡ octets.items }
+    /// Begins again.
+    pub fn clear(&mut self)
+        ensures { self.new ≡ empty self.old.limit }
     {
-        Writer { octets }
+        self.octets.truncate(HEADROOM);
+        self.first = HEADROOM;
+        self.over = false;
+    }
+
+    /// Appends octets.
+    pub fn append(&mut self, octets: &[u8])
+        ensures { self.new ≡ put self.old octets.now }
+    {
+        if self.over {
+            return;
+        }
+        if HEADROOM + self.limit - self.octets.len() < octets.len() {
+            self.over = true;
+            return;
+        }
+        extend(&mut self.octets, octets);
+    }
+
+    /// Begins a value that is made of values (X.690 8.9), and says where. Its content is what is
+    /// appended until `close`.
+    pub fn open(&mut self, tag: Tag) -> usize
+        requires { tag.number < 31 }
+        ensures start { IsEnd result self.old }
+        ensures tag { self.new ≡ put self.old (octet_of tag ∷ 0 ∷ []) }
+    {
+        let start = self.octets.len() - HEADROOM;
+        self.append(&[tag.octet(), 0]);
+        start
+    }
+
+    /// Ends the value that begins at a place: its length is written, in the fewest octets.
+    pub fn close(&mut self, start: usize)
+        requires { IsOpen start self.old }
+        ensures { self.new ≡ closed self.old start }
+    {
+        if self.over {
+            return;
+        }
+        let count = (self.octets.len() - (HEADROOM + start + 2)) as u32;
+        if HEADROOM + self.limit - self.octets.len() < octets_more(count) {
+            self.over = true;
+            return;
+        }
+        write_length(&mut self.octets, HEADROOM + start + 1, count);
+    }
+
+    /// Writes a string of octets (X.690 8.7), or a value whose content is given.
+    pub fn octets(&mut self, tag: Tag, content: &[u8])
+        requires { tag.number < 31 }
+        ensures { self.new ≡ put self.old (element tag content.now) }
+    {
+        if content.len() < 0x80 {
+            self.append(&[tag.octet(), content.len() as u8]);
+            self.append(content);
+            return;
+        }
+        let start = self.open(tag);
+        self.append(content);
+        self.close(start);
     }
 
     /// Writes an integer in the fewest octets (X.690 8.3).
-    pub fn int(&mut self, tag: Tag, value: i64) -> Result<(), AllocError>
+    #[tactic(auto, using(crate::proofs::SmallLemmas::small_is))]
+    pub fn int(&mut self, tag: Tag, value: i64)
         requires { tag.number < 31 }
-        ensures ok { OnOk result (self.new ≡ self.old ++ spec.element tag (integer_octets value)) }
-        ensures few { OnOk result (length self.new ≤ length self.old + 14) }
-        ensures err { OnErr result (self.new ≡ self.old) }
+        ensures { self.new ≡ put self.old (element tag (integer_octets value)) }
     {
-        self.value(tag, without_needless(&value.to_be_bytes()))
-    }
-
-    /// Writes a bit string (X.690 8.6): its bits in the octets that they need, with 0 in the unused
-    /// bits.
-    pub fn bits(&mut self, tag: Tag, bits: Bits<'_>) -> Result<(), AllocError>
-        requires tag { tag.number < 31 }
-        requires held { bits.count ≤ 8 * length bits.octets.now }
-        requires short { bits.count + 16 ≤ 2 ^ 35 }
-        ensures ok { OnOk result
-            (self.new ≡ self.old ++ spec.element tag
-            (bit_string_octets bits.entry.octets.now bits.entry.count)) }
-        ensures err { OnErr result (self.new ≡ self.old) }
-    {
-        let (whole, left) = (bits.count / 8, bits.count % 8);
-        if left == 0 {
-            return self.element(tag, &[0], &bits.octets[..whole], &[]);
+        match small_of(value) {
+            Some(small) => self.append(&[tag.octet(), 1, small]),
+            None => self.octets(tag, without_needless(&value.to_be_bytes())),
         }
-        let unused = 8 - left as u8;
-        let last = bits.octets[whole] >> unused << unused;
-        self.element(tag, &[unused], &bits.octets[..whole], &[last])
     }
 
     /// Writes a truth value (X.690 8.2): TRUE is FF.
-    pub fn boolean(&mut self, tag: Tag, value: bool) -> Result<(), AllocError>
+    #[tactic(auto, unfolding(crate::specs::Writing::element, crate::specs::Writing::length_octets))]
+    pub fn boolean(&mut self, tag: Tag, value: bool)
         requires { tag.number < 31 }
-        ensures ok { OnOk result (self.new ≡ self.old ++ spec.element tag (truth_octets value)) }
-        ensures err { OnErr result (self.new ≡ self.old) }
+        ensures { self.new ≡ put self.old (element tag (truth_octets value)) }
     {
         let octet = if value { 0xFF } else { 0x00 };
-        self.value(tag, &[octet])
+        self.append(&[tag.octet(), 1, octet]);
     }
 
-    /// Writes a string of octets (X.690 8.7).
-    pub fn octets(&mut self, tag: Tag, octets: &[u8]) -> Result<(), AllocError>
+    /// Whether the text was longer than the limit.
+    pub fn is_over(&self) -> bool
+        ensures { result ≡ is_none self.now.text }
+    {
+        self.over
+    }
+
+    /// Writes octets in front of the text and the heads that are there.
+    pub fn front(&mut self, head: &[u8])
+        requires { length head.now + length self.old.heads ≤ HEADROOM }
+        ensures { self.new ≡ record self.old { heads = head.now ++ self.old.heads } }
+    {
+        self.first -= head.len();
+        overwrite(&mut self.octets, self.first, head);
+    }
+
+    // Writes a tag and the shortest length in front of a content that is there.
+    fn head(&mut self, tag: Tag, count: u32)
         requires tag { tag.number < 31 }
-        requires short { length octets.now < 2 ^ 32 }
-        ensures ok { OnOk result (self.new ≡ self.old ++ spec.element tag octets.now) }
-        ensures few { OnOk result (length self.new ≤ length self.old + length octets.now + 6) }
-        ensures err { OnErr result (self.new ≡ self.old) }
+        requires room { length self.old.heads + 6 ≤ HEADROOM }
+        ensures { self.new ≡ record self.old
+            { heads = (octet_of tag ∷ length_octets count) ++ self.old.heads } }
     {
-        self.value(tag, octets)
-    }
-
-    /// Writes a text (X.690 8.23), as its octets in UTF-8.
-    pub fn text(&mut self, tag: Tag, text: &str) -> Result<(), AllocError>
-        requires tag { tag.number < 31 }
-        requires short { length text.now < 2 ^ 32 }
-        ensures ok { OnOk result (self.new ≡ self.old ++ spec.element tag text.now) }
-        ensures err { OnErr result (self.new ≡ self.old) }
-    {
-        self.value(tag, text.as_bytes())
-    }
-
-    /// Writes a value that is made of values (X.690 8.9), whose octets are given.
-    pub fn nest(&mut self, tag: Tag, inner: &[u8]) -> Result<(), AllocError>
-        requires tag { tag.number < 31 }
-        requires short { length inner.now < 2 ^ 32 }
-        ensures ok { OnOk result (self.new ≡ self.old ++ spec.element tag inner.now) }
-        ensures few { OnOk result (length self.new ≤ length self.old + length inner.now + 6) }
-        ensures err { OnErr result (self.new ≡ self.old) }
-    {
-        self.value(tag, inner)
-    }
-
-    /// Writes the head of a value, whose content of so many octets is to be written behind it
-    /// (X.690 8.1.2, 8.1.3).
-    pub fn head(&mut self, tag: Tag, count: u32) -> Result<(), AllocError>
-        requires { tag.number < 31 }
-        ensures ok { OnOk result (self.new ≡ self.old ++ header tag count) }
-        ensures few { OnOk result (length self.new ≤ length self.old + 6) }
-        ensures err { OnErr result (self.new ≡ self.old) }
-    {
-        let written = self.octets.len();
-        match append_header(&mut self.octets, tag, count) {
-            Ok(()) => Ok(()),
-            Err(error) => {
-                self.octets.truncate(written);
-                Err(error)
-            }
+        if count < 0x80 {
+            self.front(&[tag.octet(), count as u8]);
+            return;
         }
+        let needed = octets_needed(count);
+        self.front(&count.to_be_bytes()[4 - needed..]);
+        self.front(&[tag.octet(), 0x80 + needed as u8]);
     }
 
-    /// Makes all that was written since a place the content of one value (X.690 8.9), in place. The
-    /// place is what `len` was there.
-    pub fn nest_from(&mut self, start: usize, tag: Tag) -> Result<(), AllocError>
+    /// Makes the message the content of a value, whose head is written in front of it. A message
+    /// that is then longer than the limit, its heads among it, is not held either.
+    pub fn wrap(&mut self, tag: Tag)
         requires tag { tag.number < 31 }
-        requires start { start ≤ length self.old }
-        requires short { length self.old < start + 2 ^ 32 }
-        ensures ok { OnOk result
-            (self.new ≡ take start self.old ++ spec.element tag (drop start self.old)) }
-        ensures few { OnOk result (length self.new ≤ length self.old + 6) }
-        ensures err { OnErr result (self.new ≡ self.old) }
+        requires room { length self.old.heads + 6 ≤ HEADROOM }
+        ensures limit { self.new.limit ≡ self.old.limit }
+        ensures message { message self.new ≡ wrapped tag self.old.limit (message self.old) }
+        ensures few { length self.new.heads ≤ length self.old.heads + 6 }
     {
-        let written = self.octets.len();
-        match append_header(&mut self.octets, tag, (written - start) as u32) {
-            Ok(()) => {
-                move_forward(&mut self.octets, start, written);
-                Ok(())
-            }
-            Err(error) => {
-                self.octets.truncate(written);
-                Err(error)
-            }
+        let Some(octets) = self.message() else {
+            return;
+        };
+        let size = octets.len();
+        if self.limit < size {
+            self.over = true;
+            return;
         }
-    }
-
-    /// How many octets were written.
-    pub fn len(&self) -> usize
-        ensures { result ≡ length self.now }
-    {
-        self.octets.len()
-    }
-
-    /// The octets that were written.
-    pub fn finish(self) -> Vec<u8>
-        ensures { result.items ≡ self }
-    {
-        let Writer { octets } = self;
-        octets
-    }
-
-    // Writes a value; a refused call appends nothing.
-    fn value(&mut self, tag: Tag, content: &[u8]) -> Result<(), AllocError>
-        requires low { tag.number < 31 }
-        requires short { length content.now < 2 ^ 32 }
-        ensures ok { OnOk result (self.new ≡ self.old ++ spec.element tag content.now) }
-        ensures few { OnOk result (length self.new ≤ length self.old + length content.now + 6) }
-        ensures err { OnErr result (self.new ≡ self.old) }
-    {
-        let written = self.octets.len();
-        match append_value(&mut self.octets, tag, content) {
-            Ok(()) => Ok(()),
-            Err(error) => {
-                self.octets.truncate(written);
-                Err(error)
-            }
+        let count = size as u32;
+        if self.limit - size < 2 + octets_more(count) {
+            self.over = true;
+            return;
         }
+        self.head(tag, count);
     }
 
-    // Writes a value whose content has three parts; a refused call appends nothing.
-    fn element(
-        &mut self,
-        tag: Tag,
-        first: &[u8],
-        middle: &[u8],
-        last: &[u8],
-    ) -> Result<(), AllocError>
-        requires low { tag.number < 31 }
-        requires short { length first.now + length middle.now + length last.now < 2 ^ 32 }
-        ensures ok { OnOk result
-            (self.new ≡ self.old ++ spec.element tag (first.now ++ middle.now ++ last.now)) }
-        ensures few { OnOk result
-            (length self.new ≤ length self.old
-            + (length first.now + length middle.now + length last.now) + 6) }
-        ensures err { OnErr result (self.new ≡ self.old) }
+    // Writes a value in front of the message.
+    fn front_value(&mut self, tag: Tag, content: &[u8])
+        requires tag { tag.number < 31 }
+        requires room { length content.now + length self.old.heads + 6 ≤ HEADROOM }
+        ensures { self.new ≡ record self.old
+            { heads = element tag content.now ++ self.old.heads } }
     {
-        let written = self.octets.len();
-        match append(&mut self.octets, tag, first, middle, last) {
-            Ok(()) => Ok(()),
-            Err(error) => {
-                self.octets.truncate(written);
-                Err(error)
-            }
+        self.front(content);
+        self.head(tag, content.len() as u32);
+    }
+
+    /// Writes an integer in front of the message.
+    pub fn front_int(&mut self, tag: Tag, value: i64)
+        requires tag { tag.number < 31 }
+        requires room { length self.old.heads + 14 ≤ HEADROOM }
+        ensures { self.new ≡ record self.old
+            { heads = element tag (integer_octets value) ++ self.old.heads } }
+    {
+        self.front_value(tag, without_needless(&value.to_be_bytes()));
+    }
+
+    /// The heads and the text; None where it was longer than the limit.
+    pub fn message(&self) -> Option<&[u8]>
+        ensures { option_map (λ octets. octets.now) result ≡ message self.now }
+    {
+        if self.over {
+            return None;
+        }
+        Some(&self.octets[self.first..])
+    }
+    /// The heads and the text, as `message` gives them.
+    pub fn finish(self) -> Option<Vec<u8>>
+        ensures { option_map (λ octets. octets.items) result ≡ message self }
+    {
+        let Writer {
+            mut octets,
+            first,
+            limit: _,
+            over,
+        } = self;
+        if over {
+            return None;
+        }
+        let end = octets.len();
+        octets.copy_within(first..end, 0);
+        octets.truncate(end - first);
+        Some(octets)
+    }
+    /// The heads and the text, of which it is known that they are held.
+    pub fn finish_held(self) -> Vec<u8>
+        requires { is_none (message self) ≡ false }
+        ensures { Some result.items ≡ message self }
+    {
+        match self.finish() {
+            Some(octets) => octets,
+            None => unreachable!(),
         }
     }
 }

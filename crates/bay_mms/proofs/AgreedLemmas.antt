@@ -1,8 +1,10 @@
 -- How long the answer to an initiate is.
-use Rattle.std.proofs.Common.{ℕ, ℤ, pos, ◌+◌, ◌*◌, ◌/◌, ◌≤◌, Option, Some, None, List, [], ◌∷◌, ◌++◌, length, arith}
+use Rattle.std.proofs.Common.{◌≡◌, ℕ, ℤ, pos, ◌+◌, ◌*◌, ◌/◌, ◌≤◌, Option, Some, None, List, [], ◌∷◌, ◌++◌, length, arith}
 use Rattle.std.proofs.lemmas.List.{length-append}
 use Rattle.bay_ber.specs.declared.tag.Tag.{Tag}
 use Rattle.bay_ber.specs.Writing.{element, integer_octets, bit_string_octets}
+use Rattle.bay_ber.specs.Sheets.{within}
+use Rattle.bay_ber.proofs.SheetLemmas.{fits}
 use Rattle.bay_ber.proofs.SizeLemmas.{length-element, length-integer_octets, length-bit_octets}
 use Rattle.bay_mms.specs.declared.response.Agreed.{Agreed}
 use Rattle.bay_mms.specs.Tags.{context, constructed}
@@ -74,3 +76,6 @@ agreed_short a =
       limits_short a,
       detail_short a.parameters,
     )
+
+pub agreed_within : (a : Agreed) → within 200 (agreed_text a) ≡ Some (agreed_text a)
+agreed_within a = fits 200 (agreed_text a) (agreed_short a)

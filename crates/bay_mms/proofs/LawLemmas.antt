@@ -11,7 +11,7 @@ use Rattle.bay_mms.specs.Data.{Datum, Data, structure, truth, bits, integer, uns
 use Rattle.bay_mms.specs.Reports.{report_text}
 use Rattle.bay_mms.specs.Responses.{confirmed, response_text}
 use Rattle.bay_mms.specs.Laws.{IsOneValue, datum_tag, datum_content, response_tag}
-use Rattle.bay_mms.proofs.PutLemmas.{content_less}
+use Rattle.bay_ber.proofs.SheetLemmas.{content_less}
 
 spelled : (tag : Tag) (content : List ℕ) → tag.number < 31
     → length (element tag content) < 4294967296 → Spells (element tag content) tag content

@@ -11,7 +11,6 @@ pub mod LawLemmas
 pub mod NodeLemmas
 pub mod PageLemmas
 pub mod PlainLemmas
-pub mod PutLemmas
 pub mod ReceivedLemmas
 pub mod ReportLemmas
 pub mod RequestLemmas

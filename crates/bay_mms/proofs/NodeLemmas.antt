@@ -1,6 +1,6 @@
 -- The nodes below a row, one after another.
 use Rattle.std.proofs.Common.{◌≡◌, ℕ, zero, suc, ◌+◌, ◌-◌, ◌<◌, ◌≤◌, Bool, true, false, cond, Option, Some, None, IfSome, List, [], ◌∷◌, ◌++◌, length, drop, refl, sym, ap, subst, ◌∙◌, arith}
-use Rattle.std.proofs.lemmas.List.{append-nil, append_assoc, length-append, length-drop, drop_more}
+use Rattle.std.proofs.lemmas.List.{length-drop, drop_more}
 use Rattle.std.proofs.lemmas.Slice.Eq.{bytes_eq-Decides}
 use Rattle.bay_tree.specs.declared.row.Row.{Row}
 use Rattle.bay_tree.specs.Names.{parent_of, word_of, is_parent, is_below}
@@ -9,7 +9,8 @@ use Rattle.bay_mms.specs.Types.{type_text, components_text}
 use Rattle.bay_mms.specs.Data.{datum_text, data_text, leaf_datum}
 use Rattle.bay_tree.specs.declared.leaf.Leaf.{Leaf}
 use Rattle.bay_ber.specs.Writing.{element}
-use Rattle.bay_mms.proofs.PutLemmas.{around_over}
+use Rattle.bay_ber.specs.Sheets.{Sheet, put}
+use Rattle.bay_ber.proofs.SheetLemmas.{put_nil, put-put}
 use Rattle.bay_mms.specs.Tags.{context, constructed, sequence}
 use Rattle.bay_mms.specs.Nodes.{Nodes, no_nodes, node, node_of, nodes_in, node_at, node_datum, nodes_data, data_at, node_type, nodes_types, type_at}
 
@@ -174,69 +175,50 @@ next_part rows handle part next below is after =
 
 -- ---- what was written of them
 
--- What was written since a front, and the text of the parts that are left, are the text of all
--- parts.
-pub record Written (rows : List Row) (handle : ℕ) (text : Nodes → List ℕ) (front writer : List ℕ)
-    (next : Option ℕ) : Type 0 where
-  pub is : writer ++ text (nodes_since rows (name_at rows handle) next)
-      ≡ front ++ text (parts_at rows handle)
-  pub grown : length front ≤ length writer
+-- What was written, and the text of the parts that are left, are a tag, an octet of the length and
+-- the text of all parts.
+pub record Written (rows : List Row) (handle : ℕ) (text : Nodes → List ℕ) (octet : ℕ)
+    (front writer : Sheet) (next : Option ℕ) : Type 0 where
+  pub is : put writer (text (nodes_since rows (name_at rows handle) next))
+      ≡ put front (octet ∷ 0 ∷ text (parts_at rows handle))
   pub below : IfSome next (Below rows handle)
 
-pub written_first : (rows : List Row) (handle : ℕ) (text : Nodes → List ℕ) (front : List ℕ)
-    (next : Option ℕ) → next ≡ first_below rows handle
-    → IfSome next (λ k. (handle < k) × (k < length rows))
-    → Written rows handle text front front next
-written_first rows handle text front next is after =
+pub written_first : (rows : List Row) (handle : ℕ) (text : Nodes → List ℕ) (octet : ℕ)
+    (front writer : Sheet) (next : Option ℕ) → writer ≡ put front (octet ∷ 0 ∷ [])
+    → next ≡ first_below rows handle → IfSome next (λ k. (handle < k) × (k < length rows))
+    → Written rows handle text octet front writer next
+written_first rows handle text octet front writer next opened is after =
     let p = first_part rows handle next is after in
     record {
-      is = ap (λ (ps : Nodes). front ++ text ps) (sym p.0);
-      grown = omega arith;
+      is = rw opened
+          (put-put front (octet ∷ 0 ∷ []) (text (nodes_since rows (name_at rows handle) next))
+          ∙ ap (λ (ps : Nodes). put front (octet ∷ 0 ∷ text ps)) (sym p.0));
       below = p.1;
     }
 
-pub written_more : (rows : List Row) (handle part : ℕ) (text : Nodes → List ℕ)
-    (front writer new one : List ℕ) (next : Option ℕ)
+pub written_more : (rows : List Row) (handle part : ℕ) (text : Nodes → List ℕ) (octet : ℕ)
+    (front writer new : Sheet) (one : List ℕ) (next : Option ℕ)
     → text (nodes_since rows (name_at rows handle) (Some part))
     ≡ one ++ text (nodes_in (name_at rows handle) (drop (part + 1) rows))
-    → Written rows handle text front writer (Some part)
-    → new ≡ writer ++ one → next ≡ next_beside rows part
+    → Written rows handle text octet front writer (Some part)
+    → new ≡ put writer one → next ≡ next_beside rows part
     → IfSome next (λ k. (part < k) × (k < length rows))
-    → Written rows handle text front new next
-written_more rows handle part text front writer new one next split w added is after =
+    → Written rows handle text octet front new next
+written_more rows handle part text octet front writer new one next split w added is after =
     let p = next_part rows handle part next w.below is after in
-    let g = w.grown in
+    let rest = text (nodes_since rows (name_at rows handle) next) in
     record {
-      is = ap (λ (ys : List ℕ). ys ++ text (nodes_since rows (name_at rows handle) next)) added
-          ∙ append_assoc writer one (text (nodes_since rows (name_at rows handle) next))
-          ∙ ap (λ (ps : Nodes). writer ++ (one ++ text ps)) (sym p.0)
-          ∙ ap (λ (ys : List ℕ). writer ++ ys) (sym split) ∙ w.is;
-      grown = rw added (omega (arith, length-append writer one));
+      is = ap (λ (s : Sheet). put s rest) added ∙ put-put writer one rest
+          ∙ ap (λ (ps : Nodes). put writer (one ++ text ps)) (sym p.0)
+          ∙ ap (λ (ys : List ℕ). put writer ys) (sym split) ∙ w.is;
       below = p.1;
     }
 
-pub written_end : (rows : List Row) (handle : ℕ) (text : Nodes → List ℕ) (front writer : List ℕ)
-    → text no_nodes ≡ [] → Written rows handle text front writer None
-    → writer ≡ front ++ text (parts_at rows handle)
-written_end rows handle text front writer none w =
-    sym (append-nil writer) ∙ ap (λ (ys : List ℕ). writer ++ ys) (sym none) ∙ w.is
-
--- a part that is too long makes all too long
-pub written_over : (rows : List Row) (handle part limit : ℕ) (text : Nodes → List ℕ)
-    (front writer one : List ℕ)
-    → text (nodes_since rows (name_at rows handle) (Some part))
-    ≡ one ++ text (nodes_in (name_at rows handle) (drop (part + 1) rows))
-    → Written rows handle text front writer (Some part) → limit ≤ length one
-    → limit ≤ length (text (parts_at rows handle))
-written_over rows handle part limit text front writer one split w over =
-    let g = w.grown in
-    let a : length (text (nodes_since rows (name_at rows handle) (Some part)))
-    ≡ length one + length (text (nodes_in (name_at rows handle) (drop (part + 1) rows))) =
-    ap length split ∙ length-append one _ in
-    let b : length writer + length (text (nodes_since rows (name_at rows handle) (Some part)))
-    ≡ length front + length (text (parts_at rows handle)) =
-    sym (length-append writer _) ∙ ap length w.is ∙ length-append front _ in
-    omega arith
+pub written_end : (rows : List Row) (handle : ℕ) (text : Nodes → List ℕ) (octet : ℕ)
+    (front writer : Sheet) → text no_nodes ≡ [] → Written rows handle text octet front writer None
+    → writer ≡ put front (octet ∷ 0 ∷ text (parts_at rows handle))
+written_end rows handle text octet front writer none w =
+    sym (put_nil writer) ∙ ap (λ (ys : List ℕ). put writer ys) (sym none) ∙ w.is
 
 -- the text of the data of nodes
 abbrev pub nodes_text : Nodes → List ℕ
@@ -269,16 +251,3 @@ pub structure_type : (rows : List Row) (handle : ℕ) → leaf_at rows handle �
     ≡ element (constructed 2) (element (constructed 1) (nodes_types_text (parts_at rows handle)))
 structure_type rows handle none =
     ap (λ (o : Option Leaf). type_text (node_type (node_of o (parts_at rows handle)))) none
-
--- a component that is too long makes the whole type too long
-pub type_part_over : (rows : List Row) (handle part : ℕ) (front writer : List ℕ)
-    → leaf_at rows handle ≡ None → Written rows handle nodes_types_text front writer (Some part)
-    → 4294967296 ≤ length (component_text rows part)
-    → 4294967296 ≤ length (type_text (type_at rows handle))
-type_part_over rows handle part front writer none w over =
-    rw (structure_type rows handle none)
-    (around_over (constructed 2)
-    (element (constructed 1) (nodes_types_text (parts_at rows handle)))
-    (around_over (constructed 1) (nodes_types_text (parts_at rows handle))
-    (written_over rows handle part 4294967296 nodes_types_text front writer
-    (component_text rows part) refl w over)))

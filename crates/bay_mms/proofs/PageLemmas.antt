@@ -5,6 +5,8 @@ use Rattle.std.proofs.lemmas.Bool.Decides.{nat_tests}
 use Rattle.std.specs.Prelude.{IsTrue}
 use Rattle.std.proofs.lemmas.List.{append_assoc, append-nil, length-append, length-drop, drop_more, drop_all}
 use Rattle.bay_ber.specs.Writing.{element, element_length, integer_octets, octets_needed}
+use Rattle.bay_ber.specs.Sheets.{Sheet, put, within}
+use Rattle.bay_ber.proofs.SheetLemmas.{put_nil, put-put, fits as fits_limit}
 use Rattle.bay_ber.proofs.SizeLemmas.{length-element-is, length-integer_octets}
 use Rattle.bay_tree.specs.declared.row.Row.{Row}
 use Rattle.bay_tree.specs.Rows.{IsHandle, name_at, names_of}
@@ -141,11 +143,12 @@ room_iff id taken names found most size name n f m =
 
 -- ---- the names that are listed
 
--- So many of the names from a row on are listed, and fit; the others are those from the next row
--- on.
-pub record Listed (rows : List Row) (first : Option ℕ) (id size : ℕ) (old writer : List ℕ)
-    (count : ℕ) (next : Option ℕ) : Type 0 where
-  pub is : writer ≡ old ++ names_text (take count (names_from rows first))
+-- So many of the names from a row on are listed, take so many octets, and fit; the others are those
+-- from the next row on.
+pub record Listed (rows : List Row) (first : Option ℕ) (id size : ℕ) (old writer : Sheet)
+    (taken count : ℕ) (next : Option ℕ) : Type 0 where
+  pub is : writer ≡ put old (names_text (take count (names_from rows first)))
+  pub long : taken ≡ length (names_text (take count (names_from rows first)))
   pub rest : names_from rows next ≡ drop count (names_from rows first)
   pub few : count ≤ 100
   pub within : count ≤ length (names_from rows first)
@@ -153,11 +156,12 @@ pub record Listed (rows : List Row) (first : Option ℕ) (id size : ℕ) (old wr
       ≤ size)
   pub there : IfSome next (IsHandle rows)
 
-pub listed_first : (rows : List Row) (first : Option ℕ) (id size : ℕ) (old : List ℕ)
-    → IfSome first (IsHandle rows) → Listed rows first id size old old 0 first
+pub listed_first : (rows : List Row) (first : Option ℕ) (id size : ℕ) (old : Sheet)
+    → IfSome first (IsHandle rows) → Listed rows first id size old old 0 0 first
 listed_first rows first id size old there =
     record {
-      is = sym (append-nil old);
+      is = sym (put_nil old);
+      long = refl;
       rest = refl;
       few = omega arith;
       within = omega arith;
@@ -222,26 +226,41 @@ fitting names id size count (inr le) = let more =
     page_length_more id (length (names_text (take count names))) in omega arith
 
 -- how many octets the names that are listed take
-pub taken_is : (rows : List Row) (first : Option ℕ) (id size start : ℕ) (old writer : List ℕ)
-    (count : ℕ) (next : Option ℕ) → start ≡ length old
-    → Listed rows first id size old writer count next
-    → (length writer - start ≡ length (names_text (take count (names_from rows first))))
-    × (start ≤ length writer) × (length writer - start ≤ size)
-taken_is rows first id size start old writer count next s l =
-    let text : List ℕ = names_text (take count (names_from rows first)) in
-    let whole : length writer ≡ length old + length text =
-    ap length l.is ∙ length-append old text in
+pub taken_few : (rows : List Row) (first : Option ℕ) (id size : ℕ) (old writer : Sheet)
+    (taken count : ℕ) (next : Option ℕ) → Listed rows first id size old writer taken count next
+    → taken ≤ size
+taken_few rows first id size old writer taken count next l =
     let few = fitting (names_from rows first) id size count l.fit in
-    (omega arith, omega arith, omega arith)
+    let long = l.long in
+    omega arith
 
-pub listed_more : (rows : List Row) (first : Option ℕ) (id size : ℕ) (old writer new : List ℕ)
-    (count row : ℕ) → Listed rows first id size old writer count (Some row) → count < 100
-    → new ≡ writer ++ element visible_tag (name_at rows row)
+-- and with the next one
+pub room_at : (rows : List Row) (first : Option ℕ) (id size : ℕ) (old writer : Sheet)
+    (taken count row : ℕ) (name : List ℕ) → name ≡ name_at rows row
+    → Listed rows first id size old writer taken count (Some row)
+    → taken + length (element visible_tag name)
+    ≡ length (names_text (take count (names_from rows first)))
+    + length (element visible_tag (name_at rows row))
+room_at rows first id size old writer taken count row name n l = rw (l.long, n) refl
+
+pub more_few : (id taken size : ℕ) (name : List ℕ)
+    → page_length id (taken + length (element visible_tag name)) ≤ size
+    → taken + element_length (length name) ≤ size
+more_few id taken size name room =
+    let more = page_length_more id (taken + length (element visible_tag name)) in
+    let is = named_length taken name in
+    omega arith
+
+pub listed_more : (rows : List Row) (first : Option ℕ) (id size : ℕ) (old writer new : Sheet)
+    (taken more count row : ℕ) → Listed rows first id size old writer taken count (Some row)
+    → count < 100 → new ≡ put writer (element visible_tag (name_at rows row))
+    → more ≡ taken + element_length (length (name_at rows row))
     → page_length id (length (names_text (take count (names_from rows first)))
     + length (element visible_tag (name_at rows row))) ≤ size
     → (next : Option ℕ) → next ≡ place_if rows (row + 1) → IfSome next (IsHandle rows)
-    → Listed rows first id size old new (count + 1) next
-listed_more rows first id size old writer new count row l less added room next is there =
+    → Listed rows first id size old new more (count + 1) next
+listed_more rows first id size old writer new taken more count row l less added counted room next is
+    there =
     let names : List (List ℕ) = names_from rows first in
     let name : List ℕ = name_at rows row in
     let a = another names count name (names_of (drop (row + 1) rows))
@@ -251,10 +270,13 @@ listed_more rows first id size old writer new count row l less added room next i
     ≡ length (names_text (take count names)) + length (element visible_tag name) =
     ap length text ∙ length-append (names_text (take count names)) (element visible_tag name) in
     let same : suc count ≡ count + 1 = omega arith in
-    subst (λ (n : ℕ). Listed rows first id size old new n next) same (record {
-      is = added ∙ ap (λ (t : List ℕ). t ++ element visible_tag name) l.is
-          ∙ append_assoc old (names_text (take count names)) (element visible_tag name)
-          ∙ ap (λ (t : List ℕ). old ++ t) (sym text);
+    let was = l.long in
+    let size_is = length-element-is visible_tag name in
+    subst (λ (n : ℕ). Listed rows first id size old new more n next) same (record {
+      is = added ∙ ap (λ (s : Sheet). put s (element visible_tag name)) l.is
+          ∙ put-put old (names_text (take count names)) (element visible_tag name)
+          ∙ ap (λ (t : List ℕ). put old t) (sym text);
+      long = omega arith;
       rest = ap (names_from rows) is ∙ from_place rows (row + 1) ∙ sym a.left;
       few = omega arith;
       within = (let more = a.less in omega arith);
@@ -285,11 +307,11 @@ passes names id size count (inl none) = inl none
 passes names id size count (inr le) = inr (test_yes id size (take count names) le)
 
 -- the page where no row is left, and where there is no room for the next
-pub page_all : (rows : List Row) (first : Option ℕ) (id size : ℕ) (old writer : List ℕ) (count : ℕ)
-    → Listed rows first id size old writer count None
+pub page_all : (rows : List Row) (first : Option ℕ) (id size : ℕ) (old writer : Sheet)
+    (taken count : ℕ) → Listed rows first id size old writer taken count None
     → (page_count id size (names_from rows first) ≡ count)
     × (ltb count (length (names_from rows first)) ≡ false)
-page_all rows first id size old writer count l =
+page_all rows first id size old writer taken count l =
     let names : List (List ℕ) = names_from rows first in
     let none : 0 ≡ length names - count = ap length l.rest ∙ length-drop count names in
     let few = l.few in
@@ -316,14 +338,14 @@ cut_at names id size count name rest a (inr full) k lt le =
     (let less = page_length_le id (length (names_text (take (suc count) names)))
     (length (names_text (take k names))) more in omega arith)))
 
-pub page_cut : (rows : List Row) (first : Option ℕ) (id size : ℕ) (old writer : List ℕ)
-    (count row : ℕ) → Listed rows first id size old writer count (Some row)
+pub page_cut : (rows : List Row) (first : Option ℕ) (id size : ℕ) (old writer : Sheet)
+    (taken count row : ℕ) → Listed rows first id size old writer taken count (Some row)
     → (count ≡ 100) ⊎ (page_length id
     (length (names_text (take count (names_from rows first)))
     + length (element visible_tag (name_at rows row))) ≤ size → ⊥)
     → (page_count id size (names_from rows first) ≡ count)
     × (ltb count (length (names_from rows first)) ≡ true)
-page_cut rows first id size old writer count row l full =
+page_cut rows first id size old writer taken count row l full =
     let names : List (List ℕ) = names_from rows first in
     let rest : List (List ℕ) = names_of (drop (row + 1) rows) in
     let a = another names count (name_at rows row) rest (sym l.rest ∙ from_row rows row l.there) in
@@ -334,19 +356,6 @@ page_cut rows first id size old writer count row l full =
           (cut_at names id size count (name_at rows row) rest a full),
       lt-ltb count (length names) less,
     )
-
--- how many octets the names take with the next one
-pub room_at : (rows : List Row) (first : Option ℕ) (id size start len : ℕ) (old writer : List ℕ)
-    (count row : ℕ) (name : List ℕ) → start ≡ length old → len ≡ length writer
-    → name ≡ name_at rows row → Listed rows first id size old writer count (Some row)
-    → len - start + length (element visible_tag name)
-    ≡ length (names_text (take count (names_from rows first)))
-    + length (element visible_tag (name_at rows row))
-room_at rows first id size start len old writer count row name s w n l =
-    let taken = (taken_is rows first id size start old writer count (Some row) s l).0 in
-    let long : length (element visible_tag name) ≡ length (element visible_tag (name_at rows row)) =
-    ap (λ (x : List ℕ). length (element visible_tag x)) n in
-    omega arith
 
 -- ---- how long a page is
 
@@ -394,3 +403,8 @@ first_page_short id size names some =
     page_short id size (page_count id size names) names
     (ltb (page_count id size names) (length names)) some
     (greatest_passes (λ n. fits id size (take n names)) (min 100 (length names)))
+
+pub page_within : (id size : ℕ) (names : List (List ℕ)) → 256 ≤ size
+    → within size (first_page id size names) ≡ Some (first_page id size names)
+page_within id size names some =
+    fits_limit size (first_page id size names) (first_page_short id size names some)

@@ -9,7 +9,7 @@ use Rattle.bay_mms.specs.Tags.{constructed}
 use Rattle.bay_mms.specs.Data.{Datum, Data, structure, truth, bits, integer, unsigned, octets, text, utc, other, no_data, datum, datum_text, data_text}
 use Rattle.bay_mms.specs.SpelledData.{IsDatum, AreData}
 use Rattle.bay_mms.specs.Laws.{IsHeld, IsPlain, ArePlain, datum_tag, datum_content}
-use Rattle.bay_mms.proofs.PutLemmas.{content_less}
+use Rattle.bay_ber.proofs.SheetLemmas.{content_less}
 use Rattle.bay_mms.proofs.LawLemmas.{datum_spells}
 
 -- tags of one octet

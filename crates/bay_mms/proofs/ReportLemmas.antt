@@ -7,7 +7,16 @@ use Rattle.bay_mms.specs.Data.{Datum, no_data, datum, datum_text}
 use Rattle.bay_mms.specs.Controls.{operate_datum}
 use Rattle.bay_mms.specs.ControlViews.{operating}
 use Rattle.bay_mms.specs.Reports.{variable_text, report_text, failure_name, item_name, failure_datum, failure_data, operate_text, failure_text, termination_text, failed_text}
-use Rattle.bay_mms.proofs.ResponseLemmas.{report_of}
+use Rattle.bay_mms.specs.Tags.{constructed}
+use Rattle.bay_ber.specs.Sheets.{Sheet, put, closed, IsEnd}
+use Rattle.bay_ber.specs.Writing.{element}
+use Rattle.bay_ber.proofs.SheetLemmas.{put_twice, long_value}
+
+-- the names of variables, and the data of these
+abbrev pub report_of : List ℕ → List ℕ → List ℕ
+report_of names values =
+    element (constructed 3) (element (constructed 0)
+    (element (constructed 0) names ++ element (constructed 0) values))
 
 pub operate_is : (o : Operate) → datum_text (operate_datum (operating o)) ≡ operate_text o
 operate_is o = simp (append-nil, append_assoc)
@@ -47,3 +56,22 @@ pub failed_is : (e : ControlError) (domain item : List ℕ) (o : Operate)
 failed_is e domain item o =
     sym (two_reports failure_name (item_name domain item) (failure_data e) (operate_text o)
     (failure_datum e) (operate_datum (operating o)) (failure_is e) (operate_is o))
+
+-- ---- a report that was opened, written and closed
+
+pub reported : (old a b d e f g h new : Sheet) (report information results : ℕ)
+    (names values : List ℕ) → IsEnd report old → a ≡ put old (0xA3 ∷ 0 ∷ [])
+    → IsEnd information a → b ≡ put a (0xA0 ∷ 0 ∷ []) → d ≡ put b (element (constructed 0) names)
+    → IsEnd results d → e ≡ put d (0xA0 ∷ 0 ∷ []) → f ≡ put e values → g ≡ closed f results
+    → h ≡ closed g information → new ≡ closed h report → new ≡ put old (report_of names values)
+reported old a b d e f g h new report information results names values at_report is_a at_information
+    is_b is_d at_results is_e is_f is_g is_h is_new =
+    let list = element (constructed 0) names in
+    let told = element (constructed 0) values in
+    let inner : g ≡ put d told =
+    long_value d e f g (constructed 0) results values at_results is_e is_f is_g in
+    let both : g ≡ put b (list ++ told) = put_twice b d g list told is_d inner in
+    let outer : h ≡ put a (element (constructed 0) (list ++ told)) =
+    long_value a b g h (constructed 0) information (list ++ told) at_information is_b both is_h in
+    long_value old a h new (constructed 3) report (element (constructed 0) (list ++ told)) at_report
+    is_a outer is_new

@@ -1,11 +1,13 @@
 -- How long errors and rejects are.
-use Rattle.std.proofs.Common.{ℕ, ℤ, pos, ◌≤◌, Option, Some, None, ◌++◌, length, arith}
+use Rattle.std.proofs.Common.{◌≡◌, ℕ, ℤ, pos, ◌≤◌, Option, Some, None, ◌++◌, length, refl, arith}
 use Rattle.std.proofs.lemmas.List.{length-append}
-use Rattle.bay_ber.specs.Writing.{element, integer_octets}
+use Rattle.bay_ber.specs.Writing.{element, integer_octets, length_octets}
 use Rattle.bay_ber.specs.declared.tag.Tag.{Tag}
+use Rattle.bay_ber.specs.Sheets.{within}
+use Rattle.bay_ber.proofs.SheetLemmas.{fits}
 use Rattle.bay_ber.proofs.SizeLemmas.{length-element, length-integer_octets}
 use Rattle.bay_mms.specs.Tags.{context, constructed}
-use Rattle.bay_mms.specs.Responses.{class_text, error_text, id_text, reason_text, reject_text}
+use Rattle.bay_mms.specs.Responses.{class_text, error_text, id_text, reason_text, reject_text, concluded_text}
 use Rattle.bay_mms.specs.declared.response.ErrorClass.{ErrorClass}
 use Rattle.bay_mms.specs.declared.response.ErrorClass.TheVariants.{NoSuchObject, Resource}
 use Rattle.bay_mms.specs.declared.response.RejectReason.{RejectReason}
@@ -51,3 +53,17 @@ reject_short id reason =
       id_short id,
       reason_short reason,
     )
+
+-- ---- so they are held
+
+pub error_within : (id : ℕ) (class : ErrorClass)
+    → within 60 (error_text id class) ≡ Some (error_text id class)
+error_within id class = fits 60 (error_text id class) (error_short id class)
+
+pub reject_within : (id : Option ℕ) (reason : RejectReason)
+    → within 60 (reject_text id reason) ≡ Some (reject_text id reason)
+reject_within id reason = fits 60 (reject_text id reason) (reject_short id reason)
+
+pub concluded_within : within 2 concluded_text ≡ Some concluded_text
+unfolding element length_octets
+concluded_within = refl

@@ -31,15 +31,8 @@ abbrev pub names_from : List Row → Option ℕ → List (List ℕ)
 names_from rows None = []
 names_from rows (Some place) = names_of (drop place rows)
 
--- how many octets a response has whose service has so many
-abbrev pub content_length : ℕ → ℕ → ℕ
-content_length id content =
-    element_length (element_length (length (integer_octets (pos id))) + element_length content)
-
--- how many octets a response has whose list takes so many, with so many behind it
-abbrev pub list_length : ℕ → ℕ → ℕ → ℕ
-list_length id list more = content_length id (element_length list + more)
-
 -- how many octets a response has whose names take so many
 abbrev pub page_length : ℕ → ℕ → ℕ
-page_length id names = list_length id names 3
+page_length id names =
+    element_length (element_length (length (integer_octets (pos id)))
+    + element_length (element_length names + 3))

@@ -43,6 +43,11 @@ failure_result cause = element (context 0) (integer_octets (pos cause))
 abbrev pub success_result : List ℕ
 success_result = element (context 1) []
 
+-- the result of one variable of a write: the number of the error, where there is one
+abbrev pub result_text : Option ℕ → List ℕ
+result_text None = success_result
+result_text (Some cause) = failure_result cause
+
 -- the response to a read of variables with these results
 abbrev pub read_text : ℕ → List ℕ → List ℕ
 read_text id results = confirmed id (element (constructed 4) (element (constructed 1) results))
@@ -88,19 +93,6 @@ listing_text names more =
 -- the response with a page of names
 abbrev pub page_text : ℕ → List (List ℕ) → Bool → List ℕ
 page_text id names more = confirmed id (element (constructed 1) (listing_text names more))
-
--- ---- for the code
-
--- a truth value behind a list, where there is one
-abbrev pub flag_text : Option Bool → List ℕ
-flag_text None = []
-flag_text (Some more) = element (context 1) (truth_octets more)
-
--- the response of a service whose content is a list under a tag, and what follows it
-abbrev pub list_text : ℕ → ℕ → ℕ → List ℕ → Option Bool → List ℕ
-list_text id service list content flag =
-    confirmed id (element (constructed service)
-    (element (constructed list) content ++ flag_text flag))
 
 -- ---- services
 

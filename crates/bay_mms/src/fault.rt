@@ -8,7 +8,7 @@ use thiserror::Error;
 /// Why a text is not written.
 #[derive(Clone, Copy, Debug, Error)]
 pub enum EncodeFault {
-    /// The text would have 2^32 octets or more.
+    /// The text has more octets than it may have.
     #[error("the text is too long")]
     TooLong,
     /// There is no room for the text.

@@ -1,15 +1,10 @@
 // The data and the type of a leaf.
-ghost use Rattle.std.specs.Prelude.{[], ◌∷◌, ◌≡◌, ◌<◌, ℤ, OnOk};
-ghost use Rattle.bay_ber.specs.Writing.{element, integer_octets};
+ghost use Rattle.std.specs.Prelude.{[], ◌∷◌, ◌≡◌};
+ghost use Rattle.bay_ber.specs.Sheets.{put};
 ghost use Rattle.bay_mms.specs.Utc as spec;
-ghost use Rattle.bay_mms.specs.Tags.{context};
-ghost use Rattle.bay_mms.specs.Data.{position_octet, quality_octet, datum_text, leaf_datum};
+ghost use Rattle.bay_mms.specs.Data.{bits, utc, position_octet, quality_octet, datum_text, leaf_datum};
 ghost use Rattle.bay_mms.specs.Types.{type_text, leaf_type_spec};
-ghost use Rattle.bay_mms.specs.Writing.{Appends};
 
-use crate::fault::EncodeFault;
-use crate::put::{put_bits, put_integer, put_octets, put_truth};
-use bay_ber::content::Bits;
 use bay_ber::tag::Tag;
 use bay_ber::writer::Writer;
 use bay_tree::leaf::{Dbpos, Leaf, Quality};
@@ -49,54 +44,82 @@ pub(crate) fn quality_octets(quality: Quality) -> &'static [u8]
     }
 }
 
+// The text of a position.
+#[tactic(auto, unfolding(bay_ber::specs::Writing::element, bay_ber::specs::Writing::length_octets))]
+fn position_text(position: Dbpos) -> &'static [u8]
+    ensures { result.now ≡ datum_text (bits (position_octet position ∷ []) 2) }
+{
+    match position {
+        Dbpos::Intermediate => &[0x84, 2, 6, 0x00],
+        Dbpos::Off => &[0x84, 2, 6, 0x40],
+        Dbpos::On => &[0x84, 2, 6, 0x80],
+        Dbpos::Bad => &[0x84, 2, 6, 0xC0],
+    }
+}
+
+// The text of a quality.
+#[tactic(auto, unfolding(bay_ber::specs::Writing::element, bay_ber::specs::Writing::length_octets))]
+fn quality_text(quality: Quality) -> &'static [u8]
+    ensures { result.now ≡ datum_text (bits (quality_octet quality ∷ 0 ∷ []) 13) }
+{
+    match quality {
+        Quality::Good => &[0x84, 3, 3, 0x00, 0x00],
+        Quality::Invalid => &[0x84, 3, 3, 0x40, 0x00],
+    }
+}
+
+// The text of a moment.
+#[tactic(auto, unfolding(bay_ber::specs::Writing::element, bay_ber::specs::Writing::length_octets))]
+fn utc_text(ms: u64) -> [u8; 10]
+    ensures { result ≡ datum_text (utc (spec.utc_octets ms)) }
+{
+    let [s1, s2, s3, s4, f1, f2, f3, quality] = utc_octets(ms);
+    [0x91, 8, s1, s2, s3, s4, f1, f2, f3, quality]
+}
+
+/// Writes the data of a position.
+pub(crate) fn put_position(writer: &mut Writer, position: Dbpos)
+    ensures { writer.new ≡ put writer.old (datum_text (bits (position_octet position ∷ []) 2)) }
+{
+    writer.append(position_text(position));
+}
+
 /// Writes the data of a leaf.
-pub(crate) fn put_leaf(writer: &mut Writer, leaf: &Leaf) -> Result<(), EncodeFault>
-    ensures { Appends writer.old result writer.new (datum_text (leaf_datum leaf.now)) }
+pub(crate) fn put_leaf(writer: &mut Writer, leaf: &Leaf)
+    ensures { writer.new ≡ put writer.old (datum_text (leaf_datum leaf.now)) }
 {
     match leaf {
-        Leaf::Truth(value) => put_truth(writer, 3, *value),
-        Leaf::Dbpos(value) => put_bits(
-            writer,
-            4,
-            Bits {
-                octets: position_octets(*value),
-                count: 2,
-            },
-        ),
-        Leaf::Quality(value) => put_bits(
-            writer,
-            4,
-            Bits {
-                octets: quality_octets(*value),
-                count: 13,
-            },
-        ),
-        Leaf::Int8(value) => put_integer(writer, 5, i64::from(*value)),
-        Leaf::Int32(value) => put_integer(writer, 5, i64::from(*value)),
-        Leaf::Unsigned8(value) => put_integer(writer, 6, i64::from(*value)),
-        Leaf::Unsigned32(value) => put_integer(writer, 6, i64::from(*value)),
-        Leaf::Octets(value) => put_octets(writer, Tag::context(9), value.as_slice()),
-        Leaf::Reference(value) => put_octets(writer, Tag::context(10), value.as_str().as_bytes()),
-        Leaf::Text(value) => put_octets(writer, Tag::context(10), value.as_str().as_bytes()),
-        Leaf::Utc(ms) => put_octets(writer, Tag::context(17), &utc_octets(*ms)),
+        Leaf::Truth(value) => writer.boolean(Tag::context(3), *value),
+        Leaf::Dbpos(value) => writer.append(position_text(*value)),
+        Leaf::Quality(value) => writer.append(quality_text(*value)),
+        Leaf::Int8(value) => writer.int(Tag::context(5), i64::from(*value)),
+        Leaf::Int32(value) => writer.int(Tag::context(5), i64::from(*value)),
+        Leaf::Unsigned8(value) => writer.int(Tag::context(6), i64::from(*value)),
+        Leaf::Unsigned32(value) => writer.int(Tag::context(6), i64::from(*value)),
+        Leaf::Octets(value) => writer.octets(Tag::context(9), value.as_slice()),
+        Leaf::Reference(value) => writer.octets(Tag::context(10), value.as_str().as_bytes()),
+        Leaf::Text(value) => writer.octets(Tag::context(10), value.as_str().as_bytes()),
+        Leaf::Utc(ms) => writer.append(&utc_text(*ms)),
     }
 }
 
 /// Writes the type of a leaf.
-pub(crate) fn put_leaf_type(writer: &mut Writer, leaf: &Leaf) -> Result<(), EncodeFault>
-    ensures { Appends writer.old result writer.new (type_text (leaf_type_spec leaf.now)) }
+#[tactic(auto, unfolding(bay_ber::specs::Writing::element, bay_ber::specs::Writing::length_octets))]
+pub(crate) fn put_leaf_type(writer: &mut Writer, leaf: &Leaf)
+    ensures { writer.new ≡ put writer.old (type_text (leaf_type_spec leaf.now)) }
 {
     match leaf {
-        Leaf::Truth(_) => put_octets(writer, Tag::context(3), &[]),
-        Leaf::Dbpos(_) => put_integer(writer, 4, 2),
-        Leaf::Quality(_) => put_integer(writer, 4, 13),
-        Leaf::Int8(_) => put_integer(writer, 5, 8),
-        Leaf::Int32(_) => put_integer(writer, 5, 32),
-        Leaf::Unsigned8(_) => put_integer(writer, 6, 8),
-        Leaf::Unsigned32(_) => put_integer(writer, 6, 32),
-        Leaf::Octets(_) => put_integer(writer, 9, -64),
-        Leaf::Reference(_) => put_integer(writer, 10, -129),
-        Leaf::Text(_) => put_integer(writer, 10, -255),
-        Leaf::Utc(_) => put_octets(writer, Tag::context(17), &[]),
+        Leaf::Truth(_) => writer.append(&[0x83, 0]),
+        Leaf::Dbpos(_) => writer.append(&[0x84, 1, 2]),
+        Leaf::Quality(_) => writer.append(&[0x84, 1, 13]),
+        Leaf::Int8(_) => writer.append(&[0x85, 1, 8]),
+        Leaf::Int32(_) => writer.append(&[0x85, 1, 32]),
+        Leaf::Unsigned8(_) => writer.append(&[0x86, 1, 8]),
+        Leaf::Unsigned32(_) => writer.append(&[0x86, 1, 32]),
+        // A size below 0 is one that a value may fall short of: at most 64, 129 and 255.
+        Leaf::Octets(_) => writer.append(&[0x89, 1, 0xC0]),
+        Leaf::Reference(_) => writer.append(&[0x8A, 2, 0xFF, 0x7F]),
+        Leaf::Text(_) => writer.append(&[0x8A, 2, 0xFF, 0x01]),
+        Leaf::Utc(_) => writer.append(&[0x91, 0]),
     }
 }

@@ -10,7 +10,6 @@
 #![tactic(auto)]
 
 mod access;
-mod confirmed;
 pub mod control;
 pub mod data;
 pub mod fault;

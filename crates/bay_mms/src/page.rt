@@ -1,7 +1,7 @@
 // Pages of names, written straight from the tree (ISO 9506-2, GetNameList).
-ghost use Rattle.std.specs.Prelude.{Err, ◌≡◌, ◌^◌, ◌+◌, ◌<◌, ◌≤◌, ◌↔◌, ◌++◌, pos, IsTrue, IfOk, IfSome, length, take, nat_lt};
+ghost use Rattle.std.specs.Prelude.{Err, ◌≡◌, ◌^◌, ◌+◌, ◌<◌, ◌≤◌, ◌↔◌, pos, IsTrue, IfOk, IfSome, length, take, nat_lt};
 ghost use Rattle.std.specs.Option.{option_copied};
-ghost use Rattle.bay_base.specs.Exact.{Gives};
+ghost use Rattle.bay_ber.specs.Sheets.{put};
 ghost use Rattle.bay_ber.specs.Writing.{element, integer_octets};
 ghost use Rattle.bay_tree.specs.Page.{rows_after, IsUnknown};
 ghost use Rattle.bay_tree.specs.Rows.{IsHandle, names_of};
@@ -9,15 +9,13 @@ ghost use Rattle.bay_mms.specs.Pages.{page_count, first_page, names_from};
 ghost use Rattle.bay_mms.specs.Pages as spec;
 ghost use Rattle.bay_mms.specs.Responses.{names_text};
 ghost use Rattle.bay_mms.specs.Tags.{visible_tag};
-ghost use Rattle.bay_mms.specs.Writing.{written};
 
-use crate::confirmed::write_list;
-use crate::fault::EncodeFault;
+use crate::response::put_id;
 use bay_ber::tag::Tag;
 use bay_ber::writer::{Writer, element_length, integer_length};
 use bay_tree::fault::NamesFault;
 use bay_tree::tree::{Handle, Tree};
-use std::alloc::{AllocError, Global};
+use std::alloc::Global;
 
 // A page has at most so many names.
 const NAMES_MAX: usize = 100;
@@ -59,56 +57,49 @@ fn has_room(id: u32, taken: usize, name: &str, size: u32) -> bool
 }
 
 // Writes the names from a row on for which the page has room, and tells whether more follow.
-fn put_fitting(
-    writer: &mut Writer,
-    tree: &Tree,
-    first: Option<Handle>,
-    id: u32,
-    size: u32,
-) -> Result<bool, AllocError>
+fn put_fitting(writer: &mut Writer, tree: &Tree, first: Option<Handle>, id: u32, size: u32) -> bool
     requires there { IfSome first (IsHandle tree.now) }
     requires size { size < 2 ^ 31 }
-    ensures names { IfOk result
-        (λ more. let names = names_from tree.now first in
-        writer.new ≡ writer.old ++ names_text (take (page_count id size names) names)) }
-    ensures more { IfOk result
-        (λ more. let names = names_from tree.now first in
-        more ≡ nat_lt (page_count id size names) (length names)) }
+    ensures names { let names = names_from tree.now first in
+        writer.new ≡ put writer.old (names_text (take (page_count id size names) names)) }
+    ensures more { let names = names_from tree.now first in
+        result ≡ nat_lt (page_count id size names) (length names) }
 {
-    let start = writer.len();
+    let mut taken = 0;
     let mut count = 0;
     let mut next = first;
     while let Some(row) = next {
         let name = tree.name(row);
         if count == NAMES_MAX {
-            return Ok(true);
+            return true;
         }
-        if !has_room(id, writer.len() - start, name, size) {
-            return Ok(true);
+        if !has_room(id, taken, name, size) {
+            return true;
         }
-        writer.text(Tag::universal(26), name)?;
+        writer.octets(Tag::universal(26), name.as_bytes());
+        taken += element_length(name.len() as u32) as usize;
         count += 1;
         next = tree.next(row);
     }
-    Ok(false)
+    false
 }
 
-// The response with a page, from a row on.
-fn page_from(
-    alloc: Global,
-    tree: &Tree,
-    first: Option<Handle>,
-    id: u32,
-    size: u32,
-) -> Result<Vec<u8>, EncodeFault>
+// Writes the content of a page, from a row on.
+#[tactic(auto, using(bay_ber::proofs::SheetLemmas::sheet_rules))]
+fn put_page(writer: &mut Writer, tree: &Tree, first: Option<Handle>, id: u32, size: u32)
     requires there { IfSome first (IsHandle tree.now) }
     requires size { size < 2 ^ 31 }
-    ensures { Gives EncodeFault.OutOfMemory (λ octets. octets.items) result
-        (written (first_page id size (names_from tree.now first))) }
+    ensures { writer.new ≡ put writer.old (first_page id size (names_from tree.now first)) }
 {
-    let mut names = Writer::new(alloc);
-    let more = put_fitting(&mut names, tree, first, id, size)?;
-    write_list(alloc, id, 1, 0, names.finish().as_slice(), Some(more))
+    let start = writer.open(Tag::context_constructed(1));
+    put_id(writer, id);
+    let service = writer.open(Tag::context_constructed(1));
+    let list = writer.open(Tag::context_constructed(0));
+    let more = put_fitting(writer, tree, first, id, size);
+    writer.close(list);
+    writer.boolean(Tag::context(1), more);
+    writer.close(service);
+    writer.close(start);
 }
 
 // The row behind the row of a name, or the first of all.
@@ -150,9 +141,7 @@ pub fn write_page(
     ensures short { IfOk result (λ octets. length octets.items ≤ size) }
 {
     let first = first_after(tree, after)?;
-    match page_from(alloc, tree, first, id, size) {
-        Ok(octets) => Ok(octets),
-        Err(EncodeFault::OutOfMemory) => Err(NamesFault::OutOfMemory),
-        Err(EncodeFault::TooLong) => unreachable!(),
-    }
+    let mut writer = Writer::new(alloc, size)?;
+    put_page(&mut writer, tree, first, id, size);
+    Ok(writer.finish_held())
 }

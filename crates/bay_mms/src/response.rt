@@ -1,20 +1,19 @@
 // Responses, and their canonical texts.
-ghost use Rattle.std.specs.Prelude.{◌≡◌, ◌≤◌, ◌<◌, ◌++◌, false, length, take, drop, pos, All, IfOk, OnOk};
+ghost use Rattle.std.specs.Prelude.{◌≡◌, ◌≤◌, ◌<◌, ◌++◌, false, length, pos, IfOk};
 ghost use Rattle.bay_base.specs.Exact.{Gives};
+ghost use Rattle.bay_ber.specs.Sheets.{put};
 ghost use Rattle.bay_ber.specs.Writing.{element, integer_octets, truth_octets};
 ghost use Rattle.bay_tree.specs.Rows.{IsHandle};
 ghost use Rattle.bay_mms.specs.Tags.{context, constructed, int_tag};
 ghost use Rattle.bay_mms.specs.Types.{type_text};
 ghost use Rattle.bay_mms.specs.Nodes.{type_at};
-ghost use Rattle.bay_mms.specs.Responses.{nesting_text, parameters_text, services_text, limits_text, detail_text, agreed_text, confirmed, error_text, identity_text, names_text, page_text, class_text, id_text, reason_text, reject_text, concluded_text, service_text, response_text, IsOfTree, IsAnswerable};
-ghost use Rattle.bay_mms.specs.Writing.{Adds, Appends, written};
+ghost use Rattle.bay_mms.specs.Responses.{nesting_text, parameters_text, services_text, limits_text, detail_text, agreed_text, confirmed, error_text, identity_text, names_text, listing_text, class_text, id_text, reason_text, reject_text, concluded_text, service_text, response_text, IsOfTree, IsAnswerable};
+ghost use Rattle.bay_mms.specs.Writing.{written};
 
-use crate::confirmed::{write_content, write_list};
 use crate::fault::EncodeFault;
-use crate::put::{put_around, put_octets};
+use crate::put::finish;
 use crate::value::put_type;
 use bay_base::text::Text;
-use bay_ber::content::Bits;
 use bay_ber::tag::Tag;
 use bay_ber::writer::Writer;
 use bay_tree::tree::{Handle, Tree};
@@ -100,126 +99,105 @@ pub enum Response<'a> {
 }
 
 // Writes who made the device, its model and its revision (ISO 9506-2, Identify).
-fn put_identity(
-    writer: &mut Writer,
-    vendor: &str,
-    model: &str,
-    revision: &str,
-) -> Result<(), EncodeFault>
-    ensures { Adds writer.old result writer.new (identity_text vendor.now model.now revision.now) }
+#[tactic(auto, using(bay_ber::proofs::SheetLemmas::sheet_rules))]
+fn put_identity(writer: &mut Writer, vendor: &str, model: &str, revision: &str)
+    ensures { writer.new ≡ put writer.old
+        (element (constructed 2) (identity_text vendor.now model.now revision.now)) }
 {
-    put_octets(writer, Tag::context(0), vendor.as_bytes())?;
-    put_octets(writer, Tag::context(1), model.as_bytes())?;
-    put_octets(writer, Tag::context(2), revision.as_bytes())
+    let start = writer.open(Tag::context_constructed(2));
+    writer.octets(Tag::context(0), vendor.as_bytes());
+    writer.octets(Tag::context(1), model.as_bytes());
+    writer.octets(Tag::context(2), revision.as_bytes());
+    writer.close(start);
 }
 
 // Writes names, one behind the other.
-fn put_names(writer: &mut Writer, names: &[Text]) -> Result<(), EncodeFault>
-    ensures { Adds writer.old result writer.new (names_text names.now) }
+fn put_names(writer: &mut Writer, names: &[Text])
+    ensures { writer.new ≡ put writer.old (names_text names.now) }
 {
     for name in names {
-        put_octets(writer, Tag::universal(26), name.as_str().as_bytes())?;
+        writer.octets(Tag::universal(26), name.as_str().as_bytes());
     }
-    Ok(())
 }
 
-// Writes that a variable can't be deleted, and its type.
-fn put_attributes(writer: &mut Writer, tree: &Tree, handle: &Handle) -> Result<(), EncodeFault>
-    requires { IsHandle tree.now handle.now }
-    ensures { Adds writer.old result writer.new
-        (element (context 0) (truth_octets false)
-        ++ element (constructed 2) (type_text (type_at tree.now handle.now))) }
+// Writes names, and whether more follow (ISO 9506-2, GetNameList).
+#[tactic(auto, using(bay_ber::proofs::SheetLemmas::sheet_rules))]
+fn put_listing(writer: &mut Writer, names: &[Text], more: bool)
+    ensures { writer.new ≡ put writer.old (element (constructed 1) (listing_text names.now more)) }
 {
-    writer.boolean(Tag::context(0), false)?;
-    let start = writer.len();
-    put_type(writer, tree, *handle)?;
-    put_around(writer, start, Tag::context_constructed(2))
+    let start = writer.open(Tag::context_constructed(1));
+    let list = writer.open(Tag::context_constructed(0));
+    put_names(writer, names);
+    writer.close(list);
+    writer.boolean(Tag::context(1), more);
+    writer.close(start);
+}
+
+// Writes that a variable can't be deleted, and its type (ISO 9506-2, GetVariableAccessAttributes).
+#[tactic(auto, using(bay_ber::proofs::SheetLemmas::sheet_rules))]
+fn put_attributes(writer: &mut Writer, tree: &Tree, handle: &Handle)
+    requires { IsHandle tree.now handle.now }
+    ensures { writer.new ≡ put writer.old
+        (element (constructed 6)
+        (element (context 0) (truth_octets false)
+        ++ element (constructed 2) (type_text (type_at tree.now handle.now)))) }
+{
+    let start = writer.open(Tag::context_constructed(6));
+    writer.boolean(Tag::context(0), false);
+    let inner = writer.open(Tag::context_constructed(2));
+    put_type(writer, tree, *handle);
+    writer.close(inner);
+    writer.close(start);
 }
 
 /// Writes an invoke id.
-pub(crate) fn put_id(writer: &mut Writer, id: u32) -> Result<(), AllocError>
-    ensures { OnOk result (writer.new ≡ writer.old ++ element int_tag (integer_octets (pos id))) }
+pub(crate) fn put_id(writer: &mut Writer, id: u32)
+    ensures { writer.new ≡ put writer.old (element int_tag (integer_octets (pos id))) }
 {
-    writer.int(Tag::universal(2), i64::from(id))
+    writer.int(Tag::universal(2), i64::from(id));
 }
 
 // Writes a number under a context-specific tag.
-fn put_number(writer: &mut Writer, number: u8, value: u32) -> Result<(), AllocError>
+fn put_number(writer: &mut Writer, number: u8, value: u32)
     requires { number < 31 }
-    ensures { OnOk result (writer.new
-        ≡ writer.old ++ element (context number) (integer_octets (pos value))) }
+    ensures { writer.new ≡ put writer.old
+        (element (context number) (integer_octets (pos value))) }
 {
-    writer.int(Tag::context(number), i64::from(value))
+    writer.int(Tag::context(number), i64::from(value));
 }
 
-// The response that tells who makes the device, which model it is, and of which revision.
-fn write_identity(
-    alloc: Global,
-    id: u32,
-    vendor: &str,
-    model: &str,
-    revision: &str,
-) -> Result<Vec<u8>, EncodeFault>
-    ensures { Gives EncodeFault.OutOfMemory (λ octets. octets.items) result
-        (written
-        (confirmed id
-        (element (constructed 2) (identity_text vendor.now model.now revision.now)))) }
-{
-    let mut content = Writer::new(alloc);
-    put_identity(&mut content, vendor, model, revision)?;
-    write_content(alloc, id, 2, content.finish().as_slice())
-}
-
-// The response with these names, and whether more follow.
-fn write_names(alloc: Global, id: u32, names: &[Text], more: bool) -> Result<Vec<u8>, EncodeFault>
-    ensures { Gives EncodeFault.OutOfMemory (λ octets. octets.items) result
-        (written (page_text id names.now more)) }
-{
-    let mut list = Writer::new(alloc);
-    put_names(&mut list, names)?;
-    write_list(alloc, id, 1, 0, list.finish().as_slice(), Some(more))
-}
-
-// The response with the type of a row.
-fn write_attributes(
-    alloc: Global,
-    id: u32,
-    tree: &Tree,
-    handle: &Handle,
-) -> Result<Vec<u8>, EncodeFault>
-    requires { IsHandle tree.now handle.now }
-    ensures { Gives EncodeFault.OutOfMemory (λ octets. octets.items) result
-        (written (confirmed id (element (constructed 6)
-        (element (context 0) (truth_octets false)
-        ++ element (constructed 2) (type_text (type_at tree.now handle.now)))))) }
-{
-    let mut content = Writer::new(alloc);
-    put_attributes(&mut content, tree, handle)?;
-    write_content(alloc, id, 6, content.finish().as_slice())
-}
-
-// The response to a confirmed request.
-fn write_confirmed(alloc: Global, id: u32, service: &Service<'_>) -> Result<Vec<u8>, EncodeFault>
+// Writes what answers a confirmed request.
+fn put_service(writer: &mut Writer, service: &Service<'_>)
     requires { IsOfTree service.now }
-    ensures { Gives EncodeFault.OutOfMemory (λ octets. octets.items) result
-        (written (confirmed id (service_text service.now))) }
+    ensures { writer.new ≡ put writer.old (service_text service.now) }
 {
     match service {
         Service::Identify {
             vendor,
             model,
             revision,
-        } => write_identity(alloc, id, vendor, model, revision),
-        Service::Names { names, more } => write_names(alloc, id, names, *more),
-        Service::Attributes { tree, handle } => write_attributes(alloc, id, tree, handle),
+        } => put_identity(writer, vendor, model, revision),
+        Service::Names { names, more } => put_listing(writer, names, *more),
+        Service::Attributes { tree, handle } => put_attributes(writer, tree, handle),
     }
+}
+
+// Writes the PDU of the response to a confirmed request.
+#[tactic(auto, using(bay_ber::proofs::SheetLemmas::sheet_rules))]
+fn put_confirmed(writer: &mut Writer, id: u32, service: &Service<'_>)
+    requires { IsOfTree service.now }
+    ensures { writer.new ≡ put writer.old (confirmed id (service_text service.now)) }
+{
+    let start = writer.open(Tag::context_constructed(1));
+    put_id(writer, id);
+    put_service(writer, service);
+    writer.close(start);
 }
 
 // The class of an error, and the error's number.
 #[tactic(auto, unfolding(bay_ber::specs::Writing::element, bay_ber::specs::Writing::length_octets))]
 fn error_octets(class: ErrorClass) -> &'static [u8]
-    ensures octets { result.now ≡ element (constructed 0) (class_text class) }
-    ensures short { length result.now ≤ 5 }
+    ensures { result.now ≡ element (constructed 0) (class_text class) }
 {
     match class {
         ErrorClass::NoSuchObject => &[0xA0, 0x03, 0x87, 0x01, 0x02],
@@ -228,145 +206,174 @@ fn error_octets(class: ErrorClass) -> &'static [u8]
 }
 
 // Writes the PDU of an error.
-fn put_error(writer: &mut Writer, id: u32, class: ErrorClass) -> Result<(), EncodeFault>
-    ensures { Appends writer.old result writer.new (error_text id class) }
+#[tactic(auto, using(bay_ber::proofs::SheetLemmas::sheet_rules))]
+fn put_error(writer: &mut Writer, id: u32, class: ErrorClass)
+    ensures { writer.new ≡ put writer.old (error_text id class) }
 {
-    let start = writer.len();
-    put_number(writer, 0, id)?;
-    writer.octets(Tag::context_constructed(2), error_octets(class))?;
-    put_around(writer, start, Tag::context_constructed(2))
+    let start = writer.open(Tag::context_constructed(2));
+    put_number(writer, 0, id);
+    writer.octets(Tag::context_constructed(2), error_octets(class));
+    writer.close(start);
+}
+
+// Writes an invoke id, where it is known.
+#[tactic(auto, using(bay_ber::proofs::SheetLemmas::put_nil))]
+fn put_known(writer: &mut Writer, id: Option<u32>)
+    ensures { writer.new ≡ put writer.old (id_text id) }
+{
+    if let Some(id) = id {
+        put_number(writer, 0, id);
+    }
+}
+
+// Writes the reason of a reject.
+#[tactic(auto, unfolding(bay_ber::specs::Writing::element, bay_ber::specs::Writing::length_octets))]
+fn put_reason(writer: &mut Writer, reason: RejectReason)
+    ensures { writer.new ≡ put writer.old (reason_text reason) }
+{
+    match reason {
+        RejectReason::UnrecognizedService => writer.append(&[0x81, 1, 1]),
+        RejectReason::InvalidPdu => writer.append(&[0x85, 1, 1]),
+    }
 }
 
 // Writes the PDU of a reject, with the invoke id where it is known.
-fn put_reject(writer: &mut Writer, id: Option<u32>, reason: RejectReason) -> Result<(), EncodeFault>
-    ensures { Appends writer.old result writer.new (reject_text id reason) }
+#[tactic(auto, using(bay_ber::proofs::SheetLemmas::sheet_rules))]
+fn put_reject(writer: &mut Writer, id: Option<u32>, reason: RejectReason)
+    ensures { writer.new ≡ put writer.old (reject_text id reason) }
 {
-    let start = writer.len();
-    if let Some(id) = id {
-        writer.int(Tag::context(0), i64::from(id))?;
-    }
-    let number = match reason {
-        RejectReason::UnrecognizedService => 1,
-        RejectReason::InvalidPdu => 5,
-    };
-    writer.int(Tag::context(number), 1)?;
-    put_around(writer, start, Tag::context_constructed(4))
+    let start = writer.open(Tag::context_constructed(4));
+    put_known(writer, id);
+    put_reason(writer, reason);
+    writer.close(start);
+}
+
+// Writes the PDU that answers a conclude.
+#[tactic(auto, unfolding(bay_ber::specs::Writing::element, bay_ber::specs::Writing::length_octets))]
+fn put_concluded(writer: &mut Writer)
+    ensures { writer.new ≡ put writer.old concluded_text }
+{
+    writer.append(&[0x8C, 0]);
 }
 
 // Writes the agreed nesting, if one was proposed.
-fn put_nesting(writer: &mut Writer, nesting: Option<i64>) -> Result<(), AllocError>
-    ensures { OnOk result (writer.new ≡ writer.old ++ nesting_text nesting) }
+#[tactic(auto, using(bay_ber::proofs::SheetLemmas::put_nil))]
+fn put_nesting(writer: &mut Writer, nesting: Option<i64>)
+    ensures { writer.new ≡ put writer.old (nesting_text nesting) }
 {
     if let Some(nesting) = nesting {
-        writer.int(Tag::context(3), nesting)?;
+        writer.int(Tag::context(3), nesting);
     }
-    Ok(())
 }
 
 // Writes the first parameter conformance blocks, of eleven.
-fn put_parameters(writer: &mut Writer, parameters: u8) -> Result<(), AllocError>
-    ensures { OnOk result (writer.new ≡ writer.old ++ parameters_text parameters) }
+#[tactic(auto, unfolding(bay_ber::specs::Writing::element, bay_ber::specs::Writing::length_octets))]
+fn put_parameters(writer: &mut Writer, parameters: u8)
+    ensures { writer.new ≡ put writer.old (parameters_text parameters) }
 {
-    let first = parameters / 32 * 32;
-    let bits = Bits {
-        octets: &[first, 0],
-        count: 11,
-    };
-    writer.bits(Tag::context(1), bits)?;
-    Ok(())
+    writer.append(&[0x81, 3, 5, parameters / 32 * 32, 0]);
 }
 
 // Writes the services that are offered.
-fn put_services(writer: &mut Writer) -> Result<(), AllocError>
-    ensures { OnOk result (writer.new ≡ writer.old ++ services_text) }
+#[tactic(auto, unfolding(bay_ber::specs::Writing::element, bay_ber::specs::Writing::length_octets))]
+fn put_services(writer: &mut Writer)
+    ensures { writer.new ≡ put writer.old services_text }
 {
-    let bits = Bits {
-        octets: &[0x6E, 0, 0, 0, 0, 0, 0, 0, 0, 0x01, 0x10],
-        count: 85,
-    };
-    writer.bits(Tag::context(2), bits)?;
-    Ok(())
+    writer.append(&[0x82, 12, 3, 0x6E, 0, 0, 0, 0, 0, 0, 0, 0, 0x01, 0x10]);
 }
 
 // Writes the agreed size, how many requests are outstanding either way, and the nesting.
-fn put_limits(writer: &mut Writer, agreed: Agreed) -> Result<(), AllocError>
-    ensures { OnOk result (writer.new ≡ writer.old ++ limits_text agreed) }
+#[tactic(auto, using(bay_ber::proofs::SheetLemmas::sheet_rules))]
+fn put_limits(writer: &mut Writer, agreed: Agreed)
+    ensures { writer.new ≡ put writer.old (limits_text agreed) }
 {
-    put_number(writer, 0, agreed.size)?;
-    put_number(writer, 1, agreed.calling)?;
-    put_number(writer, 2, agreed.called)?;
-    put_nesting(writer, agreed.nesting)?;
-    Ok(())
+    put_number(writer, 0, agreed.size);
+    put_number(writer, 1, agreed.calling);
+    put_number(writer, 2, agreed.called);
+    put_nesting(writer, agreed.nesting);
 }
 
 // The version, the parameters and the services (ISO 9506-2, InitResponseDetail).
-fn put_detail(writer: &mut Writer, parameters: u8) -> Result<(), AllocError>
-    ensures { OnOk result (writer.new ≡ writer.old ++ detail_text parameters) }
+#[tactic(auto, using(bay_ber::proofs::SheetLemmas::sheet_rules))]
+fn put_detail(writer: &mut Writer, parameters: u8)
+    ensures { writer.new ≡ put writer.old (detail_text parameters) }
 {
-    put_number(writer, 0, 1)?;
-    put_parameters(writer, parameters)?;
-    put_services(writer)?;
-    Ok(())
+    put_number(writer, 0, 1);
+    put_parameters(writer, parameters);
+    put_services(writer);
 }
 
 // Writes the PDU of an initiate's response.
-fn put_agreed(writer: &mut Writer, agreed: Agreed) -> Result<(), EncodeFault>
-    ensures { Appends writer.old result writer.new (agreed_text agreed) }
+#[tactic(auto, using(bay_ber::proofs::SheetLemmas::sheet_rules))]
+fn put_agreed(writer: &mut Writer, agreed: Agreed)
+    ensures { writer.new ≡ put writer.old (agreed_text agreed) }
 {
-    let start = writer.len();
-    put_limits(writer, agreed)?;
-    let inner = writer.len();
-    put_detail(writer, agreed.parameters)?;
-    put_around(writer, inner, Tag::context_constructed(4))?;
-    put_around(writer, start, Tag::context_constructed(9))
+    let start = writer.open(Tag::context_constructed(9));
+    put_limits(writer, agreed);
+    let inner = writer.open(Tag::context_constructed(4));
+    put_detail(writer, agreed.parameters);
+    writer.close(inner);
+    writer.close(start);
 }
 
-/// The text of a response, which is the one canonical spelling (ISO 9506-2); TooLong where it would
-/// have 2^32 octets or more. The handles in it are of its trees.
-pub fn write_response(alloc: Global, response: &Response<'_>) -> Result<Vec<u8>, EncodeFault>
+// Writes a response.
+fn put_response(writer: &mut Writer, response: &Response<'_>)
     requires { IsAnswerable response.now }
-    ensures { Gives EncodeFault.OutOfMemory (λ octets. octets.items) result
-        (written (response_text response.now)) }
+    ensures { writer.new ≡ put writer.old (response_text response.now) }
 {
     match response {
-        Response::Initiate(agreed) => Ok(write_agreed(alloc, *agreed)?),
-        Response::Conclude => Ok(write_conclude(alloc)?),
-        Response::Confirmed { id, service } => write_confirmed(alloc, *id, service),
-        Response::Error { id, class } => Ok(write_error(alloc, *id, *class)?),
-        Response::Reject { id, reason } => Ok(write_reject(alloc, *id, *reason)?),
+        Response::Initiate(agreed) => put_agreed(writer, *agreed),
+        Response::Conclude => put_concluded(writer),
+        Response::Confirmed { id, service } => put_confirmed(writer, *id, service),
+        Response::Error { id, class } => put_error(writer, *id, *class),
+        Response::Reject { id, reason } => put_reject(writer, *id, *reason),
     }
+}
+
+/// The text of a response, which is the one canonical spelling (ISO 9506-2); TooLong where it has
+/// more octets than the size. The handles in it are of its trees.
+#[tactic(auto, using(bay_ber::proofs::SheetLemmas::message_put))]
+pub fn write_response(
+    alloc: Global,
+    response: &Response<'_>,
+    size: u32,
+) -> Result<Vec<u8>, EncodeFault>
+    requires { IsAnswerable response.now }
+    ensures { Gives EncodeFault.OutOfMemory (λ octets. octets.items) result
+        (written size (response_text response.now)) }
+{
+    let mut writer = Writer::new(alloc, size)?;
+    put_response(&mut writer, response);
+    finish(writer)
 }
 
 /// The answer to an initiate (ISO 9506-2, InitiateResponsePDU), which is the one canonical spelling
 /// and has at most 200 octets.
+#[tactic(auto, using(bay_ber::proofs::SheetLemmas::message_put, crate::proofs::AgreedLemmas::agreed_short, crate::proofs::AgreedLemmas::agreed_within))]
 pub fn write_agreed(alloc: Global, agreed: Agreed) -> Result<Vec<u8>, AllocError>
     ensures text { IfOk result (λ octets. octets.items ≡ agreed_text agreed) }
     ensures few { IfOk result (λ octets. length octets.items ≤ 200) }
 {
-    let mut writer = Writer::new(alloc);
-    match put_agreed(&mut writer, agreed) {
-        Ok(()) => Ok(writer.finish()),
-        Err(EncodeFault::OutOfMemory) => Err(AllocError),
-        Err(EncodeFault::TooLong) => unreachable!(),
-    }
+    let mut writer = Writer::new(alloc, 200)?;
+    put_agreed(&mut writer, agreed);
+    Ok(writer.finish_held())
 }
 
 /// A confirmed error under an invoke id (ISO 9506-2, Confirmed-ErrorPDU), which has at most 60
 /// octets.
+#[tactic(auto, using(bay_ber::proofs::SheetLemmas::message_put, crate::proofs::ShortLemmas::error_short, crate::proofs::ShortLemmas::error_within))]
 pub fn write_error(alloc: Global, id: u32, class: ErrorClass) -> Result<Vec<u8>, AllocError>
     ensures text { IfOk result (λ octets. octets.items ≡ error_text id class) }
     ensures few { IfOk result (λ octets. length octets.items ≤ 60) }
 {
-    let mut writer = Writer::new(alloc);
-    match put_error(&mut writer, id, class) {
-        Ok(()) => Ok(writer.finish()),
-        Err(EncodeFault::OutOfMemory) => Err(AllocError),
-        Err(EncodeFault::TooLong) => unreachable!(),
-    }
+    let mut writer = Writer::new(alloc, 60)?;
+    put_error(&mut writer, id, class);
+    Ok(writer.finish_held())
 }
 
 /// A reject, with the invoke id where it was read (ISO 9506-2, RejectPDU), which has at most 60
 /// octets.
+#[tactic(auto, using(bay_ber::proofs::SheetLemmas::message_put, crate::proofs::ShortLemmas::reject_short, crate::proofs::ShortLemmas::reject_within))]
 pub fn write_reject(
     alloc: Global,
     id: Option<u32>,
@@ -375,22 +382,17 @@ pub fn write_reject(
     ensures text { IfOk result (λ octets. octets.items ≡ reject_text id reason) }
     ensures few { IfOk result (λ octets. length octets.items ≤ 60) }
 {
-    let mut writer = Writer::new(alloc);
-    match put_reject(&mut writer, id, reason) {
-        Ok(()) => Ok(writer.finish()),
-        Err(EncodeFault::OutOfMemory) => Err(AllocError),
-        Err(EncodeFault::TooLong) => unreachable!(),
-    }
+    let mut writer = Writer::new(alloc, 60)?;
+    put_reject(&mut writer, id, reason);
+    Ok(writer.finish_held())
 }
 
 /// The answer to a conclude (ISO 9506-2, Conclude-ResponsePDU), which has two octets.
+#[tactic(auto, using(bay_ber::proofs::SheetLemmas::message_put, crate::proofs::ShortLemmas::concluded_within))]
 pub fn write_conclude(alloc: Global) -> Result<Vec<u8>, AllocError>
     ensures { IfOk result (λ octets. octets.items ≡ concluded_text) }
 {
-    let mut writer = Writer::new(alloc);
-    match put_octets(&mut writer, Tag::context(12), &[]) {
-        Ok(()) => Ok(writer.finish()),
-        Err(EncodeFault::OutOfMemory) => Err(AllocError),
-        Err(EncodeFault::TooLong) => unreachable!(),
-    }
+    let mut writer = Writer::new(alloc, 2)?;
+    put_concluded(&mut writer);
+    Ok(writer.finish_held())
 }

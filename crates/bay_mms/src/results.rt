@@ -1,97 +1,160 @@
 // The responses to reads and writes, made variable by variable (ISO 9506-2, Read-Response and
 // Write-Response).
-ghost use Rattle.std.specs.Prelude.{◌≡◌, ◌<◌, ◌++◌, []};
+ghost use Rattle.std.specs.Prelude.{◌≡◌, ◌+◌, ◌≤◌, ◌++◌, [], pos, length, IfOk, OnOk};
+ghost use Rattle.std.specs.List.{flat_map};
 ghost use Rattle.bay_base.specs.Exact.{Gives};
 ghost use Rattle.bay_tree.specs.Rows.{IsHandle};
+ghost use Rattle.bay_ber.specs.Sheets.{put};
+ghost use Rattle.bay_ber.specs.Writing.{element, integer_octets};
+ghost use Rattle.bay_mms.specs.Tags.{constructed, int_tag};
 ghost use Rattle.bay_mms.specs.Data.{datum_text};
 ghost use Rattle.bay_mms.specs.Nodes.{data_at};
-ghost use Rattle.bay_mms.specs.Responses.{text_result, failure_result, success_result, read_text, write_text};
-ghost use Rattle.bay_mms.specs.Writing.{Adds, written};
+ghost use Rattle.bay_mms.specs.Responses.{text_result, failure_result, success_result, result_text, read_text, write_text};
+ghost use Rattle.bay_mms.specs.Writing.{Adds, Held, no_results, written};
 
-use crate::confirmed::{write_content, write_list};
 use crate::fault::EncodeFault;
-use crate::put::{put_integer, put_octets};
+use crate::put::finish;
+use crate::response::put_id;
 use crate::value::put_value;
 use bay_ber::tag::Tag;
 use bay_ber::writer::Writer;
 use bay_tree::tree::{Handle, Tree};
-use std::alloc::Global;
+use std::alloc::{AllocError, Global};
 use std::marker::Model;
 
-/// The results of a read so far, which contracts see as their octets. Each call appends one result,
-/// in the order of the variables; after a call that fails the results are given up.
+/// The results of a read so far, which contracts see as their octets, beside the size that the
+/// response may have. Each call appends one result, in the order of the variables. TooLong comes
+/// where the results alone have more octets than the size; they are then given up.
 #[derive(Drop)]
 pub struct ReadResponse {
-    alloc: Global,
     results: Writer,
 }
 
 impl Model for ReadResponse {
-    ghost use Rattle.std.specs.Prelude.{ℕ, List};
+    ghost use Rattle.bay_mms.specs.Writing.{Results, results_of, HoldsResults};
 
-    ghost Value = { List ℕ };
+    ghost Value = { Results };
 
-    ghost view = { λ r. r.results };
+    ghost view = { λ r. results_of r.results };
+
+    ghost invariant = { λ r. HoldsResults r.results };
 }
 
 impl ReadResponse {
     /// No result yet.
-    pub fn new(alloc: Global) -> Self
-        ensures { result ≡ [] }
+    pub fn new(alloc: Global, size: u32) -> Result<Self, AllocError>
+        ensures { IfOk result (λ response. response ≡ no_results size) }
     {
-        ReadResponse {
-            alloc,
-            results: Writer::new(alloc),
-        }
+        Ok(ReadResponse {
+            results: Writer::new(alloc, size)?,
+        })
     }
 
     /// The data of a row of a tree.
     pub fn value(&mut self, tree: &Tree, handle: Handle) -> Result<(), EncodeFault>
         requires { IsHandle tree.now handle }
-        ensures { Adds self.old result self.new (datum_text (data_at tree.now handle)) }
+        ensures added { Adds self.old.size self.old.octets result self.new.octets
+            (datum_text (data_at tree.now handle)) }
+        ensures size { self.new.size ≡ self.old.size }
     {
-        put_value(&mut self.results, tree, handle)
+        put_value(&mut self.results, tree, handle);
+        held(&mut self.results)
     }
 
     /// A text in the place of a row's own.
     pub fn text(&mut self, text: &str) -> Result<(), EncodeFault>
-        ensures { Adds self.old result self.new (text_result text.now) }
+        ensures added { Adds self.old.size self.old.octets result self.new.octets
+            (text_result text.now) }
+        ensures size { self.new.size ≡ self.old.size }
     {
-        put_octets(&mut self.results, Tag::context(10), text.as_bytes())
+        self.results.octets(Tag::context(10), text.as_bytes());
+        held(&mut self.results)
     }
 
     /// The number of an error (ISO 9506-2, DataAccessError).
     pub fn failure(&mut self, cause: u8) -> Result<(), EncodeFault>
-        ensures { Adds self.old result self.new (failure_result cause) }
+        ensures added { Adds self.old.size self.old.octets result self.new.octets
+            (failure_result cause) }
+        ensures size { self.new.size ≡ self.old.size }
     {
-        put_integer(&mut self.results, 0, i64::from(cause))
+        put_result(&mut self.results, Some(cause));
+        held(&mut self.results)
     }
 
-    /// The response under an invoke id; TooLong where it would have 2^32 octets or more, which is
-    /// answered as a response over the size of a PDU is.
+    /// The response under an invoke id; TooLong where it has more octets than the size.
     pub fn finish(self, id: u32) -> Result<Vec<u8>, EncodeFault>
         ensures { Gives EncodeFault.OutOfMemory (λ octets. octets.items) result
-            (written (read_text id self)) }
+            (written self.size (read_text id self.octets)) }
     {
-        let ReadResponse { alloc, results } = self;
-        write_list(alloc, id, 4, 1, results.finish().as_slice(), None)
+        let ReadResponse { mut results } = self;
+        results.wrap(Tag::context_constructed(1));
+        results.wrap(Tag::context_constructed(4));
+        front_id(&mut results, id);
+        results.wrap(Tag::context_constructed(1));
+        finish(results)
     }
 }
 
+// Writes an invoke id in front of what was written.
+fn front_id(writer: &mut Writer, id: u32)
+    requires { length writer.old.heads + 14 ≤ 32 }
+    ensures { writer.new ≡ record writer.old
+        { heads = element int_tag (integer_octets (pos id)) ++ writer.old.heads } }
+{
+    writer.front_int(Tag::universal(2), i64::from(id));
+}
+
+// Whether results are held; they are given up where they are not.
+fn held(results: &mut Writer) -> Result<(), EncodeFault>
+    ensures { Held results.old result results.new }
+{
+    if results.is_over() {
+        results.clear();
+        return Err(EncodeFault::TooLong);
+    }
+    Ok(())
+}
+
+// Writes the result of one variable.
+fn put_result(writer: &mut Writer, outcome: Option<u8>)
+    ensures { writer.new ≡ put writer.old (result_text outcome) }
+{
+    match outcome {
+        Some(cause) => writer.int(Tag::context(0), i64::from(cause)),
+        None => writer.octets(Tag::context(1), &[]),
+    }
+}
+
+// Writes the results of variables.
+#[tactic(auto, using(bay_ber::proofs::SheetLemmas::sheet_rules))]
+fn put_results(writer: &mut Writer, results: &[Option<u8>])
+    ensures { writer.new ≡ put writer.old
+        (element (constructed 5) (flat_map result_text results.now)) }
+{
+    let start = writer.open(Tag::context_constructed(5));
+    for outcome in results {
+        put_result(writer, *outcome);
+    }
+    writer.close(start);
+}
+
 /// The results of a write so far, which contracts see as their octets. Each call appends one
-/// result, in the order of the variables; after a call that fails the results are given up.
+/// result, in the order of the variables.
 #[derive(Drop)]
 pub struct WriteResponse {
     alloc: Global,
-    results: Writer,
+    // The number of the error, where a variable is not written.
+    results: Vec<Option<u8>>,
 }
 
 impl Model for WriteResponse {
     ghost use Rattle.std.specs.Prelude.{ℕ, List};
+    ghost use Rattle.std.specs.List.{flat_map};
+    ghost use Rattle.bay_mms.specs.Responses.{result_text};
 
     ghost Value = { List ℕ };
 
-    ghost view = { λ r. r.results };
+    ghost view = { λ r. flat_map result_text r.results.items };
 }
 
 impl WriteResponse {
@@ -101,30 +164,38 @@ impl WriteResponse {
     {
         WriteResponse {
             alloc,
-            results: Writer::new(alloc),
+            results: Vec::new(alloc),
         }
     }
 
     /// The variable was written.
-    pub fn success(&mut self) -> Result<(), EncodeFault>
-        ensures { Adds self.old result self.new success_result }
+    pub fn success(&mut self) -> Result<(), AllocError>
+        ensures { OnOk result (self.new ≡ self.old ++ success_result) }
     {
-        put_octets(&mut self.results, Tag::context(1), &[])
+        self.results.push(None)?;
+        Ok(())
     }
 
     /// The number of an error (ISO 9506-2, DataAccessError).
-    pub fn failure(&mut self, cause: u8) -> Result<(), EncodeFault>
-        ensures { Adds self.old result self.new (failure_result cause) }
+    pub fn failure(&mut self, cause: u8) -> Result<(), AllocError>
+        ensures { OnOk result (self.new ≡ self.old ++ failure_result cause) }
     {
-        put_integer(&mut self.results, 0, i64::from(cause))
+        self.results.push(Some(cause))?;
+        Ok(())
     }
 
-    /// The response under an invoke id; TooLong as for a read.
-    pub fn finish(self, id: u32) -> Result<Vec<u8>, EncodeFault>
+    /// The response under an invoke id; TooLong where it has more octets than the size.
+    #[tactic(auto, using(bay_ber::proofs::SheetLemmas::sheet_rules, bay_ber::proofs::SheetLemmas::message_put))]
+    pub fn finish(self, id: u32, size: u32) -> Result<Vec<u8>, EncodeFault>
         ensures { Gives EncodeFault.OutOfMemory (λ octets. octets.items) result
-            (written (write_text id self)) }
+            (written size (write_text id self)) }
     {
         let WriteResponse { alloc, results } = self;
-        write_content(alloc, id, 5, results.finish().as_slice())
+        let mut writer = Writer::new(alloc, size)?;
+        let start = writer.open(Tag::context_constructed(1));
+        put_id(&mut writer, id);
+        put_results(&mut writer, results.as_slice());
+        writer.close(start);
+        finish(writer)
     }
 }

@@ -48,19 +48,16 @@ selected c k item r o new answer text results after is told has =
     ∙ ap of_bay after
 
 pub selected_long : (c : Client) (k : ℕ) (item : List ℕ) (r : Reading) (o : Outcome)
-    (answer : Result (Unit {0}) AddCause) (text : List ℕ)
+    (answer : Result (Unit {0}) AddCause) (text : List ℕ) (size : ℕ)
     → answer ≡ o.answer → text ≡ selected_text (object_of r.bay item) answer
-    → 4294967296 ≤ length (text_result text)
-    → 4294967296 ≤ length (select_done c k item r o).results
-selected_long c k item r o answer text is told long =
-    let same : text_result text ≡ text_result (selected_text (object_of r.bay item) o.answer) =
-    ap text_result (told ∙ ap (selected_text (object_of r.bay item)) is) in
-    omega (
-      arith,
-      long,
-      ap length same,
-      length-append r.results (text_result (selected_text (object_of r.bay item) o.answer)),
-    )
+    → size < length (r.results ++ text_result text)
+    → size < length (select_done c k item r o).results
+selected_long c k item r o answer text size is told long =
+    let same : r.results ++ text_result text
+    ≡ r.results ++ text_result (selected_text (object_of r.bay item) o.answer) =
+    ap (λ (t : List ℕ). r.results ++ text_result t)
+    (told ∙ ap (selected_text (object_of r.bay item)) is) in
+    omega (arith, long, ap length same)
 
 -- the object is named by the domain, which stays
 pub object_kept : (b new : Bay) (s : _) (item : List ℕ) → new ≡ with_controls s b
@@ -100,12 +97,13 @@ grows_all c (name ∷ names) r =
     omega (arith, grows_row c r (row_named r.bay name), grows_all c names (read_one c name r))
 
 -- a variable whose results are too long makes all too long
-pub long_all : (c : Client) (names : List ObjectName) (i : ℕ) (d : ObjectName) (first r : Reading)
+pub long_all : (c : Client) (size : ℕ) (names : List ObjectName) (i : ℕ) (d : ObjectName)
+    (first r : Reading)
     → read_all c (map naming names) first ≡ read_all c (map naming (drop i names)) r
     → i < length names
-    → 4294967296 ≤ length (read_one c (naming (get_or names i d)) r).results
-    → 4294967296 ≤ length (read_all c (map naming names) first).results
-long_all c names i d first r so within long =
+    → size < length (read_one c (naming (get_or names i d)) r).results
+    → size < length (read_all c (map naming names) first).results
+long_all c size names i d first r so within long =
     let name = naming (get_or names i d) in
     let rest = map naming (drop (i + 1) names) in
     let is : map naming (drop i names) ≡ name ∷ rest =

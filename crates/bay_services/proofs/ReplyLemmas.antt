@@ -1,6 +1,8 @@
 -- Answers within the size of a PDU.
-use Rattle.std.proofs.Common.{◌≡◌, ◌≤◌, ℕ, Bool, true, false, cond, nat_le, nat_lt, List, ◌++◌, length, Option, Some, None, Result, Ok, Err, IfOk, OnOk, IfErr, ◌⊎◌, inl, inr, pos, Vec, Global, is_ok, refl, ap, sym, subst, ◌∙◌, arith}
-use Rattle.std.proofs.lemmas.Bool.Decides.{nat_tests}
+use Rattle.std.proofs.Common.{◌≡◌, ◌<◌, ◌≤◌, ℕ, Bool, true, false, cond, nat_le, List, ◌++◌, length, Option, Some, None, Result, Ok, Err, IfOk, IfSome, OnOk, IfErr, ◌⊎◌, inl, inr, pos, Vec, Global, is_ok, refl, ap, sym, subst, ◌∙◌, arith}
+use Rattle.std.proofs.lemmas.Bool.{cases_lt, le-leb, lt-leb}
+use Rattle.bay_base.specs.Exact.{Gives}
+use Rattle.bay_ber.proofs.SheetLemmas.{past, fits as fits_limit}
 use Rattle.std.specs.declared.alloc.AllocError.{AllocError}
 use Rattle.std.proofs.lemmas.List.{length-append}
 use Rattle.bay_ber.specs.Writing.{element, integer_octets}
@@ -106,33 +108,70 @@ pub mapped : (r : Result (Unit {0}) AllocError) (P R : Type 0) → OnOk r P → 
 mapped (Ok done) P R p f = f p
 mapped (Err e) P R p f = tt
 
-pub added : (r : Result (Unit {0}) EncodeFault) (old new text : List ℕ) (P : Type 0)
-    → Adds old r new text → (new ≡ old ++ text → P) → OnOk r P
-added (Ok done) old new text P adds f = f adds
-added (Err e) old new text P adds f = tt
+pub added : (r : Result (Unit {0}) EncodeFault) (size : ℕ) (old new text : List ℕ) (P : Type 0)
+    → Adds size old r new text → (new ≡ old ++ text → P) → OnOk r P
+added (Ok done) size old new text P adds f = f adds
+added (Err e) size old new text P adds f = tt
 
-pub too_long : (r : Result (Unit {0}) EncodeFault) (old new text : List ℕ) (P : Type 0)
-    → Adds old r new text → (4294967296 ≤ length text → P) → IfErr r (λ fault. fault ≡ TooLong → P)
-too_long (Ok done) old new text P adds f = tt
-too_long (Err TooLong) old new text P adds f = λ is. f adds
-too_long (Err OutOfMemory) old new text P adds f = λ is. absurd cc
+pub too_long : (r : Result (Unit {0}) EncodeFault) (size : ℕ) (old new text : List ℕ) (P : Type 0)
+    → Adds size old r new text → (size < length (old ++ text) → P)
+    → IfErr r (λ fault. fault ≡ TooLong → P)
+too_long (Ok done) size old new text P adds f = tt
+too_long (Err TooLong) size old new text P adds f = λ is. f adds
+too_long (Err OutOfMemory) size old new text P adds f = λ is. absurd cc
 
 -- ---- texts that are short enough
 
-pub is_written : (text : List ℕ) → length text ≤ 65000 → written text ≡ Ok text
-is_written text few =
-    let test : nat_lt (length text) 4294967296 ≡ true = grind (arith, nat_tests) in
-    rw test refl
+pub is_written : (size : ℕ) (text : List ℕ) → length text ≤ size → written size text ≡ Ok text
+is_written size text few = rw (fits_limit size text few) refl
 
-pub over_written : (text : List ℕ) → 4294967296 ≤ length text → written text ≡ Err TooLong
-over_written text long =
-    let test : nat_lt (length text) 4294967296 ≡ false = grind (arith, nat_tests) in
-    rw test refl
+over_written : (size : ℕ) (text : List ℕ) → size < length text → written size text ≡ Err TooLong
+over_written size text long = rw (past size text long) refl
 
-pub fault_told : (e : EncodeFault) (text : List ℕ) → (e ≡ TooLong → 4294967296 ≤ length text)
-    → (e ≡ OutOfMemory) ⊎ (written text ≡ Err e)
-fault_told TooLong text long = inr (over_written text (long refl))
-fault_told OutOfMemory text long = inl refl
+pub fault_told : (e : EncodeFault) (size : ℕ) (text : List ℕ)
+    → (e ≡ TooLong → size < length text) → (e ≡ OutOfMemory) ⊎ (written size text ≡ Err e)
+fault_told TooLong size text long = inr (over_written size text (long refl))
+fault_told OutOfMemory size text long = inl refl
+
+pub fits_given : (size : ℕ) (pdu octets : List ℕ) → written size pdu ≡ Ok octets
+    → fitting size pdu ≡ Some octets
+fits_given size pdu octets is =
+    elim (cases_lt size (length pdu)) [
+      | inl long ↦ let e : Err TooLong ≡ Ok octets = sym (over_written size pdu long) ∙ is in cc
+      | inr few ↦
+          let e : Ok pdu ≡ Ok octets = sym (is_written size pdu few) ∙ is in
+          let same : pdu ≡ octets = cc in
+          rw (le-leb (length pdu) size few) (ap Some same)
+    ]
+
+long_given : (size : ℕ) (pdu : List ℕ)
+    → (TooLong ≡ OutOfMemory) ⊎ (written size pdu ≡ Err TooLong) → fitting size pdu ≡ None
+long_given size pdu (inl memory) = cc
+long_given size pdu (inr is) =
+    elim (cases_lt size (length pdu)) [
+      | inl long ↦ rw (lt-leb (length pdu) size long) refl
+      | inr few ↦ let e : Ok pdu ≡ Err TooLong = sym (is_written size pdu few) ∙ is in cc
+    ]
+
+long_told : (made : Result (Vec ℕ Global) EncodeFault) (e : EncodeFault) (size : ℕ)
+    (pdu : List ℕ) → made ≡ Err e → e ≡ TooLong
+    → Gives OutOfMemory (λ (octets : Vec ℕ Global). octets.items) made (written size pdu)
+    → fitting size pdu ≡ None
+long_told made e size pdu is told gives = long_given size pdu (rw (is, told) at gives)
+
+pub lost_told : (r : Result (Option (List ℕ)) AllocError) (made : Result (Vec ℕ Global) EncodeFault)
+    (e : EncodeFault) (size : ℕ) (pdu : List ℕ) → made ≡ Err e
+    → IfOk r (λ found. (found ≡ None) × (e ≡ TooLong))
+    → Gives OutOfMemory (λ (octets : Vec ℕ Global). octets.items) made (written size pdu)
+    → IfOk r (λ found. found ≡ fitting size pdu)
+lost_told (Ok found) made e size pdu is h gives =
+    h.0 ∙ sym (long_told made e size pdu is h.1 gives)
+lost_told (Err none) made e size pdu is h gives = tt
+
+pub lost_none : (r : Result (Option (List ℕ)) AllocError) (P Q : Type 0)
+    → IfOk r (λ found. (found ≡ None) × P) → IfOk r (λ found. IfSome found (λ octets. Q))
+lost_none (Ok found) P Q h = rw h.0 tt
+lost_none (Err none) P Q h = tt
 
 -- a response has its results in it
 element_more : (tag : Tag) (content : List ℕ) → length content ≤ length (element tag content)

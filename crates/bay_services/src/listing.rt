@@ -26,31 +26,43 @@ const NAMED_VARIABLE: i64 = 0;
 const DOMAIN: i64 = 9;
 
 // The error that there is no such object.
-fn write_unknown(alloc: Global, id: u32) -> Result<Vec<u8>, EncodeFault>
+fn write_unknown(alloc: Global, client: Client, id: u32) -> Result<Vec<u8>, EncodeFault>
+    requires { 256 ≤ client.size }
     ensures { Gives EncodeFault.OutOfMemory (λ octets. octets.items) result
-        (written (error_text id NoSuchObject)) }
+        (written client.size (error_text id NoSuchObject)) }
 {
     let error = write_error(alloc, id, ErrorClass::NoSuchObject)?;
     Ok(error)
 }
 
 // A list of these names, behind which no more stand.
-fn write_names(alloc: Global, id: u32, names: &[Text]) -> Result<Vec<u8>, EncodeFault>
+fn write_names(
+    alloc: Global,
+    client: Client,
+    id: u32,
+    names: &[Text],
+) -> Result<Vec<u8>, EncodeFault>
     ensures { Gives EncodeFault.OutOfMemory (λ octets. octets.items) result
-        (written (page_text id names.now false)) }
+        (written client.size (page_text id names.now false)) }
 {
     let service = Service::Names { names, more: false };
-    write_response(alloc, &Response::Confirmed { id, service })
+    write_response(alloc, &Response::Confirmed { id, service }, client.size)
 }
 
 // No names.
-fn write_none(alloc: Global, id: u32, after: Option<&[u8]>) -> Result<Vec<u8>, EncodeFault>
+fn write_none(
+    alloc: Global,
+    client: Client,
+    id: u32,
+    after: Option<&[u8]>,
+) -> Result<Vec<u8>, EncodeFault>
+    requires { 256 ≤ client.size }
     ensures { Gives EncodeFault.OutOfMemory (λ octets. octets.items) result
-        (written (no_names id (option_copied after.entry))) }
+        (written client.size (no_names id (option_copied after.entry))) }
 {
     match after {
-        None => write_names(alloc, id, &[]),
-        Some(_) => write_unknown(alloc, id),
+        None => write_names(alloc, client, id, &[]),
+        Some(_) => write_unknown(alloc, client, id),
     }
 }
 
@@ -59,22 +71,24 @@ impl ServedBay {
     fn write_domain(
         &self,
         alloc: Global,
+        client: Client,
         id: u32,
         after: Option<&[u8]>,
     ) -> Result<Vec<u8>, EncodeFault>
+        requires { 256 ≤ client.size }
         ensures { Gives EncodeFault.OutOfMemory (λ octets. octets.items) result
-            (written (domain_names id (bay_view self.now) (option_copied after.entry))) }
+            (written client.size (domain_names id (bay_view self.now) (option_copied after.entry))) }
     {
         match after {
             None => {
                 let domain = Text::from_str(alloc, self.domain.as_str())?;
-                write_names(alloc, id, &[domain])
+                write_names(alloc, client, id, &[domain])
             }
             Some(name) => {
                 if name == self.domain.as_str().as_bytes() {
-                    write_names(alloc, id, &[])
+                    write_names(alloc, client, id, &[])
                 } else {
-                    write_unknown(alloc, id)
+                    write_unknown(alloc, client, id)
                 }
             }
         }
@@ -91,11 +105,11 @@ impl ServedBay {
         requires least { 256 ≤ client.size }
         requires most { client.size ≤ 65_000 }
         ensures { Gives EncodeFault.OutOfMemory (λ octets. octets.items) result
-            (written (variable_names client id (bay_view self.now) (option_copied after.entry))) }
+            (written client.size (variable_names client id (bay_view self.now) (option_copied after.entry))) }
     {
         match write_page(alloc, id, &self.tree, after, client.size) {
             Ok(page) => Ok(page),
-            Err(NamesFault::NoSuchName) => write_unknown(alloc, id),
+            Err(NamesFault::NoSuchName) => write_unknown(alloc, client, id),
             Err(NamesFault::OutOfMemory) => Err(EncodeFault::OutOfMemory),
         }
     }
@@ -113,16 +127,16 @@ impl ServedBay {
         requires least { 256 ≤ client.size }
         requires most { client.size ≤ 65_000 }
         ensures { Gives EncodeFault.OutOfMemory (λ octets. octets.items) result
-            (written (listing client id class (in_domain domain.now) (option_copied after.entry)
+            (written client.size (listing client id class (in_domain domain.now) (option_copied after.entry)
             (bay_view self.now))) }
     {
         if domain != self.domain.as_str().as_bytes() {
-            return write_unknown(alloc, id);
+            return write_unknown(alloc, client, id);
         }
         if class == NAMED_VARIABLE {
             self.write_variables(alloc, client, id, after)
         } else {
-            write_none(alloc, id, after)
+            write_none(alloc, client, id, after)
         }
     }
 
@@ -139,20 +153,20 @@ impl ServedBay {
         requires least { 256 ≤ client.size }
         requires most { client.size ≤ 65_000 }
         ensures { Gives EncodeFault.OutOfMemory (λ octets. octets.items) result
-            (written (listing client id class.now (place scope.now) (option_copied after.entry)
+            (written client.size (listing client id class.now (place scope.now) (option_copied after.entry)
             (bay_view self.now))) }
     {
         let class = *class;
         match scope {
             Scope::Vmd => {
                 if class == DOMAIN {
-                    self.write_domain(alloc, id, after)
+                    self.write_domain(alloc, client, id, after)
                 } else {
-                    write_none(alloc, id, after)
+                    write_none(alloc, client, id, after)
                 }
             }
             Scope::Domain(domain) => self.write_in_domain(alloc, client, id, class, domain, after),
-            Scope::Association => write_none(alloc, id, after),
+            Scope::Association => write_none(alloc, client, id, after),
         }
     }
 }

@@ -65,13 +65,14 @@ impl ServedBay {
         response: &mut ReadResponse,
     ) -> Result<(), EncodeFault>
         requires { IsHandle self.old.tree row }
-        ensures ok { OnOk result (reading self.new response.new
-            ≡ select_done client switch (name_at self.old.tree row) (reading self.old response.old)
+        ensures ok { OnOk result (reading self.new response.new.octets
+            ≡ select_done client switch (name_at self.old.tree row) (reading self.old response.old.octets)
             (select_outcome client.association switch client.now self.old.controls)) }
         ensures long { IfErr result (λ fault. fault ≡ TooLong
-            → 4294967296 ≤ length (select_done client switch (name_at self.old.tree row)
-            (reading self.old response.old)
+            → response.old.size < length (select_done client switch (name_at self.old.tree row)
+            (reading self.old response.old.octets)
             (select_outcome client.association switch client.now self.old.controls)).results) }
+        ensures size { response.new.size ≡ response.old.size }
         ensures back { (standing : Standing)
             → standing_again standing (bay_view self.new)
             ≡ standing_again standing (bay_view self.old) }
@@ -97,12 +98,13 @@ impl ServedBay {
     ) -> Result<(), EncodeFault>
         requires { IsFound self.old.tree row }
         ensures ok { OnOk result
-            (reading self.new response.new
-            ≡ spec.read_row client (reading self.old response.old) (Some row)) }
+            (reading self.new response.new.octets
+            ≡ spec.read_row client (reading self.old response.old.octets) (Some row)) }
         ensures long { IfErr result
             (λ fault. fault ≡ TooLong
-            → 4294967296 ≤ length (spec.read_row client (reading self.old response.old)
+            → response.old.size < length (spec.read_row client (reading self.old response.old.octets)
             (Some row)).results) }
+        ensures size { response.new.size ≡ response.old.size }
         ensures back { (standing : Standing)
             → standing_again standing (bay_view self.new)
             ≡ standing_again standing (bay_view self.old) }
@@ -129,12 +131,13 @@ impl ServedBay {
         response: &mut ReadResponse,
     ) -> Result<(), EncodeFault>
         ensures ok { OnOk result
-            (reading self.new response.new
-            ≡ spec.read_one client (naming name.now) (reading self.old response.old)) }
+            (reading self.new response.new.octets
+            ≡ spec.read_one client (naming name.now) (reading self.old response.old.octets)) }
         ensures long { IfErr result
             (λ fault. fault ≡ TooLong
-            → 4294967296 ≤ length (spec.read_one client (naming name.now)
-            (reading self.old response.old)).results) }
+            → response.old.size < length (spec.read_one client (naming name.now)
+            (reading self.old response.old.octets)).results) }
+        ensures size { response.new.size ≡ response.old.size }
         ensures back { (standing : Standing)
             → standing_again standing (bay_view self.new)
             ≡ standing_again standing (bay_view self.old) }
@@ -156,12 +159,13 @@ impl ServedBay {
         response: &mut ReadResponse,
     ) -> Result<(), EncodeFault>
         ensures ok { OnOk result
-            (reading self.new response.new
-            ≡ spec.read_all client (map naming names.now) (reading self.old response.old)) }
+            (reading self.new response.new.octets
+            ≡ spec.read_all client (map naming names.now) (reading self.old response.old.octets)) }
         ensures long { IfErr result
             (λ fault. fault ≡ TooLong
-            → 4294967296 ≤ length (spec.read_all client (map naming names.now)
-            (reading self.old response.old)).results) }
+            → response.old.size < length (spec.read_all client (map naming names.now)
+            (reading self.old response.old.octets)).results) }
+        ensures size { response.new.size ≡ response.old.size }
         ensures back { (standing : Standing)
             → standing_again standing (bay_view self.new)
             ≡ standing_again standing (bay_view self.old) }

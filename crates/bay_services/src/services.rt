@@ -91,10 +91,11 @@ fn responded(
     response: Result<Vec<u8>, EncodeFault>,
 ) -> Result<Answer, AllocError>
     ensures { (pdu : List ℕ) (b : Bay)
-        → Gives EncodeFault.OutOfMemory (λ octets. octets.items) response (written pdu)
+        → Gives EncodeFault.OutOfMemory (λ octets. octets.items) response
+        (written client.size pdu)
         → IfOk result (λ answer. AnswersAs answer b (spec.responded client id b pdu)) }
 {
-    match fitting(client.size, response)? {
+    match fitting(response)? {
         Some(pdu) => said(alloc, pdu),
         None => failed(alloc, id, ErrorClass::Resource),
     }
@@ -111,7 +112,7 @@ impl ServedBay {
             model: self.model.as_str(),
             revision: self.revision.as_str(),
         };
-        let response = write_response(alloc, &Response::Confirmed { id, service });
+        let response = write_response(alloc, &Response::Confirmed { id, service }, client.size);
         responded(alloc, client, id, response)
     }
 
@@ -131,7 +132,11 @@ impl ServedBay {
             Some(handle) => {
                 let tree = &self.tree;
                 let service = Service::Attributes { tree, handle };
-                let response = write_response(alloc, &Response::Confirmed { id, service });
+                let response = write_response(
+                    alloc,
+                    &Response::Confirmed { id, service },
+                    client.size,
+                );
                 responded(alloc, client, id, response)
             }
             None => failed(alloc, id, ErrorClass::NoSuchObject),
@@ -147,7 +152,7 @@ impl ServedBay {
         names: &[ObjectName<'_>],
     ) -> Result<Vec<u8>, EncodeFault>
         ensures response { Gives EncodeFault.OutOfMemory (λ octets. octets.items) result
-            (written (read_text id
+            (written client.size (read_text id
             (read_all client (map naming names.now) (nothing_read (bay_view self.old))).results)) }
         ensures after { OnOk result
             (bay_view self.new ≡ (read_all client (map naming names.now)
@@ -158,7 +163,7 @@ impl ServedBay {
         ensures switches { self.new.switches ≡ self.old.switches }
         ensures layout { layout_of self.new.tree ≡ layout_of self.old.tree }
     {
-        let mut response = ReadResponse::new(alloc);
+        let mut response = ReadResponse::new(alloc, client.size)?;
         self.read_all(alloc, client, names, &mut response)?;
         response.finish(id)
     }
@@ -183,7 +188,7 @@ impl ServedBay {
     {
         let before = self.standing();
         let response = self.read_response(alloc, client, id, names);
-        match fitting(client.size, response)? {
+        match fitting(response)? {
             Some(pdu) => said(alloc, pdu),
             None => {
                 self.restore(before);
@@ -225,7 +230,7 @@ impl ServedBay {
             commands,
             ending,
         } = done;
-        match fitting(client.size, response.finish(id))? {
+        match fitting(response.finish(id, client.size))? {
             Some(pdu) => {
                 reports.push(pdu)?;
                 Ok(Answer {

@@ -28,7 +28,6 @@ use bay_control::cause::AddCause;
 use bay_control::request::{Ask, Origin};
 use bay_mms::control::{Cancel, Operate, cancel_of, operate_of};
 use bay_mms::data::Data;
-use bay_mms::fault::EncodeFault;
 use bay_mms::report::{ControlError, write_failed_termination, write_failure, write_termination};
 use bay_mms::request::ObjectName;
 use bay_mms::results::WriteResponse;
@@ -58,28 +57,6 @@ pub struct Written {
     pub reports: Vec<Listing<u8>>,
     pub commands: Vec<Command>,
     pub ending: Option<Ending>,
-}
-
-// Puts down that a variable is written.
-fn succeed(response: &mut WriteResponse) -> Result<(), AllocError>
-    ensures { OnOk result (response.new ≡ response.old ++ success_result) }
-{
-    match response.success() {
-        Ok(()) => Ok(()),
-        Err(EncodeFault::OutOfMemory) => Err(AllocError),
-        Err(EncodeFault::TooLong) => unreachable!(),
-    }
-}
-
-// Puts down that it is not, by the number of the error.
-fn fail(response: &mut WriteResponse, cause: u8) -> Result<(), AllocError>
-    ensures { OnOk result (response.new ≡ response.old ++ failure_result cause) }
-{
-    match response.failure(cause) {
-        Ok(()) => Ok(()),
-        Err(EncodeFault::OutOfMemory) => Err(AllocError),
-        Err(EncodeFault::TooLong) => unreachable!(),
-    }
 }
 
 // What is asked of the controls.
@@ -156,7 +133,7 @@ impl ServedBay {
             ctl_num: control.ctl_num,
             add_cause: why.code(),
         };
-        if let Some(report) = fitting(client.size, write_failure(alloc, &error))? {
+        if let Some(report) = fitting(write_failure(alloc, &error, client.size))? {
             reports.push(report)?;
         }
         Ok(())
@@ -182,7 +159,7 @@ impl ServedBay {
         ensures commands { written.new.commands ≡ written.old.commands }
         ensures ending { written.new.ending ≡ written.old.ending }
     {
-        fail(&mut written.response, DENIED)?;
+        written.response.failure(DENIED)?;
         self.report_refusal(alloc, client, part, control, why, &mut written.reports)
     }
 
@@ -206,7 +183,7 @@ impl ServedBay {
         ensures ending { written.new.ending ≡ written.old.ending }
     {
         match answer {
-            Ok(()) => succeed(&mut written.response),
+            Ok(()) => written.response.success(),
             Err(why) => self.refuse(alloc, client, part, control, why, written),
         }
     }
@@ -232,7 +209,7 @@ impl ServedBay {
     {
         let operate = match operate_of(given) {
             Ok(operate) => operate,
-            Err(fault) => return fail(&mut written.response, fault.code()),
+            Err(fault) => return written.response.failure(fault.code()),
         };
         let answer = self.select_with(client, part.switch, ask_of(&operate));
         self.put_decision(alloc, client, part, &control_of(&operate), answer, written)
@@ -260,7 +237,7 @@ impl ServedBay {
     {
         let cancel = match cancel_of(given) {
             Ok(cancel) => cancel,
-            Err(fault) => return fail(&mut written.response, fault.code()),
+            Err(fault) => return written.response.failure(fault.code()),
         };
         let answer = self.cancel(client, part.switch);
         self.put_decision(alloc, client, part, &cancel, answer, written)
@@ -288,11 +265,11 @@ impl ServedBay {
             ctl_num: operate.ctl_num,
             add_cause: AddCause::TimeLimitOver.code(),
         };
-        let positive = write_termination(alloc, domain, item, operate);
-        let negative = write_failed_termination(alloc, &error, domain, item, operate);
+        let positive = write_termination(alloc, domain, item, operate, client.size);
+        let negative = write_failed_termination(alloc, &error, domain, item, operate, client.size);
         Ok(Ending {
-            positive: fitting(client.size, positive)?,
-            negative: fitting(client.size, negative)?,
+            positive: fitting(positive)?,
+            negative: fitting(negative)?,
         })
     }
 
@@ -318,7 +295,7 @@ impl ServedBay {
             (endings client part.switch (name_at self.now.tree part.row) (operating operate.now)
             (bay_view self.now) (Ok tt))) }
     {
-        succeed(&mut written.response)?;
+        written.response.success()?;
         written.commands.push(Command {
             switch: part.switch,
             on: operate.ctl_val,
@@ -353,7 +330,7 @@ impl ServedBay {
     {
         let operate = match operate_of(given) {
             Ok(operate) => operate,
-            Err(fault) => return fail(&mut written.response, fault.code()),
+            Err(fault) => return written.response.failure(fault.code()),
         };
         match self.operate(client, part.switch, ask_of(&operate)) {
             Ok(()) => self.accept(alloc, client, part, &operate, written),
@@ -382,14 +359,14 @@ impl ServedBay {
     {
         let target = match self.target(row) {
             Some(target) => target,
-            None => return fail(&mut written.response, DENIED),
+            None => return written.response.failure(DENIED),
         };
         let part = Part {
             switch: target.switch,
             row,
         };
         match target.part {
-            ControlPart::Select => fail(&mut written.response, DENIED),
+            ControlPart::Select => written.response.failure(DENIED),
             ControlPart::SelectWith => self.write_select_with(alloc, client, part, given, written),
             ControlPart::Operate => self.write_operate(alloc, client, part, given, written),
             ControlPart::Cancel => self.write_cancel(alloc, client, part, given, written),
@@ -417,7 +394,7 @@ impl ServedBay {
     {
         match self.row_named(name) {
             Some(row) => self.write_row(alloc, client, row, given, written),
-            None => fail(&mut written.response, NO_SUCH_OBJECT),
+            None => written.response.failure(NO_SUCH_OBJECT),
         }
     }
 

@@ -1,8 +1,8 @@
 // Values of BER, one by one and one after another, and the octets that they are written in.
-ghost use Rattle.std.specs.Prelude.{◌<◌, ◌≤◌};
+ghost use Rattle.std.specs.Prelude.{◌<◌, IfOk};
 
 use anyhow::{Context, Result, bail};
-use bay_ber::content::{Bits, bits_of, bool_of, int_of};
+use bay_ber::content::{bits_of, bool_of, int_of};
 use bay_ber::fault::BerFault;
 use bay_ber::tag::{Class, Tag};
 use bay_ber::tlv::read_tlv;
@@ -13,8 +13,8 @@ use cases::told::{check, check_text};
 use cases::words::first_word;
 use std::alloc::Global;
 
-/// The most octets of a content that is written.
-const MOST: usize = 16_777_216;
+/// The most octets that are written.
+const MOST: usize = 16_777_300;
 
 /// A tag: `u`, `a`, `c` or `p` for its class, `+` where it is constructed, and its number.
 fn tag_of(word: &str) -> Result<Tag> {
@@ -92,41 +92,26 @@ fn content_text(alloc: Global, kind: &str, content: &[u8]) -> Result<String> {
     })
 }
 
-/// Bits: how many, and the octets that hold them.
-fn put_bits(writer: &mut Writer, tag: Tag, count: &str, octets: &[u8]) -> Result<()>
-    requires { tag.number < 31 }
+/// Writes octets under a tag within a value of another.
+#[tactic(auto, using(bay_ber::proofs::SheetLemmas::sheet_rules))]
+fn put_nested(writer: &mut Writer, outer: Tag, inner: Tag, octets: &[u8])
+    requires outer { outer.number < 31 }
+    requires inner { inner.number < 31 }
 {
-    let count = count.parse::<usize>()?;
-    if octets.len() > 8 || count > 8 * octets.len() {
-        bail!("{count} bits");
-    }
-    Ok(writer.bits(tag, Bits { octets, count })?)
+    let start = writer.open(outer);
+    writer.octets(inner, octets);
+    writer.close(start);
 }
 
-/// Makes what was written since a place the content of a value.
-fn nest_from(writer: &mut Writer, tag: Tag, place: &str) -> Result<()>
-    requires { tag.number < 31 }
+/// A tag that is written in one octet.
+fn low_tag_of(word: &str) -> Result<Tag>
+    ensures { IfOk result (λ tag. tag.number < 31) }
 {
-    let start = place.parse::<usize>()?;
-    let len = writer.len();
-    if start > len || len - start > MOST {
-        bail!("no place: {place}");
+    let tag = tag_of(word)?;
+    if tag.number > 30 {
+        bail!("a tag of two octets: {word}");
     }
-    Ok(writer.nest_from(start, tag)?)
-}
-
-/// Writes octets of a kind under a tag: as they are, as bits, or the others into them.
-fn put_octets(writer: &mut Writer, kind: &str, tag: Tag, octets: &[u8]) -> Result<()>
-    requires { tag.number < 31 }
-{
-    if octets.len() > MOST {
-        bail!("too many octets");
-    }
-    match kind {
-        "octets" => Ok(writer.octets(tag, octets)?),
-        "nest" => Ok(writer.nest(tag, octets)?),
-        _ => put_bits(writer, tag, kind, octets),
-    }
+    Ok(tag)
 }
 
 /// Writes a value of a kind under a tag.
@@ -134,39 +119,43 @@ fn put(alloc: Global, writer: &mut Writer, kind: &str, tag: Tag, what: &str) -> 
     requires { tag.number < 31 }
 {
     match kind {
-        "int" => Ok(writer.int(tag, what.parse::<i64>()?)?),
-        "bool" => Ok(writer.boolean(tag, what.parse::<bool>()?)?),
-        "text" if what.len() <= MOST => Ok(writer.text(tag, what)?),
-        "around" => nest_from(writer, tag, what),
+        "int" => writer.int(tag, what.parse::<i64>()?),
+        "bool" => writer.boolean(tag, what.parse::<bool>()?),
+        "text" => writer.octets(tag, what.as_bytes()),
+        "octets" => writer.octets(tag, octets_of(alloc, what)?.as_slice()),
         "nest" => {
-            let inner = std::mem::replace(writer, Writer::new(alloc)).finish();
-            put_octets(writer, kind, tag, inner.as_slice())
+            let (inner, octets) = what.split_once(":").context("no tag within")?;
+            let inner = low_tag_of(inner)?;
+            put_nested(writer, tag, inner, octets_of(alloc, octets)?.as_slice());
         }
-        _ => put_octets(writer, kind, tag, octets_of(alloc, what)?.as_slice()),
+        _ => bail!("what is written: {kind}"),
     }
+    Ok(())
 }
 
-/// Writes what a word says, `KIND:TAG:WHAT`, or looks how much was written, `len:COUNT`.
-fn put_word(alloc: Global, writer: &mut Writer, word: &str) -> Result<()> {
-    let (kind, rest) = word.split_once(":").context("no tag")?;
-    if kind == "len" {
-        return check(writer.len() == rest.parse::<usize>()?);
-    }
-    let (tag, what) = rest.split_once(":").unwrap_or((rest, "-"));
-    let tag = tag_of(tag)?;
-    if tag.number > 30 {
-        bail!("a tag of two octets: {word}");
-    }
-    put(alloc, writer, kind, tag, what)
-}
-
-/// The octets that are written by what the words say, one after another.
-fn check_built(alloc: Global, word: &str, words: &str) -> Result<()> {
-    let mut writer = Writer::new(alloc);
+/// What is written by what the words say, `KIND:TAG:WHAT`, if it is within the limit.
+fn built(alloc: Global, limit: u32, words: &str) -> Result<Option<Vec<u8>>> {
+    let mut writer = Writer::new(alloc, limit)?;
     for word in words.split(" ") {
-        put_word(alloc, &mut writer, word)?;
+        let (kind, rest) = word.split_once(":").context("no tag")?;
+        let (tag, what) = rest.split_once(":").context("no content")?;
+        put(alloc, &mut writer, kind, low_tag_of(tag)?, what)?;
     }
-    check_octets(alloc, writer.finish().as_slice(), word)
+    Ok(writer.finish())
+}
+
+/// The octets are written by what the words say, one after another, where the limit is their
+/// number, and are not where it is one less.
+fn check_built(alloc: Global, word: &str, words: &str) -> Result<()> {
+    let size = octets_of(alloc, word)?.len();
+    if size == 0 || size > MOST {
+        bail!("{size} octets are written");
+    }
+    let Some(written) = built(alloc, size as u32, words)? else {
+        bail!("not within {size} octets");
+    };
+    check_octets(alloc, written.as_slice(), word)?;
+    check(built(alloc, size as u32 - 1, words)?.is_none())
 }
 
 /// A case of BER: its kind, its octets, and what they are.

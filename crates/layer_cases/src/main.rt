@@ -9,8 +9,8 @@
 //   ..` values in turn, each as `TAG:CONTENT`, `end`, or `fault:NUMBER`, and `whole OCTETS VALUE`
 //   one value, or `none`. `int`, `bool` and `bits` are contents with what they spell, as Rust's
 //   `{:?}` prints it. `built OCTETS KIND:TAG:WHAT ..` are values that are written one after another
-//   (of bits the kind is their count; `nest` puts all of them into one, `around` those from a place
-//   on, and `len:COUNT` is how many octets there are), and `length COUNT LENGTH` is a value's.
+//   where they may have so many octets, and not one less (`nest:TAG:TAG:OCTETS` is a value within
+//   another), and `length COUNT LENGTH` is a value's.
 // - `transport`: `stream OCTETS ASSOCIATION DOING ..` are octets of a connection and what they come
 //   to, in pieces of 1, 3, 100 and 65,536 octets, and `wrap OCTETS TSDU FRAMES` is a TSDU in frames
 //   behind a request.

@@ -12,6 +12,9 @@ use cases::octets::octets_of;
 use cases::words::{first_word, truth_of, words_of};
 use std::alloc::Global;
 
+/// The most octets of a response or a report.
+const SIZE: u32 = 100_000;
+
 /// The names of a page.
 fn names_of(alloc: Global, words: &[&str]) -> Result<Vec<Text>> {
     let mut names = Vec::new(alloc);
@@ -35,7 +38,7 @@ fn add_read(response: &mut ReadResponse, tree: &Tree, word: &str) -> Result<()> 
 
 /// The octets of what is read of variables, each by a word.
 fn read(alloc: Global, tree: &Tree, id: u32, words: &[&str]) -> Result<Vec<u8>> {
-    let mut response = ReadResponse::new(alloc);
+    let mut response = ReadResponse::new(alloc, SIZE)?;
     for word in words {
         add_read(&mut response, tree, word)?;
     }
@@ -51,7 +54,7 @@ fn write(alloc: Global, id: u32, words: &[&str]) -> Result<Vec<u8>> {
             Err(_) => response.success()?,
         }
     }
-    Ok(response.finish(id)?)
+    Ok(response.finish(id, SIZE)?)
 }
 
 /// What is agreed: the size, how many may be outstanding on either side, the nesting or `-`, and
@@ -74,31 +77,31 @@ fn agreed_of(words: &[&str]) -> Result<Agreed> {
 /// named where one is written.
 fn plain(alloc: Global, kind: &str, id: Option<u32>, words: &[&str]) -> Result<Vec<u8>> {
     let written = match (kind, id, words) {
-        ("initiate", _, _) => write_response(alloc, &Response::Initiate(agreed_of(words)?)),
-        ("conclude", _, _) => write_response(alloc, &Response::Conclude),
+        ("initiate", _, _) => write_response(alloc, &Response::Initiate(agreed_of(words)?), SIZE),
+        ("conclude", _, _) => write_response(alloc, &Response::Conclude, SIZE),
         ("identify", Some(id), [_, vendor, model, revision]) => {
             let service = Service::Identify {
                 vendor,
                 model,
                 revision,
             };
-            write_response(alloc, &Response::Confirmed { id, service })
+            write_response(alloc, &Response::Confirmed { id, service }, SIZE)
         }
         ("error", Some(id), [_, "no-such-object"]) => {
             let class = ErrorClass::NoSuchObject;
-            write_response(alloc, &Response::Error { id, class })
+            write_response(alloc, &Response::Error { id, class }, SIZE)
         }
         ("error", Some(id), [_, "resource"]) => {
             let class = ErrorClass::Resource;
-            write_response(alloc, &Response::Error { id, class })
+            write_response(alloc, &Response::Error { id, class }, SIZE)
         }
         ("reject", id, [_, "unrecognized-service"]) => {
             let reason = RejectReason::UnrecognizedService;
-            write_response(alloc, &Response::Reject { id, reason })
+            write_response(alloc, &Response::Reject { id, reason }, SIZE)
         }
         ("reject", id, [_, "invalid-pdu"]) => {
             let reason = RejectReason::InvalidPdu;
-            write_response(alloc, &Response::Reject { id, reason })
+            write_response(alloc, &Response::Reject { id, reason }, SIZE)
         }
         _ => bail!("what response is this: {kind}"),
     };
@@ -112,14 +115,14 @@ fn page(alloc: Global, id: u32, more: &str, words: &[&str]) -> Result<Vec<u8>> {
         names: names.as_slice(),
         more: truth_of(more)?,
     };
-    Ok(write_response(alloc, &Response::Confirmed { id, service })?)
+    Ok(write_response(alloc, &Response::Confirmed { id, service }, SIZE)?)
 }
 
 /// The octets of the type of a row.
 fn attributes(alloc: Global, tree: &Tree, id: u32, name: &str) -> Result<Vec<u8>> {
     let handle = tree.find(name)?;
     let service = Service::Attributes { tree, handle };
-    Ok(write_response(alloc, &Response::Confirmed { id, service })?)
+    Ok(write_response(alloc, &Response::Confirmed { id, service }, SIZE)?)
 }
 
 /// The octets of a response: its kind, its invoke id, and the other words.
@@ -171,7 +174,7 @@ fn report(alloc: Global, kind: &str, words: &[&str], identity: &[u8]) -> Result<
     match (kind, words) {
         ("termination", [domain, item, operate @ ..]) => {
             let operate = operate_of(alloc, operate, identity)?;
-            Ok(write_termination(alloc, domain, item, &operate)?)
+            Ok(write_termination(alloc, domain, item, &operate, SIZE)?)
         }
         ("failed", [cause, object, domain, item, operate @ ..]) => {
             let operate = operate_of(alloc, operate, identity)?;
@@ -181,7 +184,7 @@ fn report(alloc: Global, kind: &str, words: &[&str], identity: &[u8]) -> Result<
                 ctl_num: operate.ctl_num,
                 add_cause: cause.parse::<u8>()?,
             };
-            Ok(write_failed_termination(alloc, &failure, domain, item, &operate)?)
+            Ok(write_failed_termination(alloc, &failure, domain, item, &operate, SIZE)?)
         }
         ("failure", [object, category, _, number, cause]) => {
             let failure = ControlError {
@@ -193,7 +196,7 @@ fn report(alloc: Global, kind: &str, words: &[&str], identity: &[u8]) -> Result<
                 ctl_num: number.parse::<u8>()?,
                 add_cause: cause.parse::<u8>()?,
             };
-            Ok(write_failure(alloc, &failure)?)
+            Ok(write_failure(alloc, &failure, SIZE)?)
         }
         _ => bail!("what report is this: {kind}"),
     }

@@ -65,11 +65,18 @@ fn leaf_of(alloc: Global, kind: &str, value: &str) -> Result<Option<Leaf>> {
     }))
 }
 
+/// The most octets of data and of types.
+const SIZE: u32 = 100_000;
+
 /// A row has these data, as they are written and as a tree.
 fn check_value(alloc: Global, tree: &Tree, name: &str, words: &str) -> Result<()> {
     let (octets, wanted) = first_word(words);
     let handle = tree.find(name)?;
-    check_written(alloc, write_value(alloc, tree, handle)?.as_slice(), octets)?;
+    check_written(
+        alloc,
+        write_value(alloc, tree, handle, SIZE)?.as_slice(),
+        octets,
+    )?;
     let data = data_of(alloc, tree, handle)?;
     check_text(format!(in alloc; "{data:?}")?.as_str(), wanted)
 }
@@ -78,7 +85,11 @@ fn check_value(alloc: Global, tree: &Tree, name: &str, words: &str) -> Result<()
 fn check_type(alloc: Global, tree: &Tree, name: &str, words: &str) -> Result<()> {
     let (octets, wanted) = first_word(words);
     let handle = tree.find(name)?;
-    check_written(alloc, write_type(alloc, tree, handle)?.as_slice(), octets)?;
+    check_written(
+        alloc,
+        write_type(alloc, tree, handle, SIZE)?.as_slice(),
+        octets,
+    )?;
     let kind = type_spec_of(alloc, tree, handle)?;
     check_text(format!(in alloc; "{kind:?}")?.as_str(), wanted)
 }

@@ -1,24 +1,33 @@
-use Rattle.std.proofs.Common.{List, ℕ, arith}
+use Rattle.std.proofs.Common.{◌≡◌, ◌∙◌, Some, is_none, ap}
+use Rattle.bay_ber.proofs.SheetLemmas.{short_message}
 use Rattle.bay_mms.specs.Pages.{first_page, names_from}
 use Rattle.bay_mms.proofs.PageLemmas.{first_page_short}
-use Rattle.bay_mms.proofs.ResponseLemmas.{text_given, never_long}
 use Rattle.bay_mms.proofs.page.write_page.Goals as goal
 
-pub unreachable-requires : goal.unreachable-requires
-unreachable-requires c =
+pub finish_held-requires : goal.finish_held-requires
+finish_held-requires c =
     let names = names_from c.args.tree.now c.in_ok-first.first in
-    let page : List ℕ = first_page c.args.id c.args.size names in
-    let short = first_page_short c.args.id c.args.size names c.requires.some in
-    never_long page (omega arith) (rw c.in-Err-TooLong.field-0-is at c.in-Err-TooLong.ensures)
+    ap is_none (short_message c.args.size (first_page c.args.id c.args.size names)
+    c.in_ok-writer.writer _ c.in_ok-writer.ensures c.put_page.ensures
+    (first_page_short c.args.id c.args.size names c.requires.some))
 
-pub returns-in-Ok-clause-page : goal.returns-in-Ok-clause-page
-returns-in-Ok-clause-page c =
+pub returns-clause-page : goal.returns-clause-page
+returns-clause-page c =
     let names = names_from c.args.tree.now c.in_ok-first.first in
-    rw (← c.in_ok-first.ensures.names)
-    (text_given (first_page c.args.id c.args.size names) _ c.in-Ok.ensures)
+    let page = first_page c.args.id c.args.size names in
+    let is : Some c.finish_held.result.items ≡ Some page =
+    c.finish_held.ensures ∙ short_message c.args.size page c.in_ok-writer.writer _
+    c.in_ok-writer.ensures c.put_page.ensures
+    (first_page_short c.args.id c.args.size names c.requires.some) in
+    rw (← c.in_ok-first.ensures.names) cc
 
-pub returns-in-Ok-clause-short : goal.returns-in-Ok-clause-short
-returns-in-Ok-clause-short c =
+pub returns-clause-short : goal.returns-clause-short
+returns-clause-short c =
     let names = names_from c.args.tree.now c.in_ok-first.first in
-    rw (text_given (first_page c.args.id c.args.size names) _ c.in-Ok.ensures)
-    (first_page_short c.args.id c.args.size names c.requires.some)
+    let page = first_page c.args.id c.args.size names in
+    let is : Some c.finish_held.result.items ≡ Some page =
+    c.finish_held.ensures ∙ short_message c.args.size page c.in_ok-writer.writer _
+    c.in_ok-writer.ensures c.put_page.ensures
+    (first_page_short c.args.id c.args.size names c.requires.some) in
+    let same : c.finish_held.result.items ≡ page = cc in
+    rw same (first_page_short c.args.id c.args.size names c.requires.some)

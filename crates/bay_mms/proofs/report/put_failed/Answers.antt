@@ -1,45 +1,24 @@
-use Rattle.std.proofs.Common.{List, ℕ, ◌++◌, subst}
-use Rattle.std.proofs.lemmas.Result.{err_from_is_err_and}
-use Rattle.bay_ber.specs.Writing.{element}
-use Rattle.bay_mms.specs.Tags.{constructed}
+use Rattle.std.proofs.Common.{◌∙◌, ◌++◌, List, ℕ, ap}
+use Rattle.bay_ber.specs.Sheets.{put}
+use Rattle.bay_ber.proofs.SheetLemmas.{put_twice}
 use Rattle.bay_mms.specs.Reports.{variable_text, failure_name, item_name, failure_data, operate_text}
-use Rattle.bay_mms.specs.Writing.{IsFaultOf, Appends}
-use Rattle.bay_mms.proofs.ResponseLemmas.{placed, names_fault, values_fault}
-use Rattle.bay_mms.proofs.ReportLemmas.{failed_is}
+use Rattle.bay_mms.proofs.ReportLemmas.{reported, failed_is}
 use Rattle.bay_mms.proofs.report.put_failed.Goals as goal
-
-pub returns-in_err-put_both_list : goal.returns-in_err-put_both_list
-returns-in_err-put_both_list c =
-    let p = err_from_is_err_and c.from_residual.result c.from_residual.ensures.1 in
-    let f = c.in_err-put_both_list.field-0.0 in
-    rw (p.1, p.2) (subst (IsFaultOf f)
-    (failed_is c.args.failure.now c.args.domain.now c.args.item.now c.args.operate.now)
-    (names_fault f (variable_text failure_name
-    ++ variable_text (item_name c.args.domain.now c.args.item.now))
-    (failure_data c.args.failure.now ++ operate_text c.args.operate.now)
-    c.in_err-put_both_list.ensures))
-
-pub returns-in_err-put_both : goal.returns-in_err-put_both
-returns-in_err-put_both c =
-    let p = err_from_is_err_and c.from_residual-in_err-put_both.result
-    c.from_residual-in_err-put_both.ensures.1 in
-    let f = c.in_err-put_both.field-0.0 in
-    rw (p.1, p.2) (subst (IsFaultOf f)
-    (failed_is c.args.failure.now c.args.domain.now c.args.item.now c.args.operate.now)
-    (values_fault f (variable_text failure_name
-    ++ variable_text (item_name c.args.domain.now c.args.item.now))
-    (failure_data c.args.failure.now ++ operate_text c.args.operate.now)
-    c.in_err-put_both.ensures))
 
 pub returns : goal.returns
 returns c =
-    let q = placed c.len-start.result c.len-inner.result c.args.writer.now
-    c.put_both_list.new.writer c.put_both.new.writer
-    (element (constructed 0)
-    (variable_text failure_name ++ variable_text (item_name c.args.domain.now c.args.item.now)))
-    (failure_data c.args.failure.now ++ operate_text c.args.operate.now) c.len-start.ensures
-    c.len-inner.ensures c.in_ok-put_both_list.ensures c.in_ok-put_both.ensures in
-    subst (λ (text : List ℕ). Appends c.args.writer.now c.put_report_around.result
-    c.put_report_around.new.writer text)
-    (failed_is c.args.failure.now c.args.domain.now c.args.item.now c.args.operate.now)
-    (rw (q.0, q.1, q.2) at c.put_report_around.ensures)
+    reported c.args.writer.now c.open-report.new.self c.open-information.new.self
+    c.put_both_list.new.writer c.open-results.new.self _ _ _ _ c.open-report.result
+    c.open-information.result c.open-results.result
+    (variable_text failure_name ++ variable_text (item_name c.args.domain.now c.args.item.now))
+    (failure_data c.args.failure.now ++ operate_text c.args.operate.now)
+    c.open-report.ensures.start (rw c.context_constructed.ensures at c.open-report.ensures.tag)
+    c.open-information.ensures.start
+    (rw c.context_constructed-2.ensures at c.open-information.ensures.tag) c.put_both_list.ensures
+    c.open-results.ensures.start
+    (rw c.context_constructed-3.ensures at c.open-results.ensures.tag)
+    (put_twice c.open-results.new.self c.put_failure.new.writer _ (failure_data c.args.failure.now)
+    (operate_text c.args.operate.now) c.put_failure.ensures c.put_operate.ensures) c.close.ensures
+        c.close-2.ensures c.close-3.ensures
+    ∙ ap (λ (t : List ℕ). put c.args.writer.now t)
+        (failed_is c.args.failure.now c.args.domain.now c.args.item.now c.args.operate.now)

@@ -1,78 +1,102 @@
-use Rattle.std.proofs.Common.{◌≡◌, refl, sym}
-use Rattle.std.proofs.lemmas.Result.{err_from_is_err_and}
+use Rattle.std.proofs.Common.{◌∙◌, [], ◌∷◌, ◌++◌, refl, sym}
+use Rattle.bay_ber.specs.Sheets.{put}
 use Rattle.bay_ber.specs.Writing.{element}
+use Rattle.bay_ber.proofs.SheetLemmas.{put-put, put_twice, open_value, long_value, is_open-put}
 use Rattle.bay_tree.specs.Names.{word_of}
 use Rattle.bay_tree.specs.Rows.{name_at}
-use Rattle.bay_mms.specs.Tags.{context}
+use Rattle.bay_mms.specs.Tags.{context, constructed, sequence}
 use Rattle.bay_mms.specs.Types.{type_text}
 use Rattle.bay_mms.specs.Nodes.{type_at}
-use Rattle.bay_mms.proofs.PutLemmas.{part_fault, name_over, type_over, component_is}
-use Rattle.bay_mms.proofs.NodeLemmas.{nodes_types_text, component_text, written_first, written_more, type_part_over}
+use Rattle.bay_mms.proofs.NodeLemmas.{nodes_types_text, component_text, parts_at, written_first, written_more, written_end, structure_type}
 use Rattle.bay_mms.proofs.value.+put_type.Goals as goal
 
 pub loop-next-init : goal.loop-next-init
 loop-next-init t c =
-    written_first c.args.tree.now c.args.handle nodes_types_text c.args.writer.now
-    c.below-next.result c.below-next.ensures.first c.below-next.ensures.after
+    written_first c.args.tree.now c.args.handle nodes_types_text 0xA1
+    (put c.args.writer.now (0xA2 ∷ 0 ∷ [])) _ c.below-next.result
+    (rw (c.context_constructed-in-None.ensures, c.open-structure.ensures.tag,
+        c.context_constructed.ensures) at c.open-components.ensures.tag)
+    c.below-next.ensures.first c.below-next.ensures.after
 
-pub returns-in_err-put_octets-in-None : goal.returns-in_err-put_octets-in-None
-returns-in_err-put_octets-in-None t c =
-    let p = err_from_is_err_and c.from_residual.result c.from_residual.ensures.1 in
+pub close-requires : goal.close-requires
+close-requires t c =
+    open_value c.octets.new.self _ _ (constructed 1) c.open-inner.result
+    (type_text (type_at c.args.tree.now c.in-Some-next.part)) c.open-inner.ensures.start
+    (rw c.context_constructed-in-Some-next.ensures at c.open-inner.ensures.tag) c.put_type.ensures
+
+pub close-requires-in-Some-next : goal.close-requires-in-Some-next
+close-requires-in-Some-next t c =
     let rows = c.args.tree.now in
     let part = c.in-Some-next.part in
-    rw (p.1, p.2) (part_fault c.in_err-put_octets-in-None.field-0.0
-    (element (context 0) (word_of (name_at rows part))) _
-    (λ over. type_part_over rows c.args.handle part c.args.writer.now c.loop-next.writer
-    (sym c.in-None.ensures.value) (rw c.in-Some-next.is at c.loop-next.invariant)
-    (name_over (word_of (name_at rows part)) (type_text (type_at rows part)) over))
-    (rw (c.context.ensures, c.as_bytes.ensures.value, c.word.ensures.word) at
-    c.in_err-put_octets-in-None.ensures))
-
-pub returns-in_err-put_type-in-None : goal.returns-in_err-put_type-in-None
-returns-in_err-put_type-in-None t c =
-    let p = err_from_is_err_and c.from_residual-in_err-put_type-in-None.result
-    c.from_residual-in_err-put_type-in-None.ensures.1 in
-    let rows = c.args.tree.now in
-    let part = c.in-Some-next.part in
-    rw (p.1, p.2) (part_fault c.in_err-put_type-in-None.field-0.0 (type_text (type_at rows part)) _
-    (λ over. type_part_over rows c.args.handle part c.args.writer.now c.loop-next.writer
-    (sym c.in-None.ensures.value) (rw c.in-Some-next.is at c.loop-next.invariant)
-    (type_over (element (context 0) (word_of (name_at rows part)))
-    (type_text (type_at rows part)) over)) c.in_err-put_type-in-None.ensures)
-
-pub returns-in_err-put_component_around-in-None : goal.returns-in_err-put_component_around-in-None
-returns-in_err-put_component_around-in-None t c =
-    let p = err_from_is_err_and c.from_residual-in_err-put_component_around-in-None.result
-    c.from_residual-in_err-put_component_around-in-None.ensures.1 in
-    let rows = c.args.tree.now in
-    let part = c.in-Some-next.part in
-    let name : c.put_octets.new.writer ≡ _ =
-    (rw (c.context.ensures, c.as_bytes.ensures.value, c.word.ensures.word) at
-    c.in_ok-put_octets-in-None.ensures).0 in
-    let is =
-    component_is c.len-component.result c.len-inner.result c.loop-next.writer
-    c.put_octets.new.writer c.put_type.new.writer
-    (element (context 0) (word_of (name_at rows part))) (type_text (type_at rows part))
-    c.len-component.ensures c.len-inner.ensures name c.in_ok-put_type-in-None.ensures.0 in
-    rw (p.1, p.2) (part_fault c.in_err-put_component_around-in-None.field-0.0 _ _
-    (λ over. type_part_over rows c.args.handle part c.args.writer.now c.loop-next.writer
-    (sym c.in-None.ensures.value) (rw c.in-Some-next.is at c.loop-next.invariant)
-    (rw is.1 at over)) c.in_err-put_component_around-in-None.ensures)
+    let name = element (context 0) (word_of (name_at rows part)) in
+    let type = type_text (type_at rows part) in
+    open_value c.loop-next.writer _ _ sequence c.open-component.result
+    (name ++ element (constructed 1) type) c.open-component.ensures.start
+    (rw c.sequence.ensures at c.open-component.ensures.tag)
+    (put_twice c.open-component.new.self c.octets.new.self _ name (element (constructed 1) type)
+    (rw (c.context.ensures, c.as_bytes.ensures.value, c.word.ensures.word) at c.octets.ensures)
+    (long_value c.octets.new.self _ _ _ (constructed 1) c.open-inner.result type
+    c.open-inner.ensures.start
+    (rw c.context_constructed-in-Some-next.ensures at c.open-inner.ensures.tag) c.put_type.ensures
+    c.close.ensures))
 
 pub loop-next-preserved : goal.loop-next-preserved
 loop-next-preserved t c =
     let rows = c.args.tree.now in
     let part = c.in-Some-next.part in
-    let name : c.put_octets.new.writer ≡ _ =
-    (rw (c.context.ensures, c.as_bytes.ensures.value, c.word.ensures.word) at
-    c.in_ok-put_octets-in-None.ensures).0 in
-    let is =
-    component_is c.len-component.result c.len-inner.result c.loop-next.writer
-    c.put_octets.new.writer c.put_type.new.writer
-    (element (context 0) (word_of (name_at rows part))) (type_text (type_at rows part))
-    c.len-component.ensures c.len-inner.ensures name c.in_ok-put_type-in-None.ensures.0 in
-    written_more rows c.args.handle part nodes_types_text c.args.writer.now c.loop-next.writer
-    c.put_component_around.new.writer (component_text rows part) c.beside-next.result refl
-    (rw c.in-Some-next.is at c.loop-next.invariant)
-    (rw (is.0, is.1) at c.in_ok-put_component_around-in-None.ensures.0)
+    let name = element (context 0) (word_of (name_at rows part)) in
+    let type = type_text (type_at rows part) in
+    written_more rows c.args.handle part nodes_types_text 0xA1
+    (put c.args.writer.now (0xA2 ∷ 0 ∷ [])) c.loop-next.writer _ (component_text rows part)
+    c.beside-next.result refl (rw c.in-Some-next.is at c.loop-next.invariant)
+    (long_value c.loop-next.writer _ _ _ sequence c.open-component.result
+    (name ++ element (constructed 1) type) c.open-component.ensures.start
+    (rw c.sequence.ensures at c.open-component.ensures.tag)
+    (put_twice c.open-component.new.self c.octets.new.self _ name (element (constructed 1) type)
+    (rw (c.context.ensures, c.as_bytes.ensures.value, c.word.ensures.word) at c.octets.ensures)
+    (long_value c.octets.new.self _ _ _ (constructed 1) c.open-inner.result type
+    c.open-inner.ensures.start
+    (rw c.context_constructed-in-Some-next.ensures at c.open-inner.ensures.tag) c.put_type.ensures
+    c.close.ensures))
+    c.close-in-Some-next.ensures)
     c.beside-next.ensures.next c.beside-next.ensures.after
+
+pub close-requires-in-None : goal.close-requires-in-None
+close-requires-in-None t c =
+    let front = put c.args.writer.now (0xA2 ∷ 0 ∷ []) in
+    let parts = nodes_types_text (parts_at c.args.tree.now c.args.handle) in
+    rw (written_end c.args.tree.now c.args.handle nodes_types_text 0xA1 front c.loop-next.writer
+    refl (rw c.in_default.is at c.loop-next.invariant))
+    (is_open-put front c.open-components.result 0xA1 parts
+    (rw (c.open-structure.ensures.tag, c.context_constructed.ensures) at
+    c.open-components.ensures.start))
+
+pub close-requires-in-None-2 : goal.close-requires-in-None-2
+close-requires-in-None-2 t c =
+    let front = put c.args.writer.now (0xA2 ∷ 0 ∷ []) in
+    let parts = nodes_types_text (parts_at c.args.tree.now c.args.handle) in
+    open_value c.args.writer.now front _ (constructed 2) c.open-structure.result
+    (element (constructed 1) parts) c.open-structure.ensures.start refl
+    (long_value front (put front (0xA1 ∷ 0 ∷ [])) c.loop-next.writer _ (constructed 1)
+    c.open-components.result parts
+    (rw (c.open-structure.ensures.tag, c.context_constructed.ensures) at
+    c.open-components.ensures.start) refl
+    (written_end c.args.tree.now c.args.handle nodes_types_text 0xA1 front c.loop-next.writer
+    refl (rw c.in_default.is at c.loop-next.invariant)
+    ∙ sym (put-put front (0xA1 ∷ 0 ∷ []) parts)) c.close-in-None.ensures)
+
+pub returns-in_default : goal.returns-in_default
+returns-in_default t c =
+    let front = put c.args.writer.now (0xA2 ∷ 0 ∷ []) in
+    let parts = nodes_types_text (parts_at c.args.tree.now c.args.handle) in
+    rw (structure_type c.args.tree.now c.args.handle (sym c.in-None.ensures.value))
+    (long_value c.args.writer.now front c.close-in-None.new.self _ (constructed 2)
+    c.open-structure.result (element (constructed 1) parts) c.open-structure.ensures.start refl
+    (long_value front (put front (0xA1 ∷ 0 ∷ [])) c.loop-next.writer _ (constructed 1)
+    c.open-components.result parts
+    (rw (c.open-structure.ensures.tag, c.context_constructed.ensures) at
+    c.open-components.ensures.start) refl
+    (written_end c.args.tree.now c.args.handle nodes_types_text 0xA1 front c.loop-next.writer
+    refl (rw c.in_default.is at c.loop-next.invariant)
+    ∙ sym (put-put front (0xA1 ∷ 0 ∷ []) parts)) c.close-in-None.ensures)
+    c.close-in-None-2.ensures)

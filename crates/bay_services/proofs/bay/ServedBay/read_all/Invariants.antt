@@ -9,8 +9,10 @@ use Rattle.bay_services.proofs.bay.ServedBay.read_all.Given as goal
 
 abbrev pub invariant-loop-name : goal.invariant-loop-name
 invariant-loop-name l = record {
-  ok : read_all l.client (map naming l.names) (reading l.initial.self l.initial.response)
-      ≡ read_all l.client (map naming (drop l.name-index l.names)) (reading l.self l.response);
+  ok : read_all l.client (map naming l.names) (reading l.initial.self l.initial.response.octets)
+      ≡ read_all l.client (map naming (drop l.name-index l.names))
+          (reading l.self l.response.octets);
+  size : l.response.size ≡ l.initial.response.size;
   back : (standing : Standing)
       → standing_again standing (bay_view l.self)
       ≡ standing_again standing (bay_view l.initial.self);

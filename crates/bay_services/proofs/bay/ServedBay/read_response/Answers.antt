@@ -9,10 +9,12 @@ use Rattle.bay_services.proofs.bay.ServedBay.read_response.Goals as goal
 
 pub returns-in_err-read_all-clause-response : goal.returns-in_err-read_all-clause-response
 returns-in_err-read_all-clause-response c =
-    let p = err_from_is_err_and c.from_residual.result c.from_residual.ensures.1 in
+    let p = err_from_is_err_and c.from_residual-in_err-read_all.result
+    c.from_residual-in_err-read_all.ensures.1 in
     let results =
     (read_all c.args.client (map naming c.args.names.now)
     (nothing_read (bay_view c.args.self.now))).results in
-    rw (p.1, p.2) (fault_told c.in_err-read_all.field-0.0 (read_text c.args.id results)
-    (λ is. let long = rw c.new-response.ensures at c.in_err-read_all.ensures.long is in
+    rw (p.1, p.2) (fault_told c.in_err-read_all.field-0.0 c.args.client.size
+        (read_text c.args.id results)
+    (λ is. let long = rw c.in_ok-response.ensures at c.in_err-read_all.ensures.long is in
     omega (arith, response_more c.args.id results, long)))

@@ -24,11 +24,13 @@ returns-in_ok-object-in-Ok-clause-ok c =
     c.as_str.ensures ∙ c.in_ok-object-in-Ok.ensures
     ∙ object_kept old (bay_view c.select.new.self) _ _ c.select.ensures.after
     ∙ ap (object_of old) item in
-    added c.text.result c.args.response.now c.text.new.self _ _ c.text.ensures
+    added c.text.result c.args.response.now.size c.args.response.now.octets c.text.new.self.octets _
+        _
+    c.text.ensures.added
     (λ has. selected c.args.client c.args.switch (name_at d.tree c.args.row)
-    (reading d c.args.response.now)
+    (reading d c.args.response.now.octets)
     (select_outcome c.args.client.association c.args.switch c.args.client.now d.controls)
-    (bay_view c.select.new.self) (Ok tt) c.as_str.result.now c.text.new.self
+    (bay_view c.select.new.self) (Ok tt) c.as_str.result.now c.text.new.self.octets
     c.select.ensures.after (sym c.in-Ok.is ∙ c.select.ensures.answer) told has)
 
 pub returns-in_ok-object-in-Ok-clause-long : goal.returns-in_ok-object-in-Ok-clause-long
@@ -41,8 +43,10 @@ returns-in_ok-object-in-Ok-clause-long c =
     c.as_str.ensures ∙ c.in_ok-object-in-Ok.ensures
     ∙ object_kept old (bay_view c.select.new.self) _ _ c.select.ensures.after
     ∙ ap (object_of old) item in
-    too_long c.text.result c.args.response.now c.text.new.self _ _ c.text.ensures
+    too_long c.text.result c.args.response.now.size c.args.response.now.octets
+    c.text.new.self.octets _ _ c.text.ensures.added
     (λ long. selected_long c.args.client c.args.switch (name_at d.tree c.args.row)
-    (reading d c.args.response.now)
+    (reading d c.args.response.now.octets)
     (select_outcome c.args.client.association c.args.switch c.args.client.now d.controls)
-    (Ok tt) c.as_str.result.now (sym c.in-Ok.is ∙ c.select.ensures.answer) told long)
+    (Ok tt) c.as_str.result.now c.args.response.now.size (sym c.in-Ok.is ∙ c.select.ensures.answer)
+        told long)

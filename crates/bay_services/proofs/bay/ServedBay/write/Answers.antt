@@ -24,5 +24,5 @@ returns-in-None-clause-ok c =
     said_as c.failed.result _ _ _ c.failed.ensures
     (ap (write_done c.args.client c.args.id old) (sym ok)
     ∙ write_over c.args.client c.args.id old made c.in_ok-pdu.field-0
-    (c.in_ok-pdu.ensures.pdu _ c.finish.ensures) c.in-None.is
+    (c.in_ok-pdu.ensures.pdu c.args.client.size _ c.finish.ensures) c.in-None.is
     ∙ ap (said (error_text c.args.id Resource)) (sym back))

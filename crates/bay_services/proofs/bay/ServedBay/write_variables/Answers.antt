@@ -1,4 +1,4 @@
-use Rattle.std.proofs.Common.{Err, ap, ◌∙◌, arith}
+use Rattle.std.proofs.Common.{Err, ap, ◌∙◌}
 use Rattle.std.specs.Option.{option_copied}
 use Rattle.bay_mms.specs.Writing.{written}
 use Rattle.bay_services.specs.Views.{bay_view}
@@ -13,8 +13,8 @@ returns-in-Ok c =
     let page =
     page_is c.args.client c.args.id b (option_copied c.args.after) c.in-Ok.page.items
     c.in-Ok.ensures.page known in
-    ap written page ∙ is_written c.in-Ok.page.items
-    (omega (arith, c.in-Ok.ensures.short, c.requires.most))
+    ap (written c.args.client.size) page
+    ∙ is_written c.args.client.size c.in-Ok.page.items c.in-Ok.ensures.short
 
 pub returns-in-Err-NoSuchName : goal.returns-in-Err-NoSuchName
 returns-in-Err-NoSuchName c =

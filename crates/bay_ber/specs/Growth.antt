@@ -1,7 +1,0 @@
--- What a refused call leaves.
-use Rattle.std.specs.Prelude.{ℕ, ◌≡◌, List, ◌++◌}
-
--- the new octets are the old ones, and some more behind them
-pub record Extends (old new : List ℕ) : Type 0 where
-  pub more : List ℕ
-  pub is : new ≡ old ++ more
