@@ -11,7 +11,7 @@ use Rattle.bay_base.specs.Options.{◌>>=◌}
 use Rattle.bay_ber.specs.Content.{IsInteger, IsBits, IsTruth, BitString, integer_in, is_integer, signed_of, are_unused, bits_in, truth_in}
 use Rattle.bay_ber.specs.Spelling.{Spells}
 use Rattle.bay_ber.specs.Tags.{same_class, same_tag}
-use Rattle.bay_ber.specs.Values.{Part, value, SpellAll, values_in, only_one, value_in, at_most_five, few_in, all_of, each_in, is_known, known_in, under}
+use Rattle.bay_ber.specs.Values.{Part, value, SpellAll, values_in, only_one, value_in, one_or_two, one_or_two_in, at_most_five, few_in, all_of, each_in, is_known, known_in, under}
 use Rattle.bay_ber.proofs.ReadLemmas.{IsBytes}
 use Rattle.bay_ber.proofs.ContentLemmas.{both, integer_is, unused_yes, unused_is}
 pub use Rattle.bay_ber.proofs.ListingLemmas.{bind_some, some_is}
@@ -150,6 +150,31 @@ one_under tag octets content b e =
       subst IsBytes (ap (λ (p : Part). p.content) same) one.1,
     )
 
+-- a second value, where there is one
+abbrev pub listed : Option Part → List Part
+listed (Some part) = part ∷ []
+listed None = []
+
+two_is : (parts : List Part) (found : Part × Option Part) → one_or_two parts ≡ Some found
+    → parts ≡ found.0 ∷ listed found.1
+two_is [] found e = absurd cc
+two_is (p ∷ []) found e =
+    let one : Part × Option Part = (p, None) in
+    subst (λ (x : Part × Option Part). p ∷ [] ≡ x.0 ∷ listed x.1) (some_is one found e) refl
+two_is (p ∷ q ∷ []) found e =
+    let two : Part × Option Part = (p, Some q) in
+    subst (λ (x : Part × Option Part). p ∷ q ∷ [] ≡ x.0 ∷ listed x.1) (some_is two found e) refl
+two_is (p ∷ q ∷ r ∷ parts) found e = absurd cc
+
+-- one value, or two
+pub two_back : (octets : List ℕ) (found : Part × Option Part) → IsBytes octets
+    → one_or_two_in octets ≡ Some found
+    → SpellAll octets (found.0 ∷ listed found.1) × AllBytes (found.0 ∷ listed found.1)
+two_back octets found b e =
+    let x = bind_some (values_in octets) one_or_two found e in
+    all_back octets (found.0 ∷ listed found.1) b
+    (x.1 ∙ ap (λ (ps : List Part). Some ps) (two_is x.0 found x.2))
+
 five_is : (parts few : List Part) → at_most_five parts ≡ Some few → parts ≡ few
 five_is parts few e = (guard_true (ltb (length parts) 6) parts few e).1
 
@@ -199,6 +224,11 @@ pub one_read : (octets : List ℕ) (part : Part) → SpellAll octets (part ∷ [
     → value_in octets ≡ Some part
 one_read octets part is =
     ap (λ (o : Option (List Part)). o >>= only_one) (values_again octets (part ∷ []) is)
+
+pub two_read : (octets : List ℕ) (parts : List Part) → SpellAll octets parts
+    → one_or_two_in octets ≡ one_or_two parts
+two_read octets parts is =
+    ap (λ (o : Option (List Part)). o >>= one_or_two) (values_again octets parts is)
 
 pub few_read : (octets : List ℕ) (parts : List Part) → SpellAll octets parts
     → few_in octets ≡ at_most_five parts

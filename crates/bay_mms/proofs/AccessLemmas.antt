@@ -1,20 +1,18 @@
 -- Names and variables: what octets spell they are read as, and the other way.
-use Rattle.std.proofs.Common.{◌≡◌, ℕ, ◌||◌, Bool, true, false, cond, ltb, List, [], ◌∷◌, length, map, Option, Some, None, Result, Ok, Err, refl, sym, ap, subst, ◌∙◌, ◌⊎◌, inl, inr, arith}
-use Rattle.std.specs.List.{list_any}
+use Rattle.std.proofs.Common.{◌≡◌, ℕ, ◌||◌, Bool, true, false, cond, ltb, List, [], ◌∷◌, length, map, Option, Some, None, Result, Ok, Err, refl, sym, ap, subst, ◌∙◌, ◌⊎◌, inl, inr}
 use Rattle.std.proofs.lemmas.Bool.{lt-ltb, le-ltb, ltb-true, ltb-false}
-use Rattle.std.proofs.lemmas.List.{length-map}
 use Rattle.bay_ber.specs.declared.tag.Tag.{Tag}
 use Rattle.bay_base.specs.Options.{◌>>=◌}
 use Rattle.bay_ber.specs.Tags.{same_tag}
-use Rattle.bay_ber.specs.Values.{Part, value, SpellAll, value_in, few_in, each_in, under}
+use Rattle.bay_ber.specs.Values.{Part, value, SpellAll, value_in, one_or_two_in, each_in, under}
 use Rattle.bay_ber.proofs.ReadLemmas.{IsBytes}
 use Rattle.bay_ber.proofs.ListingLemmas.{values_again}
-use Rattle.bay_ber.proofs.BackLemmas.{bind_some, some_is, AllBytes, tag_is, under_is, one_back, few_back, each_back, one_read, few_read}
+use Rattle.bay_ber.proofs.BackLemmas.{bind_some, some_is, tag_is, under_is, listed, one_back, two_back, each_back, one_read, two_read}
 use Rattle.bay_mms.specs.Tags.{context, constructed, sequence, visible_tag}
 use Rattle.bay_base.specs.Results.{◌>>=◌ as ◌>>◌}
 use Rattle.bay_mms.specs.Spelled.{spelled}
 use Rattle.bay_mms.specs.Requests.{Naming, vmd, domain, association, VariableSpecification, Access, variables, named_list}
-use Rattle.bay_mms.specs.Grammar.{domain_name, name_as, name_in, variable_of, variable_as, access_as, any_alternate, judged}
+use Rattle.bay_mms.specs.Grammar.{domain_name, name_as, name_in, is_partial, variable_of, variable_as, any_alternate, judged, listed_in, names_as}
 use Rattle.bay_mms.specs.SpelledNames.{IsName, IsPartial, IsVariable, IsAccess, as_whole, AreServed, AreUnserved, AreMany}
 use Rattle.bay_mms.proofs.EachLemmas.{each_read, each_listed}
 use Rattle.bay_mms.specs.declared.fault.Refusal.{Refusal}
@@ -58,38 +56,37 @@ name_read octets (vmd text) is = rw (one_read octets (value (context 0) text) is
 name_read octets (domain d item) is =
     rw (
       one_read octets (value (constructed 1) is.0) is.1,
-      few_read is.0 (value visible_tag d ∷ value visible_tag item ∷ []) is.2,
+      two_read is.0 (value visible_tag d ∷ value visible_tag item ∷ []) is.2,
     ) refl
 name_read octets (association text) is = rw (one_read octets (value (context 2) text) is) refl
 
-record Both (parts : List Part) (n : Naming) : Type 0 where
+record Both (p : Part) (o : Option Part) (n : Naming) : Type 0 where
   first : List ℕ
   second : List ℕ
-  are : parts ≡ value visible_tag first ∷ value visible_tag second ∷ []
+  are : p ∷ listed o ≡ value visible_tag first ∷ value visible_tag second ∷ []
   is : domain first second ≡ n
 
-domain_back : (parts : List Part) (n : Naming) → domain_name parts ≡ Some n → Both parts n
-domain_back [] n e = absurd cc
-domain_back (p ∷ []) n e = absurd cc
-domain_back (p ∷ q ∷ []) n e =
+domain_back : (p : Part) (o : Option Part) (n : Naming) → domain_name p o ≡ Some n → Both p o n
+domain_back p o n e =
     let x = bind_some (under visible_tag p) _ n e in
-    let y = bind_some (under visible_tag q) _ n x.2 in
+    let y = bind_some o _ n x.2 in
+    let z = bind_some (under visible_tag y.0) _ n y.2 in
     record {
       first = x.0;
-      second = y.0;
-      are = ap (λ (r : Part). r ∷ q ∷ []) (under_is visible_tag p x.0 x.1)
-          ∙ ap (λ (r : Part). value visible_tag x.0 ∷ r ∷ []) (under_is visible_tag q y.0 y.1);
-      is = some_is (domain x.0 y.0) n y.2;
+      second = z.0;
+      are = ap (λ (r : Part). r ∷ listed o) (under_is visible_tag p x.0 x.1)
+          ∙ ap (λ (q : Option Part). value visible_tag x.0 ∷ listed q) y.1
+          ∙ ap (λ (r : Part). value visible_tag x.0 ∷ r ∷ []) (under_is visible_tag y.0 z.0 z.1);
+      is = some_is (domain x.0 z.0) n z.2;
     }
-domain_back (p ∷ q ∷ r ∷ parts) n e = absurd cc
 
 domain_named : (octets : List ℕ) (part : Part) (n : Naming)
     → SpellAll octets (value (constructed 1) part.content ∷ []) → IsBytes part.content
-    → (few_in part.content >>= domain_name) ≡ Some n → IsName octets n
+    → (one_or_two_in part.content >>= (λ ps. domain_name ps.0 ps.1)) ≡ Some n → IsName octets n
 domain_named octets part n s b e =
-    let x = bind_some (few_in part.content) domain_name n e in
-    let f = few_back part.content x.0 b x.1 in
-    let d = domain_back x.0 n x.2 in
+    let x = bind_some (one_or_two_in part.content) (λ ps. domain_name ps.0 ps.1) n e in
+    let f = two_back part.content x.0 b x.1 in
+    let d = domain_back x.0.0 x.0.1 n x.2 in
     subst (IsName octets) d.is (part.content, s, subst (SpellAll part.content) d.are f.0)
 
 named : (octets : List ℕ) (part : Part) (n : Naming) → SpellAll octets (part ∷ [])
@@ -98,23 +95,23 @@ unfolding name_as
 named octets part n s b e =
     let last : Option Naming =
     cond (same_tag part.tag (context 2)) (Some (association part.content)) None in
-    let later : Option Naming =
-    cond (same_tag part.tag (constructed 1)) (few_in part.content >>= domain_name) last in
+    let both : Option Naming =
+    one_or_two_in part.content >>= (λ ps. domain_name ps.0 ps.1) in
+    let later : Option Naming = cond (same_tag part.tag (constructed 1)) both last in
     elim (by_tag (context 0) part (Some (vmd part.content)) later (Some n) e) [
       | inl here ↦ subst (IsName octets) (some_is (vmd part.content) n here.1)
           (spelled_under octets part (value (context 0) part.content) here.0 s)
-      | inr next ↦ elim (by_tag (constructed 1) part (few_in part.content >>= domain_name) last
-          (Some n) next.1) [
-            | inl here ↦ domain_named octets part n
-                (spelled_under octets part (value (constructed 1) part.content) here.0 s) b here.1
-            | inr more ↦ elim (by_tag (context 2) part (Some (association part.content)) None
-                (Some n)
-                more.1) [
-                  | inl here ↦ subst (IsName octets) (some_is (association part.content) n here.1)
-                      (spelled_under octets part (value (context 2) part.content) here.0 s)
-                  | inr none ↦ absurd (let no : None ≡ Some n = none.1 in cc)
-                ]
-          ]
+      | inr next ↦ elim (by_tag (constructed 1) part both last (Some n) next.1) [
+        | inl here ↦ domain_named octets part n
+            (spelled_under octets part (value (constructed 1) part.content) here.0 s) b here.1
+        | inr more ↦ elim (by_tag (context 2) part (Some (association part.content)) None
+            (Some n)
+            more.1) [
+              | inl here ↦ subst (IsName octets) (some_is (association part.content) n here.1)
+                  (spelled_under octets part (value (context 2) part.content) here.0 s)
+              | inr none ↦ absurd (let no : None ≡ Some n = none.1 in cc)
+            ]
+      ]
     ]
 
 pub name_back : (octets : List ℕ) (n : Naming) → IsBytes octets → name_in octets ≡ Some n
@@ -130,13 +127,14 @@ name_back octets n b e =
 variable_with : (octets name : List ℕ) (behind : List Part) (n : Naming) (alternate : Bool)
     → SpellAll octets (value (constructed 0) name ∷ behind) → IsName name n
     → IsPartial behind alternate
-    → (few_in octets >>= variable_of) ≡ Some (record { name = n; is_alternate = alternate })
+    → (one_or_two_in octets >>= (λ ps. variable_of ps.0 ps.1))
+    ≡ Some (record { name = n; is_alternate = alternate })
 variable_with octets name [] n false s is partial =
-    rw (few_read octets (value (constructed 0) name ∷ []) s, name_read name n is) refl
+    rw (two_read octets (value (constructed 0) name ∷ []) s, name_read name n is) refl
 variable_with octets name [] n true s is partial = absurd partial
 variable_with octets name (part ∷ []) n false s is partial = absurd partial
 variable_with octets name (part ∷ []) n true s is partial =
-    rw (few_read octets (value (constructed 0) name ∷ part ∷ []) s, name_read name n is, partial)
+    rw (two_read octets (value (constructed 0) name ∷ part ∷ []) s, name_read name n is, partial)
     refl
 variable_with octets name (part ∷ next ∷ parts) n alternate s is partial = absurd partial
 
@@ -161,106 +159,101 @@ under_named p name n b e f =
       is = name_back name n (subst IsBytes (ap (λ (q : Part). q.content) same) b) f;
     }
 
-variable_parts : (octets : List ℕ) (parts : List Part) (v : VariableSpecification)
-    → SpellAll octets parts → AllBytes parts → variable_of parts ≡ Some v → IsVariable octets v
-variable_parts octets [] v s b e = absurd cc
-variable_parts octets (p ∷ []) v s b e =
-    let x = bind_some (under (constructed 0) p) _ v e in
+partial_back : (o : Option Part) (b : Bool) → is_partial o ≡ Some b → IsPartial (listed o) b
+partial_back None b e = subst (IsPartial []) (some_is false b e) tt
+partial_back (Some q) b e =
+    let x = bind_some (under (constructed 5) q) _ b e in
+    subst (IsPartial (q ∷ [])) (some_is true b x.2)
+    (ap (λ (r : Part). r.tag) (under_is (constructed 5) q x.0 x.1))
+
+variable_parts : (octets : List ℕ) (p : Part) (o : Option Part) (v : VariableSpecification)
+    → SpellAll octets (p ∷ listed o) → IsBytes p.content → variable_of p o ≡ Some v
+    → IsVariable octets v
+variable_parts octets p o v s b e =
+    let w = bind_some (is_partial o) _ v e in
+    let x = bind_some (under (constructed 0) p) _ v w.2 in
     let y = bind_some (name_in x.0) _ v x.2 in
-    let made : VariableSpecification = record { name = y.0; is_alternate = false } in
-    let n = under_named p x.0 y.0 b.0 x.1 y.1 in
-    subst (IsVariable octets) (some_is made v y.2)
-    (record {
+    let made : VariableSpecification = record { name = y.0; is_alternate = w.0 } in
+    let n = under_named p x.0 y.0 b x.1 y.1 in
+    subst (IsVariable octets) (some_is made v y.2) (record {
       name = n.name;
-      behind = [];
-      parts = spelled_under octets p (value (constructed 0) n.name) n.part s;
+      behind = listed o;
+      parts = subst (λ (r : Part). SpellAll octets (r ∷ listed o)) n.part s;
       is_name = n.is;
-      alternate = tt;
+      alternate = partial_back o w.0 w.1;
     })
-variable_parts octets (p ∷ q ∷ []) v s b e =
-    let x = bind_some (under (constructed 0) p) _ v e in
-    let y = bind_some (name_in x.0) _ v x.2 in
-    let z = bind_some (under (constructed 5) q) _ v y.2 in
-    let made : VariableSpecification = record { name = y.0; is_alternate = true } in
-    let n = under_named p x.0 y.0 b.0 x.1 y.1 in
-    subst (IsVariable octets) (some_is made v z.2) (record {
-      name = n.name;
-      behind = q ∷ [];
-      parts = subst (λ (r : Part). SpellAll octets (r ∷ q ∷ [])) n.part s;
-      is_name = n.is;
-      alternate = ap (λ (r : Part). r.tag) (under_is (constructed 5) q z.0 z.1);
-    })
-variable_parts octets (p ∷ q ∷ r ∷ parts) v s b e = absurd cc
 
 variable_back : (p : Part) (v : VariableSpecification) → IsBytes p.content → variable_as p ≡ Some v
     → (octets : List ℕ) × (p ≡ value sequence octets) × IsVariable octets v
 unfolding variable_as
 variable_back p v b e =
-    let x = bind_some (under sequence p >>= few_in) variable_of v e in
-    let y = bind_some (under sequence p) few_in x.0 x.1 in
+    let x = bind_some (under sequence p >>= one_or_two_in) (λ ps. variable_of ps.0 ps.1) v e in
+    let y = bind_some (under sequence p) one_or_two_in x.0 x.1 in
     let same = under_is sequence p y.0 y.1 in
-    let f = few_back y.0 x.0 (subst IsBytes (ap (λ (q : Part). q.content) same) b) y.2 in
-    (y.0, same, variable_parts y.0 x.0 v f.0 f.1 x.2)
+    let f = two_back y.0 x.0 (subst IsBytes (ap (λ (q : Part). q.content) same) b) y.2 in
+    (y.0, same, variable_parts y.0 x.0.0 x.0.1 v f.0 f.1.0 x.2)
 
 -- ---- the variables of a read or a write
 
-pub access_read : (part : Part) (a : Access) → IsAccess part a → access_as part ≡ Ok a
-unfolding access_as
-access_read part (variables vs) is =
+pub access_read : (count : Option ℕ) (part : Part) (a : Access) → IsAccess part a
+    → names_as count part ≡ judged count a
+unfolding names_as
+access_read count part (variables vs) is =
     rw (
       is.2,
       values_again is.0 (map (value sequence) is.1) is.3,
       each_read variable_as (value sequence) IsVariable variable_read is.1 vs is.4,
     ) refl
-access_read part named_list is = rw (is.2, name_read is.0 is.1 is.3) refl
+access_read count part named_list is = rw (is.2, name_read is.0 is.1 is.3) refl
 
-listed_back : (part : Part) (a : Access) → part ≡ value (constructed 0) part.content
-    → IsBytes part.content →
-    (spelled (each_in variable_as part.content) >>
-    (λ vs. let made : Result Access Refusal = Ok (variables vs) in made)) ≡ Ok a → IsAccess part a
-listed_back part a is b e =
-    let x = spelled_then (each_in variable_as part.content) (λ vs. Ok (variables vs)) (Ok a)
-    (λ no. cc) e in
-    let each = each_back variable_as part.content x.0 b x.1 in
-    let l = each_listed variable_as (value sequence) IsVariable variable_back each.parts x.0
-    each.bytes each.all in
-    subst (IsAccess part) (right_is {E = Refusal} (variables x.0) a x.2) (
-      part.content,
-      l.lists,
-      is,
-      subst (SpellAll part.content) {y = map (value sequence) l.lists} l.are each.spelled,
-      l.each,
-    )
+-- The value is variables, or a list by its name, which are judged so.
+pub record Accessed (count : Option ℕ) (part : Part) (r : Result (List Naming) Refusal)
+    : Type 0 where
+  pub access : Access
+  pub is : IsAccess part access
+  pub answer : judged count access ≡ r
 
-list_back : (part : Part) (a : Access) → part ≡ value (constructed 1) part.content
-    → IsBytes part.content →
-    (spelled (name_in part.content) >>
-    (λ n. let made : Result Access Refusal = Ok named_list in made)) ≡ Ok a → IsAccess part a
-list_back part a is b e =
-    let x = spelled_then (name_in part.content) (λ n. Ok named_list) (Ok a) (λ no. cc) e in
-    subst (IsAccess part) (right_is {E = Refusal} named_list a x.2)
-    (part.content, x.0, is, name_back part.content x.0 b x.1)
-
-pub access_back : (part : Part) (a : Access) → IsBytes part.content → access_as part ≡ Ok a
-    → IsAccess part a
-unfolding access_as
-access_back part a b e =
-    let list : Result Access Refusal = spelled (name_in part.content) >> (λ n. Ok named_list) in
-    let last : Result Access Refusal = cond (same_tag part.tag (constructed 1)) list (Err Bad) in
-    elim (by_tag (constructed 0) part
-    (spelled (each_in variable_as part.content) >> (λ vs. Ok (variables vs))) last (Ok a) e) [
-      | inl here ↦ listed_back part a here.0 b here.1
-      | inr next ↦ elim (by_tag (constructed 1) part list (Err Bad) (Ok a) next.1) [
-        | inl here ↦ list_back part a here.0 b here.1
-        | inr none ↦ absurd (let no : Err Bad ≡ Ok a = none.1 in cc)
+pub access_back : (count : Option ℕ) (part : Part) (r : Result (List Naming) Refusal) → IsFair r
+    → IsBytes part.content → names_as count part ≡ r → Accessed count part r
+unfolding names_as
+access_back count part r fair b e =
+    let list : Result (List Naming) Refusal =
+    spelled (name_in part.content) >> (λ n. judged count named_list) in
+    let last : Result (List Naming) Refusal =
+    cond (same_tag part.tag (constructed 1)) list (Err Bad) in
+    elim (by_tag (constructed 0) part (listed_in count part.content) last r e) [
+      | inl here ↦
+          let x = spelled_then (each_in variable_as part.content)
+              (λ vs. judged count (variables vs))
+          r fair here.1 in
+          let each = each_back variable_as part.content x.0 b x.1 in
+          let l = each_listed variable_as (value sequence) IsVariable variable_back each.parts x.0
+          each.bytes each.all in
+          record {
+            access = variables x.0;
+            is = (
+              part.content,
+              l.lists,
+              here.0,
+              subst (SpellAll part.content) {y = map (value sequence) l.lists} l.are each.spelled,
+              l.each,
+            );
+            answer = x.2;
+          }
+      | inr next ↦ elim (by_tag (constructed 1) part list (Err Bad) r next.1) [
+        | inl here ↦
+            let x = spelled_then (name_in part.content) (λ n. judged count named_list) r fair here.1
+            in
+            record {
+              access = named_list;
+              is = (part.content, x.0, here.0, name_back part.content x.0 b x.1);
+              answer = x.2;
+            }
+        | inr none ↦ absurd (fair (sym none.1))
       ]
     ]
 
 -- ---- which of them are served
-
-any_same : (vs : List VariableSpecification) → list_any (λ v. v.is_alternate) vs ≡ any_alternate vs
-any_same [] = refl
-any_same (v ∷ vs) = rw (any_same vs) refl
 
 none_partial : (names : List Naming) → any_alternate (map as_whole names) ≡ false
 none_partial [] = refl
@@ -283,26 +276,19 @@ are_whole (v ∷ vs) e =
     record { name = v.name; is_alternate = b } in made ∷ vs) x.0
     ∙ ap (λ (ws : List VariableSpecification). as_whole v.name ∷ ws) (are_whole vs x.1)
 
-pub judged_served : (a : Access) (names : List Naming) → AreServed a names → judged a ≡ Ok names
-unfolding judged
+pub judged_served : (a : Access) (names : List Naming) → AreServed a names
+    → judged None a ≡ Ok names
 judged_served (variables vs) names are =
-    let few : ltb 32 (length (map as_whole names)) ≡ false =
-    le-ltb _ _ (let n = are.1 in omega (arith, length-map names as_whole)) in
-    rw (are.0, none_partial names, few, names_of_whole names) refl
+    rw (are.0, none_partial names, names_of_whole names, le-ltb _ _ are.1) refl
 judged_served named_list names are = absurd are
 
-pub judged_unserved : (a : Access) → AreUnserved a → judged a ≡ Err Unknown
-unfolding judged
-judged_unserved (variables vs) some = let e : any_alternate vs ≡ true =
-    sym (any_same vs) ∙ some in rw e refl
+pub judged_unserved : (a : Access) → AreUnserved a → judged None a ≡ Err Unknown
+judged_unserved (variables vs) some = rw some refl
 judged_unserved named_list some = refl
 
-pub judged_many : (a : Access) → AreMany a → judged a ≡ Err Many
-unfolding judged
+pub judged_many : (a : Access) → AreMany a → judged None a ≡ Err Many
 judged_many (variables vs) are =
-    let many : ltb 32 (length (map as_whole are.0)) ≡ true =
-    lt-ltb _ _ (let n = are.2 in omega (arith, length-map are.0 as_whole)) in
-    rw (are.1, none_partial are.0, many) refl
+    rw (are.1, none_partial are.0, names_of_whole are.0, lt-ltb _ _ are.2) refl
 judged_many named_list are = absurd are
 
 -- What is judged so.
@@ -314,26 +300,14 @@ Judged a (Err Many) = AreMany a
 Judged a (Err OutOfMemory) = ⊥
 
 judged_by : (vs : List VariableSpecification) (some many : Bool) → any_alternate vs ≡ some
-    → ltb 32 (length vs) ≡ many
+    → ltb 32 (length (map (λ v. v.name) vs)) ≡ many
     → Judged (variables vs) (cond some (Err Unknown)
     (cond many (Err Many) (Ok (map (λ v. v.name) vs))))
-judged_by vs true many e f = any_same vs ∙ e
-judged_by vs false true e f = (
-  map (λ v. v.name) vs,
-  are_whole vs e,
-  let n = ltb-true 32 (length vs) f in
-      omega (arith, length-map vs (λ v. v.name)),
-)
-judged_by vs false false e f = (
-  are_whole vs e,
-  let n = ltb-false 32 (length vs) f in
-      omega (arith, length-map vs (λ v. v.name)),
-)
+judged_by vs true many e f = e
+judged_by vs false true e f = (map (λ v. v.name) vs, are_whole vs e, ltb-true 32 _ f)
+judged_by vs false false e f = (are_whole vs e, ltb-false 32 _ f)
 
-judged_back : (a : Access) → Judged a (judged a)
-unfolding judged
-judged_back (variables vs) = judged_by vs (any_alternate vs) (ltb 32 (length vs)) refl refl
+pub judged_back : (a : Access) → Judged a (judged None a)
+judged_back (variables vs) =
+    judged_by vs (any_alternate vs) (ltb 32 (length (map (λ v. v.name) vs))) refl refl
 judged_back named_list = tt
-
-pub judged_is : (a : Access) (r : Result (List Naming) Refusal) → judged a ≡ r → Judged a r
-judged_is a r e = subst (Judged a) e (judged_back a)

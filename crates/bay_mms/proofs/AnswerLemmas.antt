@@ -1,14 +1,18 @@
 -- What is answered of octets, by the relations that say what they ask.
-use Rattle.std.proofs.Common.{◌≡◌, ℕ, true, false, List, [], ◌∷◌, Option, Some, None, Result, Ok, Err, refl, inl, inr}
+use Rattle.std.proofs.Common.{◌≡◌, ℕ, true, false, not, sym, ap, ◌∙◌, List, [], ◌∷◌, Option, Some, None, Result, Ok, Err, refl, inl, inr}
 use Rattle.std.specs.Prelude.{IsTrue, IsErrOf}
 use Rattle.bay_base.specs.Exact.{Gives}
-use Rattle.bay_ber.specs.Values.{Part, value, few_in, value_in}
+use Rattle.bay_ber.specs.Values.{Part, value, SpellAll, one_or_two_in, value_in}
 use Rattle.bay_ber.proofs.ReadLemmas.{IsBytes}
-use Rattle.bay_ber.proofs.BackLemmas.{one_back, few_back}
+use Rattle.bay_ber.proofs.BackLemmas.{listed, one_back, two_back}
 use Rattle.bay_mms.specs.Tags.{constructed}
 use Rattle.bay_mms.specs.RequestViews.{message}
-use Rattle.bay_mms.specs.Grammar.{answer_to}
-use Rattle.bay_mms.specs.Answers.{TakesMemory, IsAnswer, lists_of, lists_in, lists_as, lists_at}
+use Rattle.bay_mms.specs.Requests.{Asking, read, write}
+use Rattle.bay_mms.specs.SpelledServices.{IsService}
+use Rattle.bay_mms.specs.Grammar.{service_as, answer_to}
+use Rattle.bay_ber.proofs.ContentLemmas.{both}
+use Rattle.bay_mms.proofs.ServiceLemmas.{service_read}
+use Rattle.bay_mms.specs.Answers.{TakesMemory, IsAnswer, has_list, is_empty, takes_list, lists_of, lists_in, lists_as, lists_at}
 use Rattle.bay_mms.specs.declared.request.Request.{Request}
 use Rattle.bay_mms.specs.declared.fault.MmsFault.{MmsFault}
 use Rattle.bay_mms.specs.declared.fault.MmsFault.TheVariants.{BadPdu, UnknownService, TooMany, OutOfMemory}
@@ -17,34 +21,44 @@ use Rattle.bay_mms.proofs.AskLemmas.{asked_read, asked_back, unknown_is, many_is
 
 -- ---- where memory is taken
 
-parts_take : (octets : List ℕ) (part : Part) (parts : List Part) → IsBytes octets
-    → IsBytes part.content → value_in octets ≡ Some part → part ≡ value (constructed 0) part.content
-    → few_in part.content ≡ Some parts → lists_of parts ≡ true → TakesMemory octets
-parts_take octets part [] b d whole tag few list = absurd cc
-parts_take octets part (id ∷ []) b d whole tag few list = absurd cc
-parts_take octets part (id ∷ service ∷ third ∷ parts) b d whole tag few list = absurd cc
-parts_take octets part (id ∷ service ∷ []) b d whole tag few list = record {
+no_list : (service : Part) (asking : Asking) → is_empty (Ok asking) ≡ true
+    → takes_list service ≡ true → IsService service asking → ⊥
+no_list service asking none list is =
+    let e : is_empty (service_as service) ≡ true =
+        ap is_empty (service_read service asking is) ∙ none
+    in
+    let some = (both (has_list service) (not (is_empty (service_as service))) list).1 in
+    let no : not true ≡ true = sym (ap not e) ∙ some in cc
+
+parts_take : (octets : List ℕ) (part id : Part) (o : Option Part) → IsBytes octets
+    → value_in octets ≡ Some part → part ≡ value (constructed 0) part.content
+    → SpellAll part.content (id ∷ listed o) → lists_of o ≡ true → TakesMemory octets
+parts_take octets part id None b whole tag parts list = absurd cc
+parts_take octets part id (Some service) b whole tag parts list = record {
   content = part.content;
   id = id;
   service = service;
   whole = spelled_under octets part (value (constructed 0) part.content) tag
       (one_back octets part b whole).0;
-  parts = (few_back part.content (id ∷ service ∷ []) d few).0;
-  list = list;
+  parts = parts;
+  list = (both (has_list service) (not (is_empty (service_as service))) list).0;
+  not_read = no_list service (read []) refl list;
+  not_written = no_list service (write [] []) refl list;
 }
 
-some_parts : (octets : List ℕ) (part : Part) (found : Option (List Part)) → IsBytes octets
+some_parts : (octets : List ℕ) (part : Part) (found : Option (Part × Option Part)) → IsBytes octets
     → value_in octets ≡ Some part → part ≡ value (constructed 0) part.content
-    → few_in part.content ≡ found → lists_in found ≡ true → TakesMemory octets
-some_parts octets part None b whole tag few list = absurd cc
-some_parts octets part (Some parts) b whole tag few list =
-    parts_take octets part parts b (one_back octets part b whole).1 whole tag few list
+    → one_or_two_in part.content ≡ found → lists_in found ≡ true → TakesMemory octets
+some_parts octets part None b whole tag two list = absurd cc
+some_parts octets part (Some parts) b whole tag two list =
+    parts_take octets part parts.0 parts.1 b whole tag
+    (two_back part.content parts (one_back octets part b whole).1 two).0 list
 
 part_takes : (octets : List ℕ) (part : Part) → IsBytes octets → value_in octets ≡ Some part
     → lists_as part ≡ true → TakesMemory octets
 part_takes octets part b whole list =
-    elim (by_tag (constructed 0) part (lists_in (few_in part.content)) false true list) [
-      | inl here ↦ some_parts octets part (few_in part.content) b whole here.0 refl here.1
+    elim (by_tag (constructed 0) part (lists_in (one_or_two_in part.content)) false true list) [
+      | inl here ↦ some_parts octets part (one_or_two_in part.content) b whole here.0 refl here.1
       | inr none ↦ absurd (let no : false ≡ true = none.1 in cc)
     ]
 

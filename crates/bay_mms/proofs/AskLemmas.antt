@@ -8,9 +8,9 @@ use Rattle.bay_ber.specs.Content.{IsInteger, integer_in}
 use Rattle.bay_base.specs.Options.{◌>>=◌}
 use Rattle.bay_ber.specs.Reading.{Reading, Begins, tlv_at}
 use Rattle.bay_ber.specs.Tags.{same_tag}
-use Rattle.bay_ber.specs.Values.{Part, value, SpellAll, part_in, value_in, few_in, under}
+use Rattle.bay_ber.specs.Values.{Part, value, SpellAll, part_in, value_in, one_or_two_in, under}
 use Rattle.bay_ber.proofs.ReadLemmas.{IsBytes, tlv_takes, tlv_again}
-use Rattle.bay_ber.proofs.BackLemmas.{bind_some, some_is, bytes_before, content_bytes, AllBytes, guard_true, under_is, integer_back, one_back, few_back, one_read}
+use Rattle.bay_ber.proofs.BackLemmas.{bind_some, some_is, bytes_before, content_bytes, AllBytes, guard_true, under_is, integer_back, listed, one_back, two_back, one_read}
 use Rattle.bay_mms.specs.Tags.{context, constructed, int_tag}
 use Rattle.bay_base.specs.Results.{◌>>=◌ as ◌>>◌}
 use Rattle.bay_mms.specs.Requests.{Asking, Message, initiate, conclude, confirmed}
@@ -177,18 +177,17 @@ confirmed_with octets content p service id whole s e =
       below = n.3;
     }
 
-confirmed_says : (octets content : List ℕ) (parts : List Part) (r : Result Message MmsFault)
-    → SpellAll octets (value (constructed 0) content ∷ []) → SpellAll content parts → AllBytes parts
-    → confirmed_of (id_in octets) parts ≡ r → Says octets r
-confirmed_says octets content [] r whole s b e = subst (Says octets) e refl
-confirmed_says octets content (p ∷ []) r whole s b e = subst (Says octets) e refl
-confirmed_says octets content (p ∷ service ∷ []) r whole s b e =
+confirmed_says : (octets content : List ℕ) (p : Part) (o : Option Part)
+    (r : Result Message MmsFault) → SpellAll octets (value (constructed 0) content ∷ [])
+    → SpellAll content (p ∷ listed o) → AllBytes (p ∷ listed o)
+    → confirmed_of (id_in octets) p o ≡ r → Says octets r
+confirmed_says octets content p None r whole s b e = subst (Says octets) e refl
+confirmed_says octets content p (Some service) r whole s b e =
     bad_then octets (id_as p) (λ id. with_id (id_in octets) id (service_as service)) r e
     (λ id is f. subst (Says octets) f
     (with_says octets id service (service_as service)
     (confirmed_with octets content p service id whole s is)
     (service_back service (service_as service) b.1.0 refl)))
-confirmed_says octets content (p ∷ q ∷ t ∷ parts) r whole s b e = subst (Says octets) e refl
 
 conclude_says : (octets : List ℕ) (p : Part) (r : Result Message MmsFault)
     → p ≡ value (context 11) p.content → SpellAll octets (p ∷ [])
@@ -214,11 +213,12 @@ message_says octets p r s b e =
     cond (same_tag p.tag (constructed 8))
     (or_bad (id_in octets) (proposal_in p.content) >> (λ x. Ok (initiate x))) from11 in
     elim (by_tag (constructed 0) p
-    (or_bad (id_in octets) (few_in p.content) >> confirmed_of (id_in octets)) from8 r e) [
+    (or_bad (id_in octets) (one_or_two_in p.content)
+    >> (λ ps. confirmed_of (id_in octets) ps.0 ps.1)) from8 r e) [
       | inl here ↦
-          bad_then octets (few_in p.content) (confirmed_of (id_in octets)) r here.1
-          (λ parts few f. let x = few_back p.content parts b few in
-          confirmed_says octets p.content parts r
+          bad_then octets (one_or_two_in p.content) (λ ps. confirmed_of (id_in octets) ps.0 ps.1) r
+          here.1 (λ parts two f. let x = two_back p.content parts b two in
+          confirmed_says octets p.content parts.0 parts.1 r
           (spelled_under octets p (value (constructed 0) p.content) here.0 s) x.0 x.1 f)
       | inr f8 ↦ elim (by_tag (constructed 8) p
           (or_bad (id_in octets) (proposal_in p.content) >> (λ x. Ok (initiate x))) from11 r f8.1) [

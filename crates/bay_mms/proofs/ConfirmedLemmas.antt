@@ -4,9 +4,10 @@ use Rattle.std.proofs.lemmas.Bool.{lt-ltb}
 use Rattle.bay_ber.specs.Content.{IsInteger}
 use Rattle.bay_base.specs.Options.{◌>>=◌}
 use Rattle.bay_ber.specs.Reading.{Reading, tlv_at}
-use Rattle.bay_ber.specs.Values.{Part, only_one, value_in, at_most_five, few_in}
+use Rattle.bay_ber.specs.Values.{Part, only_one, value_in, one_or_two_in}
 use Rattle.bay_ber.proofs.ContentLemmas.{integer_again}
 use Rattle.bay_ber.proofs.ListingLemmas.{values_again}
+use Rattle.bay_ber.proofs.BackLemmas.{two_read}
 use Rattle.bay_ber.proofs.ReadLemmas.{tlv_again}
 use Rattle.bay_mms.specs.Tags.{constructed, int_tag}
 use Rattle.bay_mms.specs.Grammar.{id_as, with_id, service_as, message_as, id_in, answer_to}
@@ -26,7 +27,7 @@ unfolding id_in
 known octets content number rest behind id first second n = rw (first, second) n
 
 read_as_confirmed : (content : List ℕ) (id : ℕ) (number service : Part)
-    → few_in content ≡ Some (number ∷ service ∷ []) → id_as number ≡ Some id
+    → one_or_two_in content ≡ Some (number, Some service) → id_as number ≡ Some id
     → message_as (Some id) (record { tag = constructed 0; content = content })
     ≡ with_id (Some id) id (service_as service)
 unfolding message_as
@@ -44,9 +45,7 @@ confirmed_read octets id service r =
     let pdu : Part = record { tag = constructed 0; content = r.content } in
     let v : value_in octets ≡ Some pdu =
     ap (λ (o : Option (List Part)). o >>= only_one) (values_again octets (pdu ∷ []) r.whole) in
-    let f : few_in r.content ≡ Some (number ∷ service ∷ []) =
-    ap (λ (o : Option (List Part)). o >>= at_most_five)
-    (values_again r.content (number ∷ service ∷ []) r.parts) in
+    let f = two_read r.content (number ∷ service ∷ []) r.parts in
     let n = id_read r.number id r.is r.below in
     let first : Reading = record { tag = constructed 0; content = r.content; rest = r.whole.1 } in
     let second : Reading = record { tag = int_tag; content = r.number; rest = r.parts.1 } in

@@ -1,62 +1,116 @@
 -- Requests, part by part.
-use Rattle.std.proofs.Common.{◌≡◌, ℕ, suc, ◌-◌, ◌<◌, ◌≤◌, true, false, cond, ltb, option_map, Vec, Global, rules, List, [], ◌∷◌, length, map, Option, Some, None, Ok, Err, refl, sym, ap, ◌∙◌, arith, ◌⊎◌, inl, inr}
-use Rattle.std.specs.List.{list_any}
+use Rattle.std.proofs.Common.{◌≡◌, ℕ, suc, ◌-◌, ◌<◌, true, false, cond, ltb, option_map, Vec, Global, rules, ◌||◌, Bool, List, [], ◌∷◌, ◌++◌, length, map, Option, Some, None, Ok, Err, refl, sym, ap, ◌∙◌, arith, ◌⊎◌, inl, inr}
 use Rattle.std.specs.Option.{ok_or}
-use Rattle.std.proofs.lemmas.Bool.{lt-ltb, le-ltb}
-use Rattle.std.proofs.lemmas.List.{length-map}
+use Rattle.std.proofs.lemmas.List.{length-map, map-append}
+use Rattle.std.proofs.lemmas.List.Folds.{list_any-append}
 use Rattle.bay_base.specs.Exact.{Gives}
 use Rattle.bay_base.specs.Options.{◌>>=◌}
+use Rattle.bay_base.specs.Results.{◌>>=◌ as ◌>>◌}
 use Rattle.bay_ber.specs.Tags.{same_tag}
-use Rattle.bay_ber.specs.Values.{Part, each_in}
+use Rattle.bay_ber.specs.Values.{Part, values_in, onto, all_of, each_in}
+use Rattle.bay_ber.proofs.ListingLemmas.{Passed, passed_more, passed_end, bind_some, some_is}
+use Rattle.bay_mms.specs.Answers.{names_none}
 use Rattle.bay_mms.specs.Data as mms
 use Rattle.bay_mms.specs.Data.{Datum}
 use Rattle.bay_mms.specs.Tags.{constructed}
 use Rattle.bay_mms.specs.Views.{data_before, datum_of, data_in}
 use Rattle.bay_mms.specs.declared.data.Data as given
 use Rattle.bay_mms.specs.Spelled.{spelled}
-use Rattle.bay_mms.specs.Requests.{Naming, variables}
+use Rattle.bay_mms.specs.Requests.{Naming, VariableSpecification, variables}
 use Rattle.bay_mms.specs.RequestViews.{naming, variable}
 use Rattle.bay_mms.specs.declared.access.VariableSpecification as code
+use Rattle.bay_mms.specs.declared.request.ObjectName.{ObjectName}
 use Rattle.bay_mms.specs.declared.fault.Refusal.{Refusal}
 use Rattle.bay_mms.specs.declared.fault.Refusal.TheVariants.{Bad, Unknown, Many, OutOfMemory}
-use Rattle.bay_mms.specs.Grammar.{any_alternate, judged, datum_as, simple_as}
+use Rattle.bay_mms.specs.Grammar.{variable_as, any_alternate, are_as_many, counted, judged, listed_in, datum_as, simple_as}
 
 -- ---- lists of variables
 
-pub any_is : (vs : List code.VariableSpecification)
-    → list_any (λ v. v.is_alternate) vs ≡ any_alternate (map variable vs)
-any_is [] = refl
-any_is (v ∷ vs) = rw (any_is vs) refl
+-- Variables were read at the front of octets: their names, and whether a part of one is asked for.
+pub record Listing (octets rest : List ℕ) (names : List ObjectName) (alternate : Bool)
+    : Type 0 where
+  pub vs : List VariableSpecification
+  pub passed : Passed variable_as octets rest vs
+  pub are : map naming names ≡ map (λ v. v.name) vs
+  pub any : alternate ≡ any_alternate vs
 
-pub names_are : (vs : List code.VariableSpecification)
-    → map naming (map (λ v. v.name) vs) ≡ map (λ v. v.name) (map variable vs)
-names_are [] = refl
-names_are (v ∷ vs) = ap (λ (ns : List Naming). naming v.name ∷ ns) (names_are vs)
+pub listing_more : (octets rest new : List ℕ) (names more : List ObjectName) (alternate both : Bool)
+    (part : Part) (one : code.VariableSpecification) → Listing octets rest names alternate
+    → values_in rest ≡ onto (part ∷ []) (values_in new) → variable_as part ≡ Some (variable one)
+    → map naming more ≡ map naming names ++ naming one.name ∷ []
+    → both ≡ (alternate || one.is_alternate) → Listing octets new more both
+listing_more octets rest new names more alternate both part one l step is are any = record {
+  vs = l.vs ++ variable one ∷ [];
+  passed = passed_more variable_as octets rest new l.vs part (variable one) l.passed step is;
+  are = are ∙ ap (λ (ns : List Naming). ns ++ naming one.name ∷ []) l.are
+      ∙ sym (map-append (λ (v : VariableSpecification). v.name) l.vs (variable one ∷ []));
+  any = any ∙ ap (λ (b : Bool). b || one.is_alternate) l.any
+      ∙ sym (list_any-append (λ (v : VariableSpecification). v.is_alternate) l.vs
+      (variable one ∷ []) ∙ one_any (any_alternate l.vs) one.is_alternate);
+}
+  where
+    one_any : (a b : Bool) → (a || (b || false)) ≡ (a || b)
+    one_any true b = refl
+    one_any false true = refl
+    one_any false false = refl
 
-pub judged_unknown : (vs : List code.VariableSpecification)
-    → list_any (λ v. v.is_alternate) vs ≡ true → judged (variables (map variable vs)) ≡ Err Unknown
-unfolding judged
-judged_unknown vs some =
-    let e : any_alternate (map variable vs) ≡ true = sym (any_is vs) ∙ some in
-    rw e refl
+pub listing_end : (count : Option ℕ) (octets rest : List ℕ) (names : List ObjectName)
+    (alternate : Bool) → Listing octets rest names alternate → values_in rest ≡ Some []
+    → listed_in count octets ≡ counted count (map naming names) alternate
+listing_end count octets rest names alternate l last =
+    rw (passed_end variable_as octets rest l.vs l.passed last, l.are, l.any) refl
 
-pub judged_many : (vs : List code.VariableSpecification) → list_any (λ v. v.is_alternate) vs ≡ false
-    → 32 < length vs → judged (variables (map variable vs)) ≡ Err Many
-unfolding judged
-judged_many vs none many =
-    let e : any_alternate (map variable vs) ≡ false = sym (any_is vs) ∙ none in
-    let l : ltb 32 (length (map variable vs)) ≡ true =
-    lt-ltb _ _ (omega (arith, length-map vs variable)) in
-    rw (e, l) refl
+pub listing_bad : (count : Option ℕ) (octets : List ℕ) → each_in variable_as octets ≡ None
+    → listed_in count octets ≡ Err Bad
+listing_bad count octets bad = rw bad refl
 
-pub judged_few : (vs : List code.VariableSpecification) → list_any (λ v. v.is_alternate) vs ≡ false
-    → length vs ≤ 32 → judged (variables (map variable vs)) ≡ Ok (map naming (map (λ v. v.name) vs))
-unfolding judged
-judged_few vs none few =
-    let e : any_alternate (map variable vs) ≡ false = sym (any_is vs) ∙ none in
-    let l : ltb 32 (length (map variable vs)) ≡ false =
-    le-ltb _ _ (omega (arith, length-map vs variable)) in
-    rw (e, l) (ap Ok (sym (names_are vs)))
+pub counted_is : (count : Option ℕ) (names : List ObjectName) (alternate : Bool)
+    → counted count (map naming names) alternate
+    ≡ cond (are_as_many count (length names)) (cond alternate (Err Unknown)
+    (cond (ltb 32 (length names)) (Err Many) (Ok (map naming names)))) (Err Bad)
+counted_is count names alternate = rw (length-map names naming) refl
+
+-- where a value stands, no list of them is read as empty
+not_nil : {B : Type 0} (f : Part → Option B) (front : List Part) (part : Part)
+    (o : Option (List Part)) → (onto front (onto (part ∷ []) o) >>= all_of f) ≡ Some [] → ⊥
+not_nil f front part None e = cc
+not_nil f [] part (Some later) e =
+    let x = bind_some (f part) _ [] e in
+    let y = bind_some (all_of f later) _ [] x.2 in
+    let no : x.0 ∷ y.0 ≡ [] = some_is _ _ y.2 in cc
+not_nil f (first ∷ front) part (Some later) e =
+    let x = bind_some (f first) _ [] e in
+    let y = bind_some (all_of f (front ++ part ∷ later)) _ [] x.2 in
+    let no : x.0 ∷ y.0 ≡ [] = some_is _ _ y.2 in cc
+
+pub some_value : {B : Type 0} (f : Part → Option B) (whole rest new : List ℕ) (done : List B)
+    (part : Part) → Passed f whole rest done → values_in rest ≡ onto (part ∷ []) (values_in new)
+    → each_in f whole ≡ Some [] → ⊥
+some_value f whole rest new done part p step e =
+    not_nil f p.front part (values_in new)
+    (sym (ap (λ (o : Option (List Part)). o >>= all_of f) (p.read ∙ ap (onto p.front) step)) ∙ e)
+
+names_some : (vs : List VariableSpecification) (count : Option ℕ) → (vs ≡ [] → ⊥)
+    → names_none (judged count (variables vs)) ≡ false
+names_some [] count some = absurd (some refl)
+names_some (v ∷ vs) count some = pick (are_as_many count (suc (length (map (λ w. w.name) vs))))
+    (v.is_alternate || any_alternate vs) (ltb 32 (suc (length (map (λ w. w.name) vs))))
+  where
+    pick : (fits alternate many : Bool) → names_none (cond fits (cond alternate (Err Unknown)
+        (cond many (Err Many) (Ok (v.name ∷ map (λ w. w.name) vs)))) (Err Bad)) ≡ false
+    pick false alternate many = refl
+    pick true true many = refl
+    pick true false true = refl
+    pick true false false = refl
+
+pub listing_some : (count : Option ℕ) (octets : List ℕ)
+    → (each_in variable_as octets ≡ Some [] → ⊥) → names_none (listed_in count octets) ≡ false
+listing_some count octets some = pick (each_in variable_as octets) refl
+  where
+    pick : (o : Option (List VariableSpecification)) → each_in variable_as octets ≡ o
+        → names_none (spelled o >> λ vs. judged count (variables vs)) ≡ false
+    pick None e = refl
+    pick (Some vs) e = names_some vs count (λ none. some (e ∙ ap Some none))
 
 -- ---- where a list of values stops
 

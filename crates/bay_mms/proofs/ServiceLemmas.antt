@@ -1,5 +1,6 @@
 -- The services that are asked for: what octets spell they are read as, and the other way.
-use Rattle.std.proofs.Common.{◌≡◌, ℕ, ℤ, ◌||◌, Bool, true, false, not, cond, eqb, List, [], ◌∷◌, ◌++◌, length, Option, Some, None, Result, Ok, Err, refl, sym, ap, subst, ◌∙◌, inl, inr}
+use Rattle.std.proofs.Common.{◌≡◌, ℕ, ℤ, ◌||◌, Bool, true, false, not, cond, eqb, List, [], ◌∷◌, ◌++◌, length, map, Option, Some, None, Result, Ok, Err, refl, sym, ap, subst, ◌∙◌, inl, inr}
+use Rattle.std.proofs.lemmas.List.{length-map}
 use Rattle.std.proofs.lemmas.Bool.{eq-eqb, eqb-true, eqb-false, ne_eqb, false_from_ne_true}
 use Rattle.bay_ber.specs.declared.tag.Class.{Class}
 use Rattle.bay_ber.specs.declared.tag.Class.TheVariants.{Universal, Application, ContextSpecific, Private}
@@ -7,24 +8,24 @@ use Rattle.bay_ber.specs.declared.tag.Tag.{Tag}
 use Rattle.bay_ber.specs.Content.{IsInteger, integer_in}
 use Rattle.bay_base.specs.Options.{◌>>=◌}
 use Rattle.bay_ber.specs.Tags.{same_class, same_tag}
-use Rattle.bay_ber.specs.Values.{Part, value, SpellAll, value_in, few_in, each_in, under}
+use Rattle.bay_ber.specs.Values.{Part, value, SpellAll, value_in, one_or_two_in, few_in, each_in, under}
 use Rattle.bay_ber.proofs.ReadLemmas.{IsBytes}
 use Rattle.bay_ber.proofs.ContentLemmas.{both, integer_again}
 use Rattle.bay_ber.proofs.ListingLemmas.{values_again}
-use Rattle.bay_ber.proofs.BackLemmas.{bind_some, some_is, AllBytes, tag_is, under_is, integer_back, one_back, few_back, each_back, one_read, few_read}
+use Rattle.bay_ber.proofs.BackLemmas.{bind_some, some_is, AllBytes, tag_is, under_is, integer_back, listed, one_back, two_back, few_back, each_back, one_read, two_read, few_read}
 use Rattle.bay_mms.specs.Data.{Datum}
 use Rattle.bay_mms.specs.Tags.{context, constructed}
 use Rattle.bay_base.specs.Results.{◌>>=◌ as ◌>>◌}
 use Rattle.bay_mms.specs.Spelled.{spelled}
 use Rattle.bay_mms.specs.Requests.{Naming, Place, whole_vmd, in_domain, of_association, Access, variables, named_list, Asking, identify, names, attributes, read, write}
-use Rattle.bay_mms.specs.Grammar.{nothing, place_as, class_as, scope_as, names_of, listing_in, name_in, access_as, judged, attributes_as, read_as, read_of, written_with, datum_as, write_of, is_unlisted, other_as, service_as}
+use Rattle.bay_mms.specs.Grammar.{nothing, place_as, class_as, scope_as, names_of, listing_in, name_in, names_as, judged, attributes_as, read_as, read_of, datum_as, write_of, is_unlisted, other_as, service_as}
 use Rattle.bay_mms.specs.SpelledNames.{IsAccess}
 use Rattle.bay_mms.specs.SpelledData.{AreWritten}
 use Rattle.bay_mms.specs.SpelledInitiate.{field}
 use Rattle.bay_mms.specs.SpelledServices.{IsPlace, IsListing, IsWish, IsReading, AreAsMany, IsWriting, IsNamed, IsService, IsUnlisted, IsUnserved, IsOverfull}
 use Rattle.bay_mms.specs.declared.fault.Refusal.{Refusal}
 use Rattle.bay_mms.specs.declared.fault.Refusal.TheVariants.{Bad, Unknown, Many, OutOfMemory}
-use Rattle.bay_mms.proofs.AccessLemmas.{IsFair, spelled_then, by_tag, spelled_under, name_read, name_back, access_read, access_back, judged_served, judged_unserved, judged_many, Judged, judged_is}
+use Rattle.bay_mms.proofs.AccessLemmas.{IsFair, spelled_then, by_tag, spelled_under, name_read, name_back, access_read, access_back, judged_served, judged_unserved, judged_many, Judged, judged_back}
 use Rattle.bay_mms.proofs.ReceivedLemmas.{written_read, written_back}
 
 -- ---- what is spelled is read
@@ -79,22 +80,23 @@ listing_read part class place after l =
 
 -- what is answered of variables that are read
 abbrev pub answered_read : Access → Result Asking Refusal
-answered_read access = judged access >> λ ns. Ok (read ns)
+answered_read access = judged None access >> λ ns. Ok (read ns)
 
 read_with : (spec : List ℕ) (inner : Part) (access : Access) → SpellAll spec (inner ∷ [])
     → IsAccess inner access → read_as (value (constructed 1) spec) ≡ answered_read access
 unfolding read_as
-read_with spec inner access one is = rw (one_read spec inner one, access_read inner access is) refl
+read_with spec inner access one is =
+    rw (one_read spec inner one, access_read None inner access is) refl
 
 wished : (content spec : List ℕ) (wish : List Part) (inner : Part) (access : Access)
     → SpellAll content (wish ++ (value (constructed 1) spec ∷ [])) → IsWish wish
     → SpellAll spec (inner ∷ []) → IsAccess inner access
-    → (spelled (few_in content) >> read_of) ≡ answered_read access
+    → (spelled (one_or_two_in content) >> (λ ps. read_of ps.0 ps.1)) ≡ answered_read access
 wished content spec [] inner access parts wish one is =
-    rw (few_read content (value (constructed 1) spec ∷ []) parts)
+    rw (two_read content (value (constructed 1) spec ∷ []) parts)
     (read_with spec inner access one is)
 wished content spec (p ∷ []) inner access parts wish one is =
-    rw (few_read content (p ∷ value (constructed 1) spec ∷ []) parts, wish)
+    rw (two_read content (p ∷ value (constructed 1) spec ∷ []) parts, wish)
     (read_with spec inner access one is)
 wished content spec (p ∷ q ∷ ps) inner access parts wish one is = absurd wish
 
@@ -106,26 +108,26 @@ reading_read part access r =
 
 -- what is answered of variables that are written
 abbrev pub answered_write : Access → List Datum → Result Asking Refusal
-answered_write access ds = judged access >> λ ns. Ok (write ns ds)
+answered_write access ds = judged None access >> λ ns. Ok (write ns ds)
 
 with_read : (access : Access) (ds : List Datum) → AreAsMany access ds
-    → written_with access ds ≡ answered_write access ds
-unfolding written_with judged
-with_read (variables vs) ds many = rw (eq-eqb (length vs) (length ds) many) refl
+    → judged (Some (length ds)) access ≡ judged None access
+with_read (variables vs) ds many =
+    rw (eq-eqb _ _ (length-map vs (λ v. v.name) ∙ many)) refl
 with_read named_list ds many = refl
 
 writing_with : (content list : List ℕ) (inner : Part) (pieces : List Part) (access : Access)
     (ds : List Datum) → SpellAll content (inner ∷ value (constructed 0) list ∷ [])
     → IsAccess inner access → SpellAll list pieces → AreWritten pieces ds → AreAsMany access ds
-    → (spelled (few_in content) >> write_of) ≡ answered_write access ds
+    → (spelled (one_or_two_in content) >> (λ ps. write_of ps.0 ps.1)) ≡ answered_write access ds
 writing_with content list inner pieces access ds parts is s written many =
     rw (
-      few_read content (inner ∷ value (constructed 0) list ∷ []) parts,
-      access_read inner access is,
+      two_read content (inner ∷ value (constructed 0) list ∷ []) parts,
       values_again list pieces s,
       written_read pieces ds written,
-    )
-    (with_read access ds many)
+      access_read (Some (length ds)) inner access is,
+      with_read access ds many,
+    ) refl
 
 writing_read : (part : Part) (access : Access) (ds : List Datum) → IsWriting part access ds
     → service_as part ≡ answered_write access ds
@@ -344,84 +346,61 @@ listing_back part asking is b e =
     let f = few_back part.content x.0 b x.1 in
     listing_parts part x.0 asking is f.0 f.1 x.2
 
+-- what follows an answer that is bad is bad
+fair_before : {A B : Type 0} (x : Result A Refusal) (f : A → Result B Refusal)
+    (r : Result B Refusal) → IsFair r → (x >> f) ≡ r → IsFair x
+fair_before (Ok y) f r fair e bad = cc
+fair_before (Err e) f r fair is bad =
+    fair (sym is ∙ ap (λ (y : Refusal). let made : Result _ Refusal = Err y in made) cc)
+
 -- the variables that are read
 record ReadsSo (part : Part) (r : Result Asking Refusal) : Type 0 where
   access : Access
   reading : IsReading part access
   is : answered_read access ≡ r
 
-ok_access : (r : Result Access Refusal) (f : Access → Result Asking Refusal)
-    (y : Result Asking Refusal) → IsFair y → ((e : Refusal) → r ≡ Err e → e ≡ Bad) → (r >> f) ≡ y
-    → (access : Access) × (r ≡ Ok access) × (f access ≡ y)
-ok_access (Ok access) f y fair bad e = (access, refl, e)
-ok_access (Err fault) f y fair bad e =
-    absurd (fair (sym e ∙ ap (λ (x : Refusal). let made : Result Asking Refusal = Err x in made)
-    (bad fault refl)))
-
--- where no access is spelled, that is for bad spelling
-spelled_bad : {A B : Type 0} (o : Option A) (f : A → B) (e : Refusal)
-    → (spelled o >> (λ x. let made : Result B Refusal = Ok (f x) in made)) ≡ Err e → e ≡ Bad
-spelled_bad None f e is = let same : Bad ≡ e = cc in sym same
-spelled_bad (Some x) f e is = absurd cc
-
-access_bad : (part : Part) (e : Refusal) → access_as part ≡ Err e → e ≡ Bad
-unfolding access_as
-access_bad part e is =
-    let list : Result Access Refusal = spelled (name_in part.content) >> (λ n. Ok named_list) in
-    let last : Result Access Refusal = cond (same_tag part.tag (constructed 1)) list (Err Bad) in
-    elim (by_tag (constructed 0) part
-    (spelled (each_in _ part.content) >> (λ vs. Ok (variables vs))) last (Err e) is) [
-      | inl here ↦ spelled_bad (each_in _ part.content) variables e here.1
-      | inr next ↦ elim (by_tag (constructed 1) part list (Err Bad) (Err e) next.1) [
-        | inl here ↦ spelled_bad (name_in part.content) (λ n. named_list) e here.1
-        | inr none ↦ let same : Bad ≡ e = (let err : Err Bad ≡ Err e = none.1 in cc) in sym same
-      ]
-    ]
-
 reading_of : (part p : Part) (wish : List Part) (r : Result Asking Refusal) → IsFair r
     → part ≡ value (constructed 4) part.content → SpellAll part.content (wish ++ (p ∷ []))
     → IsWish wish → IsBytes p.content → read_as p ≡ r → ReadsSo part r
 unfolding read_as
 reading_of part p wish r fair is s wished b e =
-    let x = spelled_then (under (constructed 1) p) _ r fair e in
-    let y = spelled_then (value_in x.0) _ r fair x.2 in
-    let z = ok_access (access_as y.0) _ r fair (access_bad y.0) y.2 in
-    let same = under_is (constructed 1) p x.0 x.1 in
-    let one = one_back x.0 y.0 (subst IsBytes (ap (λ (q : Part). q.content) same) b) y.1 in
+    let x = spelled_then (under (constructed 1) p >>= value_in) _ r fair e in
+    let y = bind_some (under (constructed 1) p) value_in x.0 x.1 in
+    let same = under_is (constructed 1) p y.0 y.1 in
+    let one = one_back y.0 x.0 (subst IsBytes (ap (λ (q : Part). q.content) same) b) y.2 in
+    let a = access_back None x.0 (names_as None x.0) (fair_before _ _ r fair x.2) one.1 refl in
     record {
-      access = z.0;
+      access = a.access;
       reading = record {
         content = part.content;
         wish = wish;
-        spec = x.0;
-        inner = y.0;
+        spec = y.0;
+        inner = x.0;
         is = is;
         parts = subst (λ (q : Part). SpellAll part.content (wish ++ (q ∷ []))) same s;
         is_wish = wished;
         one = one.0;
-        is_access = access_back y.0 z.0 one.1 z.1;
+        is_access = a.is;
       };
-      is = z.2;
+      is = ap (λ (j : Result (List Naming) Refusal). j >> λ ns. Ok (read ns)) a.answer ∙ x.2;
     }
 
-reading_parts : (part : Part) (parts : List Part) (r : Result Asking Refusal) → IsFair r
-    → part ≡ value (constructed 4) part.content → SpellAll part.content parts → AllBytes parts
-    → read_of parts ≡ r → ReadsSo part r
-reading_parts part [] r fair is s b e = absurd (fair (sym e))
-reading_parts part (p ∷ []) r fair is s b e = reading_of part p [] r fair is s tt b.0 e
-reading_parts part (p ∷ q ∷ []) r fair is s b e =
+reading_parts : (part p : Part) (o : Option Part) (r : Result Asking Refusal) → IsFair r
+    → part ≡ value (constructed 4) part.content → SpellAll part.content (p ∷ listed o)
+    → AllBytes (p ∷ listed o) → read_of p o ≡ r → ReadsSo part r
+reading_parts part p None r fair is s b e = reading_of part p [] r fair is s tt b.0 e
+reading_parts part p (Some q) r fair is s b e =
     let x = spelled_then (under (context 0) p) (λ ignored. read_as q) r fair e in
     reading_of part q (p ∷ []) r fair is s
     (ap (λ (t : Part). t.tag) (under_is (context 0) p x.0 x.1)) b.1.0 x.2
-reading_parts part (p ∷ q ∷ t ∷ parts) r fair is s b e = absurd (fair (sym e))
 
 reading_back : (part : Part) (r : Result Asking Refusal) → IsFair r
     → part ≡ value (constructed 4) part.content → IsBytes part.content
-    → (spelled (few_in part.content) >> read_of) ≡ r → ReadsSo part r
+    → (spelled (one_or_two_in part.content) >> (λ ps. read_of ps.0 ps.1)) ≡ r → ReadsSo part r
 reading_back part r fair is b e =
-    let x = spelled_then (few_in part.content) read_of r fair e in
-    let f = few_back part.content x.0 b x.1 in
-    reading_parts part x.0 r fair is f.0 f.1 x.2
+    let x = spelled_then (one_or_two_in part.content) (λ ps. read_of ps.0 ps.1) r fair e in
+    let f = two_back part.content x.0 b x.1 in
+    reading_parts part x.0.0 x.0.1 r fair is f.0 f.1 x.2
 
 -- the variables that are written
 record WritesSo (part : Part) (r : Result Asking Refusal) : Type 0 where
@@ -430,31 +409,37 @@ record WritesSo (part : Part) (r : Result Asking Refusal) : Type 0 where
   writing : IsWriting part access ds
   is : answered_write access ds ≡ r
 
-as_many : (access : Access) (ds : List Datum) (r : Result Asking Refusal) → IsFair r
-    → written_with access ds ≡ r → AreAsMany access ds × (answered_write access ds ≡ r)
-unfolding written_with judged
-as_many (variables vs) ds r fair e = pick (eqb (length vs) (length ds)) refl e
+as_many : (access : Access) (ds : List Datum) → IsFair (judged (Some (length ds)) access)
+    → AreAsMany access ds × (judged None access ≡ judged (Some (length ds)) access)
+as_many (variables vs) ds fair =
+    pick (eqb (length (map (λ v. v.name) vs)) (length ds)) refl fair
   where
-    pick : (b : Bool) → eqb (length vs) (length ds) ≡ b
-        → cond b (answered_write (variables vs) ds) (Err Bad) ≡ r
-        → (length vs ≡ length ds) × (answered_write (variables vs) ds ≡ r)
-    pick true s f = (eqb-true (length vs) (length ds) s, f)
-    pick false s f = absurd (fair (sym f))
-as_many named_list ds r fair e = (tt, e)
+    all : Result (List Naming) Refusal
+    all = judged None (variables vs)
 
-writing_of : (part p q : Part) (r : Result Asking Refusal) → IsFair r
-    → part ≡ value (constructed 5) part.content → SpellAll part.content (p ∷ q ∷ [])
-    → IsBytes p.content → IsBytes q.content → write_of (p ∷ q ∷ []) ≡ r → WritesSo part r
-writing_of part p q r fair is s b c e =
-    let x = ok_access (access_as p) _ r fair (access_bad p) e in
-    let y = spelled_then (under (constructed 0) q) _ r fair x.2 in
+    pick : (b : Bool) → eqb (length (map (λ v. v.name) vs)) (length ds) ≡ b
+        → IsFair (cond b all (Err Bad))
+        → (length vs ≡ length ds) × (all ≡ cond b all (Err Bad))
+    pick true s f = (sym (length-map vs (λ v. v.name)) ∙ eqb-true _ _ s, refl)
+    pick false s f = absurd (f refl)
+as_many named_list ds fair = (tt, refl)
+
+writing_of : (part p : Part) (o : Option Part) (r : Result Asking Refusal) → IsFair r
+    → part ≡ value (constructed 5) part.content → SpellAll part.content (p ∷ listed o)
+    → AllBytes (p ∷ listed o) → write_of p o ≡ r → WritesSo part r
+writing_of part p None r fair is s b e = absurd (fair (sym e))
+writing_of part p (Some q) r fair is s b e =
+    let y = spelled_then (under (constructed 0) q) _ r fair e in
     let z = spelled_then (each_in (datum_as 10) y.0) _ r fair y.2 in
     let same = under_is (constructed 0) q y.0 y.1 in
     let each =
-    each_back (datum_as 10) y.0 z.0 (subst IsBytes (ap (λ (t : Part). t.content) same) c) z.1 in
-    let m = as_many x.0 z.0 r fair z.2 in
+    each_back (datum_as 10) y.0 z.0 (subst IsBytes (ap (λ (t : Part). t.content) same) b.1.0) z.1
+    in
+    let count = Some (length z.0) in
+    let a = access_back count p (names_as count p) (fair_before _ _ r fair z.2) b.0 refl in
+    let m = as_many a.access z.0 (subst IsFair (sym a.answer) (fair_before _ _ r fair z.2)) in
     record {
-      access = x.0;
+      access = a.access;
       ds = z.0;
       writing = record {
         content = part.content;
@@ -463,29 +448,22 @@ writing_of part p q r fair is s b c e =
         pieces = each.parts;
         is = is;
         parts = subst (λ (t : Part). SpellAll part.content (p ∷ t ∷ [])) same s;
-        is_access = access_back p x.0 b x.1;
+        is_access = a.is;
         data_parts = each.spelled;
         written = written_back each.parts z.0 each.bytes each.all;
         as_many = m.0;
       };
-      is = m.1;
+      is = ap (λ (j : Result (List Naming) Refusal). j >> λ ns. Ok (write ns z.0))
+          (m.1 ∙ a.answer) ∙ z.2;
     }
-
-writing_parts : (part : Part) (parts : List Part) (r : Result Asking Refusal) → IsFair r
-    → part ≡ value (constructed 5) part.content → SpellAll part.content parts → AllBytes parts
-    → write_of parts ≡ r → WritesSo part r
-writing_parts part [] r fair is s b e = absurd (fair (sym e))
-writing_parts part (p ∷ []) r fair is s b e = absurd (fair (sym e))
-writing_parts part (p ∷ q ∷ []) r fair is s b e = writing_of part p q r fair is s b.0 b.1.0 e
-writing_parts part (p ∷ q ∷ t ∷ parts) r fair is s b e = absurd (fair (sym e))
 
 writing_back : (part : Part) (r : Result Asking Refusal) → IsFair r
     → part ≡ value (constructed 5) part.content → IsBytes part.content
-    → (spelled (few_in part.content) >> write_of) ≡ r → WritesSo part r
+    → (spelled (one_or_two_in part.content) >> (λ ps. write_of ps.0 ps.1)) ≡ r → WritesSo part r
 writing_back part r fair is b e =
-    let x = spelled_then (few_in part.content) write_of r fair e in
-    let f = few_back part.content x.0 b x.1 in
-    writing_parts part x.0 r fair is f.0 f.1 x.2
+    let x = spelled_then (one_or_two_in part.content) (λ ps. write_of ps.0 ps.1) r fair e in
+    let f = two_back part.content x.0 b x.1 in
+    writing_of part x.0.0 x.0.1 r fair is f.0 f.1 x.2
 
 -- What a service is answered is what it asks, or that it is not served, or too many variables.
 abbrev pub Serves : Part → Result Asking Refusal → Type 0
@@ -521,21 +499,19 @@ or_fair part (Err OutOfMemory) f = f (λ no. cc)
 
 reading_serves : (part : Part) (r : Result Asking Refusal)
     → part ≡ value (constructed 4) part.content → IsBytes part.content
-    → (spelled (few_in part.content) >> read_of) ≡ r → Serves part r
+    → (spelled (one_or_two_in part.content) >> (λ ps. read_of ps.0 ps.1)) ≡ r → Serves part r
 reading_serves part r is b e =
     or_fair part r (λ fair. let x = reading_back part r fair is b e in
     subst (Serves part) x.is
-    (read_judged part x.access (judged x.access) x.reading
-    (judged_is x.access (judged x.access) refl)))
+    (read_judged part x.access (judged None x.access) x.reading (judged_back x.access)))
 
 writing_serves : (part : Part) (r : Result Asking Refusal)
     → part ≡ value (constructed 5) part.content → IsBytes part.content
-    → (spelled (few_in part.content) >> write_of) ≡ r → Serves part r
+    → (spelled (one_or_two_in part.content) >> (λ ps. write_of ps.0 ps.1)) ≡ r → Serves part r
 writing_serves part r is b e =
     or_fair part r (λ fair. let x = writing_back part r fair is b e in
     subst (Serves part) x.is
-    (write_judged part x.access x.ds (judged x.access) x.writing
-    (judged_is x.access (judged x.access) refl)))
+    (write_judged part x.access x.ds (judged None x.access) x.writing (judged_back x.access)))
 
 -- what is spelled or bad
 spelled_serves : (part : Part) (o : Option Asking) (r : Result Asking Refusal)
@@ -640,10 +616,12 @@ service_back part r b e =
     cond (same_tag part.tag (constructed 6)) (spelled (value_in part.content) >> attributes_as)
     (other_as part) in
     let from5 : Result Asking Refusal =
-    cond (same_tag part.tag (constructed 5)) (spelled (few_in part.content) >> write_of) from6
+    cond (same_tag part.tag (constructed 5))
+        (spelled (one_or_two_in part.content) >> (λ ps. write_of ps.0 ps.1)) from6
     in
     let from4 : Result Asking Refusal =
-    cond (same_tag part.tag (constructed 4)) (spelled (few_in part.content) >> read_of) from5 in
+    cond (same_tag part.tag (constructed 4))
+        (spelled (one_or_two_in part.content) >> (λ ps. read_of ps.0 ps.1)) from5 in
     let from2 : Result Asking Refusal =
     cond (same_tag part.tag (context 2)) (spelled (nothing part.content identify)) from4 in
     elim (by_tag (constructed 1) part (spelled (listing_in part.content)) from2 r e) [
@@ -653,11 +631,12 @@ service_back part r b e =
           f2.1) [
             | inl here ↦ spelled_serves part (nothing part.content identify) r
                 (λ asking. identify_back part asking here.0) here.1
-            | inr f4 ↦ elim (by_tag (constructed 4) part (spelled (few_in part.content) >> read_of)
+            | inr f4 ↦ elim (by_tag (constructed 4) part
+                (spelled (one_or_two_in part.content) >> (λ ps. read_of ps.0 ps.1))
                 from5 r f4.1) [
                   | inl here ↦ reading_serves part r here.0 b here.1
                   | inr f5 ↦ elim (by_tag (constructed 5) part
-                      (spelled (few_in part.content) >> write_of)
+                      (spelled (one_or_two_in part.content) >> (λ ps. write_of ps.0 ps.1))
                       from6 r f5.1) [
                         | inl here ↦ writing_serves part r here.0 b here.1
                         | inr f6 ↦ elim (by_tag (constructed 6) part

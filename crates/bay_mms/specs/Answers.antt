@@ -1,8 +1,12 @@
 -- What is answered of octets that a client sent.
-use Rattle.std.specs.Prelude.{ℕ, IsTrue, Bool, false, ◌||◌, List, [], ◌∷◌, Option, Some, None, Result, Ok, Err, if◌then◌else◌}
+use Rattle.std.specs.Prelude.{ℕ, IsTrue, Bool, true, false, not, ◌&&◌, ◌||◌, List, [], ◌∷◌, Option, Some, None, Result, Ok, Err, if◌then◌else◌}
 use Rattle.bay_ber.specs.Tags.{same_tag}
-use Rattle.bay_ber.specs.Values.{Part, value, SpellAll, few_in}
+use Rattle.bay_ber.specs.Values.{Part, value, SpellAll, one_or_two_in}
 use Rattle.bay_mms.specs.Tags.{constructed}
+use Rattle.bay_mms.specs.Requests.{Naming, Asking, read, write}
+use Rattle.bay_mms.specs.SpelledServices.{IsService}
+use Rattle.bay_mms.specs.Grammar.{service_as}
+use Rattle.bay_mms.specs.declared.fault.Refusal.{Refusal}
 use Rattle.bay_mms.specs.RequestViews.{message}
 use Rattle.bay_mms.specs.Asks.{Asks, AsksUnknown, AsksMany, AsksNothing}
 use Rattle.bay_mms.specs.declared.request.Request.{Request}
@@ -13,7 +17,7 @@ use Rattle.bay_mms.specs.declared.fault.MmsFault.TheVariants.{BadPdu, UnknownSer
 abbrev pub has_list : Part → Bool
 has_list service = same_tag service.tag (constructed 4) || same_tag service.tag (constructed 5)
 
--- The octets are a confirmed request for a read or a write.
+-- The octets are a confirmed request for a read or a write, and not of no variables.
 pub record TakesMemory (octets : List ℕ) : Type 0 where
   pub content : List ℕ
   pub id : Part
@@ -21,6 +25,8 @@ pub record TakesMemory (octets : List ℕ) : Type 0 where
   pub whole : SpellAll octets (value (constructed 0) content ∷ [])
   pub parts : SpellAll content (id ∷ service ∷ [])
   pub list : IsTrue (has_list service)
+  pub not_read : IsService service (read []) → ⊥
+  pub not_written : IsService service (write [] []) → ⊥
 
 -- The request that the octets ask; or that they ask for what is not served, or for too many
 -- variables; or none of these, with the invoke id at their front. Want of memory may stand in the
@@ -34,19 +40,35 @@ IsAnswer octets (Err OutOfMemory) = TakesMemory octets
 
 -- ---- by the values that octets are, which a lemma ties to the above
 
--- of an invoke id and a service, whether the service is a read or a write
-abbrev pub lists_of : List Part → Bool
-lists_of (id ∷ service ∷ []) = has_list service
-lists_of parts = false
+-- whether no variable is named
+abbrev pub names_none : Result (List Naming) Refusal → Bool
+names_none (Ok []) = true
+names_none answer = false
+
+-- whether a service is of no variables
+abbrev pub is_empty : Result Asking Refusal → Bool
+is_empty (Ok (read [])) = true
+is_empty (Ok (write [] [])) = true
+is_empty answer = false
+
+-- whether a service is a read or a write, and not of no variables
+abbrev pub takes_list : Part → Bool
+takes_list service = has_list service && not (is_empty (service_as service))
+
+-- the same of the service behind an invoke id
+abbrev pub lists_of : Option Part → Bool
+lists_of (Some service) = takes_list service
+lists_of None = false
 
 -- the same of parts, where there are any
-abbrev pub lists_in : Option (List Part) → Bool
-lists_in (Some parts) = lists_of parts
+abbrev pub lists_in : Option (Part × Option Part) → Bool
+lists_in (Some parts) = lists_of parts.1
 lists_in None = false
 
 -- the same of a value, which is a confirmed request
 abbrev pub lists_as : Part → Bool
-lists_as part = if same_tag part.tag (constructed 0) then lists_in (few_in part.content) else false
+lists_as part =
+    if same_tag part.tag (constructed 0) then lists_in (one_or_two_in part.content) else false
 
 -- the same of a value, where there is one
 abbrev pub lists_at : Option Part → Bool

@@ -1,6 +1,7 @@
 -- How requests are spelled (ISO 9506-2, with the profile of IEC 61850-8-1), by the values that
 -- octets are.
 use Rattle.std.specs.Prelude.{ℕ, zero, suc, ℤ, pos, negsuc, ◌*◌, ◌/◌, ◌==◌, ◌&&◌, ◌||◌, Bool, true, false, not, Option, Some, None, Result, Ok, Err, List, [], ◌∷◌, length, map, nat_lt, if◌then◌else◌}
+use Rattle.std.specs.List.{list_any}
 use Rattle.bay_ber.specs.declared.fault.BerFault.{BerFault}
 use Rattle.bay_ber.specs.declared.tag.Class.TheVariants.{ContextSpecific}
 use Rattle.bay_ber.specs.declared.tag.Tag.{Tag}
@@ -8,7 +9,7 @@ use Rattle.bay_ber.specs.Tags.{same_class, same_tag}
 use Rattle.bay_base.specs.Options.{◌>>=◌}
 use Rattle.bay_ber.specs.Content.{BitString, integer_in, bits_in, truth_in}
 use Rattle.bay_ber.specs.Reading.{Reading, tlv_at}
-use Rattle.bay_ber.specs.Values.{Part, part_in, value_in, few_in, known_in, each_in, under}
+use Rattle.bay_ber.specs.Values.{Part, part_in, value_in, one_or_two_in, few_in, known_in, each_in, under}
 use Rattle.bay_mms.specs.Data as mms
 use Rattle.bay_mms.specs.Data.{Datum}
 use Rattle.bay_mms.specs.Views.{data_before}
@@ -30,18 +31,19 @@ nothing (octet ∷ octets) x = None
 -- ---- names and variables
 
 -- two visible strings: a domain, and an item of it
-abbrev pub domain_name : List Part → Option Naming
-domain_name (first ∷ second ∷ []) = do
+abbrev pub domain_name : Part → Option Part → Option Naming
+domain_name first second = do
   d ← under visible_tag first
-  item ← under visible_tag second
+  part ← second
+  item ← under visible_tag part
   Some (domain d item)
-domain_name parts = None
 
 -- the name of an object that a value is
 unfoldable pub name_as : Part → Option Naming
 name_as part =
     if same_tag part.tag (context 0) then Some (vmd part.content)
-    else (if same_tag part.tag (constructed 1) then few_in part.content >>= domain_name
+    else (if same_tag part.tag (constructed 1) then one_or_two_in part.content
+    >>= (λ parts. domain_name parts.0 parts.1)
     else (if same_tag part.tag (context 2) then Some (association part.content)
     else None))
 
@@ -49,44 +51,60 @@ name_as part =
 unfoldable pub name_in : List ℕ → Option Naming
 name_in octets = value_in octets >>= name_as
 
--- a variable: its name, and behind it the part of it that is asked for, whose content is not looked
--- at
-abbrev pub variable_of : List Part → Option VariableSpecification
-variable_of (name ∷ []) = do
+-- whether a part of a variable is asked for, whose content is not looked at
+abbrev pub is_partial : Option Part → Option Bool
+is_partial None = Some false
+is_partial (Some access) = under (constructed 5) access >>= λ content. Some true
+
+-- a variable: its name, and what may follow it
+abbrev pub variable_of : Part → Option Part → Option VariableSpecification
+variable_of name access = do
+  alternate ← is_partial access
   octets ← under (constructed 0) name
   n ← name_in octets
-  Some (record { name = n; is_alternate = false })
-variable_of (name ∷ access ∷ []) = do
-  octets ← under (constructed 0) name
-  n ← name_in octets
-  part ← under (constructed 5) access
-  Some (record { name = n; is_alternate = true })
-variable_of parts = None
+  Some (record { name = n; is_alternate = alternate })
 
 -- the variable that a value is
 unfoldable pub variable_as : Part → Option VariableSpecification
-variable_as part = under sequence part >>= few_in >>= variable_of
-
--- a list of variables, or the name of a list
-unfoldable pub access_as : Part → Result Access Refusal
-access_as part =
-    if same_tag part.tag (constructed 0)
-    then spelled (each_in variable_as part.content) >> (λ vs. Ok (variables vs))
-    else (if same_tag part.tag (constructed 1)
-    then spelled (name_in part.content) >> (λ n. Ok named_list)
-    else Err Bad)
+variable_as part =
+    under sequence part >>= one_or_two_in >>= (λ parts. variable_of parts.0 parts.1)
 
 -- whether of one of them only a part is asked for
 abbrev pub any_alternate : List VariableSpecification → Bool
-any_alternate [] = false
-any_alternate (v ∷ vs) = v.is_alternate || any_alternate vs
+any_alternate vs = list_any (λ v. v.is_alternate) vs
 
--- Which names are asked for: at most 32, and none with alternate access.
-unfoldable pub judged : Access → Result (List Naming) Refusal
-judged named_list = Err Unknown
-judged (variables vs) =
-    if any_alternate vs then Err Unknown
-    else (if nat_lt 32 (length vs) then Err Many else Ok (map (λ v. v.name) vs))
+-- whether there are as many as there are to be, where that is given
+abbrev pub are_as_many : Option ℕ → ℕ → Bool
+are_as_many None number = true
+are_as_many (Some count) number = number == count
+
+-- Of names, with whether only a part of a variable is asked for: at most 32, each as a whole.
+abbrev pub served : List Naming → Bool → Result (List Naming) Refusal
+served ns alternate =
+    if alternate then Err Unknown else (if nat_lt 32 (length ns) then Err Many else Ok ns)
+
+-- the same, and as many as there are to be
+abbrev pub counted : Option ℕ → List Naming → Bool → Result (List Naming) Refusal
+counted count ns alternate =
+    if are_as_many count (length ns) then served ns alternate else Err Bad
+
+-- Which names are asked for, as many as there are to be; how many a list by its name has is not
+-- known.
+abbrev pub judged : Option ℕ → Access → Result (List Naming) Refusal
+judged count named_list = Err Unknown
+judged count (variables vs) = counted count (map (λ v. v.name) vs) (any_alternate vs)
+
+-- the names of the variables that octets are
+abbrev pub listed_in : Option ℕ → List ℕ → Result (List Naming) Refusal
+listed_in count octets = spelled (each_in variable_as octets) >> λ vs. judged count (variables vs)
+
+-- the names that a list of variables asks for, or the name of a list
+unfoldable pub names_as : Option ℕ → Part → Result (List Naming) Refusal
+names_as count part =
+    if same_tag part.tag (constructed 0) then listed_in count part.content
+    else (if same_tag part.tag (constructed 1)
+    then spelled (name_in part.content) >> (λ n. judged count named_list)
+    else Err Bad)
 
 -- ---- data
 
@@ -176,32 +194,26 @@ attributes_as part =
 -- a read by its specification of access
 unfoldable pub read_as : Part → Result Asking Refusal
 read_as part =
-    spelled (under (constructed 1) part) >> λ octets.
-    spelled (value_in octets) >> λ spec.
-    access_as spec >> λ access.
-    judged access >> λ ns.
+    spelled (under (constructed 1) part >>= value_in) >> λ spec.
+    names_as None spec >> λ ns.
     Ok (read ns)
 
 -- whether results are asked for with their specification, which is not looked at, and the variables
-abbrev pub read_of : List Part → Result Asking Refusal
-read_of (spec ∷ []) = read_as spec
-read_of (flag ∷ spec ∷ []) = spelled (under (context 0) flag) >> λ ignored. read_as spec
-read_of parts = Err Bad
+abbrev pub read_of : Part → Option Part → Result Asking Refusal
+read_of spec None = read_as spec
+read_of flag (Some spec) = spelled (under (context 0) flag) >> λ ignored. read_as spec
 
--- As many data as variables are written.
-unfoldable pub written_with : Access → List Datum → Result Asking Refusal
-written_with named_list ds = Err Unknown
-written_with (variables vs) ds =
-    if length vs == length ds then judged (variables vs) >> (λ ns. Ok (write ns ds)) else Err Bad
+-- the octets of the data that are written
+abbrev pub data_octets : Option Part → Option (List ℕ)
+data_octets list = list >>= under (constructed 0)
 
--- the variables, and the data, at most 10 deep
-abbrev pub write_of : List Part → Result Asking Refusal
-write_of (spec ∷ list ∷ []) =
-    access_as spec >> λ access.
-    spelled (under (constructed 0) list) >> λ octets.
+-- the variables, and as many data, at most 10 deep
+abbrev pub write_of : Part → Option Part → Result Asking Refusal
+write_of spec list =
+    spelled (data_octets list) >> λ octets.
     spelled (each_in (datum_as 10) octets) >> λ ds.
-    written_with access ds
-write_of parts = Err Bad
+    names_as (Some (length ds)) spec >> λ ns.
+    Ok (write ns ds)
 
 -- the service's tag is context-specific, and its number is of no service that is listed
 abbrev pub is_unlisted : Tag → Bool
@@ -219,8 +231,10 @@ unfoldable pub service_as : Part → Result Asking Refusal
 service_as part =
     if same_tag part.tag (constructed 1) then spelled (listing_in part.content)
     else (if same_tag part.tag (context 2) then spelled (nothing part.content identify)
-    else (if same_tag part.tag (constructed 4) then spelled (few_in part.content) >> read_of
-    else (if same_tag part.tag (constructed 5) then spelled (few_in part.content) >> write_of
+    else (if same_tag part.tag (constructed 4) then spelled (one_or_two_in part.content)
+    >> (λ parts. read_of parts.0 parts.1)
+    else (if same_tag part.tag (constructed 5) then spelled (one_or_two_in part.content)
+    >> (λ parts. write_of parts.0 parts.1)
     else (if same_tag part.tag (constructed 6) then spelled (value_in part.content) >> attributes_as
     else other_as part))))
 
@@ -345,16 +359,18 @@ or_bad known (Some x) = Ok x
 or_bad known None = Err (fault.BadPdu known)
 
 -- a confirmed request out of its invoke id and its service
-abbrev pub confirmed_of : Option ℕ → List Part → Result Message MmsFault
-confirmed_of known (first ∷ service ∷ []) =
-    or_bad known (id_as first) >> λ id. with_id known id (service_as service)
-confirmed_of known parts = Err (fault.BadPdu known)
+abbrev pub confirmed_of : Option ℕ → Part → Option Part → Result Message MmsFault
+confirmed_of known first second =
+    or_bad known second >> λ service.
+    or_bad known (id_as first) >> λ id.
+    with_id known id (service_as service)
 
 -- the request that a value is, by its tag
 unfoldable pub message_as : Option ℕ → Part → Result Message MmsFault
 message_as known part =
     if same_tag part.tag (constructed 0)
-    then or_bad known (few_in part.content) >> confirmed_of known
+    then or_bad known (one_or_two_in part.content)
+    >> (λ parts. confirmed_of known parts.0 parts.1)
     else (if same_tag part.tag (constructed 8)
     then or_bad known (proposal_in part.content) >> (λ p. Ok (initiate p))
     else (if same_tag part.tag (context 11) then or_bad known (nothing part.content conclude)

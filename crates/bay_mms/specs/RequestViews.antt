@@ -9,10 +9,8 @@ use Rattle.bay_mms.specs.declared.request.Call.TheVariants as call
 use Rattle.bay_mms.specs.declared.request.Request.{Request}
 use Rattle.bay_mms.specs.declared.request.Request.TheVariants as request
 use Rattle.bay_mms.specs.declared.access.VariableSpecification as code
-use Rattle.bay_mms.specs.declared.access.Access as list
-use Rattle.bay_mms.specs.declared.access.Access.TheVariants as access
 use Rattle.bay_mms.specs.Views.{data_in}
-use Rattle.bay_mms.specs.Requests.{Naming, vmd, domain, association, Place, whole_vmd, in_domain, of_association, VariableSpecification, Access, variables, named_list, Asking, identify, names, attributes, read, write, Message, initiate, conclude, confirmed}
+use Rattle.bay_mms.specs.Requests.{Naming, vmd, domain, association, Place, whole_vmd, in_domain, of_association, VariableSpecification, Asking, identify, names, attributes, read, write, Message, initiate, conclude, confirmed}
 
 -- the name of an object
 abbrev pub naming : ObjectName → Naming
@@ -29,11 +27,6 @@ place scope.Association = of_association
 -- a variable that is named
 abbrev pub variable : code.VariableSpecification → VariableSpecification
 variable v = record { name = naming v.name; is_alternate = v.is_alternate }
-
--- the variables of a read or a write
-abbrev pub accessed : list.Access → Access
-accessed (access.Variables vs) = variables (map variable vs.items)
-accessed access.NamedList = named_list
 
 -- a service and what it is asked for
 abbrev pub asking : Call → Asking

@@ -1,16 +1,16 @@
 // The names and the variables of requests (ISO 9506-2, ObjectName and VariableAccessSpecification).
-ghost use Rattle.std.specs.Prelude.{◌≡◌, [], ◌∷◌, ◌++◌, map, option_map, IfOk, OnOk};
-ghost use Rattle.std.specs.List.{list_any};
+ghost use Rattle.std.specs.Prelude.{◌≡◌, false, [], ◌∷◌, ◌++◌, map, option_map, IsErrOf, OnOk};
 ghost use Rattle.bay_base.specs.Exact.{Gives};
-ghost use Rattle.bay_ber.specs.Values.{part_of, each_in};
-ghost use Rattle.bay_mms.specs.Spelled.{spelled};
+ghost use Rattle.bay_base.specs.Results.{IsRead};
+ghost use Rattle.bay_ber.specs.Values.{part_of};
+ghost use Rattle.bay_mms.specs.Answers.{names_none};
 ghost use Rattle.bay_mms.specs.Grammar as spec;
-ghost use Rattle.bay_mms.specs.RequestViews.{naming, variable, accessed};
+ghost use Rattle.bay_mms.specs.RequestViews.{naming, variable};
 
 use crate::fault::Refusal;
 use crate::request::ObjectName;
 use bay_ber::tag::Tag;
-use bay_ber::values::{Value, Values, few_values, whole_value};
+use bay_ber::values::{Value, Values, one_or_two, whole_value};
 use std::alloc::{AllocError, Global};
 
 // A request names at most so many variables.
@@ -23,27 +23,14 @@ pub struct VariableSpecification<'a> {
     pub is_alternate: bool,
 }
 
-/// The variables of a read or a write.
-#[derive(Drop)]
-pub enum Access<'a> {
-    /// Each by its name.
-    Variables(Vec<VariableSpecification<'a>>),
-    /// All by the name of a list.
-    NamedList,
-}
-
 // The name of an item in a domain.
-fn domain_name<'a>(parts: &[Value<'a>]) -> Option<ObjectName<'a>>
-    ensures { option_map naming result ≡ spec.domain_name (map part_of parts.now) }
+fn domain_name<'a>(domain: Value<'a>, item: Option<Value<'a>>) -> Option<ObjectName<'a>>
+    ensures { option_map naming result
+        ≡ spec.domain_name (part_of domain.entry) (option_map part_of item.entry) }
 {
-    match parts {
-        [domain, item] => {
-            let domain = domain.under(Tag::universal(26))?;
-            let item = item.under(Tag::universal(26))?;
-            Some(ObjectName::Domain { domain, item })
-        }
-        _ => None,
-    }
+    let domain = domain.under(Tag::universal(26))?;
+    let item = item?.under(Tag::universal(26))?;
+    Some(ObjectName::Domain { domain, item })
 }
 
 // The name that a value is.
@@ -54,8 +41,8 @@ fn name_as<'a>(value: &Value<'a>) -> Option<ObjectName<'a>>
     if value.tag.is(Tag::context(0)) {
         Some(ObjectName::Vmd(value.content))
     } else if value.tag.is(Tag::context_constructed(1)) {
-        let parts = few_values(value.content)?;
-        domain_name(parts.as_slice())
+        let (domain, item) = one_or_two(value.content)?;
+        domain_name(domain, item)
     } else if value.tag.is(Tag::context(2)) {
         Some(ObjectName::Association(value.content))
     } else {
@@ -72,15 +59,25 @@ pub(crate) fn name_in(octets: &[u8]) -> Option<ObjectName<'_>>
     name_as(&value)
 }
 
-// The variable of a name, and of what may follow it.
-fn variable_of<'a>(parts: &[Value<'a>]) -> Option<VariableSpecification<'a>>
-    ensures { option_map variable result ≡ spec.variable_of (map part_of parts.now) }
+// Whether a part of a variable is asked for.
+fn is_partial(access: Option<Value<'_>>) -> Option<bool>
+    ensures { result ≡ spec.is_partial (option_map part_of access.entry) }
 {
-    let (name, is_alternate) = match parts {
-        [name] => (name, false),
-        [name, access] if access.tag.is(Tag::context_constructed(5)) => (name, true),
-        _ => return None,
-    };
+    match access {
+        Some(access) => {
+            access.under(Tag::context_constructed(5))?;
+            Some(true)
+        }
+        None => Some(false),
+    }
+}
+
+// The variable of a name, and of what may follow it.
+fn variable_of<'a>(name: Value<'a>, access: Option<Value<'a>>) -> Option<VariableSpecification<'a>>
+    ensures { option_map variable result
+        ≡ spec.variable_of (part_of name.entry) (option_map part_of access.entry) }
+{
+    let is_alternate = is_partial(access)?;
     let name = name_in(name.under(Tag::context_constructed(0))?)?;
     Some(VariableSpecification { name, is_alternate })
 }
@@ -90,96 +87,104 @@ fn variable_of<'a>(parts: &[Value<'a>]) -> Option<VariableSpecification<'a>>
 fn variable_as<'a>(value: &Value<'a>) -> Option<VariableSpecification<'a>>
     ensures { option_map variable result ≡ spec.variable_as (part_of value.now) }
 {
-    let parts = few_values(value.under(Tag::sequence())?)?;
-    variable_of(parts.as_slice())
+    let (name, access) = one_or_two(value.under(Tag::sequence())?)?;
+    variable_of(name, access)
 }
 
-// Keeps one variable more.
-fn push_variable<'a>(
-    variables: &mut Vec<VariableSpecification<'a>>,
-    one: VariableSpecification<'a>,
-) -> Result<(), AllocError>
-    ensures { OnOk result (map variable variables.new.items
-        ≡ map variable variables.old.items ++ variable one.entry ∷ []) }
+// Keeps one name more, with room for as many as are served.
+fn push_name<'a>(names: &mut Vec<ObjectName<'a>>, name: ObjectName<'a>) -> Result<(), AllocError>
+    ensures { OnOk result (map naming names.new.items
+        ≡ map naming names.old.items ++ naming name.entry ∷ []) }
 {
-    variables.push(one)?;
+    if names.is_empty() {
+        names.reserve(VARIABLES_MAX)?;
+    }
+    names.push(name)?;
     Ok(())
 }
 
-// The variables that octets are, one after another.
-fn read_variables<'a>(
-    alloc: Global,
-    octets: &'a [u8],
-) -> Result<Vec<VariableSpecification<'a>>, Refusal>
-    ensures { Gives Refusal.OutOfMemory (λ v. map variable v.items) result
-        (spelled (each_in spec.variable_as octets.now)) }
+// Whether there are as many as there are to be, where that is given.
+fn are_as_many(count: Option<usize>, number: usize) -> bool
+    ensures { result ≡ spec.are_as_many count number }
 {
-    let mut variables = Vec::new(alloc);
+    match count {
+        None => true,
+        Some(count) => number == count,
+    }
+}
+
+// Names that are served: as many as there are data, where that is given, each of a whole variable,
+// and no more than the limit.
+#[tactic(auto, using(crate::proofs::RequestLemmas::counted_is))]
+fn counted<'a>(
+    count: Option<usize>,
+    names: Vec<ObjectName<'a>>,
+    is_alternate: bool,
+) -> Result<Vec<ObjectName<'a>>, Refusal>
+    ensures { IsRead (λ v. map naming v.items) result
+        (spec.counted count (map naming names.entry.items) is_alternate) }
+{
+    if !are_as_many(count, names.len()) {
+        Err(Refusal::Bad)
+    } else if is_alternate {
+        Err(Refusal::Unknown)
+    } else if names.len() > VARIABLES_MAX {
+        Err(Refusal::Many)
+    } else {
+        Ok(names)
+    }
+}
+
+// The names of the variables that octets are, one after another.
+fn listed<'a>(
+    alloc: Global,
+    count: Option<usize>,
+    octets: &'a [u8],
+) -> Result<Vec<ObjectName<'a>>, Refusal>
+    ensures asked { Gives Refusal.OutOfMemory (λ v. map naming v.items) result
+        (spec.listed_in count octets.now) }
+    ensures memory { IsErrOf result Refusal.OutOfMemory
+        → names_none (spec.listed_in count octets.now) ≡ false }
+{
+    let mut names = Vec::new(alloc);
+    let mut is_alternate = false;
     let mut values = Values::new(octets);
     loop {
         match values.next_value() {
             Ok(Some(value)) => {
-                match variable_as(&value) {
-                    Some(one) => push_variable(&mut variables, one)?,
-                    None => return Err(Refusal::Bad),
-                }
+                let Some(one) = variable_as(&value) else {
+                    return Err(Refusal::Bad);
+                };
+                is_alternate |= one.is_alternate;
+                push_name(&mut names, one.name)?;
             }
-            Ok(None) => return Ok(variables),
+            Ok(None) => return counted(count, names, is_alternate),
             Err(_) => return Err(Refusal::Bad),
         }
     }
 }
 
-/// The variables that a value names.
-#[tactic(auto, unfolding(crate::specs::Grammar::access_as))]
-pub(crate) fn access_as<'a>(alloc: Global, value: &Value<'a>) -> Result<Access<'a>, Refusal>
-    ensures { Gives Refusal.OutOfMemory accessed result (spec.access_as (part_of value.now)) }
+/// The names of the variables that a value asks for: as many as there are data, where that is
+/// given. It takes no memory for no variables.
+#[tactic(auto, unfolding(crate::specs::Grammar::names_as))]
+pub(crate) fn names_as<'a>(
+    alloc: Global,
+    count: Option<usize>,
+    value: &Value<'a>,
+) -> Result<Vec<ObjectName<'a>>, Refusal>
+    ensures asked { Gives Refusal.OutOfMemory (λ v. map naming v.items) result
+        (spec.names_as count (part_of value.now)) }
+    ensures memory { IsErrOf result Refusal.OutOfMemory
+        → names_none (spec.names_as count (part_of value.now)) ≡ false }
 {
     if value.tag.is(Tag::context_constructed(0)) {
-        let variables = read_variables(alloc, value.content)?;
-        Ok(Access::Variables(variables))
+        listed(alloc, count, value.content)
     } else if value.tag.is(Tag::context_constructed(1)) {
         match name_in(value.content) {
-            Some(_) => Ok(Access::NamedList),
+            Some(_) => Err(Refusal::Unknown),
             None => Err(Refusal::Bad),
         }
     } else {
         Err(Refusal::Bad)
     }
-}
-
-// Whether a part of a variable is asked for.
-fn any_alternate(variables: &[VariableSpecification<'_>]) -> bool
-    ensures { result ≡ list_any (λ v. v.is_alternate) variables.now }
-{
-    variables.iter().any(|one| one.is_alternate)
-}
-
-// The names of variables.
-fn names_of<'a>(
-    alloc: Global,
-    variables: &[VariableSpecification<'a>],
-) -> Result<Vec<ObjectName<'a>>, AllocError>
-    ensures { IfOk result (λ names. names.items ≡ map (λ v. v.name) variables.now) }
-{
-    variables.iter().map(|one| one.name).collect(alloc)
-}
-
-/// The names that are asked for.
-#[tactic(auto, unfolding(crate::specs::Grammar::judged))]
-pub(crate) fn judged<'a>(alloc: Global, access: Access<'a>) -> Result<Vec<ObjectName<'a>>, Refusal>
-    ensures { Gives Refusal.OutOfMemory (λ v. map naming v.items) result
-        (spec.judged (accessed access.entry)) }
-{
-    let variables = match access {
-        Access::Variables(variables) => variables,
-        Access::NamedList => return Err(Refusal::Unknown),
-    };
-    if any_alternate(variables.as_slice()) {
-        return Err(Refusal::Unknown);
-    }
-    if variables.len() > VARIABLES_MAX {
-        return Err(Refusal::Many);
-    }
-    Ok(names_of(alloc, variables.as_slice())?)
 }

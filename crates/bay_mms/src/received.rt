@@ -1,5 +1,5 @@
 // Data that is received (ISO 9506-2, Data).
-ghost use Rattle.std.specs.Prelude.{◌≡◌, ◌<◌, option_map, length, Some, None, IfSome, IfNone};
+ghost use Rattle.std.specs.Prelude.{◌≡◌, ◌<◌, [], option_map, length, Some, None, IfSome, IfNone, IsErrOf};
 ghost use Rattle.bay_base.specs.Exact.{Gives};
 ghost use Rattle.bay_ber.specs.Values.{part_of, each_in};
 ghost use Rattle.bay_mms.specs.Spelled.{spelled};
@@ -100,8 +100,10 @@ pub(crate) fn read_data<'a>(
     octets: &'a [u8],
     depth: u8,
 ) -> Result<Vec<Data<'a>>, Refusal>
-    ensures { Gives Refusal.OutOfMemory (λ v. data_in v.items) result
+    ensures asked { Gives Refusal.OutOfMemory (λ v. data_in v.items) result
         (spelled (each_in (datum_as depth) octets.now)) }
+    ensures memory { IsErrOf result Refusal.OutOfMemory
+        → each_in (datum_as depth) octets.now ≡ Some [] → ⊥ }
 {
     let mut parts = Vec::new(alloc);
     let mut values = Values::new(octets);

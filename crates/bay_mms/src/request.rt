@@ -1,9 +1,9 @@
 // Requests of clients.
-ghost use Rattle.std.specs.Prelude.{◌≡◌, IsTrue, IsErrOf, map, option_map};
+ghost use Rattle.std.specs.Prelude.{◌≡◌, IsTrue, IsErrOf, option_map};
 ghost use Rattle.bay_base.specs.Exact.{Gives};
 ghost use Rattle.bay_ber.specs.Reading.{tlv_at};
 ghost use Rattle.bay_ber.specs.Values.{part_of, value_in};
-ghost use Rattle.bay_mms.specs.Answers.{IsAnswer, has_list, lists_of, lists_as, lists_at};
+ghost use Rattle.bay_mms.specs.Answers.{IsAnswer, takes_list, lists_of, lists_as, lists_at};
 ghost use Rattle.bay_mms.specs.Requests as asked;
 ghost use Rattle.bay_mms.specs.Grammar.{or_bad, initiate_in, nothing};
 ghost use Rattle.bay_mms.specs.Grammar as spec;
@@ -16,7 +16,7 @@ use crate::service::service_as;
 use bay_ber::content::int_of;
 use bay_ber::tag::Tag;
 use bay_ber::tlv::read_tlv;
-use bay_ber::values::{Value, few_values, whole_value};
+use bay_ber::values::{Value, few_values, one_or_two, whole_value};
 use std::alloc::Global;
 
 /// The name of an object (ISO 9506-2, ObjectName), in any octets.
@@ -144,7 +144,8 @@ fn with_id<'a>(
 ) -> Result<Request<'a>, MmsFault>
     ensures asked { Gives MmsFault.OutOfMemory message result
         (spec.with_id known id (spec.service_as (part_of service.now))) }
-    ensures memory { IsErrOf result MmsFault.OutOfMemory → IsTrue (has_list (part_of service.now)) }
+    ensures memory { IsErrOf result MmsFault.OutOfMemory
+        → IsTrue (takes_list (part_of service.now)) }
 {
     match service_as(alloc, service) {
         Ok(call) => Ok(Request::Confirmed { id, call }),
@@ -156,20 +157,17 @@ fn with_id<'a>(
 fn confirmed_of<'a>(
     alloc: Global,
     known: Option<u32>,
-    parts: &[Value<'a>],
+    id: &Value<'a>,
+    service: Option<Value<'a>>,
 ) -> Result<Request<'a>, MmsFault>
     ensures asked { Gives MmsFault.OutOfMemory message result
-        (spec.confirmed_of known (map part_of parts.now)) }
+        (spec.confirmed_of known (part_of id.now) (option_map part_of service.entry)) }
     ensures memory { IsErrOf result MmsFault.OutOfMemory
-        → IsTrue (lists_of (map part_of parts.now)) }
+        → IsTrue (lists_of (option_map part_of service.entry)) }
 {
-    match parts {
-        [id, service] => {
-            let id = id_as(id).ok_or(MmsFault::BadPdu(known))?;
-            with_id(alloc, known, id, service)
-        }
-        _ => Err(MmsFault::BadPdu(known)),
-    }
+    let service = service.ok_or(MmsFault::BadPdu(known))?;
+    let id = id_as(id).ok_or(MmsFault::BadPdu(known))?;
+    with_id(alloc, known, id, &service)
 }
 
 // What the content of an initiate proposes.
@@ -215,8 +213,8 @@ fn message_as<'a>(
     ensures memory { IsErrOf result MmsFault.OutOfMemory → IsTrue (lists_as (part_of value.now)) }
 {
     if value.tag.is(Tag::context_constructed(0)) {
-        let parts = few_values(value.content).ok_or(MmsFault::BadPdu(known))?;
-        confirmed_of(alloc, known, parts.as_slice())
+        let (id, service) = one_or_two(value.content).ok_or(MmsFault::BadPdu(known))?;
+        confirmed_of(alloc, known, &id, service)
     } else if value.tag.is(Tag::context_constructed(8)) {
         match proposal_in(value.content) {
             Some(proposal) => Ok(Request::Initiate(proposal)),
@@ -244,7 +242,8 @@ fn answer_to<'a>(alloc: Global, octets: &'a [u8]) -> Result<Request<'a>, MmsFaul
 /// and data are slices of the octets. BadPdu where they are spelled as none, with the invoke id
 /// where one stands at their front; UnknownService for a service that is not served, for alternate
 /// access and for a named list; TooMany for more than 32 variables in a request that is spelled in
-/// all else. Data nests at most 10 deep. Only a read or a write takes memory.
+/// all else. Data nests at most 10 deep. Only a read or a write takes memory, and not one of no
+/// variables.
 pub fn read_request<'a>(alloc: Global, octets: &'a [u8]) -> Result<Request<'a>, MmsFault>
     ensures { IsAnswer octets.now result }
 {

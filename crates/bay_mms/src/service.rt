@@ -1,22 +1,20 @@
 // The services that are asked for (ISO 9506-2, ConfirmedServiceRequest).
-ghost use Rattle.std.specs.Prelude.{◌≡◌, IsTrue, IsErrOf, map, option_map};
+ghost use Rattle.std.specs.Prelude.{◌≡◌, false, IsTrue, IsErrOf, map, option_map};
 ghost use Rattle.bay_base.specs.Exact.{Gives};
 ghost use Rattle.bay_ber.specs.Values.{part_of};
-ghost use Rattle.bay_mms.specs.Answers.{has_list};
+ghost use Rattle.bay_mms.specs.Answers.{is_empty, takes_list};
 ghost use Rattle.bay_mms.specs.Requests as asked;
-ghost use Rattle.bay_mms.specs.Views.{data_in};
 ghost use Rattle.bay_mms.specs.Grammar.{nothing, listing_in};
 ghost use Rattle.bay_mms.specs.Grammar as spec;
-ghost use Rattle.bay_mms.specs.RequestViews.{place, accessed, asking};
+ghost use Rattle.bay_mms.specs.RequestViews.{place, asking};
 
-use crate::access::{Access, access_as, judged, name_in};
-use crate::data::Data;
+use crate::access::{name_in, names_as};
 use crate::fault::Refusal;
 use crate::initiate::integer_under;
 use crate::received::read_data;
 use crate::request::{Call, Scope};
 use bay_ber::tag::{Class, Tag};
-use bay_ber::values::{Value, few_values, whole_value};
+use bay_ber::values::{Value, few_values, one_or_two, whole_value};
 use std::alloc::Global;
 
 // Data nests at most so deep.
@@ -106,60 +104,62 @@ fn attributes_as<'a>(value: &Value<'a>) -> Result<Call<'a>, Refusal>
 // The variables that are read, by the specification of their access.
 #[tactic(auto, unfolding(crate::specs::Grammar::read_as))]
 fn read_as<'a>(alloc: Global, value: &Value<'a>) -> Result<Call<'a>, Refusal>
-    ensures { Gives Refusal.OutOfMemory asking result (spec.read_as (part_of value.now)) }
+    ensures asked { Gives Refusal.OutOfMemory asking result (spec.read_as (part_of value.now)) }
+    ensures memory { IsErrOf result Refusal.OutOfMemory
+        → is_empty (spec.read_as (part_of value.now)) ≡ false }
 {
     let spec = inner_value(Tag::context_constructed(1), value).ok_or(Refusal::Bad)?;
-    let access = access_as(alloc, &spec)?;
-    let names = judged(alloc, access)?;
+    let names = names_as(alloc, None, &spec)?;
     Ok(Call::Read(names))
 }
 
 // The variables that are read.
-fn read_of<'a>(alloc: Global, parts: &[Value<'a>]) -> Result<Call<'a>, Refusal>
-    ensures { Gives Refusal.OutOfMemory asking result (spec.read_of (map part_of parts.now)) }
-{
-    match parts {
-        [spec] => read_as(alloc, spec),
-        [flag, spec] if flag.tag.is(Tag::context(0)) => read_as(alloc, spec),
-        _ => Err(Refusal::Bad),
-    }
-}
-
-// The variables that are written, as many as there are data.
-#[tactic(auto, unfolding(crate::specs::Grammar::written_with))]
-fn written_with<'a>(
+fn read_of<'a>(
     alloc: Global,
-    access: Access<'a>,
-    values: Vec<Data<'a>>,
+    first: Value<'a>,
+    second: Option<Value<'a>>,
 ) -> Result<Call<'a>, Refusal>
-    ensures { Gives Refusal.OutOfMemory asking result
-        (spec.written_with (accessed access.entry) (data_in values.entry.items)) }
+    ensures asked { Gives Refusal.OutOfMemory asking result
+        (spec.read_of (part_of first.entry) (option_map part_of second.entry)) }
+    ensures memory { IsErrOf result Refusal.OutOfMemory
+        → is_empty (spec.read_of (part_of first.entry) (option_map part_of second.entry)) ≡ false }
 {
-    match access {
-        Access::NamedList => Err(Refusal::Unknown),
-        Access::Variables(variables) => {
-            if variables.len() != values.len() {
-                return Err(Refusal::Bad);
+    match second {
+        None => read_as(alloc, &first),
+        Some(spec) => {
+            if first.tag.is(Tag::context(0)) {
+                read_as(alloc, &spec)
+            } else {
+                Err(Refusal::Bad)
             }
-            let names = judged(alloc, Access::Variables(variables))?;
-            Ok(Call::Write { names, values })
         }
     }
 }
 
-// The variables that are written, and their data.
-fn write_of<'a>(alloc: Global, parts: &[Value<'a>]) -> Result<Call<'a>, Refusal>
-    ensures { Gives Refusal.OutOfMemory asking result (spec.write_of (map part_of parts.now)) }
+// The data that are written.
+fn data_of<'a>(list: Option<Value<'a>>) -> Option<&'a [u8]>
+    ensures { option_map (λ octets. octets.now) result
+        ≡ spec.data_octets (option_map part_of list.entry) }
 {
-    match parts {
-        [spec, list] => {
-            let access = access_as(alloc, spec)?;
-            let octets = list.under(Tag::context_constructed(0)).ok_or(Refusal::Bad)?;
-            let values = read_data(alloc, octets, DEPTH_MAX)?;
-            written_with(alloc, access, values)
-        }
-        _ => Err(Refusal::Bad),
-    }
+    list?.under(Tag::context_constructed(0))
+}
+
+// The variables that are written, and as many data.
+fn write_of<'a>(
+    alloc: Global,
+    variables: Value<'a>,
+    list: Option<Value<'a>>,
+) -> Result<Call<'a>, Refusal>
+    ensures asked { Gives Refusal.OutOfMemory asking result
+        (spec.write_of (part_of variables.entry) (option_map part_of list.entry)) }
+    ensures memory { IsErrOf result Refusal.OutOfMemory
+        → is_empty (spec.write_of (part_of variables.entry) (option_map part_of list.entry))
+            ≡ false }
+{
+    let octets = data_of(list).ok_or(Refusal::Bad)?;
+    let values = read_data(alloc, octets, DEPTH_MAX)?;
+    let names = names_as(alloc, Some(values.len()), &variables)?;
+    Ok(Call::Write { names, values })
 }
 
 // Whether this is the tag of another service than those that are read here.
@@ -204,22 +204,23 @@ fn listing(content: &[u8]) -> Option<Call<'_>>
     names_of(parts.as_slice())
 }
 
-/// The service that a value asks for. Only a read or a write takes memory.
+/// The service that a value asks for. Only a read or a write takes memory, and not one of no
+/// variables.
 #[tactic(auto, unfolding(crate::specs::Grammar::service_as))]
 pub(crate) fn service_as<'a>(alloc: Global, value: &Value<'a>) -> Result<Call<'a>, Refusal>
     ensures asked { Gives Refusal.OutOfMemory asking result (spec.service_as (part_of value.now)) }
-    ensures memory { IsErrOf result Refusal.OutOfMemory → IsTrue (has_list (part_of value.now)) }
+    ensures memory { IsErrOf result Refusal.OutOfMemory → IsTrue (takes_list (part_of value.now)) }
 {
     if value.tag.is(Tag::context_constructed(1)) {
         listing(value.content).ok_or(Refusal::Bad)
     } else if value.tag.is(Tag::context(2)) {
         identify(value.content).ok_or(Refusal::Bad)
     } else if value.tag.is(Tag::context_constructed(4)) {
-        let parts = few_values(value.content).ok_or(Refusal::Bad)?;
-        read_of(alloc, parts.as_slice())
+        let (first, second) = one_or_two(value.content).ok_or(Refusal::Bad)?;
+        read_of(alloc, first, second)
     } else if value.tag.is(Tag::context_constructed(5)) {
-        let parts = few_values(value.content).ok_or(Refusal::Bad)?;
-        write_of(alloc, parts.as_slice())
+        let (variables, list) = one_or_two(value.content).ok_or(Refusal::Bad)?;
+        write_of(alloc, variables, list)
     } else if value.tag.is(Tag::context_constructed(6)) {
         let spec = whole_value(value.content).ok_or(Refusal::Bad)?;
         attributes_as(&spec)

@@ -6,11 +6,12 @@ use Rattle.bay_ber.proofs.ListingLemmas.{passed_more, passed_bad}
 use Rattle.bay_mms.specs.Tags.{constructed}
 use Rattle.bay_mms.specs.Grammar.{datum_as, simple_as}
 use Rattle.bay_mms.specs.Views.{datum_of, data_in}
-use Rattle.bay_mms.proofs.RequestLemmas.{gives_stop, gives_option, spelled_ok, too_deep, structure_ok, structure_err, simple_is, view_structure}
+use Rattle.bay_mms.proofs.RequestLemmas.{gives_stop, some_value, gives_option, spelled_ok, too_deep, structure_ok, structure_err, simple_is, view_structure}
 use Rattle.bay_mms.proofs.received.+received.Goals as goal
 
-pub read_data-returns-in_err-part-in-Ok-Some : goal.read_data-returns-in_err-part-in-Ok-Some
-read_data-returns-in_err-part-in-Ok-Some t c =
+pub read_data-returns-in_err-part-in-Ok-Some-clause-asked :
+    goal.read_data-returns-in_err-part-in-Ok-Some-clause-asked
+read_data-returns-in_err-part-in-Ok-Some-clause-asked t c =
     let p = err_from_is_err_and c.from_residual.result c.from_residual.ensures.1 in
     let step = rw c.in-Ok-Some.field-0-is at c.in-Ok-Some.ensures.exact in
     let f = datum_as c.args.depth in
@@ -19,6 +20,20 @@ read_data-returns-in_err-part-in-Ok-Some t c =
     (each_in f c.args.octets.now) c.in_err-part-in-Ok-Some.ensures
     (λ bad. passed_bad f c.args.octets.now c.loop-value.values c.next_value.new.self
     (data_in c.loop-value.parts.items) part c.loop-value.invariant step bad))
+
+pub read_data-returns-in_err-part-in-Ok-Some-clause-memory :
+    goal.read_data-returns-in_err-part-in-Ok-Some-clause-memory
+read_data-returns-in_err-part-in-Ok-Some-clause-memory t c =
+    λ memory. some_value (datum_as c.args.depth) c.args.octets.now c.loop-value.values
+    c.next_value.new.self (data_in c.loop-value.parts.items) (part_of c.in-Ok-Some.value)
+    c.loop-value.invariant (rw c.in-Ok-Some.field-0-is at c.in-Ok-Some.ensures.exact)
+
+pub read_data-returns-in_err-push_data-in-Ok-Some-clause-memory :
+    goal.read_data-returns-in_err-push_data-in-Ok-Some-clause-memory
+read_data-returns-in_err-push_data-in-Ok-Some-clause-memory t c =
+    λ memory. some_value (datum_as c.args.depth) c.args.octets.now c.loop-value.values
+    c.next_value.new.self (data_in c.loop-value.parts.items) (part_of c.in-Ok-Some.value)
+    c.loop-value.invariant (rw c.in-Ok-Some.field-0-is at c.in-Ok-Some.ensures.exact)
 
 pub read_data-loop-value-preserved : goal.read_data-loop-value-preserved
 read_data-loop-value-preserved t c =
@@ -42,7 +57,7 @@ read_datum-returns-in_err-parts t c =
     ap (same_tag c.args.value.now.tag) (sym c.context_constructed.ensures) ∙ sym c.is.ensures
     ∙ c.if-is.true in
     rw (p.1, p.2) (structure_err c.args.depth (part_of c.args.value.now) c.in_err-parts.field-0.0
-    (omega arith) is c.in_err-parts.ensures)
+    (omega arith) is c.in_err-parts.ensures.asked)
 
 pub read_datum-returns-in_ok-parts : goal.read_datum-returns-in_ok-parts
 read_datum-returns-in_ok-parts t c =
@@ -50,7 +65,7 @@ read_datum-returns-in_ok-parts t c =
     ap (same_tag c.args.value.now.tag) (sym c.context_constructed.ensures) ∙ sym c.is.ensures
     ∙ c.if-is.true in
     structure_ok c.args.depth (part_of c.args.value.now) (data_in c.in_ok-parts.parts.items)
-    (omega arith) is c.in_ok-parts.ensures ∙ ap Ok (sym (view_structure c.in_ok-parts.parts))
+    (omega arith) is c.in_ok-parts.ensures.asked ∙ ap Ok (sym (view_structure c.in_ok-parts.parts))
 
 pub read_datum-returns-else-is : goal.read_datum-returns-else-is
 read_datum-returns-else-is t c =
