@@ -111,8 +111,22 @@ impl Controls {
         }
     }
 
-    /// Ends what has run out, and gives the switch whose execution has.
+    /// Ends what has run out, and gives the switch whose execution has. Mostly nothing is selected
+    /// and nothing is operating, which is seen at once.
+    #[inline(always)]
     pub fn advance(&mut self, now: u64) -> Option<usize>
+        ensures run_out { result ≡ run_out now self.old.controls self.old.execution }
+        ensures after { self.new ≡ advanced now self.old }
+    {
+        if self.selection.is_none() && self.execution.is_none() {
+            return None;
+        }
+        self.end(now)
+    }
+
+    /// Ends what has run out, and gives the switch whose execution has.
+    #[inline(never)]
+    fn end(&mut self, now: u64) -> Option<usize>
         ensures run_out { result ≡ run_out now self.old.controls self.old.execution }
         ensures after { self.new ≡ advanced now self.old }
     {

@@ -274,6 +274,9 @@ fn talk(text: &[u8]) -> Option<NamedEvent<'_>>
 fn event(text: &[u8]) -> Option<NamedEvent<'_>>
     ensures { option_map named_view result ≡ event_of (slice_split is_space text.now) }
 {
+    if text == b"scan".as_slice() {
+        return Some(NamedEvent::Scan);
+    }
     if let Some(told) = text.strip_prefix(b"contact ") {
         return contact(told);
     }
@@ -282,9 +285,6 @@ fn event(text: &[u8]) -> Option<NamedEvent<'_>>
     }
     if let Some(told) = text.strip_prefix(b"measure ") {
         return measure(told);
-    }
-    if text == b"scan".as_slice() {
-        return Some(NamedEvent::Scan);
     }
     talk(text)
 }
