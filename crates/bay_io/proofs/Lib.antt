@@ -1,2 +1,3 @@
+pub mod AskedLemmas
 pub mod ReadLemmas
 pub mod SentLemmas

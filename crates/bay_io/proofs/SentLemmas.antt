@@ -3,8 +3,10 @@ use Rattle.std.proofs.Common.{◌≡◌, ◌≢◌, ℕ, Bool, true, false, cond
 use Rattle.std.proofs.lemmas.Bool.{ne_eqb}
 use Rattle.std.specs.Io.KnownBytes.{Appends, Keeps}
 use Rattle.std.proofs.KnownBytes.{Appends-nil, Appends-trans, Appends-kept}
+use Rattle.bay_io.specs.Calls.{Asked, WriteCall, write_failed}
 use Rattle.bay_io.specs.Sent.{Sends, SendsPart, Puts}
 use Rattle.bay_io.specs.Watched.{Watching, Writing}
+use Rattle.bay_io.proofs.AskedLemmas.{Asked-none, Asked-then}
 
 pub Sends-all : (a b : Option (List ℕ)) (xs : List ℕ) → Appends a b xs → Sends a b xs []
 Sends-all a b xs p = record { taken = xs; appended = p; parts = sym (append-nil xs) }
@@ -118,11 +120,13 @@ joined false false a b c pending front back middle left put more kept =
     subst (λ t. Sends a c t left) (append_assoc pending front back)
     (Sends-trans a b c (pending ++ front) middle back left put more)
 
-module _ {W : Type 0} {contents : W → Option (List ℕ)} where
+module _ {W : Type 0} {contents : W → Option (List ℕ)} {does : W → WriteCall → W → Type 0} where
   -- a text was put, and then another
-  pub Puts-then : {old mid new : Writing W} {front back : List ℕ} → Puts contents old front mid
-      → Puts contents mid back new → Puts contents old (front ++ back) new
+  pub Puts-then : {old mid new : Writing W} {front back : List ℕ} → Puts contents does old front mid
+      → Puts contents does mid back new → Puts contents does old (front ++ back) new
   Puts-then {old} {mid} {new} {front} {back} put more = record {
+    asked = Asked-then old.inner mid.inner new.inner old.has_failed mid.has_failed new.has_failed
+        put.asked more.asked;
     sent = joined mid.has_failed new.has_failed (contents old.inner) (contents mid.inner)
         (contents new.inner) old.pending front back mid.pending new.pending put.sent more.sent
         (λ e. (ap contents (more.kept e).0, (more.kept e).1));
@@ -133,12 +137,16 @@ module _ {W : Type 0} {contents : W → Option (List ℕ)} where
   }
 
   pub Puts-as : {old new : Writing W} {text : List ℕ} (other : List ℕ) → text ≡ other
-      → Puts contents old text new → Puts contents old other new
-  Puts-as {old} {new} {text} other e put = subst (λ t. Puts contents old t new) e put
+      → Puts contents does old text new → Puts contents does old other new
+  Puts-as {old} {new} {text} other e put = subst (λ t. Puts contents does old t new) e put
 
   -- nothing was put
-  pub Puts-nil : (w : Writing W) → Puts contents w [] w
-  Puts-nil w = record { sent = by_failed w.has_failed; kept = λ e. (refl, e) }
+  pub Puts-nil : (w : Writing W) → Puts contents does w [] w
+  Puts-nil w = record {
+    asked = Asked-none w.inner w.has_failed;
+    sent = by_failed w.has_failed;
+    kept = λ e. (refl, e);
+  }
     where
       by_failed : (b : Bool)
           → MatchBool b (SendsPart (contents w.inner) (contents w.inner) (w.pending ++ []))
@@ -154,9 +162,11 @@ module _ {W : Type 0} {contents : W → Option (List ℕ)} where
       → OnErr r (SendsPart (contents old.inner) (contents new.inner) (old.pending ++ text))
       → OnOk r (new.pending ≡ []) → is_err r ≡ new.has_failed
       → (old.has_failed ≡ true → (new.inner ≡ old.inner) × (new.has_failed ≡ true))
-      → Puts contents old text new
-  Puts-out {X} {E} old new text (Ok x) all part none failed kept =
+      → Asked does write_failed old.inner old.has_failed new.inner new.has_failed
+      → Puts contents does old text new
+  Puts-out {X} {E} old new text (Ok x) all part none failed kept asked =
       record {
+        asked = asked;
         sent = subst (λ b. MatchBool b
             (SendsPart (contents old.inner) (contents new.inner) (old.pending ++ text))
             (Sends (contents old.inner) (contents new.inner) (old.pending ++ text) new.pending))
@@ -166,8 +176,9 @@ module _ {W : Type 0} {contents : W → Option (List ℕ)} where
             all));
         kept = kept;
       }
-  Puts-out {X} {E} old new text (Err e) all part none failed kept =
+  Puts-out {X} {E} old new text (Err e) all part none failed kept asked =
       record {
+        asked = asked;
         sent = subst (λ b. MatchBool b
             (SendsPart (contents old.inner) (contents new.inner) (old.pending ++ text))
             (Sends (contents old.inner) (contents new.inner) (old.pending ++ text) new.pending))
@@ -184,19 +195,23 @@ module _ {W : Type 0} {contents : W → Option (List ℕ)} where
         pending = pending;
       } ≡ old
       → left ≡ cond kept (pending ++ text) pending → kept ≡ true
-      → Puts contents old text (record {
+      → Puts contents does old text (record {
         inner = sink.inner;
         has_failed = sink.has_failed;
         is_flushed = sink.is_flushed;
         pending = left;
       })
   Puts-kept old sink pending text left true same e is =
-      subst (λ w. Puts contents w text (record {
+      subst (λ w. Puts contents does w text (record {
         inner = sink.inner;
         has_failed = sink.has_failed;
         is_flushed = sink.is_flushed;
         pending = left;
-      })) same (record { sent = by_failed sink.has_failed; kept = λ f. (refl, f) })
+      })) same (record {
+        asked = Asked-none sink.inner sink.has_failed;
+        sent = by_failed sink.has_failed;
+        kept = λ f. (refl, f);
+      })
     where
       by_failed : (b : Bool)
           → MatchBool b (SendsPart (contents sink.inner) (contents sink.inner) (pending ++ text))
@@ -211,48 +226,50 @@ module _ {W : Type 0} {contents : W → Option (List ℕ)} where
   pub Puts-after : {X E : Type 0} (old mid new : Writing W) (text : List ℕ) (r : Result X E)
       → OnOk r (Appends (contents old.inner) (contents mid.inner) old.pending)
       → OnOk r (mid.pending ≡ []) → is_err r ≡ mid.has_failed
-      → (old.has_failed ≡ true → mid ≡ old) → is_ok r ≡ true → Puts contents mid text new
-      → Puts contents old text new
-  Puts-after {X} {E} old mid new text (Ok x) all none failed kept is put =
+      → (old.has_failed ≡ true → mid ≡ old)
+      → Asked does write_failed old.inner old.has_failed mid.inner mid.has_failed
+      → is_ok r ≡ true → Puts contents does mid text new → Puts contents does old text new
+  Puts-after {X} {E} old mid new text (Ok x) all none failed kept asked is put =
       Puts-then (Puts-out {X = X} {E = E} old mid [] (Ok x)
       (subst (Appends (contents old.inner) (contents mid.inner)) (sym (append-nil old.pending)) all)
       tt none failed
       (λ e. (
         ap (λ (w : Writing W). w.inner) (kept e),
         ap (λ (w : Writing W). w.has_failed) (kept e) ∙ e,
-      ))) put
-  Puts-after {X} {E} old mid new text (Err e) all none failed kept is put = absurd cc
+      )) asked) put
+  Puts-after {X} {E} old mid new text (Err e) all none failed kept asked is put = absurd cc
 
   -- it could not be written out
   pub Puts-stuck : {X E : Type 0} (old mid : Writing W) (text : List ℕ) (r : Result X E)
       → OnErr r (SendsPart (contents old.inner) (contents mid.inner) old.pending)
-      → is_err r ≡ mid.has_failed → (old.has_failed ≡ true → mid ≡ old) → is_ok r ≡ false
-      → Puts contents old text mid
-  Puts-stuck {X} {E} old mid text (Ok x) part failed kept is = absurd cc
-  Puts-stuck {X} {E} old mid text (Err e) part failed kept is =
+      → is_err r ≡ mid.has_failed → (old.has_failed ≡ true → mid ≡ old)
+      → Asked does write_failed old.inner old.has_failed mid.inner mid.has_failed
+      → is_ok r ≡ false → Puts contents does old text mid
+  Puts-stuck {X} {E} old mid text (Ok x) part failed kept asked is = absurd cc
+  Puts-stuck {X} {E} old mid text (Err e) part failed kept asked is =
       Puts-out {X = X} {E = E} old mid text (Err e) tt
       (SendsPart-more (contents old.inner) (contents mid.inner) old.pending text
       (old.pending ++ text) part refl) tt failed
       (λ f. (
         ap (λ (w : Writing W). w.inner) (kept f),
         ap (λ (w : Writing W). w.has_failed) (kept f) ∙ f,
-      ))
+      )) asked
 
 -- of a text, all but the rest was put into a writer
-pub record Rest {W : Type 0} (contents : W → Option (List ℕ)) (old : Writing W)
-    (text rest : List ℕ) (new : Writing W) : Type 0 where
+pub record Rest {W : Type 0} (contents : W → Option (List ℕ)) (does : W → WriteCall → W → Type 0)
+    (old : Writing W) (text rest : List ℕ) (new : Writing W) : Type 0 where
   pub done : List ℕ
   pub whole : text ≡ done ++ rest
-  pub put : Puts contents old done new
+  pub put : Puts contents does old done new
 
-module _ {W : Type 0} {contents : W → Option (List ℕ)} where
-  pub Rest-start : (w : Writing W) (text : List ℕ) → Rest contents w text text w
+module _ {W : Type 0} {contents : W → Option (List ℕ)} {does : W → WriteCall → W → Type 0} where
+  pub Rest-start : (w : Writing W) (text : List ℕ) → Rest contents does w text text w
   Rest-start w text = record { done = []; whole = refl; put = Puts-nil w }
 
   -- a part more was put
   pub Rest-step : {old mid new : Writing W} {text rest part more : List ℕ}
-      → Rest contents old text rest mid → rest ≡ part ++ more → Puts contents mid part new
-      → Rest contents old text more new
+      → Rest contents does old text rest mid → rest ≡ part ++ more → Puts contents does mid part new
+      → Rest contents does old text more new
   Rest-step {old} {mid} {new} {text} {rest} {part} {more} r e put = record {
     done = r.done ++ part;
     whole = r.whole ∙ ap (λ t. r.done ++ t) e ∙ sym (append_assoc r.done part more);
@@ -260,7 +277,7 @@ module _ {W : Type 0} {contents : W → Option (List ℕ)} where
   }
 
   -- all was put
-  pub Rest-end : {old new : Writing W} {text rest : List ℕ} → Rest contents old text rest new
-      → rest ≡ [] → Puts contents old text new
+  pub Rest-end : {old new : Writing W} {text rest : List ℕ} → Rest contents does old text rest new
+      → rest ≡ [] → Puts contents does old text new
   Rest-end {old} {new} {text} {rest} r e =
       Puts-as text (sym (r.whole ∙ ap (λ t. r.done ++ t) e ∙ append-nil r.done)) r.put

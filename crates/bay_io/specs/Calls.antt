@@ -1,5 +1,5 @@
 -- Calls that read and write, with what they gave; None stands for a failure.
-use Rattle.std.specs.Prelude.{ℕ, Bool, List, take, Option, Some, None, Result, Ok, Err, is_ok}
+use Rattle.std.specs.Prelude.{◌≡◌, ℕ, ◌≤◌, ◌==◌, nat_lt, Bool, true, false, ◌&&◌, ◌||◌, not, List, [], ◌∷◌, length, take, Option, Some, None, is_none, Result, Ok, Err, is_ok}
 use Rattle.std.specs.Result.{result_ok}
 
 -- how many octets there was room for, and those that came
@@ -25,3 +25,39 @@ writes octets answer = Write octets (result_ok answer)
 
 abbrev pub flushes : {X E : Type 0} → Result X E → WriteCall
 flushes answer = Flush (is_ok answer)
+
+-- ---- calls one after another
+
+-- a read failed
+abbrev pub read_failed : ReadCall → Bool
+read_failed call = is_none call.came
+
+-- a write or a flush failed, or a write took nothing of what it was offered
+abbrev pub write_failed : WriteCall → Bool
+write_failed (Write octets None) = true
+write_failed (Write octets (Some n)) = n == 0 && nat_lt 0 (length octets)
+write_failed (Flush done) = not done
+
+-- one of the calls is such
+abbrev pub some_call : {C : Type 0} → (C → Bool) → List C → Bool
+some_call f [] = false
+some_call f (call ∷ calls) = f call || some_call f calls
+
+-- each call, in the state that the one before left
+abbrev pub Talks : {S C : Type 0} → (S → C → S → Type 0) → S → List C → S → Type 0
+Talks does old [] new = old ≡ new
+Talks {S} does old (call ∷ calls) new = (mid : S) × does old call mid × Talks does mid calls new
+
+-- Calls led from the one state to the other; and one has failed now where one had before, or one of
+-- these failed.
+pub record Asked {S C : Type 0} (does : S → C → S → Type 0) (fails : C → Bool) (old : S)
+    (was : Bool) (new : S) (is : Bool) : Type 0 where
+  pub calls : List C
+  pub talks : Talks does old calls new
+  pub failed : is ≡ (was || some_call fails calls)
+
+-- so many calls at most
+pub record AskedFew {S C : Type 0} (does : S → C → S → Type 0) (fails : C → Bool) (most : ℕ)
+    (old : S) (was : Bool) (new : S) (is : Bool) : Type 0 where
+  pub asked : Asked does fails old was new is
+  pub few : length asked.calls ≤ most

@@ -1,6 +1,7 @@
 -- What reached a writer.
 use Rattle.std.specs.Prelude.{◌≡◌, ℕ, true, false, List, [], ◌++◌, Option, Result, Ok, Err, MatchBool}
 use Rattle.std.specs.Io.KnownBytes.{Appends}
+use Rattle.bay_io.specs.Calls.{Asked, WriteCall, write_failed}
 use Rattle.bay_io.specs.Watched.{Writing}
 
 -- the writer took the front of what was given, and `left` is what it did not take
@@ -15,9 +16,11 @@ pub record SendsPart (old new : Option (List ℕ)) (given : List ℕ) : Type 0 w
   pub sends : Sends old new given left
 
 -- a text was added to what a writer has pending: the writer took a front of both, and the rest is
--- pending; or a write failed, then or before, and the writer took a front of both
-pub record Puts {W : Type 0} (contents : W → Option (List ℕ)) (old : Writing W) (text : List ℕ)
-    (new : Writing W) : Type 0 where
+-- pending; or a write failed, then or before, and the writer took a front of both; and what the
+-- writer was asked
+pub record Puts {W : Type 0} (contents : W → Option (List ℕ)) (does : W → WriteCall → W → Type 0)
+    (old : Writing W) (text : List ℕ) (new : Writing W) : Type 0 where
+  pub asked : Asked does write_failed old.inner old.has_failed new.inner new.has_failed
   pub sent : MatchBool new.has_failed
       (SendsPart (contents old.inner) (contents new.inner) (old.pending ++ text))
       (Sends (contents old.inner) (contents new.inner) (old.pending ++ text) new.pending)
@@ -25,11 +28,17 @@ pub record Puts {W : Type 0} (contents : W → Option (List ℕ)) (old : Writing
 
 -- a writer took all that was pending, and was flushed; or a write or the flush failed, then or
 -- before, and the writer took a front of it, which is nothing after a failure
-abbrev pub Finishes : {W X E : Type 0} → (W → Option (List ℕ)) → Writing W → Writing W → Result X E
+abbrev pub Ends : {W X E : Type 0} → (W → Option (List ℕ)) → Writing W → Writing W → Result X E
     → Type 0
-Finishes contents old new (Ok x) =
+Ends contents old new (Ok x) =
     (old.has_failed ≡ false) × Appends (contents old.inner) (contents new.inner) old.pending
     × (new.pending ≡ []) × ((new.has_failed ≡ false) × (new.is_flushed ≡ true))
-Finishes contents old new (Err e) =
+Ends contents old new (Err e) =
     SendsPart (contents old.inner) (contents new.inner) old.pending
     × (old.has_failed ≡ true → new.inner ≡ old.inner) × (new.has_failed ≡ true)
+
+-- and what the writer was asked
+pub record Finishes {W X E : Type 0} (contents : W → Option (List ℕ))
+    (does : W → WriteCall → W → Type 0) (old new : Writing W) (result : Result X E) : Type 0 where
+  pub ends : Ends contents old new result
+  pub asked : Asked does write_failed old.inner old.has_failed new.inner new.has_failed

@@ -1,5 +1,6 @@
 // All octets of a reader, up to a limit.
 ghost use Rattle.std.specs.Prelude.{◌≡◌, ◌+◌, ◌-◌, ◌^◌, ◌<◌, ◌≤◌, ◌++◌, true, length, vec_len, IfOk, IfSome};
+ghost use Rattle.bay_io.specs.Calls.{AskedFew, read_failed};
 ghost use Rattle.bay_io.specs.Input.{failed_of};
 
 use crate::calls::Source;
@@ -48,6 +49,8 @@ pub fn read_all<R: Source>(
         → IfSome (R.remaining reader.old.inner) (λ xs. length xs ≤ limit) }
     ensures failed { reader.new.has_failed ≡ failed_of result }
     ensures reads { reader.new.reads ≤ reader.old.reads + limit + 1 }
+    ensures asked { AskedFew R.does read_failed (limit + 1) reader.old.inner reader.old.has_failed
+        reader.new.inner reader.new.has_failed }
 {
     if reader.has_failed() {
         return Err(ReadFault::Failed);

@@ -4,6 +4,7 @@
 ghost use Rattle.std.specs.Prelude.{◌≡◌, [], true, false, is_err, OnOk, OnErr};
 ghost use Rattle.std.specs.Fmt.{decimal};
 ghost use Rattle.std.specs.Io.KnownBytes.{Appends, Keeps};
+ghost use Rattle.bay_io.specs.Calls.{Asked, write_failed};
 ghost use Rattle.bay_io.specs.Sent.{Finishes, Puts, SendsPart};
 
 use crate::calls::Sink;
@@ -20,6 +21,8 @@ fn write_out<W: Sink>(sink: &mut Watched<W>, text: &[u8]) -> Result<(), WriteFau
     ensures err { OnErr result
         (SendsPart (W.contents sink.old.inner) (W.contents sink.new.inner) text.now) }
     ensures fault { is_err result ≡ sink.new.has_failed }
+    ensures asked { Asked W.does write_failed sink.old.inner sink.old.has_failed sink.new.inner
+        sink.new.has_failed }
     ensures kept { sink.old.has_failed ≡ true → sink.new ≡ sink.old }
 {
     if sink.has_failed() {
@@ -41,6 +44,8 @@ fn flush_out<W: Sink>(sink: &mut Watched<W>) -> Result<(), WriteFault>
     ensures kept { Keeps (W.contents sink.old.inner) (W.contents sink.new.inner) }
     ensures flushed { OnOk result (sink.new.is_flushed ≡ true) }
     ensures fault { is_err result ≡ sink.new.has_failed }
+    ensures asked { Asked W.does write_failed sink.old.inner sink.old.has_failed sink.new.inner
+        sink.new.has_failed }
 {
     if sink.has_failed() {
         return Err(WriteFault);
@@ -108,6 +113,8 @@ impl<W: Sink> WatchedWriter<W> {
             (SendsPart (W.contents self.old.inner) (W.contents self.new.inner) self.old.pending) }
         ensures empty { OnOk result (self.new.pending ≡ []) }
         ensures fault { is_err result ≡ self.new.has_failed }
+        ensures asked { Asked W.does write_failed self.old.inner self.old.has_failed self.new.inner
+            self.new.has_failed }
         ensures kept { self.old.has_failed ≡ true → self.new ≡ self.old }
     {
         write_out(&mut self.sink, self.outbox.as_slice())?;
@@ -119,7 +126,7 @@ impl<W: Sink> WatchedWriter<W> {
     /// the buffer.
     fn put_first(&mut self, text: &[u8])
         requires { self.old.pending ≡ [] }
-        ensures { Puts W.contents self.old text.now self.new }
+        ensures { Puts W.contents W.does self.old text.now self.new }
     {
         if !self.outbox.keep(text) {
             let _ = write_out(&mut self.sink, text);
@@ -129,7 +136,7 @@ impl<W: Sink> WatchedWriter<W> {
     /// Writes out what is pending, and then adds the text.
     #[inline(never)]
     fn put_after_flush(&mut self, text: &[u8])
-        ensures { Puts W.contents self.old text.now self.new }
+        ensures { Puts W.contents W.does self.old text.now self.new }
     {
         if self.write_pending().is_ok() {
             self.put_first(text);
@@ -139,7 +146,7 @@ impl<W: Sink> WatchedWriter<W> {
     /// Adds the text; where the buffer has no room for it, what is pending is written out before.
     #[inline(always)]
     pub fn put(&mut self, text: &[u8])
-        ensures { Puts W.contents self.old text.now self.new }
+        ensures { Puts W.contents W.does self.old text.now self.new }
     {
         if !self.outbox.keep(text) {
             self.put_after_flush(text);
@@ -149,7 +156,7 @@ impl<W: Sink> WatchedWriter<W> {
     /// Adds a text that is mostly short, like the id of a switch: of up to four octets faster than
     /// `put`.
     pub fn put_short(&mut self, text: &[u8])
-        ensures { Puts W.contents self.old text.now self.new }
+        ensures { Puts W.contents W.does self.old text.now self.new }
     {
         if !self.outbox.keep_short(text) {
             self.put_after_flush(text);
@@ -159,7 +166,7 @@ impl<W: Sink> WatchedWriter<W> {
     /// Adds a number, in decimal digits.
     #[inline(always)]
     pub fn put_number(&mut self, number: u64)
-        ensures { Puts W.contents self.old (decimal number) self.new }
+        ensures { Puts W.contents W.does self.old (decimal number) self.new }
     {
         if !self.outbox.keep_number(number) {
             self.put_after_flush(Buffer::new().format(number).as_bytes());
@@ -168,7 +175,7 @@ impl<W: Sink> WatchedWriter<W> {
 
     /// Writes out all, and flushes the sink.
     pub fn finish(&mut self) -> Result<(), WriteFault>
-        ensures { Finishes W.contents self.old self.new result }
+        ensures { Finishes W.contents W.does self.old self.new result }
     {
         self.write_pending()?;
         flush_out(&mut self.sink)

@@ -1,4 +1,5 @@
 -- How a line of the trace is answered: with which choice, and by which steps.
+use Rattle.bay_io.specs.Calls.{WriteCall}
 use Rattle.std.specs.Prelude.{◌≡◌, ℕ, Bool, false, List, Option}
 use Rattle.bay_device.specs.Device.{State}
 use Rattle.bay_device.specs.Outcomes.{outcome}
@@ -9,20 +10,20 @@ use Rattle.bay_replay.specs.LineAnswers.{Choice, LineAnswer, Replaying}
 use Rattle.bay_report.specs.Lines.{step_text}
 
 -- an event was done, and what is printed for it was put into the writer
-pub record Does {W : Type 0} (contents : W → Option (List ℕ)) (old : Writing W) (now : ℕ)
+pub record Does {W : Type 0} (contents : W → Option (List ℕ)) (asks : W → WriteCall → W → Type 0) (old : Writing W) (now : ℕ)
     (event : Event) (before : State) (new : Writing W) (after : State) : Type 0 where
   pub choice : Option ℕ
-  pub text : Puts contents old
+  pub text : Puts contents asks old
       (step_text now (outcome choice now event before).answer
       (outcome choice now event before).after) new
   pub left_is : after ≡ (outcome choice now event before).after
 
 -- an answer to a line was given, by some choice: its text was put into the writer, and where it is
 -- not the last, what is after it is left
-pub record Answers {W : Type 0} (contents : W → Option (List ℕ)) (old : Writing W)
+pub record Answers {W : Type 0} (contents : W → Option (List ℕ)) (asks : W → WriteCall → W → Type 0) (old : Writing W)
     (said : Choice → LineAnswer) (new : Writing W) (after : Replaying) (is_last : Bool)
     : Type 0 where
   pub choice : Choice
-  pub text : Puts contents old (said choice).text new
+  pub text : Puts contents asks old (said choice).text new
   pub last : is_last ≡ (said choice).is_last
   pub left_is : is_last ≡ false → after ≡ (said choice).after

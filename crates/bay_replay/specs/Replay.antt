@@ -1,5 +1,6 @@
 -- What is printed for a scenario, and with which status.
-use Rattle.std.specs.Prelude.{◌≡◌, ℕ, ◌+◌, ◌≤◌, ◌<◌, Bool, false, List, ◌∷◌, ◌++◌, length, codes, Option, None, Some, IfSome, Result, Ok, Err, ◌⊎◌, MatchBool, []}
+use Rattle.bay_io.specs.Calls.{AskedFew, ReadCall, WriteCall, read_failed, some_call, write_failed}
+use Rattle.std.specs.Prelude.{◌≡◌, ℕ, ◌+◌, ◌≤◌, ◌<◌, Bool, false, List, ◌∷◌, ◌++◌, length, codes, Option, None, Some, IfSome, Result, Ok, Err, is_err, ◌⊎◌, MatchBool, []}
 use Rattle.bay_device.specs.Device.{State}
 use Rattle.bay_device.specs.Report.{IsReport as IsReportOf}
 use Rattle.bay_device.specs.declared.report.Report.{Report}
@@ -70,12 +71,18 @@ IsReplay input has_failed text status =
     MatchBool has_failed ((text ≡ codes "fault 121\n") × (status ≡ 3))
     (ReadReport input text status)
 
--- a scenario was replayed from a reader to a writer, of which nobody is told whether they failed:
--- there is a last state of the writer in which it has taken a whole text that may be printed, or
--- where it failed a front of one
-pub record Replays {R W : Type 0} (remaining : R → Option (List ℕ)) (contents : W → Option (List ℕ))
-    (reader : R) (writer : W) (result : Result ℕ WriteFault) : Type 0 where
+-- a scenario was replayed from a reader to a writer: by at most 16,777,217 reads, and the writes and
+-- flushes that led to a last state of the writer. That the reader failed is told exactly where one
+-- of these reads failed, and a fault is answered exactly where a write or a flush failed, or a
+-- write took nothing
+pub record Replays {R W : Type 0} (remaining : R → Option (List ℕ))
+    (does : R → ReadCall → R → Type 0) (contents : W → Option (List ℕ))
+    (asks : W → WriteCall → W → Type 0) (reader : R) (writer : W) (result : Result ℕ WriteFault)
+    : Type 0 where
+  pub end : R
   pub has_read_failed : Bool
+  pub reads : AskedFew does read_failed (scenario_limit + 1) reader false end has_read_failed
   pub last : Writing W
-  pub printed : Prints contents (IsReplay (remaining reader) has_read_failed)
+  pub prints : Prints contents asks (IsReplay (remaining reader) has_read_failed)
       (record { inner = writer; has_failed = false; is_flushed = false; pending = [] }) last result
+  pub fault : is_err result ≡ some_call write_failed prints.asked.calls

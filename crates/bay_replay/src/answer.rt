@@ -7,21 +7,21 @@ ghost use Rattle.bay_trace.specs.TraceView.{named_view};
 
 use bay_device::device::Device;
 use bay_device::event::Event;
+use bay_io::calls::Sink;
 use bay_io::writer::WatchedWriter;
 use bay_report::lines::{put_step, put_unreadable};
 use bay_trace::octets::LineOctets;
 use bay_trace::placing::{placed_event, take_octets};
 use bay_trace::trace::{NamedEvent, TraceLine, read_trace_line};
-use std::io::Write;
 
 /// Does an event, and writes what is printed for it.
-fn answer_event<W: Write>(
+fn answer_event<W: Sink>(
     writer: &mut WatchedWriter<W>,
     device: &mut Device,
     moment: u64,
     event: Event<'_>,
 )
-    ensures { Does W.contents writer.old moment event.entry device.old writer.new device.new }
+    ensures { Does W.contents W.does writer.old moment event.entry device.old writer.new device.new }
 {
     let answer = device.step(moment, event);
     put_step(writer, device, moment, &answer);
@@ -29,14 +29,14 @@ fn answer_event<W: Write>(
 
 /// Does what happens, and writes what is printed for it. Whether the replay ends there, as there is
 /// no memory for its octets.
-fn answer_named<W: Write>(
+fn answer_named<W: Sink>(
     writer: &mut WatchedWriter<W>,
     device: &mut Device,
     octets: &mut LineOctets,
     moment: u64,
     event: NamedEvent<'_>,
 ) -> bool
-    ensures { Answers W.contents writer.old
+    ensures { Answers W.contents W.does writer.old
         (λ choice. named_answer choice moment (named_view event.entry)
         (record { device = device.old; room = octets.old.room })) writer.new
         (record { device = device.new; room = octets.new.room }) result }
@@ -52,14 +52,14 @@ fn answer_named<W: Write>(
 
 /// Does what the line with this number says, and writes what is printed for it. Whether the replay
 /// ends there, as the line can't be read, or there is no memory for its octets.
-pub fn answer_line<W: Write>(
+pub fn answer_line<W: Sink>(
     writer: &mut WatchedWriter<W>,
     device: &mut Device,
     octets: &mut LineOctets,
     number: usize,
     line: &[u8],
 ) -> bool
-    ensures { Answers W.contents writer.old
+    ensures { Answers W.contents W.does writer.old
         (λ choice. line_answer choice number (trace_line_of line.now)
         (record { device = device.old; room = octets.old.room })) writer.new
         (record { device = device.new; room = octets.new.room }) result }

@@ -1,5 +1,6 @@
 // Reads a scenario, replays it, and writes its report.
 ghost use Rattle.std.specs.Prelude.{◌+◌, ◌≤◌, length};
+ghost use Rattle.bay_io.specs.Calls.{AskedFew, read_failed};
 ghost use Rattle.bay_replay.specs.Replay.{DeviceReport, LoadsReport, IsReport, IsReplay, Replays};
 ghost use Rattle.bay_report.specs.Report.{Prints};
 ghost use Rattle.bay_replay.specs.Scenario.{scenario_limit};
@@ -9,6 +10,7 @@ ghost use Rattle.bay_replay.specs.ScenarioView.{scenario_view};
 use crate::answer::answer_line;
 use crate::scenario::{Scenario, cut_scenario};
 use bay_device::device::Device;
+use bay_io::calls::{Sink, Source};
 use bay_io::input::read_all;
 pub use bay_io::outbox::WriteFault;
 use bay_io::reader::WatchedReader;
@@ -19,20 +21,19 @@ use bay_report::report::put_report;
 use bay_report::text_lines::cut_line;
 use bay_trace::octets::LineOctets;
 use std::alloc::Global;
-use std::io::{Read, Write};
 
 /// The most octets that a scenario may have.
 const SCENARIO_LIMIT: usize = 16_777_216;
 
 /// Writes the line of a device's load, replays a trace on it line by line, and writes as it goes.
-fn replay_device<W: Write>(
+fn replay_device<W: Sink>(
     alloc: Global,
     device: &mut Device,
     trace: &[u8],
     writer: &mut WatchedWriter<W>,
 ) -> Result<u8, WriteFault>
     requires { length trace.now ≤ scenario_limit }
-    ensures { Prints W.contents (DeviceReport device.old (lines_of trace.now)) writer.old writer.new
+    ensures { Prints W.contents W.does (DeviceReport device.old (lines_of trace.now)) writer.old writer.new
         result }
 {
     put_report(writer, device.report());
@@ -54,13 +55,13 @@ fn replay_device<W: Write>(
 }
 
 /// Loads the parts of a scenario, and replays the trace.
-fn replay_parts<W: Write>(
+fn replay_parts<W: Sink>(
     alloc: Global,
     scenario: Scenario<'_>,
     writer: &mut WatchedWriter<W>,
 ) -> Result<u8, WriteFault>
     requires { length scenario.trace.now ≤ scenario_limit }
-    ensures { Prints W.contents (LoadsReport (scenario_view scenario.entry)) writer.old writer.new
+    ensures { Prints W.contents W.does (LoadsReport (scenario_view scenario.entry)) writer.old writer.new
         result }
 {
     match load_octets(alloc, scenario.bay, scenario.logic) {
@@ -70,13 +71,13 @@ fn replay_parts<W: Write>(
 }
 
 /// Replays a scenario that is in memory.
-fn replay_scenario<W: Write>(
+fn replay_scenario<W: Sink>(
     alloc: Global,
     text: &[u8],
     writer: &mut WatchedWriter<W>,
 ) -> Result<u8, WriteFault>
     requires { length text.now ≤ scenario_limit }
-    ensures { Prints W.contents (IsReport text.now) writer.old writer.new result }
+    ensures { Prints W.contents W.does (IsReport text.now) writer.old writer.new result }
 {
     match cut_scenario(text) {
         Some(scenario) => replay_parts(alloc, scenario, writer),
@@ -89,17 +90,20 @@ fn replay_scenario<W: Write>(
 ///
 /// A scenario of more than 16,777,216 octets is a fault, and so is a read that fails. Of a reader
 /// of which a read has failed before, and of such a writer, nothing is asked.
-pub fn replay_watched<R: Read, W: Write>(
+pub fn replay_watched<R: Source, W: Sink>(
     alloc: Global,
     reader: &mut WatchedReader<R>,
     writer: &mut WatchedWriter<W>,
 ) -> Result<u8, WriteFault>
     // What was written and flushed is a whole text of the report, and the status is the report's;
     // or a write or a flush has failed, and a front of such a text was written.
-    ensures printed { Prints W.contents
+    ensures printed { Prints W.contents W.does
         (IsReplay (R.remaining reader.old.inner) reader.new.has_failed) writer.old writer.new
         result }
     ensures reads { reader.new.reads ≤ reader.old.reads + scenario_limit + 1 }
+    // What the reader was asked.
+    ensures asked { AskedFew R.does read_failed (scenario_limit + 1) reader.old.inner
+        reader.old.has_failed reader.new.inner reader.new.has_failed }
 {
     match read_all(alloc, reader, SCENARIO_LIMIT) {
         Ok(input) => replay_scenario(alloc, input.as_slice(), writer),
@@ -107,16 +111,14 @@ pub fn replay_watched<R: Read, W: Write>(
     }
 }
 
-/// The same from any reader to any writer, which are taken.
-///
-/// Nothing says of them whether a read or a write has failed, so a fault of either may be told at
-/// any time; whoever wants it told only where one failed watches them.
-pub fn replay_run<R: Read + Drop, W: Write + Drop>(
+/// The same from any source to any sink, which are taken: what they were asked, and what they
+/// answered, is said over their own meaning.
+pub fn replay_run<R: Source + Drop, W: Sink + Drop>(
     alloc: Global,
     reader: R,
     writer: W,
 ) -> Result<u8, WriteFault>
-    ensures { Replays R.remaining W.contents reader writer result }
+    ensures { Replays R.remaining R.does W.contents W.does reader writer result }
 {
     let mut reader = WatchedReader::new(reader);
     let mut writer = WatchedWriter::new(writer);

@@ -1,18 +1,20 @@
 -- Lemmas on what is printed.
-use Rattle.std.proofs.Common.{◌≡◌, ℕ, zero, suc, ◌+◌, ◌<◌, ◌≤◌, ◌==◌, Bool, true, false, List, [], ◌∷◌, ◌++◌, length, drop, get_or, cond, nat_lt, Option, None, Some, Result, Ok, Err, IfOk, slice_get, subst, refl, ap, sym, ◌∙◌, arith, add-one, append_assoc, MatchBool}
+use Rattle.bay_io.specs.Calls.{WriteCall, some_call, write_failed}
+use Rattle.std.proofs.Common.{◌≡◌, ℕ, zero, suc, ◌+◌, ◌<◌, ◌≤◌, ◌==◌, Bool, true, false, List, [], ◌∷◌, ◌++◌, length, drop, get_or, cond, nat_lt, ◌||◌, Option, None, Some, Result, Ok, Err, is_err, IfOk, slice_get, subst, refl, ap, sym, ◌∙◌, arith, add-one, append_assoc, MatchBool}
 use Rattle.std.proofs.Math.Seq.{drop-cons}
 use Rattle.std.proofs.lemmas.Bool.Decides.{nat_tests}
 use Rattle.std.proofs.lemmas.Option.{get_or_from_slice_get, slice_get_past}
 use Rattle.bay_device.specs.Device.{State}
 use Rattle.bay_device.specs.LookUps.{enabled_of, may_close, may_open}
 use Rattle.bay_device.specs.declared.event.Sent.{Sent}
+use Rattle.bay_io.proofs.AskedLemmas.{Asked-then}
 use Rattle.bay_io.proofs.SentLemmas.{SendsPart-more, Sends-rest, Sends-rest_part}
-use Rattle.bay_io.specs.Sent.{Finishes, Puts, Sends, SendsPart}
+use Rattle.bay_io.specs.Sent.{Ends, Finishes, Puts, Sends, SendsPart}
 use Rattle.bay_io.specs.Watched.{Writing}
 use Rattle.bay_io.specs.declared.outbox.WriteFault.{WriteFault}
 use Rattle.bay_nodes.specs.declared.switch.Switch.{Switch}
 use Rattle.bay_report.specs.Lines.{command_text, commands_text, send_text, sends_text, switch_part, switches_text}
-use Rattle.bay_report.specs.Report.{Prints}
+use Rattle.bay_report.specs.Report.{Printed, Prints}
 use Rattle.bay_services.specs.declared.answer.Command.{Command}
 
 within : (ss : List Switch) (j : ℕ) → j < length ss → (x : Switch) × (slice_get ss j ≡ Some x)
@@ -72,18 +74,18 @@ nil_from_length (x ∷ xs) e = absurd (omega arith)
 
 -- ---- what becomes of a text that may be printed
 
-module _ {W : Type 0} {contents : W → Option (List ℕ)} (May : List ℕ → ℕ → Type 0) where
-  -- a text was put, and all was written out
-  pub Prints-last : {old mid : Writing W} {text : List ℕ} (new : Writing W) (status : ℕ)
-      (r : Result ℕ WriteFault) → May text status → Puts contents old text mid
-      → Finishes contents mid new r → IfOk r (λ s. s ≡ status) → Prints contents May old new r
-  Prints-last {old} {mid} {text} new status (Ok s) told put ends is = by_failed mid.has_failed
+module _ {W : Type 0} {contents : W → Option (List ℕ)} {asks : W → WriteCall → W → Type 0}
+    (May : List ℕ → ℕ → Type 0) where
+  last_printed : {old mid : Writing W} {text : List ℕ} (new : Writing W) (status : ℕ)
+      (r : Result ℕ WriteFault) → May text status → Puts contents asks old text mid
+      → Ends contents mid new r → IfOk r (λ s. s ≡ status) → Printed contents May old new r
+  last_printed {old} {mid} {text} new status (Ok s) told put ends is = by_failed mid.has_failed
       refl put.sent
     where
       by_failed : (b : Bool) → mid.has_failed ≡ b
           → MatchBool b (SendsPart (contents old.inner) (contents mid.inner) (old.pending ++ text))
           (Sends (contents old.inner) (contents mid.inner) (old.pending ++ text) mid.pending)
-          → Prints contents May old new (Ok s)
+          → Printed contents May old new (Ok s)
       by_failed true failed sent = let well = ends.0 in absurd cc
       by_failed false failed sent = (
         record {
@@ -94,7 +96,7 @@ module _ {W : Type 0} {contents : W → Option (List ℕ)} (May : List ℕ → �
         },
         (ends.2, ends.3.0, ends.3.1),
       )
-  Prints-last {old} {mid} {text} new status (Err fault) told put ends is = (
+  last_printed {old} {mid} {text} new status (Err fault) told put ends is = (
     record {
       text = text;
       status = status;
@@ -115,21 +117,35 @@ module _ {W : Type 0} {contents : W → Option (List ℕ)} (May : List ℕ → �
           Sends-rest_part (contents old.inner) (contents mid.inner) (contents new.inner)
           (old.pending ++ text) mid.pending sent ends.0
 
+  -- a text was put, and all was written out
+  pub Prints-last : {old mid : Writing W} {text : List ℕ} (new : Writing W) (status : ℕ)
+      (r : Result ℕ WriteFault) → May text status → Puts contents asks old text mid
+      → Finishes contents asks mid new r → IfOk r (λ s. s ≡ status)
+      → Prints contents asks May old new r
+  Prints-last {old} {mid} {text} new status r told put f is = record {
+    printed = last_printed new status r told put f.ends is;
+    asked = Asked-then old.inner mid.inner new.inner old.has_failed mid.has_failed new.has_failed
+        put.asked f.asked;
+  }
+
   -- a front of a text was put, and a write has failed
   pub Prints-cut : {old new : Writing W} {front : List ℕ} (more : List ℕ) (status : ℕ)
-      (fault : WriteFault) → May (front ++ more) status → Puts contents old front new
-      → new.has_failed ≡ true → Prints contents May old new (Err fault)
-  Prints-cut {old} {new} {front} more status fault told put failed = (
-    record {
-      text = front ++ more;
-      status = status;
-      told = told;
-      part = SendsPart-more (contents old.inner) (contents new.inner) (old.pending ++ front) more
-          (old.pending ++ (front ++ more)) (by_failed new.has_failed failed put.sent)
-          (sym (append_assoc old.pending front more));
-    },
-    failed,
-  )
+      (fault : WriteFault) → May (front ++ more) status → Puts contents asks old front new
+      → new.has_failed ≡ true → Prints contents asks May old new (Err fault)
+  Prints-cut {old} {new} {front} more status fault told put failed = record {
+    printed = (
+      record {
+        text = front ++ more;
+        status = status;
+        told = told;
+        part = SendsPart-more (contents old.inner) (contents new.inner) (old.pending ++ front) more
+            (old.pending ++ (front ++ more)) (by_failed new.has_failed failed put.sent)
+            (sym (append_assoc old.pending front more));
+      },
+      failed,
+    );
+    asked = put.asked;
+  }
     where
       by_failed : (b : Bool) → b ≡ true
           → MatchBool b (SendsPart (contents old.inner) (contents new.inner) (old.pending ++ front))
@@ -138,15 +154,15 @@ module _ {W : Type 0} {contents : W → Option (List ℕ)} (May : List ℕ → �
       by_failed true e sent = sent
       by_failed false e sent = absurd cc
 
-pub Prints-weaker : {W : Type 0} (contents : W → Option (List ℕ)) (May Might : List ℕ → ℕ → Type 0)
+weaker : {W : Type 0} (contents : W → Option (List ℕ)) (May Might : List ℕ → ℕ → Type 0)
     (old new : Writing W) (r : Result ℕ WriteFault)
     → ((text : List ℕ) (status : ℕ) → May text status → Might text status)
-    → Prints contents May old new r → Prints contents Might old new r
-Prints-weaker contents May Might old new (Ok status) wider p = (
+    → Printed contents May old new r → Printed contents Might old new r
+weaker contents May Might old new (Ok status) wider p = (
   record { text = p.0.text; told = wider p.0.text status p.0.told; appended = p.0.appended },
   p.1,
 )
-Prints-weaker contents May Might old new (Err fault) wider p = (
+weaker contents May Might old new (Err fault) wider p = (
   record {
     text = p.0.text;
     status = p.0.status;
@@ -155,6 +171,24 @@ Prints-weaker contents May Might old new (Err fault) wider p = (
   },
   p.1,
 )
+
+pub Prints-weaker : {W : Type 0} (contents : W → Option (List ℕ))
+    (asks : W → WriteCall → W → Type 0) (May Might : List ℕ → ℕ → Type 0) (old new : Writing W)
+    (r : Result ℕ WriteFault)
+    → ((text : List ℕ) (status : ℕ) → May text status → Might text status)
+    → Prints contents asks May old new r → Prints contents asks Might old new r
+Prints-weaker contents asks May Might old new r wider p =
+    record { printed = weaker contents May Might old new r wider p.printed; asked = p.asked }
+
+-- a fault is answered where a write or a flush failed
+pub Prints-fault : {W : Type 0} {contents : W → Option (List ℕ)} {asks : W → WriteCall → W → Type 0}
+    {May : List ℕ → ℕ → Type 0} (old new : Writing W) (r : Result ℕ WriteFault)
+    (p : Prints contents asks May old new r) → old.has_failed ≡ false
+    → is_err r ≡ some_call write_failed p.asked.calls
+Prints-fault old new (Ok status) p e =
+    sym p.printed.1.1 ∙ p.asked.failed ∙ ap (λ b. b || some_call write_failed p.asked.calls) e
+Prints-fault old new (Err fault) p e =
+    sym p.printed.1 ∙ p.asked.failed ∙ ap (λ b. b || some_call write_failed p.asked.calls) e
 
 pub chosen : {A : Type 0} (B : Type 0) (b : Bool) → b ≡ true → A → MatchBool b A B
 chosen B true e a = a

@@ -1,4 +1,5 @@
 -- What is printed of a load and of a fault, with which status, and how it reached a writer.
+use Rattle.bay_io.specs.Calls.{Asked, WriteCall, write_failed}
 use Rattle.bay_device.specs.declared.fault.LoadFault.TheVariants.{Refused, OutOfMemory}
 use Rattle.bay_device.specs.declared.fault.LoadFault.{LoadFault}
 use Rattle.bay_device.specs.declared.report.Report.{Report}
@@ -54,14 +55,21 @@ IsLast last answered text status = (text ≡ last) × (status ≡ answered)
 
 -- a replay answers the status of a text that may be printed, after all of it reached the writer and
 -- was flushed; or a write or a flush failed, and the writer took a front of such a text
-abbrev pub Prints : {W : Type 0} → (W → Option (List ℕ)) → (List ℕ → ℕ → Type 0) → Writing W
+abbrev pub Printed : {W : Type 0} → (W → Option (List ℕ)) → (List ℕ → ℕ → Type 0) → Writing W
     → Writing W → Result ℕ WriteFault → Type 0
-Prints contents May old new (Ok status) =
+Printed contents May old new (Ok status) =
     Reports May old.pending (contents old.inner) (contents new.inner) status
     × ((new.pending ≡ []) × (new.has_failed ≡ false) × (new.is_flushed ≡ true))
-Prints contents May old new (Err fault) =
+Printed contents May old new (Err fault) =
     ReportsPart May old.pending (contents old.inner) (contents new.inner)
     × (new.has_failed ≡ true)
+
+-- and what the writer was asked
+pub record Prints {W : Type 0} (contents : W → Option (List ℕ)) (asks : W → WriteCall → W → Type 0)
+    (May : List ℕ → ℕ → Type 0) (old new : Writing W) (result : Result ℕ WriteFault)
+    : Type 0 where
+  pub printed : Printed contents May old new result
+  pub asked : Asked asks write_failed old.inner old.has_failed new.inner new.has_failed
 
 -- the text and the status where a file can't be read
 abbrev pub UnreadReport : ReadFault → List ℕ → ℕ → Type 0

@@ -8,9 +8,9 @@ ghost use Rattle.bay_report.specs.Lines.{digit_of, switch_text, switch_part, swi
 use bay_device::device::Device;
 use bay_device::event::{Sent, Step, Why};
 use bay_device::fault::StepFault;
+use bay_io::calls::Sink;
 use bay_io::writer::WatchedWriter;
 use bay_services::answer::Command;
-use std::io::Write;
 
 /// How many octets are written in digits at a time.
 const CHUNK: usize = 256;
@@ -30,8 +30,8 @@ fn digits(opens: bool, closes: bool) -> [u8; 2]
 }
 
 /// Writes the part of a scan's line on one switch: its id, and whether it may be opened and closed.
-fn put_switch<W: Write>(writer: &mut WatchedWriter<W>, id: &str, opens: bool, closes: bool)
-    ensures { Puts W.contents writer.old (switch_text id.now opens closes) writer.new }
+fn put_switch<W: Sink>(writer: &mut WatchedWriter<W>, id: &str, opens: bool, closes: bool)
+    ensures { Puts W.contents W.does writer.old (switch_text id.now opens closes) writer.new }
 {
     writer.put(b" ");
     writer.put_short(id.as_bytes());
@@ -40,8 +40,8 @@ fn put_switch<W: Write>(writer: &mut WatchedWriter<W>, id: &str, opens: bool, cl
 }
 
 /// Writes the part of a scan's line on the switch at a place, if there is one.
-fn put_place<W: Write>(writer: &mut WatchedWriter<W>, device: &Device, place: usize)
-    ensures { Puts W.contents writer.old
+fn put_place<W: Sink>(writer: &mut WatchedWriter<W>, device: &Device, place: usize)
+    ensures { Puts W.contents W.does writer.old
         (switch_part device.now place (slice_get device.now.switches place)) writer.new }
 {
     let Some(id) = device.id(place) else {
@@ -54,8 +54,8 @@ fn put_place<W: Write>(writer: &mut WatchedWriter<W>, device: &Device, place: us
 }
 
 /// Writes the parts of a scan's line on the switches.
-fn put_switches<W: Write>(writer: &mut WatchedWriter<W>, device: &Device)
-    ensures { Puts W.contents writer.old (switches_text device.now 0 device.now.switches)
+fn put_switches<W: Sink>(writer: &mut WatchedWriter<W>, device: &Device)
+    ensures { Puts W.contents W.does writer.old (switches_text device.now 0 device.now.switches)
         writer.new }
 {
     for place in 0..device.switch_count() {
@@ -64,8 +64,8 @@ fn put_switches<W: Write>(writer: &mut WatchedWriter<W>, device: &Device)
 }
 
 /// Writes the line of a scan.
-fn put_scan<W: Write>(writer: &mut WatchedWriter<W>, device: &Device, moment: u64, steps: u32)
-    ensures { Puts W.contents writer.old (scan_text moment steps device.now) writer.new }
+fn put_scan<W: Sink>(writer: &mut WatchedWriter<W>, device: &Device, moment: u64, steps: u32)
+    ensures { Puts W.contents W.does writer.old (scan_text moment steps device.now) writer.new }
 {
     writer.put_number(moment);
     writer.put(b" scan steps=");
@@ -75,8 +75,8 @@ fn put_scan<W: Write>(writer: &mut WatchedWriter<W>, device: &Device, moment: u6
 }
 
 /// Writes the line of a scan, if there was one.
-fn put_ran<W: Write>(writer: &mut WatchedWriter<W>, device: &Device, moment: u64, scan: Option<u32>)
-    ensures { Puts W.contents writer.old (ran_text moment scan device.now) writer.new }
+fn put_ran<W: Sink>(writer: &mut WatchedWriter<W>, device: &Device, moment: u64, scan: Option<u32>)
+    ensures { Puts W.contents W.does writer.old (ran_text moment scan device.now) writer.new }
 {
     match scan {
         Some(steps) => put_scan(writer, device, moment, steps),
@@ -86,8 +86,8 @@ fn put_ran<W: Write>(writer: &mut WatchedWriter<W>, device: &Device, moment: u64
 
 /// Writes the line of a refusal with this number.
 #[cold]
-pub fn put_refusal<W: Write>(writer: &mut WatchedWriter<W>, moment: u64, code: u8)
-    ensures { Puts W.contents writer.old (refusal_line moment code) writer.new }
+pub fn put_refusal<W: Sink>(writer: &mut WatchedWriter<W>, moment: u64, code: u8)
+    ensures { Puts W.contents W.does writer.old (refusal_line moment code) writer.new }
 {
     writer.put_number(moment);
     writer.put(b" refused ");
@@ -96,9 +96,9 @@ pub fn put_refusal<W: Write>(writer: &mut WatchedWriter<W>, moment: u64, code: u
 }
 
 /// Writes the digits of a chunk of octets, by way of room for them.
-fn put_chunk<W: Write>(writer: &mut WatchedWriter<W>, room: &mut [u8], chunk: &[u8])
+fn put_chunk<W: Sink>(writer: &mut WatchedWriter<W>, room: &mut [u8], chunk: &[u8])
     requires { 2 * length chunk.now ≤ length room.old }
-    ensures { Puts W.contents writer.old (encode_lower chunk.now) writer.new }
+    ensures { Puts W.contents W.does writer.old (encode_lower chunk.now) writer.new }
 {
     let digits = &mut room[..2 * chunk.len()];
     let _ = hex::encode_to_slice(chunk, digits);
@@ -106,8 +106,8 @@ fn put_chunk<W: Write>(writer: &mut WatchedWriter<W>, room: &mut [u8], chunk: &[
 }
 
 /// Writes octets in hexadecimal digits.
-fn put_digits<W: Write>(writer: &mut WatchedWriter<W>, octets: &[u8])
-    ensures { Puts W.contents writer.old (encode_lower octets.now) writer.new }
+fn put_digits<W: Sink>(writer: &mut WatchedWriter<W>, octets: &[u8])
+    ensures { Puts W.contents W.does writer.old (encode_lower octets.now) writer.new }
 {
     let mut room = [0u8; 2 * CHUNK];
     let mut rest = octets;
@@ -120,8 +120,8 @@ fn put_digits<W: Write>(writer: &mut WatchedWriter<W>, octets: &[u8])
 
 /// Writes the line of octets that are sent.
 #[cold]
-fn put_send<W: Write>(writer: &mut WatchedWriter<W>, moment: u64, sent: &Sent)
-    ensures { Puts W.contents writer.old (send_text moment sent.now) writer.new }
+fn put_send<W: Sink>(writer: &mut WatchedWriter<W>, moment: u64, sent: &Sent)
+    ensures { Puts W.contents W.does writer.old (send_text moment sent.now) writer.new }
 {
     writer.put_number(moment);
     writer.put(b" send ");
@@ -132,8 +132,8 @@ fn put_send<W: Write>(writer: &mut WatchedWriter<W>, moment: u64, sent: &Sent)
 }
 
 /// Writes the lines of all that is sent.
-fn put_sends<W: Write>(writer: &mut WatchedWriter<W>, moment: u64, sends: &[Sent])
-    ensures { Puts W.contents writer.old (sends_text moment sends.now) writer.new }
+fn put_sends<W: Sink>(writer: &mut WatchedWriter<W>, moment: u64, sends: &[Sent])
+    ensures { Puts W.contents W.does writer.old (sends_text moment sends.now) writer.new }
 {
     for sent in sends {
         put_send(writer, moment, sent);
@@ -141,8 +141,8 @@ fn put_sends<W: Write>(writer: &mut WatchedWriter<W>, moment: u64, sends: &[Sent
 }
 
 /// Writes the line of what tells of an end, if anything does.
-fn put_ended<W: Write>(writer: &mut WatchedWriter<W>, moment: u64, ended: &Option<Sent>)
-    ensures { Puts W.contents writer.old (ended_text moment ended.now) writer.new }
+fn put_ended<W: Sink>(writer: &mut WatchedWriter<W>, moment: u64, ended: &Option<Sent>)
+    ensures { Puts W.contents W.does writer.old (ended_text moment ended.now) writer.new }
 {
     match ended {
         Some(sent) => put_send(writer, moment, sent),
@@ -159,8 +159,8 @@ fn order(on: bool) -> &'static [u8]
 
 /// Writes the line of a command to the switch with this id.
 #[cold]
-fn put_command_line<W: Write>(writer: &mut WatchedWriter<W>, moment: u64, id: &str, on: bool)
-    ensures { Puts W.contents writer.old (command_line moment id.now on) writer.new }
+fn put_command_line<W: Sink>(writer: &mut WatchedWriter<W>, moment: u64, id: &str, on: bool)
+    ensures { Puts W.contents W.does writer.old (command_line moment id.now on) writer.new }
 {
     writer.put_number(moment);
     writer.put(b" command ");
@@ -169,13 +169,13 @@ fn put_command_line<W: Write>(writer: &mut WatchedWriter<W>, moment: u64, id: &s
 }
 
 /// Writes the line of a command.
-fn put_command<W: Write>(
+fn put_command<W: Sink>(
     writer: &mut WatchedWriter<W>,
     device: &Device,
     moment: u64,
     command: Command,
 )
-    ensures { Puts W.contents writer.old (command_text moment device.now command) writer.new }
+    ensures { Puts W.contents W.does writer.old (command_text moment device.now command) writer.new }
 {
     match device.id(command.switch) {
         Some(id) => put_command_line(writer, moment, id, command.on),
@@ -184,13 +184,13 @@ fn put_command<W: Write>(
 }
 
 /// Writes the lines of all commands.
-pub fn put_commands<W: Write>(
+pub fn put_commands<W: Sink>(
     writer: &mut WatchedWriter<W>,
     device: &Device,
     moment: u64,
     commands: &[Command],
 )
-    ensures { Puts W.contents writer.old (commands_text moment device.now commands.now) writer.new }
+    ensures { Puts W.contents W.does writer.old (commands_text moment device.now commands.now) writer.new }
 {
     for command in commands {
         put_command(writer, device, moment, *command);
@@ -198,8 +198,8 @@ pub fn put_commands<W: Write>(
 }
 
 /// Writes why an association was closed, as the last of its line.
-fn put_why<W: Write>(writer: &mut WatchedWriter<W>, why: Why)
-    ensures { Puts W.contents writer.old (why_text why) writer.new }
+fn put_why<W: Sink>(writer: &mut WatchedWriter<W>, why: Why)
+    ensures { Puts W.contents W.does writer.old (why_text why) writer.new }
 {
     match why {
         Why::Ended => writer.put(b"0\n"),
@@ -213,13 +213,13 @@ fn put_why<W: Write>(writer: &mut WatchedWriter<W>, why: Why)
 
 /// Writes the line of an association that was closed.
 #[cold]
-pub fn put_closing_line<W: Write>(
+pub fn put_closing_line<W: Sink>(
     writer: &mut WatchedWriter<W>,
     moment: u64,
     association: u16,
     why: Why,
 )
-    ensures { Puts W.contents writer.old (closing_text moment association why) writer.new }
+    ensures { Puts W.contents W.does writer.old (closing_text moment association why) writer.new }
 {
     writer.put_number(moment);
     writer.put(b" closed ");
@@ -229,8 +229,8 @@ pub fn put_closing_line<W: Write>(
 }
 
 /// Writes the line of the association that was closed, if one was.
-fn put_closed<W: Write>(writer: &mut WatchedWriter<W>, moment: u64, closed: Option<(u16, Why)>)
-    ensures { Puts W.contents writer.old (closed_text moment closed) writer.new }
+fn put_closed<W: Sink>(writer: &mut WatchedWriter<W>, moment: u64, closed: Option<(u16, Why)>)
+    ensures { Puts W.contents W.does writer.old (closed_text moment closed) writer.new }
 {
     match closed {
         Some((association, why)) => put_closing_line(writer, moment, association, why),
@@ -239,8 +239,8 @@ fn put_closed<W: Write>(writer: &mut WatchedWriter<W>, moment: u64, closed: Opti
 }
 
 /// Writes what is printed for an event that was done.
-fn put_done<W: Write>(writer: &mut WatchedWriter<W>, device: &Device, moment: u64, step: &Step)
-    ensures { Puts W.contents writer.old (done_text moment step.now device.now) writer.new }
+fn put_done<W: Sink>(writer: &mut WatchedWriter<W>, device: &Device, moment: u64, step: &Step)
+    ensures { Puts W.contents W.does writer.old (done_text moment step.now device.now) writer.new }
 {
     put_ended(writer, moment, &step.ended);
     put_sends(writer, moment, step.sent.as_slice());
@@ -250,13 +250,13 @@ fn put_done<W: Write>(writer: &mut WatchedWriter<W>, device: &Device, moment: u6
 }
 
 /// Writes what is printed for an event, by its answer and the device after it.
-pub fn put_step<W: Write>(
+pub fn put_step<W: Sink>(
     writer: &mut WatchedWriter<W>,
     device: &Device,
     moment: u64,
     answer: &Result<Step, StepFault>,
 )
-    ensures { Puts W.contents writer.old (step_text moment answer.now device.now) writer.new }
+    ensures { Puts W.contents W.does writer.old (step_text moment answer.now device.now) writer.new }
 {
     match answer {
         Err(fault) => put_refusal(writer, moment, fault.code()),
@@ -266,8 +266,8 @@ pub fn put_step<W: Write>(
 
 /// Writes the line that says which line can't be read.
 #[cold]
-pub fn put_unreadable<W: Write>(writer: &mut WatchedWriter<W>, number: usize)
-    ensures { Puts W.contents writer.old (unreadable_text number) writer.new }
+pub fn put_unreadable<W: Sink>(writer: &mut WatchedWriter<W>, number: usize)
+    ensures { Puts W.contents W.does writer.old (unreadable_text number) writer.new }
 {
     writer.put(b"fault 120 line ");
     writer.put_number(number as u64);

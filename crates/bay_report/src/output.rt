@@ -6,10 +6,10 @@ ghost use Rattle.bay_report.specs.Report.{IsLast, Prints, Refuses, UnreadReport,
 use crate::report::{put_load_refusal, put_report};
 use bay_device::fault::LoadFault;
 use bay_device::report::Report;
+use bay_io::calls::Sink;
 use bay_io::input::ReadFault;
 use bay_io::outbox::WriteFault;
 use bay_io::writer::WatchedWriter;
-use std::io::Write;
 
 /// The status of what met no fault.
 pub const CLEAN: u8 = 0;
@@ -24,8 +24,8 @@ pub const NO_MEMORY: &[u8] = b"fault memory\n";
 pub const FAULT: u8 = 3;
 
 /// Writes out all that was put, with the status that it stands for.
-pub fn finish<W: Write>(writer: &mut WatchedWriter<W>, status: u8) -> Result<u8, WriteFault>
-    ensures finishes { Finishes W.contents writer.old writer.new result }
+pub fn finish<W: Sink>(writer: &mut WatchedWriter<W>, status: u8) -> Result<u8, WriteFault>
+    ensures finishes { Finishes W.contents W.does writer.old writer.new result }
     ensures status { IfOk result (λ s. s ≡ status) }
 {
     writer.finish()?;
@@ -33,45 +33,45 @@ pub fn finish<W: Write>(writer: &mut WatchedWriter<W>, status: u8) -> Result<u8,
 }
 
 /// Writes a text that is all that is written, with the status that it stands for.
-pub fn write_text<W: Write>(
+pub fn write_text<W: Sink>(
     writer: &mut WatchedWriter<W>,
     text: &[u8],
     status: u8,
 ) -> Result<u8, WriteFault>
-    ensures { Prints W.contents (IsLast text.now status) writer.old writer.new result }
+    ensures { Prints W.contents W.does (IsLast text.now status) writer.old writer.new result }
 {
     writer.put(text);
     finish(writer, status)
 }
 
 /// Writes the line of a refused load.
-pub fn write_refusal<W: Write>(
+pub fn write_refusal<W: Sink>(
     writer: &mut WatchedWriter<W>,
     fault: LoadFault,
 ) -> Result<u8, WriteFault>
-    ensures { Prints W.contents (Refuses fault) writer.old writer.new result }
+    ensures { Prints W.contents W.does (Refuses fault) writer.old writer.new result }
 {
     put_load_refusal(writer, fault);
     finish(writer, REFUSED)
 }
 
 /// Writes the line of a load.
-pub fn write_report<W: Write>(
+pub fn write_report<W: Sink>(
     writer: &mut WatchedWriter<W>,
     report: Report,
 ) -> Result<u8, WriteFault>
-    ensures { Prints W.contents (IsLast (report_text report) 0) writer.old writer.new result }
+    ensures { Prints W.contents W.does (IsLast (report_text report) 0) writer.old writer.new result }
 {
     put_report(writer, report);
     finish(writer, CLEAN)
 }
 
 /// Writes why a file could not be read.
-pub fn write_unread<W: Write>(
+pub fn write_unread<W: Sink>(
     fault: ReadFault,
     writer: &mut WatchedWriter<W>,
 ) -> Result<u8, WriteFault>
-    ensures { Prints W.contents (UnreadReport fault) writer.old writer.new result }
+    ensures { Prints W.contents W.does (UnreadReport fault) writer.old writer.new result }
 {
     match fault {
         ReadFault::OutOfMemory => write_text(writer, NO_MEMORY, FAULT),

@@ -7,20 +7,20 @@ ghost use Rattle.bay_report.specs.Report as spec;
 
 use bay_device::fault::LoadFault;
 use bay_device::report::Report;
+use bay_io::calls::Sink;
 use bay_io::writer::WatchedWriter;
-use std::io::Write;
 
 /// Writes a number, as the last of its line.
-fn put_last_number<W: Write>(writer: &mut WatchedWriter<W>, number: u64)
-    ensures { Puts W.contents writer.old (decimal number ++ codes "\n") writer.new }
+fn put_last_number<W: Sink>(writer: &mut WatchedWriter<W>, number: u64)
+    ensures { Puts W.contents W.does writer.old (decimal number ++ codes "\n") writer.new }
 {
     writer.put_number(number);
     writer.put(b"\n");
 }
 
 /// Writes the line of a refusal at a line of the program.
-fn put_line_refusal<W: Write>(writer: &mut WatchedWriter<W>, code: u8, line: usize)
-    ensures { Puts W.contents writer.old
+fn put_line_refusal<W: Sink>(writer: &mut WatchedWriter<W>, code: u8, line: usize)
+    ensures { Puts W.contents W.does writer.old
         (codes "load refused " ++ decimal code ++ codes " line "
         ++ (decimal line ++ codes "\n")) writer.new }
 {
@@ -31,8 +31,8 @@ fn put_line_refusal<W: Write>(writer: &mut WatchedWriter<W>, code: u8, line: usi
 }
 
 /// Writes the line of a refusal, by its number and its line, which is 0 where there is none.
-fn put_numbered_refusal<W: Write>(writer: &mut WatchedWriter<W>, code: u8, line: usize)
-    ensures { Puts W.contents writer.old (spec.numbered_refusal code line) writer.new }
+fn put_numbered_refusal<W: Sink>(writer: &mut WatchedWriter<W>, code: u8, line: usize)
+    ensures { Puts W.contents W.does writer.old (spec.numbered_refusal code line) writer.new }
 {
     if line != 0 {
         return put_line_refusal(writer, code, line);
@@ -42,8 +42,8 @@ fn put_numbered_refusal<W: Write>(writer: &mut WatchedWriter<W>, code: u8, line:
 }
 
 /// Writes the line that says why a load is refused.
-pub fn put_load_refusal<W: Write>(writer: &mut WatchedWriter<W>, fault: LoadFault)
-    ensures { Puts W.contents writer.old (refusal_of fault) writer.new }
+pub fn put_load_refusal<W: Sink>(writer: &mut WatchedWriter<W>, fault: LoadFault)
+    ensures { Puts W.contents W.does writer.old (refusal_of fault) writer.new }
 {
     match fault {
         LoadFault::OutOfMemory => writer.put(b"load refused memory\n"),
@@ -53,8 +53,8 @@ pub fn put_load_refusal<W: Write>(writer: &mut WatchedWriter<W>, fault: LoadFaul
 
 /// Writes the line of a load: how many instructions the program has, how many values lie on its
 /// stack at most, and how many instructions a scan executes at most.
-pub fn put_report<W: Write>(writer: &mut WatchedWriter<W>, report: Report)
-    ensures { Puts W.contents writer.old (spec.report_text report) writer.new }
+pub fn put_report<W: Sink>(writer: &mut WatchedWriter<W>, report: Report)
+    ensures { Puts W.contents W.does writer.old (spec.report_text report) writer.new }
 {
     writer.put(b"instructions=");
     writer.put_number(u64::from(report.instructions));

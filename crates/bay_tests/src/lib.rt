@@ -6,6 +6,7 @@
 // - `bay`: the longest bay file.
 // - `by_hand`: programs that no text gives.
 // - `check`: what is left of a checked program.
+// - `full_disk`: what is left of a file that could not be written.
 // - `image`: values and instructions.
 // - `device`: a device as a library is called.
 // - `replay`: readers and writers that go by a few octets at a time, and that fail.
@@ -24,6 +25,8 @@ mod by_hand;
 mod check;
 #[cfg(test)]
 mod device;
+#[cfg(test)]
+mod full_disk;
 #[cfg(test)]
 mod image;
 #[cfg(test)]

@@ -1,5 +1,6 @@
-use Rattle.std.proofs.Common.{arith}
-use Rattle.bay_io.proofs.ReadLemmas.{HasRead-end, HasRead-few, HasRead-over, HasRead-step}
+use Rattle.std.proofs.Common.{rules, ◌+◌, ◌||◌, ap, refl, ◌∙◌, arith}
+use Rattle.bay_io.proofs.AskedLemmas.{AskedFew-more, AskedFew-none, AskedFew-step, read-failed}
+use Rattle.bay_io.proofs.ReadLemmas.{HasRead-start, HasRead-end, HasRead-few, HasRead-over, HasRead-step}
 use Rattle.bay_io.proofs.input.read_all.Goals as goal
 
 pub returns-then-is_whole-clause-ok : goal.returns-then-is_whole-clause-ok
@@ -33,4 +34,49 @@ loop-turn-preserved g c =
       counted = omega arith;
       quiet = rw c.loop-turn.invariant.quiet at e.failed;
       sized = omega arith;
+      asked =
+          AskedFew-step _ _ _ _ _ _ _ _ c.loop-turn.invariant.asked c.read.ensures.call
+          (c.read.ensures.failed ∙ ap (λ b. c.loop-turn.reader.has_failed || b) (read-failed 0 c.read.result _));
     }
+
+pub returns-then-has_failed-clause-asked : goal.returns-then-has_failed-clause-asked
+returns-then-has_failed-clause-asked g c = AskedFew-none _ _ _
+
+pub loop-turn-init : goal.loop-turn-init
+loop-turn-init g c = record {
+  within = omega arith;
+  at_least = omega arith;
+  read = search (rules, HasRead-start);
+  counted = omega arith;
+  quiet = search rules;
+  asked = AskedFew-none _ _ _;
+  sized = refl;
+}
+
+pub returns-then-is_whole-clause-asked : goal.returns-then-is_whole-clause-asked
+returns-then-is_whole-clause-asked g c =
+    AskedFew-more _ _ _ _ (c.loop-turn.turn + 1) _ (omega arith)
+    (AskedFew-step _ _ _ _ _ _ _ _ c.loop-turn.invariant.asked c.read.ensures.call
+    (c.read.ensures.failed
+    ∙ ap (λ b. c.loop-turn.reader.has_failed || b) (read-failed 0 c.read.result _)))
+
+pub returns-in-Ok-eq0-clause-asked : goal.returns-in-Ok-eq0-clause-asked
+returns-in-Ok-eq0-clause-asked g c =
+    AskedFew-more _ _ _ _ (c.loop-turn.turn + 1) _ (omega arith)
+    (AskedFew-step _ _ _ _ _ _ _ _ c.loop-turn.invariant.asked c.read.ensures.call
+    (c.read.ensures.failed
+    ∙ ap (λ b. c.loop-turn.reader.has_failed || b) (read-failed 0 c.read.result _)))
+
+pub returns-then-limit-count-clause-asked : goal.returns-then-limit-count-clause-asked
+returns-then-limit-count-clause-asked g c =
+    AskedFew-more _ _ _ _ (c.loop-turn.turn + 1) _ (omega arith)
+    (AskedFew-step _ _ _ _ _ _ _ _ c.loop-turn.invariant.asked c.read.ensures.call
+    (c.read.ensures.failed
+    ∙ ap (λ b. c.loop-turn.reader.has_failed || b) (read-failed 0 c.read.result _)))
+
+pub returns-in-Err-clause-asked : goal.returns-in-Err-clause-asked
+returns-in-Err-clause-asked g c =
+    AskedFew-more _ _ _ _ (c.loop-turn.turn + 1) _ (omega arith)
+    (AskedFew-step _ _ _ _ _ _ _ _ c.loop-turn.invariant.asked c.read.ensures.call
+    (c.read.ensures.failed
+    ∙ ap (λ b. c.loop-turn.reader.has_failed || b) (read-failed 0 c.read.result _)))

@@ -1,4 +1,5 @@
 use Rattle.std.proofs.Common.{◌≡◌, ◌≤◌, ◌+◌, false, length}
+use Rattle.bay_io.specs.Calls.{AskedFew, read_failed}
 use Rattle.bay_io.proofs.ReadLemmas.{HasRead}
 use Rattle.bay_io.proofs.input.read_all.Given as goal
 
@@ -10,5 +11,7 @@ invariant-loop-turn g l = record {
       (g.R.Source.remaining l.reader.inner) l.count l.is_whole l.all.items;
   counted : l.reader.reads ≤ l.initial.reader.reads + l.turn;
   quiet : l.reader.has_failed ≡ false;
+  asked : AskedFew g.R.Source.does read_failed l.turn l.initial.reader.inner
+      l.initial.reader.has_failed l.reader.inner l.reader.has_failed;
   sized : length l.piece ≡ 65536;
 }

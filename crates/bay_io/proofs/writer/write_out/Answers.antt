@@ -1,8 +1,9 @@
-use Rattle.std.proofs.Common.{◌≡◌, ◌-◌, nat_lt, ◌++◌, length, take, drop, sym, ap, subst, ◌∙◌, arith, length-take, take-append-drop}
+use Rattle.std.proofs.Common.{◌≡◌, ◌-◌, nat_lt, ◌||◌, ◌++◌, length, take, drop, sym, ap, subst, ◌∙◌, arith, length-take, take-append-drop}
 use Rattle.std.proofs.Math.Seq.{take-add, take-take}
 use Rattle.std.specs.Io.KnownBytes.{Appends}
 use Rattle.std.proofs.KnownBytes.{Appends-trans}
 use Rattle.std.proofs.lemmas.List.{take_rest}
+use Rattle.bay_io.proofs.AskedLemmas.{Asked-none, Asked-one, Asked-then, write-failed}
 use Rattle.bay_io.proofs.SentLemmas.{SendsPart-none, SendsPart-front, SendsPart-step, unfailed}
 use Rattle.bay_io.proofs.writer.write_out.Goals as goal
 
@@ -25,6 +26,11 @@ loop-done-preserved g c =
           c.in-Ok.n-test.1;
       sent =
           subst (Appends _ _) joined (Appends-trans _ _ _ _ _ before.sent c.in-Ok.ensures.bytes);
+      asked =
+          Asked-then _ _ _ _ _ _ before.asked
+          (Asked-one _ _ _ _ _ c.write.ensures.call
+          (c.write.ensures.failed
+          ∙ ap (λ b. c.loop-done.sink.has_failed || b) (write-failed _ c.write.result)));
     }
 
 pub returns-in-Ok-eq0-clause-err : goal.returns-in-Ok-eq0-clause-err
@@ -46,3 +52,20 @@ returns-in-Err-clause-err g c =
 
 pub returns-then-has_failed-clause-err : goal.returns-then-has_failed-clause-err
 returns-then-has_failed-clause-err g c = SendsPart-none _ _
+
+pub returns-in-Ok-eq0-clause-asked : goal.returns-in-Ok-eq0-clause-asked
+returns-in-Ok-eq0-clause-asked g c =
+    Asked-then _ _ _ _ _ _ c.loop-done.invariant.asked
+    (Asked-one _ _ _ _ _ c.write.ensures.call
+    (c.write.ensures.failed
+    ∙ ap (λ b. c.loop-done.sink.has_failed || b) (write-failed _ c.write.result)))
+
+pub returns-in-Err-clause-asked : goal.returns-in-Err-clause-asked
+returns-in-Err-clause-asked g c =
+    Asked-then _ _ _ _ _ _ c.loop-done.invariant.asked
+    (Asked-one _ _ _ _ _ c.write.ensures.call
+    (c.write.ensures.failed
+    ∙ ap (λ b. c.loop-done.sink.has_failed || b) (write-failed _ c.write.result)))
+
+pub returns-then-has_failed-clause-asked : goal.returns-then-has_failed-clause-asked
+returns-then-has_failed-clause-asked g c = Asked-none _ _

@@ -1,5 +1,6 @@
 use Rattle.std.proofs.Common.{◌≡◌, ◌-◌, ◌≤◌, false, length, take}
 use Rattle.std.specs.Io.KnownBytes.{Appends}
+use Rattle.bay_io.specs.Calls.{Asked, write_failed}
 use Rattle.bay_io.proofs.writer.write_out.Given as goal
 
 abbrev pub invariant-loop-done : goal.invariant-loop-done
@@ -8,6 +9,8 @@ invariant-loop-done g l = record {
   sent : Appends (g.W.Sink.contents l.initial.sink.inner) (g.W.Sink.contents l.sink.inner)
       (take l.done l.text);
   unfailed : l.sink.has_failed ≡ false;
+  asked : Asked g.W.Sink.does write_failed l.initial.sink.inner l.initial.sink.has_failed
+      l.sink.inner l.sink.has_failed;
 }
 
 abbrev pub decreases-loop-done : goal.decreases-loop-done

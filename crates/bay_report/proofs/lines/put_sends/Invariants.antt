@@ -5,5 +5,5 @@ use Rattle.bay_report.proofs.lines.put_sends.Given as goal
 
 abbrev pub invariant-loop-sent : goal.invariant-loop-sent
 invariant-loop-sent g l =
-    Rest g.W.Write.contents l.initial.writer (sends_text l.moment l.sends)
+    Rest g.W.Sink.contents g.W.Sink.does l.initial.writer (sends_text l.moment l.sends)
     (sends_text l.moment (drop l.sent-index l.sends)) l.writer
