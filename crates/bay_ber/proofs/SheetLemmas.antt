@@ -73,8 +73,7 @@ pub length-octets : (n : ℕ) → 1 ≤ length (length_octets n)
 unfolding length_octets
 length-octets n =
     elim (ltb n 128) as (λ (b : Bool). 1
-        ≤ length (cond b (n ∷ []) ((128 + octets_needed n) ∷ bytes_high_first (octets_needed n) n)))
-        [
+    ≤ length (cond b (n ∷ []) ((128 + octets_needed n) ∷ bytes_high_first (octets_needed n) n))) [
       | true ↦ omega arith
       | false ↦ omega arith
     ]
@@ -98,7 +97,7 @@ rewritten-joined limit (Some text) start tag content at =
     let some = length-octets (length content) in
     let front : take start open_text ≡ text = take_at text (tag ∷ 0 ∷ content) start (sym at) in
     let octet_is : get_or open_text start 0 ≡ tag =
-        get_or_at text tag (0 ∷ content) 0 start (sym at) in
+    get_or_at text tag (0 ∷ content) 0 start (sym at) in
     let more : drop (start + 2) open_text ≡ content =
     rw (← append_assoc text (tag ∷ 0 ∷ []) content)
     (drop_at (text ++ tag ∷ 0 ∷ []) content (start + 2)
@@ -285,7 +284,7 @@ pub is_headed : (old new : Sheet) (tag : Tag) (count : ℕ) (octets : List ℕ)
 unfolding element
 is_headed old new tag count octets is counted headed =
     rw (headed, counted, message-front old (octet_of tag ∷ length_octets (length octets)), ← is)
-        refl
+    refl
 
 pub length-element : (tag : Tag) (content : List ℕ)
     → length (element tag content) ≡ 1 + length (length_octets (length content)) + length content

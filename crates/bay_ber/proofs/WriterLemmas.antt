@@ -132,8 +132,11 @@ value_in_place octets place start is two =
     rw (drop-drop (start + 2) 32 octets, is) (ap (λ (n : ℕ). drop n octets) (omega arith)) in
     let rest = length_octets (length (drop (start + 2) t)) ++ drop (start + 2) t in
     behind_heads octets _ place start is (omega arith)
-    ∙ rw (e, take_more t start 0 (omega arith),
-        append_assoc (take start t) (get_or t start 0 ∷ []) rest)
+    ∙ rw (
+      e,
+      take_more t start 0 (omega arith),
+      append_assoc (take start t) (get_or t start 0 ∷ []) rest,
+    )
     refl
 
 pub fits_closed : (w : Inside) (sheet : Sheet) (start count more place : ℕ) (new : List ℕ)
@@ -152,8 +155,11 @@ fits_closed w sheet start count more place new is clear two fit counted size roo
     let n = value_length t start (get_or t start 0) more (omega arith) (rw c size) in
     let a = length-take-le place o (omega arith) in
     let heads : take 32 new ≡ take 32 o =
-    rw (written, take-append-le 32 (take place o) (length_octets count ++ drop (place + 1) o)
-        (omega arith))
+    rw (
+      written,
+      take-append-le 32 (take place o) (length_octets count ++ drop (place + 1) o)
+          (omega arith),
+    )
     (take-take 32 place o (omega arith)) in
     let text : drop 32 new
     ≡ take start t ++ tagged (get_or t start 0) (drop (start + 2) t) =
@@ -212,7 +218,7 @@ head_in_front first n octets head count fits heads front =
     let cut : take (length head + (32 - first)) (head ++ rest) ≡ head ++ take (32 - first) rest =
     take-append-add head rest (32 - first) in
     let same : take (32 - first) (drop first octets)
-        ≡ drop first (take (first + (32 - first)) octets) =
+    ≡ drop first (take (first + (32 - first)) octets) =
     sym (drop-take first (32 - first) octets) in
     let sum : k + n ≡ first = omega arith in
     let all : first + (32 - first) ≡ 32 = omega arith in
@@ -277,5 +283,5 @@ finished w sheet end moved cut is clear front heads counted copied last =
     take_all (end - w.first) (drop w.first o) (omega arith) in
     let e : cut ≡ drop w.first o =
     last ∙ rw (copied, all) (take_at (drop w.first o) (drop (0 + (end - w.first)) o) (end - w.first)
-        (omega arith)) in
+    (omega arith)) in
     rw e (message_is w sheet is clear front heads)

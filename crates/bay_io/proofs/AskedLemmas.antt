@@ -35,7 +35,8 @@ module _ {S C : Type 0} {does : S → C → S → Type 0} {fails : C → Bool} w
   }
 
   -- some, and then others
-  abbrev pub Asked-then : (a b c : S) (x y z : Bool) → Asked does fails a x b y → Asked does fails b y c z
+  abbrev pub Asked-then : (a b c : S) (x y z : Bool) → Asked does fails a x b y
+      → Asked does fails b y c z
       → Asked does fails a x c z
   Asked-then a b c x y z p q = record {
     calls = p.calls ++ q.calls;

@@ -11,7 +11,8 @@ use Rattle.bay_main.specs.Commands.{CompilesDevice}
 use Rattle.bay_report.specs.Report.{IsLast, Prints, report_text}
 
 -- the line could not be written
-pub line-fails : {F W : Type 0} (writes : FileWrites F) (contents : W → Option (List ℕ)) (asks : W → WriteCall → W → Type 0)
+pub line-fails : {F W : Type 0} (writes : FileWrites F) (contents : W → Option (List ℕ))
+    (asks : W → WriteCall → W → Type 0)
     (out : List ℕ) (s : State) (report : Report) → IsReport s.machine.image report → (files : F)
     (old middle : Writing W) (fault : WriteFault)
     → Prints contents asks (IsLast (report_text report) 0) old middle (Err fault)

@@ -39,7 +39,8 @@ FilesReport form (Ok both) text status = CheckReport both.bay form both.program 
 -- a check of a bay file and of a program or an image, by their names: both are read, and what they
 -- load to is printed
 pub record Checks {F W : Type 0} (reads : FileReads F)
-    (contents : W → Option (List ℕ)) (asks : W → WriteCall → W → Type 0) (form : Form) (bay program : List ℕ) (files : F)
+    (contents : W → Option (List ℕ)) (asks : W → WriteCall → W → Type 0) (form : Form)
+    (bay program : List ℕ) (files : F)
     (old new : Writing W) (answer : Result ℕ WriteFault) : Type 0 where
   pub read : Result FilesData ReadFault
   pub is_read : ReadsBoth reads files bay program read
@@ -47,17 +48,20 @@ pub record Checks {F W : Type 0} (reads : FileReads F)
 
 -- how a file was written to which a program is compiled: whole; not at all; or there was no memory,
 -- which is told
-abbrev pub EndsWritten : {W : Type 0} → (W → Option (List ℕ)) → (W → WriteCall → W → Type 0) → Option FileFault → Writing W
+abbrev pub EndsWritten : {W : Type 0} → (W → Option (List ℕ)) → (W → WriteCall → W → Type 0)
+    → Option FileFault → Writing W
     → Writing W → Result ℕ WriteFault → Type 0
 EndsWritten contents asks None old new answer = (new ≡ old) × (answer ≡ Ok 0)
-EndsWritten contents asks (Some unwritten.Failed) old new answer = (new ≡ old) × (is_err answer ≡ true)
+EndsWritten contents asks (Some unwritten.Failed) old new answer =
+    (new ≡ old) × (is_err answer ≡ true)
 EndsWritten contents asks (Some unwritten.OutOfMemory) old new answer =
     Prints contents asks (IsLast (codes "fault memory\n") 3) old new answer
 
 -- a command that has printed a load's line makes the image, and writes it to the file of this name;
 -- or there is no memory for it, which is told, and no file is touched
 abbrev pub WritesImage : {F W : Type 0} → FileWrites F
-    → (W → Option (List ℕ)) → (W → WriteCall → W → Type 0) → List ℕ → State → F → F → Writing W → Writing W → Result ℕ WriteFault
+    → (W → Option (List ℕ)) → (W → WriteCall → W → Type 0) → List ℕ → State → F → F → Writing W
+    → Writing W → Result ℕ WriteFault
     → Type 0
 WritesImage writes contents asks out s before after old new answer =
     ((fault : Option FileFault)
@@ -66,7 +70,8 @@ WritesImage writes contents asks out s before after old new answer =
     ⊎ (Prints contents asks (IsLast (codes "fault memory\n") 3) old new answer × (after ≡ before))
 
 -- what follows a load's line: the image, where it was printed
-abbrev pub GoesOn : {F W : Type 0} → FileWrites F → (W → Option (List ℕ)) → (W → WriteCall → W → Type 0) → List ℕ → State → F → F
+abbrev pub GoesOn : {F W : Type 0} → FileWrites F → (W → Option (List ℕ))
+    → (W → WriteCall → W → Type 0) → List ℕ → State → F → F
     → Writing W → Writing W → Result ℕ WriteFault → Result ℕ WriteFault → Type 0
 GoesOn writes contents asks out s before after old new (Err fault) answer =
     (new ≡ old) × (after ≡ before) × (answer ≡ Err fault)
@@ -74,7 +79,8 @@ GoesOn writes contents asks out s before after old new (Ok status) answer =
     WritesImage writes contents asks out s before after old new answer
 
 -- a device is compiled to: its load's line is printed, and then the image is written
-pub record CompilesDevice {F W : Type 0} (writes : FileWrites F) (contents : W → Option (List ℕ)) (asks : W → WriteCall → W → Type 0)
+pub record CompilesDevice {F W : Type 0} (writes : FileWrites F) (contents : W → Option (List ℕ))
+    (asks : W → WriteCall → W → Type 0)
     (out : List ℕ) (s : State) (before after : F) (old new : Writing W)
     (answer : Result ℕ WriteFault) : Type 0 where
   pub report : Report
@@ -86,7 +92,8 @@ pub record CompilesDevice {F W : Type 0} (writes : FileWrites F) (contents : W �
 
 -- what was loaded is compiled; of a refused load the refusal is printed, and no file is touched
 abbrev pub CompilesLoaded : {F W : Type 0} → FileWrites F
-    → (W → Option (List ℕ)) → (W → WriteCall → W → Type 0) → List ℕ → Result State LoadFault → F → F → Writing W → Writing W
+    → (W → Option (List ℕ)) → (W → WriteCall → W → Type 0) → List ℕ → Result State LoadFault → F → F
+    → Writing W → Writing W
     → Result ℕ WriteFault → Type 0
 CompilesLoaded writes contents asks out (Err fault) before after old new answer =
     Prints contents asks (Refuses fault) old new answer × (after ≡ before)
@@ -96,7 +103,8 @@ CompilesLoaded writes contents asks out (Ok s) before after old new answer =
 -- what was read is loaded and compiled; its load may want memory. Where it can't be read, that is
 -- printed, and no file is touched
 abbrev pub CompilesRead : {F W : Type 0} → FileWrites F
-    → (W → Option (List ℕ)) → (W → WriteCall → W → Type 0) → List ℕ → Result FilesData ReadFault → F → F → Writing W → Writing W
+    → (W → Option (List ℕ)) → (W → WriteCall → W → Type 0) → List ℕ → Result FilesData ReadFault → F
+    → F → Writing W → Writing W
     → Result ℕ WriteFault → Type 0
 CompilesRead writes contents asks out (Err fault) before after old new answer =
     Prints contents asks (UnreadReport fault) old new answer × (after ≡ before)
@@ -110,7 +118,8 @@ CompilesRead writes contents asks out (Ok both) before after old new answer =
 -- counts as failed
 abbrev pub Compiles : {F W : Type 0} → FileReads F
     → FileWrites F → (F → List ℕ → List ℕ → Bool → Type 0)
-    → (W → Option (List ℕ)) → (W → WriteCall → W → Type 0) → List ℕ → List ℕ → List ℕ → F → F → Writing W → Writing W
+    → (W → Option (List ℕ)) → (W → WriteCall → W → Type 0) → List ℕ → List ℕ → List ℕ → F → F
+    → Writing W → Writing W
     → Result ℕ WriteFault → Type 0
 Compiles reads writes same contents asks bay logic out before after old new answer =
     ((same before out bay true ⊎ same before out logic true) × (new ≡ old) × (after ≡ before)
@@ -150,16 +159,19 @@ module _ {F L H R W : Type 0} (reads : FileReads F)
     (writes : FileWrites F)
     (same : F → List ℕ → List ℕ → Bool → Type 0)
     (step : L → Call → L → Type 0) (acts : H → HostCall L → H → Type 0)
-    (remaining : R → Option (List ℕ)) (contents : W → Option (List ℕ)) (asks : W → WriteCall → W → Type 0) where
+    (remaining : R → Option (List ℕ)) (contents : W → Option (List ℕ))
+    (asks : W → WriteCall → W → Type 0) where
   -- A task is done: what is printed and answered, and what becomes of files and ports. Only a
   -- replay reads what the reader has.
   abbrev pub DoesTask : Task (List ℕ) → Around F H R W → Around F H R W → Result ℕ WriteFault
       → Type 0
   DoesTask (Check bay program) old new answer =
-      Checks reads contents asks (form_of program) bay (name_of program) old.files old.writer new.writer
+      Checks reads contents asks (form_of program) bay (name_of program) old.files old.writer
+      new.writer
       answer × (new.files ≡ old.files) × (new.host ≡ old.host) × (new.reader ≡ old.reader)
   DoesTask (Compile bay logic out) old new answer =
-      Compiles reads writes same contents asks bay logic out old.files new.files old.writer new.writer
+      Compiles reads writes same contents asks bay logic out old.files new.files old.writer
+      new.writer
       answer × (new.host ≡ old.host) × (new.reader ≡ old.reader)
   DoesTask Replay old new answer =
       Prints contents asks (IsReplay (remaining old.reader.inner) new.reader.has_failed) old.writer

@@ -34,7 +34,8 @@ fn check<F: FileSystem, W: Sink>(
     files: &F,
     writer: &mut WatchedWriter<W>,
 ) -> Result<u8, WriteFault>
-    ensures { Checks F.reads W.contents W.does form bay.now program.now files.now writer.old writer.new
+    ensures { Checks F.reads W.contents W.does form bay.now program.now files.now writer.old
+        writer.new
         result }
 {
     match read_both(alloc, files, bay, program) {
@@ -57,7 +58,8 @@ fn write_image<F: FileSystem, W: Sink>(
     files: &mut F,
     writer: &mut WatchedWriter<W>,
 ) -> Result<u8, WriteFault>
-    ensures { WritesImage F.writes W.contents W.does out.now device.now files.old files.new writer.old
+    ensures { WritesImage F.writes W.contents W.does out.now device.now files.old files.new
+        writer.old
         writer.new result }
 {
     let Ok(image) = device.image() else {
@@ -78,7 +80,8 @@ fn compile_device<F: FileSystem, W: Sink>(
     files: &mut F,
     writer: &mut WatchedWriter<W>,
 ) -> Result<u8, WriteFault>
-    ensures { CompilesDevice F.writes W.contents W.does out.now device.now files.old files.new writer.old
+    ensures { CompilesDevice F.writes W.contents W.does out.now device.now files.old files.new
+        writer.old
         writer.new result }
 {
     write_report(writer, device.report())?;
@@ -187,7 +190,8 @@ pub fn obey<F: FileSystem, L: Link + Drop, H: Host<L>, R: Source, W: Sink>(
     reader: &mut WatchedReader<R>,
     writer: &mut WatchedWriter<W>,
 ) -> Ended
-    ensures { Obeys F.reads F.writes F.same (Called L.does L.failures) H.does R.remaining W.contents W.does
+    ensures { Obeys F.reads F.writes F.same (Called L.does L.failures) H.does R.remaining W.contents
+        W.does
         (map (λ w. w.now) words.now)
         (record { files = files.old; host = host.old; reader = reader.old; writer = writer.old })
         (record { files = files.new; host = host.new; reader = reader.new; writer = writer.new })

@@ -224,7 +224,7 @@ access_back count part r fair b e =
     elim (by_tag (constructed 0) part (listed_in count part.content) last r e) [
       | inl here ↦
           let x = spelled_then (each_in variable_as part.content)
-              (λ vs. judged count (variables vs))
+          (λ vs. judged count (variables vs))
           r fair here.1 in
           let each = each_back variable_as part.content x.0 b x.1 in
           let l = each_listed variable_as (value sequence) IsVariable variable_back each.parts x.0

@@ -25,7 +25,7 @@ no_list : (service : Part) (asking : Asking) → is_empty (Ok asking) ≡ true
     → takes_list service ≡ true → IsService service asking → ⊥
 no_list service asking none list is =
     let e : is_empty (service_as service) ≡ true =
-        ap is_empty (service_read service asking is) ∙ none
+    ap is_empty (service_read service asking is) ∙ none
     in
     let some = (both (has_list service) (not (is_empty (service_as service))) list).1 in
     let no : not true ≡ true = sym (ap not e) ∙ some in cc

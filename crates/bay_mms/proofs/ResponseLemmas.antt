@@ -160,7 +160,7 @@ read_is id size octets first second third last f s t l =
     let two : second ≡ within size service =
     s ∙ rw f (within_longer (element (constructed 4)) size list (omega arith)) in
     l ∙ rw (t, two) (map_then (λ u. number ++ u) (λ u. within size (element (constructed 1) u))
-        (within size service)
+    (within size service)
     ∙ within_longer (λ u. element (constructed 1) (number ++ u)) size service (longer id service))
 
 pub number_few : (old new : Sheet) (tag : Tag) (value : ℤ)

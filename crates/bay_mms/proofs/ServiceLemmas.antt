@@ -617,11 +617,11 @@ service_back part r b e =
     (other_as part) in
     let from5 : Result Asking Refusal =
     cond (same_tag part.tag (constructed 5))
-        (spelled (one_or_two_in part.content) >> (λ ps. write_of ps.0 ps.1)) from6
+    (spelled (one_or_two_in part.content) >> (λ ps. write_of ps.0 ps.1)) from6
     in
     let from4 : Result Asking Refusal =
     cond (same_tag part.tag (constructed 4))
-        (spelled (one_or_two_in part.content) >> (λ ps. read_of ps.0 ps.1)) from5 in
+    (spelled (one_or_two_in part.content) >> (λ ps. read_of ps.0 ps.1)) from5 in
     let from2 : Result Asking Refusal =
     cond (same_tag part.tag (context 2)) (spelled (nothing part.content identify)) from4 in
     elim (by_tag (constructed 1) part (spelled (listing_in part.content)) from2 r e) [

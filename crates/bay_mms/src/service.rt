@@ -154,7 +154,7 @@ fn write_of<'a>(
         (spec.write_of (part_of variables.entry) (option_map part_of list.entry)) }
     ensures memory { IsErrOf result Refusal.OutOfMemory
         → is_empty (spec.write_of (part_of variables.entry) (option_map part_of list.entry))
-            ≡ false }
+        ≡ false }
 {
     let octets = data_of(list).ok_or(Refusal::Bad)?;
     let values = read_data(alloc, octets, DEPTH_MAX)?;

@@ -15,7 +15,8 @@ use Rattle.bay_trace.specs.Trace.{NamedData}
 use Rattle.bay_trace.proofs.PlacingLemmas.{same-anywhere}
 
 -- what an event comes to is told by what is taken for it
-pub Does-same : {W : Type 0} (contents : W → Option (List ℕ)) (asks : W → WriteCall → W → Type 0) (old : Writing W) (now : ℕ)
+pub Does-same : {W : Type 0} (contents : W → Option (List ℕ)) (asks : W → WriteCall → W → Type 0)
+    (old : Writing W) (now : ℕ)
     (event other : Event) (before : State) (new : Writing W) (after : State)
     → anywhere event ≡ other → Does contents asks old now event before new after
     → Does contents asks old now other before new after
@@ -24,7 +25,8 @@ Does-same contents asks old now event other before new after e d =
     same-anywhere d.choice now event before ∙ ap (λ f. outcome d.choice now f before) e in
     record {
       choice = d.choice;
-      text = subst (λ (o : Outcome). Puts contents asks old (step_text now o.answer o.after) new) same
+      text = subst (λ (o : Outcome). Puts contents asks old (step_text now o.answer o.after) new)
+          same
           d.text;
       left_is = d.left_is ∙ ap (λ (o : Outcome). o.after) same;
     }

@@ -15,17 +15,20 @@ use Rattle.bay_report.specs.Report.{Prints, report_text}
 use Rattle.bay_trace.specs.Trace.{trace_line_of}
 
 -- what was printed so far, and what may follow it
-pub record Progress {W : Type 0} (contents : W → Option (List ℕ)) (asks : W → WriteCall → W → Type 0) (May : List ℕ → ℕ → Type 0)
+pub record Progress {W : Type 0} (contents : W → Option (List ℕ))
+    (asks : W → WriteCall → W → Type 0) (May : List ℕ → ℕ → Type 0)
     (s : Replaying) (k : ℕ) (rest : List (List ℕ)) (old new : Writing W) : Type 0 where
   pub printed : List ℕ
   pub continues : (text : List ℕ) (status : ℕ) → TraceReport s k rest text status
       → May (printed ++ text) status
   pub put : Puts contents asks old printed new
 
-pub Progress-start : {W : Type 0} {contents : W → Option (List ℕ)} {asks : W → WriteCall → W → Type 0} {old new : Writing W}
+pub Progress-start : {W : Type 0} {contents : W → Option (List ℕ)}
+    {asks : W → WriteCall → W → Type 0} {old new : Writing W}
     (report : Report) (s : State) (lines : List (List ℕ)) → IsReport s.machine.image report
     → Puts contents asks old (report_text report) new
-    → Progress contents asks (DeviceReport s lines) (record { device = s; room = 0 }) 1 lines old new
+    → Progress contents asks (DeviceReport s lines) (record { device = s; room = 0 }) 1 lines old
+    new
 Progress-start report s lines is put = record {
   printed = report_text report;
   continues = λ text status told. (report, is, (text, refl, told));
@@ -66,13 +69,15 @@ told_trace s k (line ∷ lines) =
       told = (heard None, when_false _ _ _ is (rest.text, refl, rest.told));
     }
 
-module _ {W : Type 0} {contents : W → Option (List ℕ)} {asks : W → WriteCall → W → Type 0} {May : List ℕ → ℕ → Type 0}
+module _ {W : Type 0} {contents : W → Option (List ℕ)} {asks : W → WriteCall → W → Type 0}
+    {May : List ℕ → ℕ → Type 0}
     {s : Replaying} {k : ℕ} {rest : List (List ℕ)} {old mid : Writing W}
     (p : Progress contents asks May s k rest old mid) where
   -- a last text ends the report
   pub Progress-last : {put : Writing W} {text : List ℕ} (end : Writing W) (status : ℕ)
       (r : Result ℕ WriteFault) → TraceReport s k rest text status → Puts contents asks mid text put
-      → Finishes contents asks put end r → IfOk r (λ n. n ≡ status) → Prints contents asks May old end r
+      → Finishes contents asks put end r → IfOk r (λ n. n ≡ status)
+      → Prints contents asks May old end r
   Progress-last {put} {text} end status r told more ends is =
       Prints-last May end status r (p.continues text status told) (Puts-then p.put more) ends is
 
@@ -90,7 +95,8 @@ module _ {W : Type 0} {contents : W → Option (List ℕ)} {asks : W → WriteCa
       abbrev said : LineAnswer
       said = line_answer choice k (trace_line_of line) s
 
-      pub Progress-step : {new : Writing W} → said.is_last ≡ false → Puts contents asks mid said.text new
+      pub Progress-step : {new : Writing W} → said.is_last ≡ false
+          → Puts contents asks mid said.text new
           → Progress contents asks May said.after (k + 1) after old new
       Progress-step {new} more put =
           record {

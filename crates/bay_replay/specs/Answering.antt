@@ -10,7 +10,8 @@ use Rattle.bay_replay.specs.LineAnswers.{Choice, LineAnswer, Replaying}
 use Rattle.bay_report.specs.Lines.{step_text}
 
 -- an event was done, and what is printed for it was put into the writer
-pub record Does {W : Type 0} (contents : W → Option (List ℕ)) (asks : W → WriteCall → W → Type 0) (old : Writing W) (now : ℕ)
+pub record Does {W : Type 0} (contents : W → Option (List ℕ)) (asks : W → WriteCall → W → Type 0)
+    (old : Writing W) (now : ℕ)
     (event : Event) (before : State) (new : Writing W) (after : State) : Type 0 where
   pub choice : Option ℕ
   pub text : Puts contents asks old
@@ -20,7 +21,8 @@ pub record Does {W : Type 0} (contents : W → Option (List ℕ)) (asks : W → 
 
 -- an answer to a line was given, by some choice: its text was put into the writer, and where it is
 -- not the last, what is after it is left
-pub record Answers {W : Type 0} (contents : W → Option (List ℕ)) (asks : W → WriteCall → W → Type 0) (old : Writing W)
+pub record Answers {W : Type 0} (contents : W → Option (List ℕ)) (asks : W → WriteCall → W → Type 0)
+    (old : Writing W)
     (said : Choice → LineAnswer) (new : Writing W) (after : Replaying) (is_last : Bool)
     : Type 0 where
   pub choice : Choice

@@ -71,9 +71,9 @@ IsReplay input has_failed text status =
     MatchBool has_failed ((text ≡ codes "fault 121\n") × (status ≡ 3))
     (ReadReport input text status)
 
--- a scenario was replayed from a reader to a writer: by at most 16,777,217 reads, and the writes and
--- flushes that led to a last state of the writer. That the reader failed is told exactly where one
--- of these reads failed, and a fault is answered exactly where a write or a flush failed, or a
+-- a scenario was replayed from a reader to a writer: by at most 16,777,217 reads, and the writes
+-- and flushes that led to a last state of the writer. That the reader failed is told exactly where
+-- one of these reads failed, and a fault is answered exactly where a write or a flush failed, or a
 -- write took nothing
 pub record Replays {R W : Type 0} (remaining : R → Option (List ℕ))
     (does : R → ReadCall → R → Type 0) (contents : W → Option (List ℕ))

@@ -21,7 +21,8 @@ fn answer_event<W: Sink>(
     moment: u64,
     event: Event<'_>,
 )
-    ensures { Does W.contents W.does writer.old moment event.entry device.old writer.new device.new }
+    ensures { Does W.contents W.does writer.old moment event.entry device.old writer.new
+        device.new }
 {
     let answer = device.step(moment, event);
     put_step(writer, device, moment, &answer);

@@ -33,7 +33,8 @@ fn replay_device<W: Sink>(
     writer: &mut WatchedWriter<W>,
 ) -> Result<u8, WriteFault>
     requires { length trace.now ≤ scenario_limit }
-    ensures { Prints W.contents W.does (DeviceReport device.old (lines_of trace.now)) writer.old writer.new
+    ensures { Prints W.contents W.does (DeviceReport device.old (lines_of trace.now)) writer.old
+        writer.new
         result }
 {
     put_report(writer, device.report());
@@ -61,7 +62,8 @@ fn replay_parts<W: Sink>(
     writer: &mut WatchedWriter<W>,
 ) -> Result<u8, WriteFault>
     requires { length scenario.trace.now ≤ scenario_limit }
-    ensures { Prints W.contents W.does (LoadsReport (scenario_view scenario.entry)) writer.old writer.new
+    ensures { Prints W.contents W.does (LoadsReport (scenario_view scenario.entry)) writer.old
+        writer.new
         result }
 {
     match load_octets(alloc, scenario.bay, scenario.logic) {

@@ -175,7 +175,8 @@ fn put_command<W: Sink>(
     moment: u64,
     command: Command,
 )
-    ensures { Puts W.contents W.does writer.old (command_text moment device.now command) writer.new }
+    ensures { Puts W.contents W.does writer.old (command_text moment device.now command)
+        writer.new }
 {
     match device.id(command.switch) {
         Some(id) => put_command_line(writer, moment, id, command.on),
@@ -190,7 +191,8 @@ pub fn put_commands<W: Sink>(
     moment: u64,
     commands: &[Command],
 )
-    ensures { Puts W.contents W.does writer.old (commands_text moment device.now commands.now) writer.new }
+    ensures { Puts W.contents W.does writer.old (commands_text moment device.now commands.now)
+        writer.new }
 {
     for command in commands {
         put_command(writer, device, moment, *command);
@@ -256,7 +258,8 @@ pub fn put_step<W: Sink>(
     moment: u64,
     answer: &Result<Step, StepFault>,
 )
-    ensures { Puts W.contents W.does writer.old (step_text moment answer.now device.now) writer.new }
+    ensures { Puts W.contents W.does writer.old (step_text moment answer.now device.now)
+        writer.new }
 {
     match answer {
         Err(fault) => put_refusal(writer, moment, fault.code()),

@@ -60,7 +60,8 @@ pub fn write_report<W: Sink>(
     writer: &mut WatchedWriter<W>,
     report: Report,
 ) -> Result<u8, WriteFault>
-    ensures { Prints W.contents W.does (IsLast (report_text report) 0) writer.old writer.new result }
+    ensures { Prints W.contents W.does (IsLast (report_text report) 0) writer.old writer.new
+        result }
 {
     put_report(writer, report);
     finish(writer, CLEAN)

@@ -97,7 +97,8 @@ module _ {L B : Type 0} (below : B → L) (does : L → Call → L → Type 0) (
 -- ---- one turn
 
 module _ {L B H W : Type 0} (below : B → L) (does : L → Call → L → Type 0) (failures : L → ℕ)
-    (acts : H → HostCall L → H → Type 0) (contents : W → Option (List ℕ)) (asks : W → WriteCall → W → Type 0) where
+    (acts : H → HostCall L → H → Type 0) (contents : W → Option (List ℕ))
+    (asks : W → WriteCall → W → Type 0) where
   -- a turn was done over the link that has another below it, and what it tells was printed
   pub turn-goes : (line : Option (ℕ × List ℕ)) (text : Option (List ℕ)) (clock now : ℕ)
       (link-before link-after : B) (before after : Held) (host-before host-after : H)
@@ -225,7 +226,8 @@ module _ {L H W : Type 0} (step : L → Call → L → Type 0) (acts : H → Hos
         -- one turn was tried, and done
         pub Reached-done : (after next : Serving L H) (new : Writing W) (t : Tried)
             (was_idle : Bool)
-            → t ≡ tried.Done was_idle → TriesTurn step acts contents asks line here mid after new (Ok t)
+            → t ≡ tried.Done was_idle
+            → TriesTurn step acts contents asks line here mid after new (Ok t)
             → MayPause acts after next
             → Reached turns lines before old more lines-after next new
         Reached-done after next new (tried.Done w) was_idle is goes pause =
@@ -237,12 +239,14 @@ module _ {L H W : Type 0} (step : L → Call → L → Type 0) (acts : H → Hos
 
         -- it was not done
         pub Reached-ends : (after : Serving L H) (new : Writing W) (t : Tried) (status : ℕ)
-            → t ≡ tried.Ends status → TriesTurn step acts contents asks line here mid after new (Ok t)
+            → t ≡ tried.Ends status
+            → TriesTurn step acts contents asks line here mid after new (Ok t)
             → ServesTurns step acts contents asks turns lines before old after.host new (Ok status)
         Reached-ends after new (tried.Done w) status is goes = absurd cc
         Reached-ends after new (tried.Ends s) status is fails =
             Reached-stop after.host new (Ok status) e
-            (subst (λ n. TurnFails step acts contents asks (slice_get rest 0) here mid after.host new
+            (subst (λ n. TurnFails step acts contents asks (slice_get rest 0) here mid after.host
+            new
             (Ok n)) (ap status-of is)
             (subst (λ l. TurnFails step acts contents asks l here mid after.host new (Ok s)) same
             fails))
@@ -280,7 +284,8 @@ module _ {L H W : Type 0} (step : L → Call → L → Type 0) (acts : H → Hos
 -- ---- what follows the line of a load that is served
 
 module _ {L H W : Type 0} (step : L → Call → L → Type 0) (acts : H → HostCall L → H → Type 0)
-    (contents : W → Option (List ℕ)) (asks : W → WriteCall → W → Type 0) (numbers : Numbers) (trace : List ℕ) (s : State)
+    (contents : W → Option (List ℕ)) (asks : W → WriteCall → W → Type 0) (numbers : Numbers)
+    (trace : List ℕ) (s : State)
     (report : Report) (is : IsReport s.machine.image report) where
   -- the line could not be written
   pub line-fails : (host : H) (old middle : Writing W) (fault : WriteFault)

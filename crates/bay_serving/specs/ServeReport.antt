@@ -38,7 +38,8 @@ abbrev pub Stays : {W : Type 0} → Writing W → Writing W → Result ℕ Write
 Stays old new answer = (new ≡ old) × (answer ≡ Ok 0)
 
 -- what a turn tells is printed and flushed; where it tells nothing the writer is left alone
-abbrev pub TellsTurn : {W : Type 0} → (W → Option (List ℕ)) → (W → WriteCall → W → Type 0) → ℕ → Turn → State → Writing W
+abbrev pub TellsTurn : {W : Type 0} → (W → Option (List ℕ)) → (W → WriteCall → W → Type 0) → ℕ
+    → Turn → State → Writing W
     → Writing W → Result ℕ WriteFault → Type 0
 TellsTurn contents asks now turn s old new answer =
     MatchBool (is_quiet turn) (Stays old new answer)
@@ -71,7 +72,8 @@ module _ {L H W : Type 0} (step : L → Call → L → Type 0) (acts : H → Hos
     pub told : acts before.host (Tells clock) host
     pub fault : ServeFault
     pub is : IsRefused fault (turn_refusal clock (text_of_next line) before.held)
-    pub printed : Prints contents asks (IsLast (unserved_text fault (number_of_next line)) 3) old new
+    pub printed : Prints contents asks (IsLast (unserved_text fault (number_of_next line)) 3) old
+        new
         answer
 
   -- the clock was asked, the turn was done, and what it tells was printed
@@ -82,7 +84,8 @@ module _ {L H W : Type 0} (step : L → Call → L → Type 0) (acts : H → Hos
     pub turn : Turn
     pub serves : Serves step before.link after.link (moment_at clock before.held)
         (line_in (text_of_next line)) before.held after.held turn
-    pub printed : TellsTurn contents asks (moment_at clock before.held) turn after.held.device old new
+    pub printed : TellsTurn contents asks (moment_at clock before.held) turn after.held.device old
+        new
         answer
 
   -- So many turns are served, with the next line for each: all of them; up to one that is not done;

@@ -50,7 +50,8 @@ fn serve_link<L: Link + Drop, H: Host<L>, W: Sink>(
 ) -> Result<u8, WriteFault>
     requires closed { device.connections ≡ replicate 8 None }
     requires timed { AreTimed device.controls.controls }
-    ensures { ServesBound (Called L.does L.failures) H.does W.contents W.does numbers trace.now device link
+    ensures { ServesBound (Called L.does L.failures) H.does W.contents W.does numbers trace.now
+        device link
         host.old host.new writer.old writer.new result }
 {
     let Some(link) = link else {
@@ -91,7 +92,8 @@ fn serve_device<L: Link + Drop, H: Host<L>, W: Sink>(
 ) -> Result<u8, WriteFault>
     requires closed { device.connections ≡ replicate 8 None }
     requires timed { AreTimed device.controls.controls }
-    ensures { ServesDevice (Called L.does L.failures) H.does W.contents W.does numbers trace.now device
+    ensures { ServesDevice (Called L.does L.failures) H.does W.contents W.does numbers trace.now
+        device
         host.old host.new writer.old writer.new result }
 {
     write_report(writer, device.report())?;
@@ -145,7 +147,8 @@ fn serve_read<F: FileSystem, L: Link + Drop, H: Host<L>, W: Sink>(
     numbers: Numbers,
     writer: &mut WatchedWriter<W>,
 ) -> Result<u8, WriteFault>
-    ensures { ServesRead (Called L.does L.failures) H.does W.contents W.does F.reads files.now numbers
+    ensures { ServesRead (Called L.does L.failures) H.does W.contents W.does F.reads files.now
+        numbers
         named.entry.form (text_in named.entry.trace)
         (Ok (record { bay = both.now.bay.items; program = both.now.program.items })) host.old
         host.new writer.old writer.new result }

@@ -31,7 +31,8 @@ fn put_refused<W: Sink>(writer: &mut WatchedWriter<W>, moment: u64, refused: Opt
 
 /// Writes the line of an association that was closed, with the number of the reason.
 fn put_entry<W: Sink>(writer: &mut WatchedWriter<W>, moment: u64, entry: (u16, Closing))
-    ensures { Puts W.contents W.does writer.old (closing_text moment entry.0 (Fault (code_of entry.1)))
+    ensures { Puts W.contents W.does writer.old
+        (closing_text moment entry.0 (Fault (code_of entry.1)))
         writer.new }
 {
     let (association, closing) = entry;
@@ -108,7 +109,8 @@ pub fn tell_turn<W: Sink>(
 
 /// Writes which line of the trace can't be read.
 fn write_bad_line<W: Sink>(writer: &mut WatchedWriter<W>, number: usize) -> Result<u8, WriteFault>
-    ensures { Prints W.contents W.does (IsLast (unserved_text ServeFault.BadLine number) 3) writer.old
+    ensures { Prints W.contents W.does (IsLast (unserved_text ServeFault.BadLine number) 3)
+        writer.old
         writer.new result }
 {
     put_unreadable(writer, number);

@@ -15,6 +15,7 @@
 // - `links`: a link over sockets call by call, and the system's clock.
 // - `sockets`: a client and the server in turn, on 127.0.0.1.
 // - `session`: what a client sends, and what it is answered.
+// - `way_in`: the program by its own way in: words, what it prints, its status.
 #![tactic(auto)]
 
 #[cfg(test)]
@@ -43,3 +44,5 @@ mod serve;
 mod session;
 #[cfg(test)]
 mod sockets;
+#[cfg(test)]
+mod way_in;

@@ -29,7 +29,7 @@ const MAX_OPEN: usize = 16;
 
 /// What the lines before a line make of the text.
 #[derive(Clone, Copy)]
-pub(crate) enum Stage {
+pub enum Stage {
     /// Before the line of PROGRAM.
     Start,
     /// Between the declaration blocks.

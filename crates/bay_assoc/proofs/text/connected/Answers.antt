@@ -7,11 +7,11 @@ use Rattle.bay_assoc.proofs.text.connected.Goals as goal
 pub finish_held-requires : goal.finish_held-requires
 finish_held-requires c =
     let text =
-        connected_text (option_map (λ octets. octets.now) c.args.called) c.args.contexts.now
-        c.args.accepted c.args.value.now in
+    connected_text (option_map (λ octets. octets.now) c.args.called) c.args.contexts.now
+    c.args.accepted c.args.value.now in
     let few =
-        connected_short (option_map (λ octets. octets.now) c.args.called) c.args.contexts.now
-        c.args.accepted c.args.value.now
+    connected_short (option_map (λ octets. octets.now) c.args.called) c.args.contexts.now
+    c.args.accepted c.args.value.now
     (at_most_16 c.args.called c.requires.selector) c.requires.contexts c.requires.short in
     ap is_none (short_message 560 text c.in_ok-writer.writer _ c.in_ok-writer.ensures
     c.put_connected.ensures few)
@@ -19,11 +19,11 @@ finish_held-requires c =
 pub returns-clause-text : goal.returns-clause-text
 returns-clause-text c =
     let text =
-        connected_text (option_map (λ octets. octets.now) c.args.called) c.args.contexts.now
-        c.args.accepted c.args.value.now in
+    connected_text (option_map (λ octets. octets.now) c.args.called) c.args.contexts.now
+    c.args.accepted c.args.value.now in
     let few =
-        connected_short (option_map (λ octets. octets.now) c.args.called) c.args.contexts.now
-        c.args.accepted c.args.value.now
+    connected_short (option_map (λ octets. octets.now) c.args.called) c.args.contexts.now
+    c.args.accepted c.args.value.now
     (at_most_16 c.args.called c.requires.selector) c.requires.contexts c.requires.short in
     let is : Some c.finish_held.result.items ≡ Some text =
     c.finish_held.ensures ∙ short_message 560 text c.in_ok-writer.writer _ c.in_ok-writer.ensures
@@ -33,11 +33,11 @@ returns-clause-text c =
 pub returns-clause-few : goal.returns-clause-few
 returns-clause-few c =
     let text =
-        connected_text (option_map (λ octets. octets.now) c.args.called) c.args.contexts.now
-        c.args.accepted c.args.value.now in
+    connected_text (option_map (λ octets. octets.now) c.args.called) c.args.contexts.now
+    c.args.accepted c.args.value.now in
     let few =
-        connected_short (option_map (λ octets. octets.now) c.args.called) c.args.contexts.now
-        c.args.accepted c.args.value.now
+    connected_short (option_map (λ octets. octets.now) c.args.called) c.args.contexts.now
+    c.args.accepted c.args.value.now
     (at_most_16 c.args.called c.requires.selector) c.requires.contexts c.requires.short in
     let is : Some c.finish_held.result.items ≡ Some text =
     c.finish_held.ensures ∙ short_message 560 text c.in_ok-writer.writer _ c.in_ok-writer.ensures

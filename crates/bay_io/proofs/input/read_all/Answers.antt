@@ -36,7 +36,8 @@ loop-turn-preserved g c =
       sized = omega arith;
       asked =
           AskedFew-step _ _ _ _ _ _ _ _ c.loop-turn.invariant.asked c.read.ensures.call
-          (c.read.ensures.failed ∙ ap (λ b. c.loop-turn.reader.has_failed || b) (read-failed 0 c.read.result _));
+          (c.read.ensures.failed
+          ∙ ap (λ b. c.loop-turn.reader.has_failed || b) (read-failed 0 c.read.result _));
     }
 
 pub returns-then-has_failed-clause-asked : goal.returns-then-has_failed-clause-asked

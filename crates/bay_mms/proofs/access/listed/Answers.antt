@@ -12,7 +12,7 @@ returns-in_err-push_name-in-Ok-Some-clause-memory c =
     λ memory. listing_some c.args.count c.args.octets.now
     (some_value variable_as c.args.octets.now c.loop-value.values c.next_value.new.self l.vs
     (part_of c.in-Ok-Some.value) l.passed
-        (rw c.in-Ok-Some.field-0-is at c.in-Ok-Some.ensures.exact))
+    (rw c.in-Ok-Some.field-0-is at c.in-Ok-Some.ensures.exact))
 
 pub returns-in_default-clause-asked : goal.returns-in_default-clause-asked
 returns-in_default-clause-asked c =

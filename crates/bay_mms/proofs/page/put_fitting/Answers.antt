@@ -88,7 +88,7 @@ pub returns-clause-names : goal.returns-clause-names
 returns-clause-names c =
     let p = page_all c.args.tree.now c.args.first c.args.id c.args.size c.args.writer.now
     c.loop-next.writer c.loop-next.taken c.loop-next.count
-        (rw c.in_default.is at c.loop-next.invariant) in
+    (rw c.in_default.is at c.loop-next.invariant) in
     c.loop-next.invariant.is
     ∙ ap (λ (n : ℕ). put c.args.writer.now
     (names_text (take n (names_from c.args.tree.now c.args.first)))) (sym p.0)
@@ -97,7 +97,7 @@ pub returns-clause-more : goal.returns-clause-more
 returns-clause-more c =
     let p = page_all c.args.tree.now c.args.first c.args.id c.args.size c.args.writer.now
     c.loop-next.writer c.loop-next.taken c.loop-next.count
-        (rw c.in_default.is at c.loop-next.invariant) in
+    (rw c.in_default.is at c.loop-next.invariant) in
     sym (ap (λ (n : ℕ). ltb n (length (names_from c.args.tree.now c.args.first))) p.0 ∙ p.1)
 
 pub loop-next-init : goal.loop-next-init

@@ -18,4 +18,4 @@ returns c =
     (rw c.context_constructed-3.ensures at c.open-results.ensures.tag)
     c.put_operate.ensures c.close.ensures c.close-2.ensures c.close-3.ensures
     ∙ ap (λ (t : List ℕ). put c.args.writer.now t)
-        (ended_is c.args.domain.now c.args.item.now c.args.operate.now)
+    (ended_is c.args.domain.now c.args.item.now c.args.operate.now)

@@ -19,6 +19,6 @@ returns c =
     (rw c.context_constructed-3.ensures at c.open-results.ensures.tag)
     (put_twice c.open-results.new.self c.put_failure.new.writer _ (failure_data c.args.failure.now)
     (operate_text c.args.operate.now) c.put_failure.ensures c.put_operate.ensures) c.close.ensures
-        c.close-2.ensures c.close-3.ensures
+    c.close-2.ensures c.close-3.ensures
     ∙ ap (λ (t : List ℕ). put c.args.writer.now t)
-        (failed_is c.args.failure.now c.args.domain.now c.args.item.now c.args.operate.now)
+    (failed_is c.args.failure.now c.args.domain.now c.args.item.now c.args.operate.now)

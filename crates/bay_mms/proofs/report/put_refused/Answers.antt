@@ -14,7 +14,7 @@ returns c =
     c.open-report.ensures.start (rw c.context_constructed.ensures at c.open-report.ensures.tag)
     c.open-information.ensures.start
     (rw c.context_constructed-2.ensures at c.open-information.ensures.tag)
-        c.put_failure_list.ensures
+    c.put_failure_list.ensures
     c.open-results.ensures.start
     (rw c.context_constructed-3.ensures at c.open-results.ensures.tag)
     c.put_failure.ensures c.close.ensures c.close-2.ensures c.close-3.ensures

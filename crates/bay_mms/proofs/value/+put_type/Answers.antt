@@ -14,8 +14,11 @@ pub loop-next-init : goal.loop-next-init
 loop-next-init t c =
     written_first c.args.tree.now c.args.handle nodes_types_text 0xA1
     (put c.args.writer.now (0xA2 ∷ 0 ∷ [])) _ c.below-next.result
-    (rw (c.context_constructed-in-None.ensures, c.open-structure.ensures.tag,
-        c.context_constructed.ensures) at c.open-components.ensures.tag)
+    (rw (
+      c.context_constructed-in-None.ensures,
+      c.open-structure.ensures.tag,
+      c.context_constructed.ensures,
+    ) at c.open-components.ensures.tag)
     c.below-next.ensures.first c.below-next.ensures.after
 
 pub close-requires : goal.close-requires

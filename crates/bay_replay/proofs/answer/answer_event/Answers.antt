@@ -8,7 +8,8 @@ returns g c =
     let done = c.step-answer.ensures.steps in
     record {
       choice = done.choice;
-      text = subst (λ t. Puts g.W.Sink.contents g.W.Sink.does c.args.writer.now t c.put_step.new.writer)
+      text = subst (λ t. Puts g.W.Sink.contents g.W.Sink.does c.args.writer.now t
+          c.put_step.new.writer)
           (ap₂ (λ a d. step_text c.args.moment a d) done.answered done.left) c.put_step.ensures;
       left_is = done.left;
     }

@@ -26,7 +26,8 @@ returns g c =
     let event = named_view c.args.event in
     let r : Replaying = record { device = c.args.device.now; room = c.args.octets.now.room } in
     let done =
-    Does-same g.W.Sink.contents g.W.Sink.does c.args.writer.now c.args.moment c.placed_event-event.result
+    Does-same g.W.Sink.contents g.W.Sink.does c.args.writer.now c.args.moment
+    c.placed_event-event.result
     (placed_event r.device event) r.device c.answer_event.new.writer c.answer_event.new.device
     c.placed_event-event.ensures c.answer_event.ensures in
     let room =

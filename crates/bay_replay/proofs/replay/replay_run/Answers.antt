@@ -4,7 +4,8 @@ use Rattle.bay_replay.proofs.replay.replay_run.Goals as goal
 
 pub returns : goal.returns
 returns g c =
-    let printed = rw (c.new-reader.ensures, c.new-writer.ensures) at c.replay_watched.ensures.printed
+    let printed =
+    rw (c.new-reader.ensures, c.new-writer.ensures) at c.replay_watched.ensures.printed
     in
     record {
       end = c.replay_watched.new.reader.inner;

@@ -18,7 +18,8 @@ returns-in_err-tell_turn-in-Ok g c =
       host = c.now-clock.new.self;
     }) c.tell_turn.new.writer _ c.from_residual.result
     c.from_residual.ensures.0
-    (turn-goes (λ busy. busy.link) g.L.Link.does g.L.Link.failures g.H.Host.does g.W.Sink.contents g.W.Sink.does
+    (turn-goes (λ busy. busy.link) g.L.Link.does g.L.Link.failures g.H.Host.does g.W.Sink.contents
+    g.W.Sink.does
     _ _ _ _ _ _ _ _ _ _ _ _ _ _ _ c.octets_of.ensures now c.device-in-Ok.ensures
     c.now-clock.ensures c.in-Ok.ensures.ok c.in_err-tell_turn-in-Ok.ensures)
 

@@ -44,7 +44,7 @@ invariant_of-self-2 c =
     let m =
     length-in_place c.self.inside.octets.items
     (length_octets (c.len.result - (32 + c.args.start + 2))) (32 + c.args.start + 1) (omega arith)
-        in
+    in
     record {
       heads = c.self.invariant.heads;
       front = omega arith;
@@ -58,4 +58,4 @@ returns c =
     fits_closed c.self.inside _ _ _ _ _ _ c.self.view_is c.if-self.false
     (is_open c.self.inside _ _ c.self.view_is c.if-self.false c.requires) c.self.invariant.within
     (omega arith) c.octets_more.ensures.more (omega arith) (omega arith)
-        c.write_length.ensures.items
+    c.write_length.ensures.items

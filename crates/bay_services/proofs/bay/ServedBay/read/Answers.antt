@@ -20,7 +20,7 @@ returns-in-Some-clause-ok c =
     (read_fits c.args.client c.args.id old (bay_view c.read_response-response.new.self) r
     c.in-Some.pdu c.in_ok-pdu.field-0
     (c.in_ok-pdu.ensures.pdu c.args.client.size _ c.read_response-response.ensures.response)
-        c.in-Some.is after)
+    c.in-Some.is after)
 
 pub returns-in-None-clause-ok : goal.returns-in-None-clause-ok
 returns-in-None-clause-ok c =
@@ -32,5 +32,5 @@ returns-in-None-clause-ok c =
     said_as c.failed.result _ _ _ c.failed.ensures
     (read_over c.args.client c.args.id old r c.in_ok-pdu.field-0
     (c.in_ok-pdu.ensures.pdu c.args.client.size _ c.read_response-response.ensures.response)
-        c.in-None.is
+    c.in-None.is
     ∙ ap (said (error_text c.args.id Resource)) (sym back))

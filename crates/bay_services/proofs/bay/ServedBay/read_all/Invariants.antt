@@ -11,7 +11,7 @@ abbrev pub invariant-loop-name : goal.invariant-loop-name
 invariant-loop-name l = record {
   ok : read_all l.client (map naming l.names) (reading l.initial.self l.initial.response.octets)
       ≡ read_all l.client (map naming (drop l.name-index l.names))
-          (reading l.self l.response.octets);
+      (reading l.self l.response.octets);
   size : l.response.size ≡ l.initial.response.size;
   back : (standing : Standing)
       → standing_again standing (bay_view l.self)

@@ -15,6 +15,6 @@ returns-in_err-read_all-clause-response c =
     (read_all c.args.client (map naming c.args.names.now)
     (nothing_read (bay_view c.args.self.now))).results in
     rw (p.1, p.2) (fault_told c.in_err-read_all.field-0.0 c.args.client.size
-        (read_text c.args.id results)
+    (read_text c.args.id results)
     (λ is. let long = rw c.in_ok-response.ensures at c.in_err-read_all.ensures.long is in
     omega (arith, response_more c.args.id results, long)))

@@ -25,7 +25,7 @@ returns-in_ok-object-in-Ok-clause-ok c =
     ∙ object_kept old (bay_view c.select.new.self) _ _ c.select.ensures.after
     ∙ ap (object_of old) item in
     added c.text.result c.args.response.now.size c.args.response.now.octets c.text.new.self.octets _
-        _
+    _
     c.text.ensures.added
     (λ has. selected c.args.client c.args.switch (name_at d.tree c.args.row)
     (reading d c.args.response.now.octets)
@@ -49,4 +49,4 @@ returns-in_ok-object-in-Ok-clause-long c =
     (reading d c.args.response.now.octets)
     (select_outcome c.args.client.association c.args.switch c.args.client.now d.controls)
     (Ok tt) c.as_str.result.now c.args.response.now.size (sym c.in-Ok.is ∙ c.select.ensures.answer)
-        told long)
+    told long)
