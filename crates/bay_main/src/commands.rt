@@ -9,7 +9,6 @@ use crate::check::check_run;
 use crate::ending::Ended;
 use bay_device::device::Device;
 use bay_files::files::{BothFiles, FileFault, FileSystem, read_both, write_whole};
-use bay_io::calls::{Sink, Source};
 use bay_io::outbox::WriteFault;
 use bay_io::reader::WatchedReader;
 use bay_io::writer::WatchedWriter;
@@ -24,9 +23,10 @@ use bay_serving::serve::{Named, Numbers, serve};
 use bay_words::task::{Program, Task};
 use bay_words::words::{WordsFault, task_of};
 use std::alloc::Global;
+use std::io::{Read, Write};
 
 /// Checks a bay file and a program or an image, by their names.
-fn check<F: FileSystem, W: Sink>(
+fn check<F: FileSystem, W: Write>(
     alloc: Global,
     form: Form,
     bay: &str,
@@ -34,8 +34,7 @@ fn check<F: FileSystem, W: Sink>(
     files: &F,
     writer: &mut WatchedWriter<W>,
 ) -> Result<u8, WriteFault>
-    ensures { Checks F.reads W.contents W.does form bay.now program.now files.now writer.old
-        writer.new
+    ensures { Checks F.reads W.contents form bay.now program.now files.now writer.old writer.new
         result }
 {
     match read_both(alloc, files, bay, program) {
@@ -51,15 +50,14 @@ fn check<F: FileSystem, W: Sink>(
 }
 
 /// Makes a device's image, and writes it to the file of this name.
-fn write_image<F: FileSystem, W: Sink>(
+fn write_image<F: FileSystem, W: Write>(
     alloc: Global,
     device: &Device,
     out: &str,
     files: &mut F,
     writer: &mut WatchedWriter<W>,
 ) -> Result<u8, WriteFault>
-    ensures { WritesImage F.writes W.contents W.does out.now device.now files.old files.new
-        writer.old
+    ensures { WritesImage F.writes W.contents out.now device.now files.old files.new writer.old
         writer.new result }
 {
     let Ok(image) = device.image() else {
@@ -73,15 +71,14 @@ fn write_image<F: FileSystem, W: Sink>(
 }
 
 /// Writes the line of a device's load, and then its image to the file of this name.
-fn compile_device<F: FileSystem, W: Sink>(
+fn compile_device<F: FileSystem, W: Write>(
     alloc: Global,
     device: &Device,
     out: &str,
     files: &mut F,
     writer: &mut WatchedWriter<W>,
 ) -> Result<u8, WriteFault>
-    ensures { CompilesDevice F.writes W.contents W.does out.now device.now files.old files.new
-        writer.old
+    ensures { CompilesDevice F.writes W.contents out.now device.now files.old files.new writer.old
         writer.new result }
 {
     write_report(writer, device.report())?;
@@ -89,14 +86,14 @@ fn compile_device<F: FileSystem, W: Sink>(
 }
 
 /// Compiles what was read of a bay file and a program to the file of this name.
-fn compile_files<F: FileSystem, W: Sink>(
+fn compile_files<F: FileSystem, W: Write>(
     alloc: Global,
     both: &BothFiles,
     out: &str,
     files: &mut F,
     writer: &mut WatchedWriter<W>,
 ) -> Result<u8, WriteFault>
-    ensures { CompilesRead F.writes W.contents W.does out.now
+    ensures { CompilesRead F.writes W.contents out.now
         (Ok (record { bay = both.now.bay.items; program = both.now.program.items })) files.old
         files.new writer.old writer.new result }
 {
@@ -107,7 +104,7 @@ fn compile_files<F: FileSystem, W: Sink>(
 }
 
 /// Compiles a bay file and a program to a file, by their names.
-fn compile<F: FileSystem, W: Sink>(
+fn compile<F: FileSystem, W: Write>(
     alloc: Global,
     bay: &str,
     logic: &str,
@@ -115,7 +112,7 @@ fn compile<F: FileSystem, W: Sink>(
     files: &mut F,
     writer: &mut WatchedWriter<W>,
 ) -> Result<u8, WriteFault>
-    ensures { Compiles F.reads F.writes F.same W.contents W.does bay.now logic.now out.now files.old
+    ensures { Compiles F.reads F.writes F.same W.contents bay.now logic.now out.now files.old
         files.new writer.old writer.new result }
 {
     if files.is_same(alloc, out, bay) || files.is_same(alloc, out, logic) {
@@ -139,7 +136,7 @@ fn form_of<'a>(program: Program<&'a str>) -> (Form, &'a str)
 }
 
 /// Does a task.
-fn do_task<F: FileSystem, L: Link + Drop, H: Host<L>, R: Source, W: Sink>(
+fn do_task<F: FileSystem, L: Link + Drop, H: Host<L>, R: Read, W: Write>(
     alloc: Global,
     task: Task<&str>,
     files: &mut F,
@@ -148,7 +145,7 @@ fn do_task<F: FileSystem, L: Link + Drop, H: Host<L>, R: Source, W: Sink>(
     writer: &mut WatchedWriter<W>,
 ) -> Result<u8, WriteFault>
     ensures { DoesTask F.reads F.writes F.same (Called L.does L.failures) H.does R.remaining
-        W.contents W.does (task_view task.entry)
+        W.contents (task_view task.entry)
         (record { files = files.old; host = host.old; reader = reader.old; writer = writer.old })
         (record { files = files.new; host = host.new; reader = reader.new; writer = writer.new })
         result }
@@ -182,7 +179,7 @@ fn do_task<F: FileSystem, L: Link + Drop, H: Host<L>, R: Source, W: Sink>(
 /// Does what the words after the program's name ask for. A check and a compilation read files by
 /// their names, a replay what the reader has, and a compilation writes a file; serving reads files,
 /// and asks the host for a port and the time. What is printed goes to the writer.
-pub fn obey<F: FileSystem, L: Link + Drop, H: Host<L>, R: Source, W: Sink>(
+pub fn obey<F: FileSystem, L: Link + Drop, H: Host<L>, R: Read, W: Write>(
     alloc: Global,
     words: &[&str],
     files: &mut F,
@@ -191,7 +188,6 @@ pub fn obey<F: FileSystem, L: Link + Drop, H: Host<L>, R: Source, W: Sink>(
     writer: &mut WatchedWriter<W>,
 ) -> Ended
     ensures { Obeys F.reads F.writes F.same (Called L.does L.failures) H.does R.remaining W.contents
-        W.does
         (map (λ w. w.now) words.now)
         (record { files = files.old; host = host.old; reader = reader.old; writer = writer.old })
         (record { files = files.new; host = host.new; reader = reader.new; writer = writer.new })

@@ -1,5 +1,4 @@
 -- Lemmas on serving, turn by turn.
-use Rattle.bay_io.specs.Calls.{WriteCall}
 use Rattle.std.proofs.Common.{◌≡◌, ◌≢◌, ◌⊎◌, ℕ, suc, ◌+◌, ◌==◌, Bool, true, false, IsErr, MatchBool, List, ◌∷◌, length, drop, slice_get, Option, Result, Ok, Err, inl, inr, refl, sym, ap, subst, ◌∙◌, arith, []}
 use Rattle.std.proofs.lemmas.Bool.Decides.{nat_tests}
 use Rattle.bay_device.specs.Device.{State}
@@ -97,8 +96,7 @@ module _ {L B : Type 0} (below : B → L) (does : L → Call → L → Type 0) (
 -- ---- one turn
 
 module _ {L B H W : Type 0} (below : B → L) (does : L → Call → L → Type 0) (failures : L → ℕ)
-    (acts : H → HostCall L → H → Type 0) (contents : W → Option (List ℕ))
-    (asks : W → WriteCall → W → Type 0) where
+    (acts : H → HostCall L → H → Type 0) (contents : W → Option (List ℕ)) where
   -- a turn was done over the link that has another below it, and what it tells was printed
   pub turn-goes : (line : Option (ℕ × List ℕ)) (text : Option (List ℕ)) (clock now : ℕ)
       (link-before link-after : B) (before after : Held) (host-before host-after : H)
@@ -107,8 +105,8 @@ module _ {L B H W : Type 0} (below : B → L) (does : L → Call → L → Type 
       → acts host-before (Tells clock) host-after
       → Serves (Called (λ o call n. does (below o) call (below n)) (λ b. failures (below b)))
       link-before link-after (moment_at clock before) (line_in text) before after turn
-      → TellsTurn contents asks now turn s old new r
-      → TurnGoes (Called does failures) acts contents asks line
+      → TellsTurn contents now turn s old new r
+      → TurnGoes (Called does failures) acts contents line
       (record { link = below link-before; held = before; host = host-before }) old
       (record { link = below link-after; held = after; host = host-after }) new r
   turn-goes line text clock now link-before link-after before after host-before host-after old new
@@ -122,29 +120,29 @@ module _ {L B H W : Type 0} (below : B → L) (does : L → Call → L → Type 
             (serves-below below does failures link-before link-after (moment_at clock before)
             (line_in text) before after turn serves);
         printed =
-            subst (λ m. TellsTurn contents asks m turn after.device old new r) is
-            (subst (λ d. TellsTurn contents asks now turn d old new r) whole tells);
+            subst (λ m. TellsTurn contents m turn after.device old new r) is
+            (subst (λ d. TellsTurn contents now turn d old new r) whole tells);
       }
 
 module _ {L H W : Type 0} (step : L → Call → L → Type 0) (acts : H → HostCall L → H → Type 0)
-    (contents : W → Option (List ℕ)) (asks : W → WriteCall → W → Type 0) where
+    (contents : W → Option (List ℕ)) where
   tells-cut : (now : ℕ) (turn : Turn) (s : State) (old new : Writing W) (one other : WriteFault)
-      → TellsTurn contents asks now turn s old new (Err one)
-      → TellsTurn contents asks now turn s old new (Err other)
+      → TellsTurn contents now turn s old new (Err one)
+      → TellsTurn contents now turn s old new (Err other)
   tells-cut now turn s old new one other tells = by_quiet (is_quiet turn) tells
     where
       by_quiet : (b : Bool) → MatchBool b
           ((new ≡ old) × (◌≡◌ {A = Result ℕ WriteFault} (Err one) (Ok 0)))
-          (Prints contents asks (IsLast (turn_text now turn s) 0) old new (Err one))
+          (Prints contents (IsLast (turn_text now turn s) 0) old new (Err one))
           → MatchBool b ((new ≡ old) × (◌≡◌ {A = Result ℕ WriteFault} (Err other) (Ok 0)))
-          (Prints contents asks (IsLast (turn_text now turn s) 0) old new (Err other))
+          (Prints contents (IsLast (turn_text now turn s) 0) old new (Err other))
       by_quiet true stays = let e = stays.1 in absurd cc
       by_quiet false prints = prints
 
   goes-cut : (line : Option (ℕ × List ℕ)) (before : Serving L H) (old : Writing W)
       (after : Serving L H) (new : Writing W) (one other : WriteFault)
-      → TurnGoes step acts contents asks line before old after new (Err one)
-      → TurnGoes step acts contents asks line before old after new (Err other)
+      → TurnGoes step acts contents line before old after new (Err one)
+      → TurnGoes step acts contents line before old after new (Err other)
   goes-cut line before old after new one other goes = record {
     clock = goes.clock;
     told = goes.told;
@@ -159,14 +157,14 @@ module _ {L H W : Type 0} (step : L → Call → L → Type 0) (acts : H → Hos
   pub tried-cut : (line : Option (ℕ × List ℕ)) (before : Serving L H) (old : Writing W)
       (after : Serving L H) (new : Writing W) (fault : WriteFault) (r : Result Tried WriteFault)
       → IsErr r
-      → TurnGoes step acts contents asks line before old after new (Err fault)
-      → TriesTurn step acts contents asks line before old after new r
+      → TurnGoes step acts contents line before old after new (Err fault)
+      → TriesTurn step acts contents line before old after new r
   tried-cut line before old after new fault (Ok x) e goes = absurd cc
   tried-cut line before old after new fault (Err f) e goes =
       inl (goes-cut line before old after new fault f goes)
 
 module _ {L H W : Type 0} (step : L → Call → L → Type 0) (acts : H → HostCall L → H → Type 0)
-    (contents : W → Option (List ℕ)) (asks : W → WriteCall → W → Type 0) where
+    (contents : W → Option (List ℕ)) where
   -- there was a pause behind it, or none
   pub may-pause : (link : L) (held : Held) (before after : H)
       → (after ≡ before) ⊎ acts before Pauses after
@@ -179,14 +177,14 @@ module _ {L H W : Type 0} (step : L → Call → L → Type 0) (acts : H → Hos
 -- ---- how far serving has come
 
 module _ {L H W : Type 0} (step : L → Call → L → Type 0) (acts : H → HostCall L → H → Type 0)
-    (contents : W → Option (List ℕ)) (asks : W → WriteCall → W → Type 0) where
+    (contents : W → Option (List ℕ)) where
   -- what is left to be served goes on to all of it
   pub record Reached (turns : ℕ) (lines : List (ℕ × List ℕ)) (before : Serving L H)
       (old : Writing W) (left : ℕ) (rest : List (ℕ × List ℕ)) (here : Serving L H) (mid : Writing W)
       : Type 0 where
     pub goes : (host : H) (new : Writing W) (answer : Result ℕ WriteFault)
-        → ServesTurns step acts contents asks left rest here mid host new answer
-        → ServesTurns step acts contents asks turns lines before old host new answer
+        → ServesTurns step acts contents left rest here mid host new answer
+        → ServesTurns step acts contents turns lines before old host new answer
 
   pub Reached-start : (turns : ℕ) (lines : List (ℕ × List ℕ)) (before : Serving L H)
       (old : Writing W) → Reached turns lines before old turns lines before old
@@ -197,7 +195,7 @@ module _ {L H W : Type 0} (step : L → Call → L → Type 0) (acts : H → Hos
       (reached : Reached turns lines before old left rest here mid) where
     -- one turn more was done
     pub Reached-step : (after next : Serving L H) (new : Writing W) (status : ℕ) → left ≡ suc more
-        → TurnGoes step acts contents asks (slice_get rest 0) here mid after new (Ok status)
+        → TurnGoes step acts contents (slice_get rest 0) here mid after new (Ok status)
         → MayPause acts after next
         → Reached turns lines before old more (drop 1 rest) next new
     Reached-step after next new status e goes pause =
@@ -208,14 +206,14 @@ module _ {L H W : Type 0} (step : L → Call → L → Type 0) (acts : H → Hos
 
     -- the next is not done
     pub Reached-stop : (host : H) (new : Writing W) (answer : Result ℕ WriteFault) → left ≡ suc more
-        → TurnFails step acts contents asks (slice_get rest 0) here mid host new answer
-        → ServesTurns step acts contents asks turns lines before old host new answer
+        → TurnFails step acts contents (slice_get rest 0) here mid host new answer
+        → ServesTurns step acts contents turns lines before old host new answer
     Reached-stop host new answer e fails = reached.goes host new answer (rw e (inl fails))
 
     -- the lines of the next can't be written
     pub Reached-cut : (after : Serving L H) (new : Writing W) (fault : WriteFault) → left ≡ suc more
-        → TurnGoes step acts contents asks (slice_get rest 0) here mid after new (Err fault)
-        → ServesTurns step acts contents asks turns lines before old after.host new (Err fault)
+        → TurnGoes step acts contents (slice_get rest 0) here mid after new (Err fault)
+        → ServesTurns step acts contents turns lines before old after.host new (Err fault)
     Reached-cut after new fault e goes =
         reached.goes after.host new (Err fault)
         (rw e (inr (after, new, Err fault, goes, (refl, refl, refl))))
@@ -226,29 +224,26 @@ module _ {L H W : Type 0} (step : L → Call → L → Type 0) (acts : H → Hos
         -- one turn was tried, and done
         pub Reached-done : (after next : Serving L H) (new : Writing W) (t : Tried)
             (was_idle : Bool)
-            → t ≡ tried.Done was_idle
-            → TriesTurn step acts contents asks line here mid after new (Ok t)
+            → t ≡ tried.Done was_idle → TriesTurn step acts contents line here mid after new (Ok t)
             → MayPause acts after next
             → Reached turns lines before old more lines-after next new
         Reached-done after next new (tried.Done w) was_idle is goes pause =
             subst (λ ls. Reached turns lines before old more ls next new) (sym dropped)
             (Reached-step after next new goes.0 e
-            (subst (λ l. TurnGoes step acts contents asks l here mid after new (Ok goes.0)) same
+            (subst (λ l. TurnGoes step acts contents l here mid after new (Ok goes.0)) same
             goes.1) pause)
         Reached-done after next new (tried.Ends s) was_idle is fails pause = absurd cc
 
         -- it was not done
         pub Reached-ends : (after : Serving L H) (new : Writing W) (t : Tried) (status : ℕ)
-            → t ≡ tried.Ends status
-            → TriesTurn step acts contents asks line here mid after new (Ok t)
-            → ServesTurns step acts contents asks turns lines before old after.host new (Ok status)
+            → t ≡ tried.Ends status → TriesTurn step acts contents line here mid after new (Ok t)
+            → ServesTurns step acts contents turns lines before old after.host new (Ok status)
         Reached-ends after new (tried.Done w) status is goes = absurd cc
         Reached-ends after new (tried.Ends s) status is fails =
             Reached-stop after.host new (Ok status) e
-            (subst (λ n. TurnFails step acts contents asks (slice_get rest 0) here mid after.host
-            new
+            (subst (λ n. TurnFails step acts contents (slice_get rest 0) here mid after.host new
             (Ok n)) (ap status-of is)
-            (subst (λ l. TurnFails step acts contents asks l here mid after.host new (Ok s)) same
+            (subst (λ l. TurnFails step acts contents l here mid after.host new (Ok s)) same
             fails))
           where
             status-of : Tried → ℕ
@@ -258,16 +253,16 @@ module _ {L H W : Type 0} (step : L → Call → L → Type 0) (acts : H → Hos
         -- what is to be printed for it could not be written
         pub Reached-fails : (after : Serving L H) (new : Writing W) (fault : WriteFault)
             (r : Result ℕ WriteFault) → IsErr r
-            → TriesTurn step acts contents asks line here mid after new (Err fault)
-            → ServesTurns step acts contents asks turns lines before old after.host new r
+            → TriesTurn step acts contents line here mid after new (Err fault)
+            → ServesTurns step acts contents turns lines before old after.host new r
         Reached-fails after new fault (Ok x) is tries = absurd cc
         Reached-fails after new fault (Err f) is (inl goes) =
             Reached-cut after new f e
-            (subst (λ l. TurnGoes step acts contents asks l here mid after new (Err f)) same
-            (goes-cut step acts contents asks line here mid after new fault f goes))
+            (subst (λ l. TurnGoes step acts contents l here mid after new (Err f)) same
+            (goes-cut step acts contents line here mid after new fault f goes))
         Reached-fails after new fault (Err f) is (inr fails) =
             Reached-stop after.host new (Err f) e
-            (subst (λ l. TurnFails step acts contents asks l here mid after.host new (Err f)) same
+            (subst (λ l. TurnFails step acts contents l here mid after.host new (Err f)) same
             (record {
               clock = fails.clock;
               told = fails.told;
@@ -278,20 +273,19 @@ module _ {L H W : Type 0} (step : L → Call → L → Type 0) (acts : H → Hos
 
     -- there is none left
     pub Reached-end : left ≡ 0
-        → ServesTurns step acts contents asks turns lines before old here.host mid (Ok 0)
+        → ServesTurns step acts contents turns lines before old here.host mid (Ok 0)
     Reached-end e = reached.goes here.host mid (Ok 0) (rw e (refl, (refl, refl)))
 
 -- ---- what follows the line of a load that is served
 
 module _ {L H W : Type 0} (step : L → Call → L → Type 0) (acts : H → HostCall L → H → Type 0)
-    (contents : W → Option (List ℕ)) (asks : W → WriteCall → W → Type 0) (numbers : Numbers)
-    (trace : List ℕ) (s : State)
+    (contents : W → Option (List ℕ)) (numbers : Numbers) (trace : List ℕ) (s : State)
     (report : Report) (is : IsReport s.machine.image report) where
   -- the line could not be written
   pub line-fails : (host : H) (old middle : Writing W) (fault : WriteFault)
-      → Prints contents asks (IsLast (report_text report) 0) old middle (Err fault)
+      → Prints contents (IsLast (report_text report) 0) old middle (Err fault)
       → (answer : Result ℕ WriteFault) → IsErr answer
-      → ServesDevice step acts contents asks numbers trace s host host old middle answer
+      → ServesDevice step acts contents numbers trace s host host old middle answer
   line-fails host old middle fault printed (Ok n) e = absurd cc
   line-fails host old middle fault printed (Err f) e =
       record {

@@ -1,6 +1,5 @@
 -- What the command to serve comes to: files are read and loaded, a port is bound, and turns are
 -- served.
-use Rattle.bay_io.specs.Calls.{WriteCall}
 use Rattle.std.specs.Prelude.{◌≡◌, ℕ, List, replicate, codes, Option, None, Some, Result, Ok, Err, ◌⊎◌, []}
 use Rattle.bay_device.specs.Device.{State}
 use Rattle.bay_device.specs.Report.{IsReport as IsReportOf}
@@ -28,21 +27,21 @@ pub record FileNames : Type 0 where
   pub trace : Option (List ℕ)
 
 module _ {L H W : Type 0} (step : L → Call → L → Type 0) (acts : H → HostCall L → H → Type 0)
-    (contents : W → Option (List ℕ)) (asks : W → WriteCall → W → Type 0) where
+    (contents : W → Option (List ℕ)) where
   -- the port can't be had, which is told; or it is served; or there is no memory for the server,
   -- which is told
   abbrev pub ServesBound : Numbers → List ℕ → State → Option L → H → H → Writing W → Writing W
       → Result ℕ WriteFault → Type 0
   ServesBound numbers trace s None host after old new answer =
-      Prints contents asks (IsLast (codes "fault 121\n") 3) old new answer × (after ≡ host)
+      Prints contents (IsLast (codes "fault 121\n") 3) old new answer × (after ≡ host)
   ServesBound numbers trace s (Some link) host after old new answer =
-      ServesTurns step acts contents asks numbers.turns (told_lines 1 (lines_of trace))
+      ServesTurns step acts contents numbers.turns (told_lines 1 (lines_of trace))
       (record {
         link = link;
         held = record { device = s; queues = replicate 8 [] };
         host = host;
       }) old after new answer
-      ⊎ (Prints contents asks (IsLast (codes "fault memory\n") 3) old new answer × (after ≡ host))
+      ⊎ (Prints contents (IsLast (codes "fault memory\n") 3) old new answer × (after ≡ host))
 
   -- the port is bound
   pub record BindsPort (numbers : Numbers) (trace : List ℕ) (s : State) (before after : H)
@@ -67,14 +66,14 @@ module _ {L H W : Type 0} (step : L → Call → L → Type 0) (acts : H → Hos
     pub is : IsReportOf s.machine.image report
     pub middle : Writing W
     pub told : Result ℕ WriteFault
-    pub printed : Prints contents asks (IsLast (report_text report) 0) old middle told
+    pub printed : Prints contents (IsLast (report_text report) 0) old middle told
     pub goes_on : FollowsLine numbers trace s before after middle new told answer
 
   -- what was loaded is served; of a refused load the refusal is printed
   abbrev pub ServesLoaded : Numbers → List ℕ → Result State LoadFault → H → H → Writing W
       → Writing W → Result ℕ WriteFault → Type 0
   ServesLoaded numbers trace (Err fault) before after old new answer =
-      Prints contents asks (Refuses fault) old new answer × (after ≡ before)
+      Prints contents (Refuses fault) old new answer × (after ≡ before)
   ServesLoaded numbers trace (Ok s) before after old new answer =
       ServesDevice numbers trace s before after old new answer
 
@@ -88,7 +87,7 @@ module _ {L H W : Type 0} (step : L → Call → L → Type 0) (acts : H → Hos
   abbrev pub ServesTrace : Numbers → Form → FilesData → Result (List ℕ) ReadFault → H → H
       → Writing W → Writing W → Result ℕ WriteFault → Type 0
   ServesTrace numbers form both (Err fault) before after old new answer =
-      Prints contents asks (UnreadReport fault) old new answer × (after ≡ before)
+      Prints contents (UnreadReport fault) old new answer × (after ≡ before)
   ServesTrace numbers form both (Ok trace) before after old new answer =
       LoadsServed numbers form both trace before after old new answer
 
@@ -96,7 +95,7 @@ module _ {L H W : Type 0} (step : L → Call → L → Type 0) (acts : H → Hos
       → Numbers → Form → Option (List ℕ) → Result FilesData ReadFault → H → H → Writing W
       → Writing W → Result ℕ WriteFault → Type 0
   ServesRead reads files numbers form trace (Err fault) before after old new answer =
-      Prints contents asks (UnreadReport fault) old new answer × (after ≡ before)
+      Prints contents (UnreadReport fault) old new answer × (after ≡ before)
   ServesRead reads files numbers form trace (Ok both) before after old new answer =
       (read : Result (List ℕ) ReadFault) × ReadsNamed reads files trace read
       × ServesTrace numbers form both read before after old new answer

@@ -1,5 +1,4 @@
 -- What serving comes to, turn by turn: what each turn does, and what is printed for it.
-use Rattle.bay_io.specs.Calls.{WriteCall}
 use Rattle.std.specs.Prelude.{◌≡◌, ℕ, zero, suc, ◌+◌, List, ◌∷◌, drop, slice_get, Option, None, Some, option_map, Result, Ok, Err, ◌⊎◌, MatchBool, []}
 use Rattle.std.specs.Borrow.{Bor}
 use Rattle.bay_device.specs.Device.{State}
@@ -38,12 +37,11 @@ abbrev pub Stays : {W : Type 0} → Writing W → Writing W → Result ℕ Write
 Stays old new answer = (new ≡ old) × (answer ≡ Ok 0)
 
 -- what a turn tells is printed and flushed; where it tells nothing the writer is left alone
-abbrev pub TellsTurn : {W : Type 0} → (W → Option (List ℕ)) → (W → WriteCall → W → Type 0) → ℕ
-    → Turn → State → Writing W
+abbrev pub TellsTurn : {W : Type 0} → (W → Option (List ℕ)) → ℕ → Turn → State → Writing W
     → Writing W → Result ℕ WriteFault → Type 0
-TellsTurn contents asks now turn s old new answer =
+TellsTurn contents now turn s old new answer =
     MatchBool (is_quiet turn) (Stays old new answer)
-    (Prints contents asks (IsLast (turn_text now turn s) 0) old new answer)
+    (Prints contents (IsLast (turn_text now turn s) 0) old new answer)
 
 -- what follows a turn whose lines could not be written, and another
 abbrev pub AfterTurn : Result ℕ WriteFault → Type 0 → Type 0 → Type 0
@@ -63,7 +61,7 @@ MayPause acts before after = (after ≡ before)
     ⊎ (acts before.host Pauses after.host × (after.link ≡ before.link) × (after.held ≡ before.held))
 
 module _ {L H W : Type 0} (step : L → Call → L → Type 0) (acts : H → HostCall L → H → Type 0)
-    (contents : W → Option (List ℕ)) (asks : W → WriteCall → W → Type 0) where
+    (contents : W → Option (List ℕ)) where
   -- the clock was asked for the moment of a turn, which was not done: why not is printed, and
   -- nothing has changed
   pub record TurnFails (line : Option (ℕ × List ℕ)) (before : Serving L H) (old : Writing W)
@@ -72,8 +70,7 @@ module _ {L H W : Type 0} (step : L → Call → L → Type 0) (acts : H → Hos
     pub told : acts before.host (Tells clock) host
     pub fault : ServeFault
     pub is : IsRefused fault (turn_refusal clock (text_of_next line) before.held)
-    pub printed : Prints contents asks (IsLast (unserved_text fault (number_of_next line)) 3) old
-        new
+    pub printed : Prints contents (IsLast (unserved_text fault (number_of_next line)) 3) old new
         answer
 
   -- the clock was asked, the turn was done, and what it tells was printed
@@ -84,8 +81,7 @@ module _ {L H W : Type 0} (step : L → Call → L → Type 0) (acts : H → Hos
     pub turn : Turn
     pub serves : Serves step before.link after.link (moment_at clock before.held)
         (line_in (text_of_next line)) before.held after.held turn
-    pub printed : TellsTurn contents asks (moment_at clock before.held) turn after.held.device old
-        new
+    pub printed : TellsTurn contents (moment_at clock before.held) turn after.held.device old new
         answer
 
   -- So many turns are served, with the next line for each: all of them; up to one that is not done;

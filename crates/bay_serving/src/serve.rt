@@ -11,7 +11,6 @@ use crate::host::Host;
 use crate::serving::serve_turns;
 use bay_device::device::Device;
 use bay_files::files::{BothFiles, FileSystem, read_both};
-use bay_io::calls::Sink;
 use bay_io::input::ReadFault;
 use bay_io::outbox::WriteFault;
 use bay_io::writer::WatchedWriter;
@@ -20,6 +19,7 @@ use bay_report::output::{FAULT, NO_MEMORY, write_refusal, write_report, write_te
 use bay_serve::link::Link;
 use bay_serve::server::Server;
 use std::alloc::Global;
+use std::io::Write;
 
 /// On which port clients are served, and for how many turns.
 #[derive(Clone, Copy)]
@@ -39,7 +39,7 @@ pub struct Named<'a> {
 }
 
 /// Serves a device over the link of a port, if there was one.
-fn serve_link<L: Link + Drop, H: Host<L>, W: Sink>(
+fn serve_link<L: Link + Drop, H: Host<L>, W: Write>(
     alloc: Global,
     device: Device,
     link: Option<L>,
@@ -50,8 +50,7 @@ fn serve_link<L: Link + Drop, H: Host<L>, W: Sink>(
 ) -> Result<u8, WriteFault>
     requires closed { device.connections ≡ replicate 8 None }
     requires timed { AreTimed device.controls.controls }
-    ensures { ServesBound (Called L.does L.failures) H.does W.contents W.does numbers trace.now
-        device link
+    ensures { ServesBound (Called L.does L.failures) H.does W.contents numbers trace.now device link
         host.old host.new writer.old writer.new result }
 {
     let Some(link) = link else {
@@ -64,7 +63,7 @@ fn serve_link<L: Link + Drop, H: Host<L>, W: Sink>(
 }
 
 /// Binds a port, and serves a device on it.
-fn serve_port<L: Link + Drop, H: Host<L>, W: Sink>(
+fn serve_port<L: Link + Drop, H: Host<L>, W: Write>(
     alloc: Global,
     device: Device,
     host: &mut H,
@@ -74,7 +73,7 @@ fn serve_port<L: Link + Drop, H: Host<L>, W: Sink>(
 ) -> Result<u8, WriteFault>
     requires closed { device.connections ≡ replicate 8 None }
     requires timed { AreTimed device.controls.controls }
-    ensures { BindsPort (Called L.does L.failures) H.does W.contents W.does numbers trace.now device
+    ensures { BindsPort (Called L.does L.failures) H.does W.contents numbers trace.now device
         host.old host.new writer.old writer.new result }
 {
     let link = host.bind(numbers.port);
@@ -82,7 +81,7 @@ fn serve_port<L: Link + Drop, H: Host<L>, W: Sink>(
 }
 
 /// Writes the line of a device's load, and then serves it.
-fn serve_device<L: Link + Drop, H: Host<L>, W: Sink>(
+fn serve_device<L: Link + Drop, H: Host<L>, W: Write>(
     alloc: Global,
     device: Device,
     host: &mut H,
@@ -92,8 +91,7 @@ fn serve_device<L: Link + Drop, H: Host<L>, W: Sink>(
 ) -> Result<u8, WriteFault>
     requires closed { device.connections ≡ replicate 8 None }
     requires timed { AreTimed device.controls.controls }
-    ensures { ServesDevice (Called L.does L.failures) H.does W.contents W.does numbers trace.now
-        device
+    ensures { ServesDevice (Called L.does L.failures) H.does W.contents numbers trace.now device
         host.old host.new writer.old writer.new result }
 {
     write_report(writer, device.report())?;
@@ -101,7 +99,7 @@ fn serve_device<L: Link + Drop, H: Host<L>, W: Sink>(
 }
 
 /// Loads what was read of a bay file and of a program or an image, and serves it.
-fn serve_octets<L: Link + Drop, H: Host<L>, W: Sink>(
+fn serve_octets<L: Link + Drop, H: Host<L>, W: Write>(
     alloc: Global,
     form: Form,
     both: &BothFiles,
@@ -110,7 +108,7 @@ fn serve_octets<L: Link + Drop, H: Host<L>, W: Sink>(
     numbers: Numbers,
     writer: &mut WatchedWriter<W>,
 ) -> Result<u8, WriteFault>
-    ensures { LoadsServed (Called L.does L.failures) H.does W.contents W.does numbers form
+    ensures { LoadsServed (Called L.does L.failures) H.does W.contents numbers form
         (record { bay = both.now.bay.items; program = both.now.program.items }) trace.now host.old
         host.new writer.old writer.new result }
 {
@@ -138,7 +136,7 @@ fn read_named<F: FileSystem>(
 }
 
 /// Reads the trace, if it was named, and serves what was read.
-fn serve_read<F: FileSystem, L: Link + Drop, H: Host<L>, W: Sink>(
+fn serve_read<F: FileSystem, L: Link + Drop, H: Host<L>, W: Write>(
     alloc: Global,
     named: Named<'_>,
     both: &BothFiles,
@@ -147,8 +145,7 @@ fn serve_read<F: FileSystem, L: Link + Drop, H: Host<L>, W: Sink>(
     numbers: Numbers,
     writer: &mut WatchedWriter<W>,
 ) -> Result<u8, WriteFault>
-    ensures { ServesRead (Called L.does L.failures) H.does W.contents W.does F.reads files.now
-        numbers
+    ensures { ServesRead (Called L.does L.failures) H.does W.contents F.reads files.now numbers
         named.entry.form (text_in named.entry.trace)
         (Ok (record { bay = both.now.bay.items; program = both.now.program.items })) host.old
         host.new writer.old writer.new result }
@@ -170,7 +167,7 @@ fn serve_read<F: FileSystem, L: Link + Drop, H: Host<L>, W: Sink>(
 /// Serves files by their names: the bay is read, then the program or the image, then the trace;
 /// they are loaded, and the line of the load is written; the port is bound; and so many turns are
 /// served.
-pub fn serve<F: FileSystem, L: Link + Drop, H: Host<L>, W: Sink>(
+pub fn serve<F: FileSystem, L: Link + Drop, H: Host<L>, W: Write>(
     alloc: Global,
     named: Named<'_>,
     files: &F,
@@ -178,7 +175,7 @@ pub fn serve<F: FileSystem, L: Link + Drop, H: Host<L>, W: Sink>(
     numbers: Numbers,
     writer: &mut WatchedWriter<W>,
 ) -> Result<u8, WriteFault>
-    ensures { ServesFiles (Called L.does L.failures) H.does W.contents W.does F.reads files.now
+    ensures { ServesFiles (Called L.does L.failures) H.does W.contents F.reads files.now
         (record {
           bay = named.entry.bay.now;
           form = named.entry.form;

@@ -11,7 +11,6 @@ ghost use Rattle.bay_serve.specs.Turns.{moment_at};
 use crate::busy::BusyLink;
 use crate::host::Host;
 use crate::turns::{tell_turn, write_unserved};
-use bay_io::calls::Sink;
 use bay_io::outbox::WriteFault;
 use bay_io::writer::WatchedWriter;
 use bay_report::output::CLEAN;
@@ -22,6 +21,7 @@ use bay_serve::server::Server;
 use bay_serve::told::Turn;
 use bay_serve::turn::serve_turn;
 use std::alloc::Global;
+use std::io::Write;
 use std::marker::Model;
 
 /// The lines of a trace that are not empty, one after another, each with its number among all.
@@ -126,7 +126,7 @@ fn serve_line<L: Link>(
 }
 
 /// Tries a turn, and prints what there is to print for it.
-fn try_turn<L: Link, H: Host<L>, W: Sink>(
+fn try_turn<L: Link, H: Host<L>, W: Write>(
     alloc: Global,
     server: &mut Server,
     link: &mut BusyLink<L>,
@@ -134,7 +134,7 @@ fn try_turn<L: Link, H: Host<L>, W: Sink>(
     line: Option<(usize, &[u8])>,
     writer: &mut WatchedWriter<W>,
 ) -> Result<Tried, WriteFault>
-    ensures { TriesTurn (Called L.does L.failures) H.does W.contents W.does (next_view line.entry)
+    ensures { TriesTurn (Called L.does L.failures) H.does W.contents (next_view line.entry)
         (record { link = link.old.link; held = server.old; host = host.old }) writer.old
         (record { link = link.new.link; held = server.new; host = host.new }) writer.new result }
 {
@@ -165,7 +165,7 @@ fn rest<L, H: Host<L>>(host: &mut H, was_idle: bool)
 /// Serves so many turns, each with the next line as long as there is one, and prints what each
 /// tells: the exit status, which is 0 after the last turn, or 3 at one that is not done. After a
 /// turn in which nothing happened there is a pause.
-fn serve_lines<L: Link, H: Host<L>, W: Sink>(
+fn serve_lines<L: Link, H: Host<L>, W: Write>(
     alloc: Global,
     server: &mut Server,
     link: &mut BusyLink<L>,
@@ -174,7 +174,7 @@ fn serve_lines<L: Link, H: Host<L>, W: Sink>(
     turns: u32,
     writer: &mut WatchedWriter<W>,
 ) -> Result<u8, WriteFault>
-    ensures { ServesTurns (Called L.does L.failures) H.does W.contents W.does turns lines.old
+    ensures { ServesTurns (Called L.does L.failures) H.does W.contents turns lines.old
         (record { link = link.old.link; held = server.old; host = host.old }) writer.old host.new
         writer.new result }
 {
@@ -189,7 +189,7 @@ fn serve_lines<L: Link, H: Host<L>, W: Sink>(
 }
 
 /// Serves so many turns over a link, each with the next line of a trace.
-pub fn serve_turns<L: Link + Drop, H: Host<L>, W: Sink>(
+pub fn serve_turns<L: Link + Drop, H: Host<L>, W: Write>(
     alloc: Global,
     server: Server,
     link: L,
@@ -198,7 +198,7 @@ pub fn serve_turns<L: Link + Drop, H: Host<L>, W: Sink>(
     turns: u32,
     writer: &mut WatchedWriter<W>,
 ) -> Result<u8, WriteFault>
-    ensures { ServesTurns (Called L.does L.failures) H.does W.contents W.does turns
+    ensures { ServesTurns (Called L.does L.failures) H.does W.contents turns
         (told_lines 1 (lines_of trace.now))
         (record { link = link; held = server; host = host.old }) writer.old host.new writer.new
         result }

@@ -11,17 +11,17 @@ ghost use Rattle.bay_serving.specs.TurnLines as spec;
 
 use bay_device::device::Device;
 use bay_device::event::Why;
-use bay_io::calls::Sink;
 use bay_io::outbox::WriteFault;
 use bay_io::writer::WatchedWriter;
 use bay_report::lines::{put_closing_line, put_commands, put_refusal, put_unreadable};
 use bay_report::output::{CLEAN, FAULT, finish, write_text};
 use bay_serve::fault::ServeFault;
 use bay_serve::told::{Closing, Turn};
+use std::io::Write;
 
 /// Writes the line of a refusal, if there was one.
-fn put_refused<W: Sink>(writer: &mut WatchedWriter<W>, moment: u64, refused: Option<u8>)
-    ensures { Puts W.contents W.does writer.old (refusal_text moment refused) writer.new }
+fn put_refused<W: Write>(writer: &mut WatchedWriter<W>, moment: u64, refused: Option<u8>)
+    ensures { Puts W.contents writer.old (refusal_text moment refused) writer.new }
 {
     match refused {
         Some(code) => put_refusal(writer, moment, code),
@@ -30,9 +30,8 @@ fn put_refused<W: Sink>(writer: &mut WatchedWriter<W>, moment: u64, refused: Opt
 }
 
 /// Writes the line of an association that was closed, with the number of the reason.
-fn put_entry<W: Sink>(writer: &mut WatchedWriter<W>, moment: u64, entry: (u16, Closing))
-    ensures { Puts W.contents W.does writer.old
-        (closing_text moment entry.0 (Fault (code_of entry.1)))
+fn put_entry<W: Write>(writer: &mut WatchedWriter<W>, moment: u64, entry: (u16, Closing))
+    ensures { Puts W.contents writer.old (closing_text moment entry.0 (Fault (code_of entry.1)))
         writer.new }
 {
     let (association, closing) = entry;
@@ -40,8 +39,8 @@ fn put_entry<W: Sink>(writer: &mut WatchedWriter<W>, moment: u64, entry: (u16, C
 }
 
 /// Writes the lines of the associations that were closed.
-fn put_closings<W: Sink>(writer: &mut WatchedWriter<W>, moment: u64, closed: &[(u16, Closing)])
-    ensures { Puts W.contents W.does writer.old (closings_text moment closed.now) writer.new }
+fn put_closings<W: Write>(writer: &mut WatchedWriter<W>, moment: u64, closed: &[(u16, Closing)])
+    ensures { Puts W.contents writer.old (closings_text moment closed.now) writer.new }
 {
     for entry in closed {
         put_entry(writer, moment, *entry);
@@ -49,8 +48,8 @@ fn put_closings<W: Sink>(writer: &mut WatchedWriter<W>, moment: u64, closed: &[(
 }
 
 /// Writes the lines of those that were closed for want of memory.
-fn put_memories<W: Sink>(writer: &mut WatchedWriter<W>, moment: u64, memory: &[u16])
-    ensures { Puts W.contents W.does writer.old (memories_text moment memory.now) writer.new }
+fn put_memories<W: Write>(writer: &mut WatchedWriter<W>, moment: u64, memory: &[u16])
+    ensures { Puts W.contents writer.old (memories_text moment memory.now) writer.new }
 {
     for association in memory {
         put_closing_line(writer, moment, *association, Why::Memory);
@@ -58,8 +57,8 @@ fn put_memories<W: Sink>(writer: &mut WatchedWriter<W>, moment: u64, memory: &[u
 }
 
 /// Writes what is printed for a turn.
-fn put_turn<W: Sink>(writer: &mut WatchedWriter<W>, device: &Device, moment: u64, turn: &Turn)
-    ensures { Puts W.contents W.does writer.old (turn_text moment turn.now device.now) writer.new }
+fn put_turn<W: Write>(writer: &mut WatchedWriter<W>, device: &Device, moment: u64, turn: &Turn)
+    ensures { Puts W.contents writer.old (turn_text moment turn.now device.now) writer.new }
 {
     put_refused(writer, moment, turn.refused);
     put_commands(writer, device, moment, turn.commands.as_slice());
@@ -78,13 +77,13 @@ fn is_quiet(turn: &Turn) -> bool
 }
 
 /// Writes the lines of a turn, and flushes them.
-fn write_turn<W: Sink>(
+fn write_turn<W: Write>(
     writer: &mut WatchedWriter<W>,
     device: &Device,
     moment: u64,
     turn: &Turn,
 ) -> Result<u8, WriteFault>
-    ensures { Prints W.contents W.does (IsLast (turn_text moment turn.now device.now) 0) writer.old
+    ensures { Prints W.contents (IsLast (turn_text moment turn.now device.now) 0) writer.old
         writer.new result }
 {
     put_turn(writer, device, moment, turn);
@@ -92,13 +91,13 @@ fn write_turn<W: Sink>(
 }
 
 /// Writes the lines of a turn, and flushes them; where it tells nothing the writer is left alone.
-pub fn tell_turn<W: Sink>(
+pub fn tell_turn<W: Write>(
     writer: &mut WatchedWriter<W>,
     device: &Device,
     moment: u64,
     turn: &Turn,
 ) -> Result<u8, WriteFault>
-    ensures { TellsTurn W.contents W.does moment turn.now device.now writer.old writer.new result }
+    ensures { TellsTurn W.contents moment turn.now device.now writer.old writer.new result }
 {
     if is_quiet(turn) {
         Ok(CLEAN)
@@ -108,9 +107,8 @@ pub fn tell_turn<W: Sink>(
 }
 
 /// Writes which line of the trace can't be read.
-fn write_bad_line<W: Sink>(writer: &mut WatchedWriter<W>, number: usize) -> Result<u8, WriteFault>
-    ensures { Prints W.contents W.does (IsLast (unserved_text ServeFault.BadLine number) 3)
-        writer.old
+fn write_bad_line<W: Write>(writer: &mut WatchedWriter<W>, number: usize) -> Result<u8, WriteFault>
+    ensures { Prints W.contents (IsLast (unserved_text ServeFault.BadLine number) 3) writer.old
         writer.new result }
 {
     put_unreadable(writer, number);
@@ -118,12 +116,12 @@ fn write_bad_line<W: Sink>(writer: &mut WatchedWriter<W>, number: usize) -> Resu
 }
 
 /// Writes why a turn is not done, by the number of its line of the trace.
-pub fn write_unserved<W: Sink>(
+pub fn write_unserved<W: Write>(
     writer: &mut WatchedWriter<W>,
     fault: ServeFault,
     number: usize,
 ) -> Result<u8, WriteFault>
-    ensures { Prints W.contents W.does (IsLast (unserved_text fault number) 3) writer.old writer.new
+    ensures { Prints W.contents (IsLast (unserved_text fault number) 3) writer.old writer.new
         result }
 {
     match fault {

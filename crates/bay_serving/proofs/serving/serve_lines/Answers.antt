@@ -9,8 +9,7 @@ pub returns-in_err-status : goal.returns-in_err-status
 returns-in_err-status g c =
     let more : c.args.turns - c.loop-turn.turn ≡ suc (c.args.turns - (c.loop-turn.turn + 1)) =
     grind (arith, nat_tests) in
-    Reached-fails (Called g.L.Link.does g.L.Link.failures) g.H.Host.does g.W.Sink.contents
-    g.W.Sink.does _ _ _ _
+    Reached-fails (Called g.L.Link.does g.L.Link.failures) g.H.Host.does g.W.Write.contents _ _ _ _
     _ _ _ _ _ c.loop-turn.invariant.reached _ _ c.next_line-line.ensures.first
     c.next_line-line.ensures.others more
     (record {
@@ -24,8 +23,7 @@ pub returns-in-Ends : goal.returns-in-Ends
 returns-in-Ends g c =
     let more : c.args.turns - c.loop-turn.turn ≡ suc (c.args.turns - (c.loop-turn.turn + 1)) =
     grind (arith, nat_tests) in
-    Reached-ends (Called g.L.Link.does g.L.Link.failures) g.H.Host.does g.W.Sink.contents
-    g.W.Sink.does _ _ _ _ _
+    Reached-ends (Called g.L.Link.does g.L.Link.failures) g.H.Host.does g.W.Write.contents _ _ _ _ _
     _ _ _ _ c.loop-turn.invariant.reached _ _ c.next_line-line.ensures.first
     c.next_line-line.ensures.others more
     (record {
@@ -41,8 +39,7 @@ loop-turn-preserved g c =
     record {
       within = grind (arith, nat_tests);
       reached =
-          Reached-done (Called g.L.Link.does g.L.Link.failures) g.H.Host.does g.W.Sink.contents
-          g.W.Sink.does _ _
+          Reached-done (Called g.L.Link.does g.L.Link.failures) g.H.Host.does g.W.Write.contents _ _
           _ _ _ _ _ _ _ c.loop-turn.invariant.reached _ _ c.next_line-line.ensures.first
           c.next_line-line.ensures.others more
           (record {
@@ -51,7 +48,6 @@ loop-turn-preserved g c =
             host = c.try_turn.new.host;
           }) _ c.try_turn.new.writer _ _ c.in-Done.is
           c.in_ok-status.ensures
-          (may-pause (Called g.L.Link.does g.L.Link.failures) g.H.Host.does g.W.Sink.contents
-          g.W.Sink.does _
+          (may-pause (Called g.L.Link.does g.L.Link.failures) g.H.Host.does g.W.Write.contents _
           _ _ _ c.rest.ensures);
     }

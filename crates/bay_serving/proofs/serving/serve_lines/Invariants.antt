@@ -6,8 +6,7 @@ use Rattle.bay_serving.proofs.serving.serve_lines.Given as goal
 abbrev pub invariant-loop-turn : goal.invariant-loop-turn
 invariant-loop-turn g l = record {
   within : l.turn ≤ l.turns;
-  reached : Reached (Called g.L.Link.does g.L.Link.failures) g.H.Host.does g.W.Sink.contents
-      g.W.Sink.does
+  reached : Reached (Called g.L.Link.does g.L.Link.failures) g.H.Host.does g.W.Write.contents
       l.turns l.initial.lines
       (record { link = l.initial.link.link; held = l.initial.server; host = l.initial.host })
       l.initial.writer

@@ -8,7 +8,7 @@ use Rattle.bay_serving.proofs.serving.try_turn.Goals as goal
 pub returns-in_err-tell_turn-in-Ok : goal.returns-in_err-tell_turn-in-Ok
 returns-in_err-tell_turn-in-Ok g c =
     let now : c.max-moment.result ≡ moment_at c.now-clock.result c.args.server.now = search rules in
-    tried-cut (Called g.L.Link.does g.L.Link.failures) g.H.Host.does g.W.Sink.contents g.W.Sink.does
+    tried-cut (Called g.L.Link.does g.L.Link.failures) g.H.Host.does g.W.Write.contents
     (next_view c.args.line)
     (record { link = c.args.link.now.link; held = c.args.server.now; host = c.args.host.now })
     c.args.writer.now
@@ -18,8 +18,7 @@ returns-in_err-tell_turn-in-Ok g c =
       host = c.now-clock.new.self;
     }) c.tell_turn.new.writer _ c.from_residual.result
     c.from_residual.ensures.0
-    (turn-goes (λ busy. busy.link) g.L.Link.does g.L.Link.failures g.H.Host.does g.W.Sink.contents
-    g.W.Sink.does
+    (turn-goes (λ busy. busy.link) g.L.Link.does g.L.Link.failures g.H.Host.does g.W.Write.contents
     _ _ _ _ _ _ _ _ _ _ _ _ _ _ _ c.octets_of.ensures now c.device-in-Ok.ensures
     c.now-clock.ensures c.in-Ok.ensures.ok c.in_err-tell_turn-in-Ok.ensures)
 
@@ -30,7 +29,7 @@ returns-after-not-was_busy g c =
       c.in_ok-tell_turn-in-Ok.field-0,
       rw c.was_busy.ensures
           (turn-goes (λ busy. busy.link) g.L.Link.does g.L.Link.failures g.H.Host.does
-          g.W.Sink.contents g.W.Sink.does _ _ _ _ _ _ _ _ _ _ _ _ _ _ _ c.octets_of.ensures now
+          g.W.Write.contents _ _ _ _ _ _ _ _ _ _ _ _ _ _ _ c.octets_of.ensures now
           c.device-in-Ok.ensures c.now-clock.ensures c.in-Ok.ensures.ok
           c.in_ok-tell_turn-in-Ok.ensures),
     )
