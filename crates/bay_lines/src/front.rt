@@ -1,0 +1,78 @@
+// The line that stands in front of octets.
+ghost use Rattle.std.specs.Prelude.{◌≡◌, ◌+◌, ◌<◌, ◌≤◌, drop, take, length, position, IfSome};
+ghost use Rattle.bay_lines.specs.Fronts.{Whole, front, front_view, is_end, without_return};
+ghost use Rattle.bay_lines.specs.Fronts as spec;
+
+/// How many octets a line has at most, before its LF.
+const MOST: usize = 256;
+
+/// What stands in front of octets.
+#[derive(Clone, Copy, Debug, PartialEq, Eq)]
+pub enum Found {
+    /// No whole line yet.
+    Waiting,
+    /// More octets than a line may have, and no end of it.
+    Overlong,
+    /// A line of this length, and its length with its end.
+    Whole { line: usize, end: usize },
+}
+
+/// Whether a line has a CR before its LF.
+fn ends_in_return(line: &[u8]) -> bool
+    ensures { result ≡ spec.ends_in_return line.now }
+{
+    match line.last() {
+        Some(octet) => *octet == b'\r',
+        None => false,
+    }
+}
+
+/// The length of a line without the CR that may stand before its LF.
+fn length_of(line: &[u8]) -> usize
+    ensures value { take result line.now ≡ without_return line.now }
+    ensures within { result ≤ length line.now }
+{
+    if ends_in_return(line) {
+        line.len() - 1
+    } else {
+        line.len()
+    }
+}
+
+/// The line whose LF stands at a place.
+fn line_at(octets: &[u8], at: usize) -> Found
+    requires { at < length octets.now }
+    ensures { front_view octets.now result
+        ≡ Whole (without_return (take at octets.now)) (drop (at + 1) octets.now) }
+{
+    Found::Whole {
+        line: length_of(&octets[..at]),
+        end: at + 1,
+    }
+}
+
+/// Where the first LF stands.
+fn first_end(octets: &[u8]) -> Option<usize>
+    ensures { result ≡ position is_end octets.now }
+{
+    octets.iter().position(|octet| *octet == b'\n')
+}
+
+/// Where the LF of the line in front stands, if it has no more octets than it may have.
+fn end_in_reach(octets: &[u8]) -> Option<usize>
+    ensures value { result ≡ position is_end (take 257 octets.now) }
+    ensures within { IfSome result (λ at. at < length octets.now) }
+{
+    first_end(&octets[..(MOST + 1).min(octets.len())])
+}
+
+/// The line in front, which has at most 256 octets before its LF; or why there is none.
+pub fn line_in_front(octets: &[u8]) -> Found
+    ensures { front_view octets.now result ≡ front octets.now }
+{
+    match end_in_reach(octets) {
+        Some(at) => line_at(octets, at),
+        None if octets.len() > MOST => Found::Overlong,
+        None => Found::Waiting,
+    }
+}

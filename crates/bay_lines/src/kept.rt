@@ -1,0 +1,69 @@
+// Octets that are kept, at most so many.
+ghost use Rattle.std.specs.Prelude.{◌≡◌, ◌+◌, ◌≤◌, ◌++◌, [], length, drop, nat_le, IfOk, if◌then◌else◌};
+
+use std::alloc::{AllocError, Global};
+use std::marker::Model;
+
+/// At most so many octets, for which the room was taken at first.
+#[derive(Drop)]
+pub struct Kept<const MOST: usize> {
+    octets: Vec<u8>,
+}
+
+impl<const MOST: usize> Model for Kept<MOST> {
+    ghost use Rattle.std.specs.Prelude.{ℕ, List};
+    ghost use Rattle.bay_lines.specs.Room.{HasRoom};
+
+    ghost Value = { List ℕ };
+
+    ghost view = { λ k. k.octets.items };
+
+    ghost invariant = { λ k. HasRoom MOST k.octets };
+}
+
+impl<const MOST: usize> Kept<MOST> {
+    /// No octets yet.
+    pub fn new(alloc: Global) -> Result<Self, AllocError>
+        ensures { IfOk result (λ k. k ≡ []) }
+    {
+        let octets = Vec::with_capacity(alloc, MOST)?;
+        Ok(Kept { octets })
+    }
+
+    /// The octets, in order.
+    pub fn as_slice(&self) -> &[u8]
+        ensures value { result.now ≡ self.now }
+        ensures most { length result.now ≤ MOST }
+    {
+        self.octets.as_slice()
+    }
+
+    /// Adds octets where there is room for all of them, and answers whether there was. It takes no
+    /// memory.
+    pub fn put(&mut self, octets: &[u8]) -> bool
+        ensures fits { result ≡ nat_le (length self.old + length octets.now) MOST }
+        ensures after { self.new ≡ (if result then self.old ++ octets.now else self.old) }
+    {
+        if MOST - self.octets.len() < octets.len() {
+            return false;
+        }
+        self.octets.extend_from_slice(octets).is_ok()
+    }
+
+    /// Drops the first octets.
+    pub fn drop_front(&mut self, count: usize)
+        requires { count ≤ length self.old }
+        ensures { self.new ≡ drop count self.old }
+    {
+        let left = self.octets.len() - count;
+        self.octets.copy_within(count.., 0);
+        self.octets.truncate(left);
+    }
+
+    /// Drops all octets.
+    pub fn clear(&mut self)
+        ensures { self.new ≡ [] }
+    {
+        self.octets.clear();
+    }
+}

@@ -1,0 +1,9 @@
+// A law of lines. The function does nothing, and its contract is the law.
+ghost use Rattle.std.specs.Prelude.{List};
+ghost use Rattle.bay_lines.specs.Cuttings.{LosesNothing, Move};
+
+/// However the octets are cut into pieces, and whenever a line is taken: the lines that were taken,
+/// each with its end, and then what is kept, are all that came.
+pub fn no_line_is_lost_repeated_or_joined()
+    ensures { (moves : List Move) → LosesNothing moves }
+{}

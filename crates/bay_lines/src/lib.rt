@@ -1,0 +1,9 @@
+// Octets that come in pieces become lines.
+//
+// Handed out: `kept` (octets that are kept, at most so many), `front` (the line that stands in front
+// of them), `laws` (what holds of every cutting of the octets).
+#![tactic(auto)]
+
+pub mod front;
+pub mod kept;
+pub mod laws;
