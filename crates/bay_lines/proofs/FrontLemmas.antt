@@ -1,5 +1,5 @@
 -- Lemmas on the line in front.
-use Rattle.std.proofs.Common.{◌≡◌, ◌≢◌, ◌<◌, ◌+◌, ℕ, IfSome, List, [], ◌∷◌, ◌++◌, Option, Some, None, nat_lt, Bool, true, false, take, drop, get_or, length, refl, sym, ap, ◌∙◌, arith, append_assoc, append-nil, take-append-drop, if◌then◌else◌}
+use Rattle.std.proofs.Common.{◌≡◌, ◌≢◌, ◌≤◌, ◌<◌, ◌+◌, ℕ, IfSome, List, [], ◌∷◌, ◌++◌, Option, Some, None, nat_lt, Bool, true, false, take, drop, get_or, length, refl, sym, ap, ◌∙◌, arith, append_assoc, append-nil, take-append-drop, if◌then◌else◌}
 use Rattle.std.proofs.lemmas.Bool.Decides.{nat_tests}
 use Rattle.std.proofs.lemmas.List.{get_or-take, length-take, take_more}
 use Rattle.std.proofs.lemmas.List.Elements.{All-from_get_or}
@@ -10,10 +10,11 @@ use Rattle.bay_lines.specs.Fronts.{Front, Overlong, Waiting, Whole, front, front
 
 -- where the end of a line was looked for
 pub first-within : (xs : List ℕ) (o : Option ℕ) → o ≡ position is_end (take 257 xs)
-    → IfSome o (λ at. at < length xs)
+    → IfSome o (λ at. (at < length xs) × (at ≤ 256))
 first-within xs None e = tt
 first-within xs (Some at) e =
-    omega (arith, (position-Some is_end (take 257 xs) at 0 (sym e)).0, length-take 257 xs)
+    let low : at < length (take 257 xs) = (position-Some is_end (take 257 xs) at 0 (sym e)).0 in
+    (omega (arith, low, length-take 257 xs), omega (arith, low, length-take 257 xs))
 
 -- ---- the line in front is a line, and it is cut off whole
 

@@ -1,5 +1,5 @@
 -- The line that stands in front of octets.
-use Rattle.std.specs.Prelude.{ℕ, ◌+◌, ◌-◌, ◌==◌, nat_lt, Bool, false, List, length, take, drop, position, slice_get, Option, None, Some, if◌then◌else◌}
+use Rattle.std.specs.Prelude.{ℕ, ◌+◌, ◌-◌, ◌<◌, ◌≤◌, ◌==◌, nat_lt, Bool, false, List, length, take, drop, position, slice_get, Option, None, Some, if◌then◌else◌}
 use Rattle.bay_lines.specs.declared.front.Found.{Found}
 use Rattle.bay_lines.specs.declared.front.Found.TheVariants as found
 
@@ -39,3 +39,9 @@ abbrev pub front_view : List ℕ → Found → Front
 front_view xs found.Waiting = Waiting
 front_view xs found.Overlong = Overlong
 front_view xs (found.Whole line end) = Whole (take line xs) (drop end xs)
+
+-- a line that was found lies within the octets, so many
+abbrev pub LiesIn : ℕ → Found → Type 0
+LiesIn n found.Waiting = Unit {0}
+LiesIn n found.Overlong = Unit {0}
+LiesIn n (found.Whole line end) = (line < end) × (end ≤ n) × (line ≤ 256)

@@ -1,6 +1,6 @@
 // The line that stands in front of octets.
 ghost use Rattle.std.specs.Prelude.{◌≡◌, ◌+◌, ◌<◌, ◌≤◌, drop, take, length, position, IfSome};
-ghost use Rattle.bay_lines.specs.Fronts.{Whole, front, front_view, is_end, without_return};
+ghost use Rattle.bay_lines.specs.Fronts.{LiesIn, Whole, front, front_view, is_end, without_return};
 ghost use Rattle.bay_lines.specs.Fronts as spec;
 
 /// How many octets a line has at most, before its LF.
@@ -41,9 +41,11 @@ fn length_of(line: &[u8]) -> usize
 
 /// The line whose LF stands at a place.
 fn line_at(octets: &[u8], at: usize) -> Found
-    requires { at < length octets.now }
-    ensures { front_view octets.now result
+    requires within { at < length octets.now }
+    requires short { at ≤ 256 }
+    ensures value { front_view octets.now result
         ≡ Whole (without_return (take at octets.now)) (drop (at + 1) octets.now) }
+    ensures within { LiesIn (length octets.now) result }
 {
     Found::Whole {
         line: length_of(&octets[..at]),
@@ -61,14 +63,15 @@ fn first_end(octets: &[u8]) -> Option<usize>
 /// Where the LF of the line in front stands, if it has no more octets than it may have.
 fn end_in_reach(octets: &[u8]) -> Option<usize>
     ensures value { result ≡ position is_end (take 257 octets.now) }
-    ensures within { IfSome result (λ at. at < length octets.now) }
+    ensures within { IfSome result (λ at. (at < length octets.now) × (at ≤ 256)) }
 {
     first_end(&octets[..(MOST + 1).min(octets.len())])
 }
 
 /// The line in front, which has at most 256 octets before its LF; or why there is none.
 pub fn line_in_front(octets: &[u8]) -> Found
-    ensures { front_view octets.now result ≡ front octets.now }
+    ensures value { front_view octets.now result ≡ front octets.now }
+    ensures within { LiesIn (length octets.now) result }
 {
     match end_in_reach(octets) {
         Some(at) => line_at(octets, at),

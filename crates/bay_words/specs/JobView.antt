@@ -16,8 +16,8 @@ program_view (Image name) = Image name.now
 abbrev pub task_view : Task (Bor (List ℕ)) → Task (List ℕ)
 task_view (Check bay program) = Check bay.now (program_view program)
 task_view Replay = Replay
-task_view (Serve bay program port turns trace) =
-    Serve bay.now (program_view program) port turns (option_map (λ name. name.now) trace)
+task_view (Serve bay program port turns trace process) =
+    Serve bay.now (program_view program) port turns (option_map (λ name. name.now) trace) process
 task_view (Compile bay logic out) = Compile bay.now logic.now out.now
 
 -- a job, as definitions see it
@@ -31,4 +31,5 @@ job_view job = record {
   trace = option_map string_bytes job.trace;
   port = job.port;
   turns = job.turns;
+  process = job.process;
 }

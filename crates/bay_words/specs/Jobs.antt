@@ -1,5 +1,5 @@
 -- The commands of the program, and what some words ask for.
-use Rattle.std.specs.Prelude.{ℕ, true, List, ◌∷◌, codes, Option, None, Some, option_and_then, option_map, if◌then◌else◌, []}
+use Rattle.std.specs.Prelude.{ℕ, ◌==◌, Bool, true, false, not, List, ◌∷◌, codes, Option, None, Some, option_and_then, option_map, if◌then◌else◌, []}
 use Rattle.std.specs.Str.{bytes_eq}
 use Rattle.std.specs.Str.Parse.{digits_value, without_leading_plus}
 use Rattle.clap.specs.Words.{App, Row, Rule, Text, first_of, fault_of, new_app, new_rule, subcommand_of, with_rule, with_subcommand}
@@ -22,10 +22,10 @@ file_rule name = record (new_rule name) { long = Some name; value_names = 1; act
 abbrev pub needed_rule : Text → Rule
 needed_rule name = record (file_rule name) { required = true }
 
--- `--NAME N`, a number from the least to the greatest, which has to be there
-abbrev pub number_rule : Text → ℕ → ℕ → Rule
-number_rule name least greatest =
-    record (needed_rule name) { parser = Some (vp.Unsigned least greatest) }
+-- `--NAME N`, a number from the least to the greatest, which has to be there or may
+abbrev pub number_rule : Text → ℕ → ℕ → Bool → Rule
+number_rule name least greatest required =
+    record (file_rule name) { required = required; parser = Some (vp.Unsigned least greatest) }
 
 -- `[--logic F] [--image F]`
 abbrev pub with_program : App → App
@@ -35,13 +35,14 @@ with_program app = with_rule (with_rule app (file_rule (codes "logic"))) (file_r
 abbrev pub check_app : App
 check_app = with_program (with_rule (new_app (codes "check")) (needed_rule (codes "bay")))
 
--- `serve --bay F [--logic F] [--image F] --port N --turns N [--trace F]`, with a port from 1 to
--- 65535 and turns below 2 ^ 32
+-- `serve --bay F [--logic F] [--image F] --port N --turns N [--trace F] [--process P]`, with ports
+-- from 1 to 65535 and turns below 2 ^ 32
 abbrev pub serve_app : App
 serve_app =
     let named = with_program (with_rule (new_app (codes "serve")) (needed_rule (codes "bay"))) in
-    with_rule (with_rule (with_rule named (number_rule (codes "port") 1 65535))
-    (number_rule (codes "turns") 0 4294967295)) (file_rule (codes "trace"))
+    with_rule (with_rule (with_rule (with_rule named (number_rule (codes "port") 1 65535 true))
+    (number_rule (codes "turns") 0 4294967295 true)) (file_rule (codes "trace")))
+    (number_rule (codes "process") 1 65535 false)
 
 -- the words of `replay`
 abbrev pub replay_app : App
@@ -78,9 +79,12 @@ number_of least greatest text =
     if is_unsigned_in least greatest text then Some (digits_value 10 (without_leading_plus text))
     else None
 
--- the port and the number of turns, where they were given
+-- the ports of clients and of the process and the number of turns, where they were given
 abbrev pub port_in : List Row → Option ℕ
 port_in rows = option_and_then (number_of 1 65535) (first_of (codes "port") rows)
+
+abbrev pub process_in : List Row → Option ℕ
+process_in rows = option_and_then (number_of 1 65535) (first_of (codes "process") rows)
 
 abbrev pub turns_in : List Row → Option ℕ
 turns_in rows = option_and_then (number_of 0 4294967295) (first_of (codes "turns") rows)
@@ -102,12 +106,21 @@ check_in rows =
     option_and_then (λ bay. option_map (λ program. Check bay program) (program_in rows))
     (first_of (codes "bay") rows)
 
--- what `serve` asks for: the same, both numbers, and a trace, if one was named
+-- the port of the process, if there is one, is another than that of the clients
+abbrev pub is_apart : ℕ → Option ℕ → Bool
+is_apart port None = true
+is_apart port (Some process) = not (process == port)
+
+abbrev pub served : Text → Program Text → ℕ → ℕ → Option Text → Option ℕ → Option (Task Text)
+served bay program port turns trace process =
+    if is_apart port process then Some (Serve bay program port turns trace process) else None
+
+-- what `serve` asks for: the same, both numbers, and a trace and a process, if they were named
 abbrev pub serve_in : List Row → Option (Task Text)
 serve_in rows =
-    option_and_then (λ bay. option_and_then (λ program. option_and_then (λ port. option_map
-    (λ turns. Serve bay program port turns (first_of (codes "trace") rows)) (turns_in rows))
-    (port_in rows)) (program_in rows)) (first_of (codes "bay") rows)
+    option_and_then (λ bay. option_and_then (λ program. option_and_then (λ port. option_and_then
+    (λ turns. served bay program port turns (first_of (codes "trace") rows) (process_in rows))
+    (turns_in rows)) (port_in rows)) (program_in rows)) (first_of (codes "bay") rows)
 
 -- what `compile` asks for: its three files
 abbrev pub compile_in : List Row → Option (Task Text)
@@ -153,11 +166,12 @@ pub record JobData : Type 0 where
   pub trace : Option Text
   pub port : Option ℕ
   pub turns : Option ℕ
+  pub process : Option ℕ
 
 abbrev pub verb_of : Task Text → Verb
 verb_of (Check bay program) = verb.Check
 verb_of Replay = verb.Replay
-verb_of (Serve bay program port turns trace) = verb.Serve
+verb_of (Serve bay program port turns trace process) = verb.Serve
 verb_of (Compile bay logic out) = verb.Compile
 
 -- a verb with the values of its options
@@ -171,6 +185,7 @@ with_options rows verb = record {
   trace = first_of (codes "trace") rows;
   port = port_in rows;
   turns = turns_in rows;
+  process = process_in rows;
 }
 
 -- the job of a subcommand and its values, if they ask for something

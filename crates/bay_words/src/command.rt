@@ -52,26 +52,29 @@ fn with_needed_file<'a>(
     Ok(command)
 }
 
-/// The command with one more option, `--ID N`, which has to be there, and whose value is a number
-/// from the least to the greatest.
+/// The command with one more option, `--ID VALUE`, whose value is a number from the least to the
+/// greatest, and which has to be there, or may.
 fn with_number<'a>(
     alloc: Global,
     command: Command<'a>,
     id: &'a str,
+    value: &'a str,
     least: u64,
     greatest: u64,
+    required: bool,
     help: &'a str,
 ) -> Result<Command<'a>, AllocError>
     ensures app { IfOk result
-        (λ c. app_of c ≡ with_rule (app_of command.entry) (number_rule id.entry.now least greatest)) }
+        (λ c. app_of c
+        ≡ with_rule (app_of command.entry) (number_rule id.entry.now least greatest required)) }
     ensures globals { IfOk result
         (λ c. (fields_of c).has_globals ≡ (fields_of command.entry).has_globals) }
 {
     let number = Arg::new(alloc, id)
         .long(id)
-        .value_name("N")
+        .value_name(value)
         .help(help)
-        .required(true)
+        .required(required)
         .value_parser(ValueParser::unsigned(least, greatest))
         .action(ArgAction::Set);
     let command = command.arg(number)?;
@@ -113,11 +116,13 @@ fn serve_command<'a>(alloc: Global) -> Result<Command<'a>, AllocError>
     let command = with_needed_file(alloc, command, "bay", "The bay file")?;
     let command = with_program(alloc, command)?;
     let port = "The port on which clients are served";
-    let command = with_number(alloc, command, "port", 1, 65_535, port)?;
+    let command = with_number(alloc, command, "port", "N", 1, 65_535, true, port)?;
     let turns = "How many turns are served";
-    let command = with_number(alloc, command, "turns", 0, 4_294_967_295, turns)?;
+    let command = with_number(alloc, command, "turns", "N", 0, 4_294_967_295, true, turns)?;
     let trace = "What happens to the process, a line each turn";
     let command = with_file(alloc, command, "trace", trace)?;
+    let process = "The port on which the process is heard, behind the trace";
+    let command = with_number(alloc, command, "process", "P", 1, 65_535, false, process)?;
     Ok(command)
 }
 

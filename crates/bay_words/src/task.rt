@@ -18,13 +18,15 @@ pub enum Task<T> {
     /// A scenario is replayed.
     Replay,
     /// Clients are served on a port of 127.0.0.1, from 1 on, for so many turns; the trace of the
-    /// process is read line by line, if there is one.
+    /// process is read line by line, if there is one, and then the process itself is heard on a
+    /// port of its own, if it has one.
     Serve {
         bay: T,
         program: Program<T>,
         port: u16,
         turns: u32,
         trace: Option<T>,
+        process: Option<u16>,
     },
     /// A program is compiled to a file.
     Compile {

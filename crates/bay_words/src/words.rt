@@ -44,6 +44,8 @@ pub struct Job {
     pub port: Option<u16>,
     /// How many turns are served.
     pub turns: Option<u32>,
+    /// The port of 127.0.0.1 on which the process is heard, from 1 on.
+    pub process: Option<u16>,
 }
 
 /// Why words ask for nothing that is done.
@@ -86,6 +88,14 @@ fn port_in(found: &ArgMatches<'_>) -> Option<u16>
     port_of(value)
 }
 
+/// The port of the process that was given.
+fn process_in(found: &ArgMatches<'_>) -> Option<u16>
+    ensures { result ≡ spec.process_in (rows_of (found_of found.now)) }
+{
+    let value = value_of(found, "process")?;
+    port_of(value)
+}
+
 /// The number of turns that was given.
 fn turns_in(found: &ArgMatches<'_>) -> Option<u32>
     ensures { result ≡ spec.turns_in (rows_of (found_of found.now)) }
@@ -115,6 +125,16 @@ fn check_from<'a>(found: &ArgMatches<'a>) -> Option<Task<&'a str>>
     Some(Task::Check { bay, program })
 }
 
+/// Whether the port of the process, if there is one, is another than that of the clients.
+fn is_apart(port: u16, process: Option<u16>) -> bool
+    ensures { result ≡ spec.is_apart port process }
+{
+    match process {
+        Some(process) => process != port,
+        None => true,
+    }
+}
+
 /// What `serve` asks for.
 fn serve_from<'a>(found: &ArgMatches<'a>) -> Option<Task<&'a str>>
     ensures { option_map task_view result ≡ serve_in (rows_of (found_of found.now)) }
@@ -124,12 +144,17 @@ fn serve_from<'a>(found: &ArgMatches<'a>) -> Option<Task<&'a str>>
     let port = port_in(found)?;
     let turns = turns_in(found)?;
     let trace = value_of(found, "trace");
+    let process = process_in(found);
+    if !is_apart(port, process) {
+        return None;
+    }
     Some(Task::Serve {
         bay,
         program,
         port,
         turns,
         trace,
+        process,
     })
 }
 
@@ -201,6 +226,7 @@ fn with_options(alloc: Global, found: &ArgMatches<'_>, verb: Verb) -> Result<Job
     let trace = option_of(alloc, found, "trace")?;
     let port = port_in(found);
     let turns = turns_in(found);
+    let process = process_in(found);
     Ok(Job {
         verb,
         bay,
@@ -210,6 +236,7 @@ fn with_options(alloc: Global, found: &ArgMatches<'_>, verb: Verb) -> Result<Job
         trace,
         port,
         turns,
+        process,
     })
 }
 
@@ -239,20 +266,32 @@ fn job_from(alloc: Global, matches: &ArgMatches<'_>) -> Result<Option<Job>, Allo
 }
 
 /// How a command is used that wants either a program or an image.
-fn usage_of(name: Option<&str>) -> &'static str {
+fn usage_of(name: &str) -> &'static str {
     match name {
-        Some("serve") => {
-            "bayctl serve --bay <F> <--logic <F>|--image <F>> --port <N> --turns <N> [--trace <F>]"
+        "serve" => {
+            "bayctl serve --bay <F> <--logic <F>|--image <F>> --port <N> --turns <N> [--trace <F>] [--process <P>]"
         }
         _ => "bayctl check --bay <F> <--logic <F>|--image <F>>",
     }
 }
 
-/// The refusal of a command with both or neither of a program and an image.
-fn refused_files(alloc: Global, name: Option<&str>) -> WordsFault {
-    let usage = usage_of(name);
+/// What is wrong with the options of a command of which `clap` takes each.
+fn wrong_options(found: &ArgMatches<'_>) -> &'static str {
+    match program_from(found) {
+        Some(_) => "--process wants another port than --port",
+        None => "exactly one of --logic and --image is wanted",
+    }
+}
+
+/// The refusal of a command with both or neither of a program and an image, or with one port for
+/// clients and the process.
+fn refused_options(alloc: Global, matches: &ArgMatches<'_>) -> WordsFault {
+    let (wrong, usage) = match matches.subcommand() {
+        Some((name, found)) => (wrong_options(found), usage_of(name)),
+        None => ("a command is wanted", "bayctl <COMMAND>"),
+    };
     match format!(in alloc;
-        "error: exactly one of --logic and --image is wanted\n\nUsage: {usage}\n\nFor more information, try '--help'.\n"
+        "error: {wrong}\n\nUsage: {usage}\n\nFor more information, try '--help'.\n"
     ) {
         Ok(text) => WordsFault::Refused(text),
         Err(_) => WordsFault::OutOfMemory,
@@ -292,7 +331,7 @@ fn matches_of<'a>(alloc: Global, words: &'a [&'a str]) -> Result<ArgMatches<'a>,
 
 /// What the words after the program's name ask for: a check of a bay file and either a program or
 /// an image, a replay, to serve the same as a check on a port for a number of turns, which may have
-/// a trace, or to compile a bay file and a program to an image. Words that ask for help are refused
+/// a trace and a process on another port, or to compile a bay file and a program to an image. Words that ask for help are refused
 /// with it.
 pub fn task_of<'a>(alloc: Global, words: &'a [&'a str]) -> Result<Task<&'a str>, WordsFault>
     ensures ok { IfOk result (λ t. task_in (map (λ w. w.now) words.entry.now) ≡ Some (task_view t)) }
@@ -302,7 +341,7 @@ pub fn task_of<'a>(alloc: Global, words: &'a [&'a str]) -> Result<Task<&'a str>,
     let matches = matches_of(alloc, words)?;
     match task_from(&matches) {
         Some(task) => Ok(task),
-        None => Err(refused_files(alloc, matches.subcommand_name())),
+        None => Err(refused_options(alloc, &matches)),
     }
 }
 
@@ -315,7 +354,7 @@ pub fn job_of<'a>(alloc: Global, words: &'a [&'a str]) -> Result<Job, WordsFault
     let matches = matches_of(alloc, words)?;
     match job_from(alloc, &matches) {
         Ok(Some(job)) => Ok(job),
-        Ok(None) => Err(refused_files(alloc, matches.subcommand_name())),
+        Ok(None) => Err(refused_options(alloc, &matches)),
         Err(_) => Err(WordsFault::OutOfMemory),
     }
 }

@@ -8,7 +8,8 @@ use Rattle.bay_words.proofs.command.with_number.Goals as goal
 pub returns-clause-app : goal.returns-clause-app
 returns-clause-app c =
     let rule_is : rule_of c.action-number.result
-    ≡ number_rule c.args.id.now c.args.least c.args.greatest = search rules in
+    ≡ number_rule c.args.id.now c.args.least c.args.greatest c.args.required
+    = search rules in
     c.in_ok-command.ensures.shape (search rules) ∙ ap (with_rule (app_of c.args.command)) rule_is
 
 pub returns-clause-globals : goal.returns-clause-globals

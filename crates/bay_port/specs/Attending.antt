@@ -1,0 +1,150 @@
+-- What is done with the connection of the process behind a turn: what it is told, and what it
+-- sends.
+use Rattle.std.specs.Prelude.{◌≡◌, ℕ, Bool, true, false, List, [], ◌∷◌, ◌++◌, drop, is_none, Option, None, Some, Result, Ok, Err, if◌then◌else◌, ⊥}
+use Rattle.bay_device.specs.Device.{State}
+use Rattle.bay_lines.specs.Fronts.{front}
+use Rattle.bay_port.specs.Fit.{is_waiting, is_wrong}
+use Rattle.bay_port.specs.Ports.{PortData, bare}
+use Rattle.bay_port.specs.Sound.{first_sound}
+use Rattle.bay_port.specs.Telling.{fits_in}
+use Rattle.bay_port.specs.declared.news.News.{News}
+use Rattle.bay_port.specs.declared.news.News.TheVariants.{Opened, Closed}
+use Rattle.bay_port.specs.declared.news.Parting.{Parting}
+use Rattle.bay_port.specs.declared.news.Parting.TheVariants.{Ended, BadLine, QueueFull, LinkFailed}
+use Rattle.bay_port.specs.declared.port.Standing.{Standing}
+use Rattle.bay_port.specs.declared.port.Standing.TheVariants.{Away, Leaving, Here}
+use Rattle.bay_serve.specs.Calls.{Call, Accepts, Reads, Writes, Closes, Heard, Octets, Silence, Over, Broken, Talks}
+
+-- what the link answered: whether a connection was taken, how many octets of a write, and what a
+-- read brought
+pub record Script : Type 0 where
+  pub accepted : Option Bool
+  pub taken : Option ℕ
+  pub heard : Heard
+
+-- a part of what is done with a process that is there: the port behind it, or why the connection is
+-- closed; and the calls on the link, in which it is association 1
+pub record Part : Type 0 where
+  pub after : Result PortData Parting
+  pub calls : List Call
+
+abbrev pub going : PortData → List Call → Part
+going p calls = record { after = Ok p; calls = calls }
+
+abbrev pub parting : Parting → List Call → Part
+parting why calls = record { after = Err why; calls = calls }
+
+-- ---- the parts
+
+-- what a turn tells goes whole into the queue
+abbrev pub told_to : List ℕ → PortData → Part
+told_to text p =
+    if fits_in p.queue text then going (record p { queue = p.queue ++ text }) []
+    else parting QueueFull []
+
+-- how many octets the link took
+abbrev pub on_taken : Option ℕ → PortData → List Call → Part
+on_taken None p calls = parting LinkFailed calls
+on_taken (Some n) p calls = going (record p { queue = drop n p.queue }) calls
+
+-- the queue is offered once, if there is anything in it
+abbrev pub offered_of : List ℕ → Option ℕ → PortData → Part
+offered_of [] taken p = going p []
+offered_of (b ∷ bs) taken p = on_taken taken p (Writes 1 (b ∷ bs) taken ∷ [])
+
+abbrev pub offered : Option ℕ → PortData → Part
+offered taken p = offered_of p.queue taken p
+
+-- what a read brought
+abbrev pub on_heard : Heard → PortData → List Call → Part
+on_heard (Octets octets) p calls = going (record p { kept = p.kept ++ octets }) calls
+on_heard Silence p calls = going p calls
+on_heard Over p calls = parting Ended calls
+on_heard Broken p calls = parting LinkFailed calls
+
+-- where no whole line is kept the process is read once, up to 4,096 octets
+abbrev pub read_by : Heard → PortData → Part
+read_by heard p =
+    if is_waiting (front p.kept) then on_heard heard p (Reads 1 4096 heard ∷ []) else going p []
+
+-- a line that can't be taken ends the connection
+abbrev pub checked : PortData → Part
+checked p = if is_wrong (front p.kept) then parting BadLine [] else going p []
+
+-- ---- one after the other
+
+abbrev pub followed : Result PortData Parting → List Call → (PortData → Part) → Part
+followed (Err why) calls next = parting why calls
+followed (Ok p) calls next =
+    record { after = (next p).after; calls = calls ++ (next p).calls }
+
+abbrev pub behind : Part → (PortData → Part) → Part
+behind part next = followed part.after part.calls next
+
+-- the process is told, it is offered what waits, it is read, and its line is looked at
+abbrev pub talked : List ℕ → Option ℕ × Heard → PortData → Part
+talked text answers p =
+    behind (behind (behind (told_to text p) (offered answers.0)) (read_by answers.1)) checked
+
+-- ---- behind a turn
+
+-- the port, what has become of the connection, and the calls on the link
+pub record Attended : Type 0 where
+  pub port : PortData
+  pub news : Option News
+  pub calls : List Call
+
+-- a process that is there is closed, or stays
+abbrev pub closed_or_kept : Result PortData Parting → List Call → Attended
+closed_or_kept (Ok p) calls = record { port = p; news = None; calls = calls }
+closed_or_kept (Err why) calls =
+    record { port = bare Leaving; news = Some (Closed why); calls = calls ++ Closes 1 ∷ [] }
+
+abbrev pub attended_here : Part → Attended
+attended_here part = closed_or_kept part.after part.calls
+
+-- a connection that waits is taken
+abbrev pub taken_in : Option Bool → PortData → Attended
+taken_in None p = record { port = p; news = None; calls = Accepts 1 None ∷ [] }
+taken_in (Some false) p = record { port = p; news = None; calls = Accepts 1 (Some false) ∷ [] }
+taken_in (Some true) p =
+    record { port = bare Here; news = Some Opened; calls = Accepts 1 (Some true) ∷ [] }
+
+-- once each switch is bad another process may come
+abbrev pub left_in : Bool → PortData → Attended
+left_in all_bad p =
+    record { port = if all_bad then bare Away else p; news = None; calls = [] }
+
+abbrev pub attended_as : Standing → List ℕ → State → Script → PortData → Attended
+attended_as Away text s script p = taken_in script.accepted p
+attended_as Leaving text s script p = left_in (is_none (first_sound s)) p
+attended_as Here text s script p = attended_here (talked text (script.taken, script.heard) p)
+
+-- What is done behind a turn that told this text, by the device after it.
+abbrev pub attended : List ℕ → State → Script → PortData → Attended
+attended text s script p = attended_as p.standing text s script p
+
+-- ---- as code does it
+
+-- a part led to a port, or to a closing, whatever the port is then
+abbrev pub Leads : Result PortData Parting → PortData → Result (Unit {0}) Parting → Type 0
+Leads (Ok p) after (Ok u) = after ≡ p
+Leads (Ok p) after (Err why) = ⊥
+Leads (Err why) after (Ok u) = ⊥
+Leads (Err why) after (Err told) = told ≡ why
+
+module _ {L : Type 0} (step : L → Call → L → Type 0) where
+  -- a part was done: with some answers of the link, the calls and the port behind it are the part's
+  pub record Does {C : Type 0} (f : C → PortData → Part) (old new : L) (before after : PortData)
+      (answer : Result (Unit {0}) Parting) : Type 0 where
+    pub answers : C
+    pub talks : Talks step old (f answers before).calls new
+    pub leads : Leads (f answers before).after after answer
+
+  -- With some answers of the link the calls, the port behind them and the news are these.
+  pub record Attends (f : Script → Attended) (old new : L) (after : PortData) (news : Option News)
+      : Type 0 where
+    pub script : Script
+    pub talks : Talks step old (f script).calls new
+    pub port : after ≡ (f script).port
+    pub news_is : news ≡ (f script).news

@@ -1,0 +1,42 @@
+-- The line that a turn can take.
+use Rattle.std.specs.Prelude.{ℕ, nat_le, Bool, true, false, not, List, [], ◌∷◌, ◌++◌, codes, length, Option, None, Some, is_some, if◌then◌else◌}
+use Rattle.bay_lines.specs.Fronts.{Front, Waiting, Overlong, Whole}
+use Rattle.bay_serve.specs.Served.{line_of}
+
+-- a line tells of a contact, an input or a measure
+abbrev pub is_told : List ℕ → Bool
+is_told line = is_some (line_of line)
+
+-- an empty line says nothing, and is taken too
+abbrev pub is_fit : List ℕ → Bool
+is_fit [] = true
+is_fit (b ∷ bs) = is_told (b ∷ bs)
+
+-- a line can't be taken: it is too long, or can't be read
+abbrev pub is_wrong : Front → Bool
+is_wrong Waiting = false
+is_wrong Overlong = true
+is_wrong (Whole line rest) = not (is_fit line)
+
+-- there is no whole line
+abbrev pub is_waiting : Front → Bool
+is_waiting Waiting = true
+is_waiting Overlong = false
+is_waiting (Whole line rest) = false
+
+-- a line that tells nothing, as an empty one, is no line of a turn
+abbrev pub line_or_none : List ℕ → Option (List ℕ)
+line_or_none line = if is_told line then Some line else None
+
+-- the line that tells that the switch with an id is bad
+abbrev pub bad_line : List ℕ → List ℕ
+bad_line id = codes "0 contact " ++ id ++ codes " 3"
+
+-- it, where it can be read, and is no longer than another
+abbrev pub bad_or_none : List ℕ → Option (List ℕ)
+bad_or_none id =
+    if nat_le (length (bad_line id)) 256 then line_or_none (bad_line id) else None
+
+-- a line, if there is one
+abbrev pub said : Bool → List ℕ → Option (List ℕ)
+said is_line line = if is_line then Some line else None

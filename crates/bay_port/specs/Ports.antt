@@ -1,0 +1,44 @@
+-- What is kept of the process, and the line that a turn takes of it.
+use Rattle.std.specs.Prelude.{ℕ, List, [], Option, None, Some, option_and_then}
+use Rattle.bay_device.specs.Device.{State}
+use Rattle.bay_lines.specs.Fronts.{Front, Waiting, Overlong, Whole, front}
+use Rattle.bay_port.specs.Fit.{bad_or_none, line_or_none}
+use Rattle.bay_port.specs.Sound.{first_sound}
+use Rattle.bay_port.specs.declared.port.Standing.{Standing}
+use Rattle.bay_port.specs.declared.port.Standing.TheVariants.{Away, Leaving, Here}
+
+-- how the process stands, what it has sent that no turn has taken, and what is still to be told to
+-- it
+pub record PortData : Type 0 where
+  pub standing : Standing
+  pub kept : List ℕ
+  pub queue : List ℕ
+
+-- a port with nothing in it
+abbrev pub bare : Standing → PortData
+bare standing = record { standing = standing; kept = []; queue = [] }
+
+-- the line of a turn, if there is one, and the port behind it
+pub record Taken : Type 0 where
+  pub line : Option (List ℕ)
+  pub port : PortData
+
+abbrev pub nothing_of : PortData → Taken
+nothing_of p = record { line = None; port = p }
+
+-- the line in front is taken
+abbrev pub taken_front : Front → PortData → Taken
+taken_front Waiting p = nothing_of p
+taken_front Overlong p = nothing_of p
+taken_front (Whole line rest) p =
+    record { line = line_or_none line; port = record p { kept = rest } }
+
+abbrev pub taken_as : Standing → State → PortData → Taken
+taken_as Away s p = nothing_of p
+taken_as Leaving s p = record { line = option_and_then bad_or_none (first_sound s); port = p }
+taken_as Here s p = taken_front (front p.kept) p
+
+-- The line that the port has for a turn: of a process that is there the next that it has sent; of
+-- one that has gone, that the first switch is bad which is not.
+abbrev pub taken_line : State → PortData → Taken
+taken_line s p = taken_as p.standing s p

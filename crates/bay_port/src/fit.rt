@@ -1,0 +1,92 @@
+// The line that a turn can take.
+ghost use Rattle.std.specs.Prelude.{◌≡◌, ◌≤◌, length, option_and_then, option_map};
+ghost use Rattle.bay_lines.specs.Fronts.{front};
+ghost use Rattle.bay_port.specs.Fit.{bad_or_none, is_waiting, is_wrong, line_or_none, said};
+ghost use Rattle.bay_port.specs.Fit as spec;
+
+use bay_lines::front::{Found, line_in_front};
+use bay_lines::kept::Kept;
+use bay_trace::trace::read_process_line;
+
+/// How many octets a line has at most.
+const LINE: usize = 256;
+
+/// A line of a turn.
+pub type Line = Kept<LINE>;
+
+/// Whether a line tells of a contact, an input or a measure.
+fn is_told(line: &[u8]) -> bool
+    ensures { result ≡ spec.is_told line.now }
+{
+    read_process_line(line).is_some()
+}
+
+/// Whether a line is empty, or tells of a contact, an input or a measure.
+fn is_fit(line: &[u8]) -> bool
+    ensures { result ≡ spec.is_fit line.now }
+{
+    line.is_empty() || is_told(line)
+}
+
+/// Puts a line of a turn, and answers whether it tells anything.
+pub fn put_line(line: &mut Line, text: &[u8]) -> bool
+    requires { length text.now ≤ 256 }
+    ensures { said result line.new ≡ line_or_none text.now }
+{
+    if !is_told(text) {
+        return false;
+    }
+    line.clear();
+    line.put(text)
+}
+
+/// Puts the line that tells that the switch with this id is bad, and answers whether it can be
+/// taken.
+fn put_bad(line: &mut Line, id: &str) -> bool
+    ensures { said result line.new ≡ bad_or_none id.now }
+{
+    line.clear();
+    if !line.put(b"0 contact ") {
+        return false;
+    }
+    if !line.put(id.as_bytes()) {
+        return false;
+    }
+    if !line.put(b" 3") {
+        return false;
+    }
+    is_told(line.as_slice())
+}
+
+/// The same, if there is such a switch.
+pub fn put_bad_line(line: &mut Line, id: Option<&str>) -> bool
+    ensures { said result line.new
+        ≡ option_and_then bad_or_none (option_map (λ s. s.now) id.entry) }
+{
+    match id {
+        Some(id) => put_bad(line, id),
+        None => false,
+    }
+}
+
+/// Whether the line in front can't be taken.
+pub fn is_wrong_in_front(octets: &[u8]) -> bool
+    ensures { result ≡ is_wrong (front octets.now) }
+{
+    match line_in_front(octets) {
+        Found::Waiting => false,
+        Found::Overlong => true,
+        Found::Whole { line, .. } => !is_fit(&octets[..line]),
+    }
+}
+
+/// Whether there is no whole line yet.
+pub fn is_waiting_in_front(octets: &[u8]) -> bool
+    ensures { result ≡ is_waiting (front octets.now) }
+{
+    match line_in_front(octets) {
+        Found::Waiting => true,
+        Found::Overlong => false,
+        Found::Whole { .. } => false,
+    }
+}

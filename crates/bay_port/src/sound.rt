@@ -1,0 +1,68 @@
+// Which switches are bad, as their controls tell it.
+ghost use Rattle.std.specs.Prelude.{◌≡◌, ◌+◌, [], codes, option_copied, option_map};
+ghost use Rattle.bay_nodes.specs.Names.{position_names};
+ghost use Rattle.bay_nodes.specs.Node.{node_name};
+ghost use Rattle.bay_tree.specs.declared.leaf.Dbpos.TheVariants.{Bad};
+ghost use Rattle.bay_process.specs.Values.{is_position};
+ghost use Rattle.bay_port.specs.Sound as spec;
+
+use arrayvec::ArrayString;
+use bay_device::device::Device;
+use bay_nodes::names::CONTROL;
+use bay_nodes::paths::POSITION;
+use bay_tree::leaf::{Dbpos, Leaf};
+use bay_tree::tree::Tree;
+use itoa::Buffer;
+
+/// How long a name is at most.
+const ROOM: usize = 64;
+
+/// The name of the position that the control with a number tells.
+fn name_of(number: usize) -> ArrayString<ROOM>
+    ensures { result.bytes ≡ (position_names (node_name (codes "CSWI") number)).value }
+{
+    let mut name = ArrayString::new();
+    let _ = name.try_push_str(CONTROL);
+    let _ = name.try_push_str(Buffer::new().format(number));
+    let _ = name.try_push_str(POSITION.value);
+    name
+}
+
+/// Whether a value is the position bad.
+fn is_bad_leaf(leaf: Option<&Leaf>) -> bool
+    ensures { result ≡ is_position Bad (option_copied leaf.entry) }
+{
+    match leaf {
+        Some(Leaf::Dbpos(position)) => *position == Dbpos::Bad,
+        _ => false,
+    }
+}
+
+/// Whether the position that stands at a name is bad.
+fn is_bad_at(tree: &Tree, name: &str) -> bool
+    ensures { result ≡ spec.is_bad_at name.now tree.now }
+{
+    match tree.find(name) {
+        Ok(handle) => is_bad_leaf(tree.get(handle)),
+        Err(_) => false,
+    }
+}
+
+/// Whether the control with a number tells that its switch is bad.
+fn tells_bad(tree: &Tree, number: usize) -> bool
+    ensures { result ≡ spec.tells_bad number tree.now }
+{
+    is_bad_at(tree, name_of(number).as_str())
+}
+
+/// The id of the first switch that is not bad.
+pub fn first_sound(device: &Device) -> Option<&str>
+    ensures { option_map (λ id. id.now) result ≡ spec.first_sound device.now }
+{
+    for place in 0..device.switch_count() {
+        if !tells_bad(device.tree(), place + 1) {
+            return device.id(place);
+        }
+    }
+    None
+}

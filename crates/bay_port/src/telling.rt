@@ -1,0 +1,107 @@
+// What a process is told of a turn is put into its queue.
+ghost use Rattle.std.specs.Prelude.{◌≡◌};
+ghost use Rattle.bay_report.specs.Lines.{command_line, command_text, commands_text, refusal_line};
+ghost use Rattle.bay_port.specs.Telling.{PutsWhole, refusal_text, text_of, told_text};
+
+use bay_device::device::Device;
+use bay_lines::kept::Kept;
+use bay_serve::told::Turn;
+use bay_services::answer::Command;
+use itoa::Buffer;
+
+/// How many octets wait to be told at most.
+pub const QUEUE: usize = 65_536;
+
+/// What is still to be told.
+pub type Queue = Kept<QUEUE>;
+
+/// Puts the parts of a text, where there is room for all of them.
+fn put_parts(queue: &mut Queue, parts: &[&[u8]]) -> bool
+    ensures { PutsWhole queue.old (text_of parts.now) queue.new result }
+{
+    let _ = queue.as_slice();
+    for part in parts {
+        if !queue.put(part) {
+            return false;
+        }
+    }
+    true
+}
+
+/// Puts the line of a refusal with this number.
+fn put_refusal_line(queue: &mut Queue, moment: u64, code: u8) -> bool
+    ensures { PutsWhole queue.old (refusal_line moment code) queue.new result }
+{
+    let mut moments = Buffer::new();
+    let mut codes = Buffer::new();
+    put_parts(
+        queue,
+        &[
+            moments.format(moment).as_bytes(),
+            b" refused ",
+            codes.format(code).as_bytes(),
+            b"\n",
+        ],
+    )
+}
+
+/// Puts the line of a refusal, if there was one.
+fn put_refusal(queue: &mut Queue, moment: u64, refused: Option<u8>) -> bool
+    ensures { PutsWhole queue.old (refusal_text moment refused) queue.new result }
+{
+    match refused {
+        Some(code) => put_refusal_line(queue, moment, code),
+        None => put_parts(queue, &[]),
+    }
+}
+
+/// Puts the line of a command to the switch with this id.
+fn put_command_line(queue: &mut Queue, moment: u64, id: &str, on: bool) -> bool
+    ensures { PutsWhole queue.old (command_line moment id.now on) queue.new result }
+{
+    let order: &[u8] = if on { b" on\n" } else { b" off\n" };
+    let mut moments = Buffer::new();
+    put_parts(
+        queue,
+        &[
+            moments.format(moment).as_bytes(),
+            b" command ",
+            id.as_bytes(),
+            order,
+        ],
+    )
+}
+
+/// Puts the line of a command.
+fn put_command(queue: &mut Queue, device: &Device, moment: u64, command: Command) -> bool
+    ensures { PutsWhole queue.old (command_text moment device.now command) queue.new result }
+{
+    match device.id(command.switch) {
+        Some(id) => put_command_line(queue, moment, id, command.on),
+        None => put_parts(queue, &[]),
+    }
+}
+
+/// Puts the lines of all commands.
+fn put_commands(queue: &mut Queue, device: &Device, moment: u64, commands: &[Command]) -> bool
+    ensures { PutsWhole queue.old (commands_text moment device.now commands.now) queue.new result }
+{
+    let _ = queue.as_slice();
+    for command in commands {
+        if !put_command(queue, device, moment, *command) {
+            return false;
+        }
+    }
+    true
+}
+
+/// Puts what the process is told of a turn, by the device after it, where there is room for all of
+/// it; and answers whether there was.
+pub fn put_told(queue: &mut Queue, device: &Device, moment: u64, turn: &Turn) -> bool
+    ensures { PutsWhole queue.old (told_text moment turn.now device.now) queue.new result }
+{
+    if !put_refusal(queue, moment, turn.refused) {
+        return false;
+    }
+    put_commands(queue, device, moment, turn.commands.as_slice())
+}
