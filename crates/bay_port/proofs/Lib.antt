@@ -1,2 +1,4 @@
+pub mod AttendLemmas
+pub mod FitLemmas
 pub mod SoundLemmas
 pub mod TellingLemmas

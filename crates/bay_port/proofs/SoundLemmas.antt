@@ -1,5 +1,5 @@
 -- Lemmas on switches that are bad.
-use Rattle.std.proofs.Common.{◌≡◌, ◌≢◌, ℕ, Bool, true, false, cond, All, List, [], ◌∷◌, find, Option, None, Some, Result, Err, ok_or, option_and_then, refl, ap, ◌∙◌}
+use Rattle.std.proofs.Common.{◌≡◌, ◌≢◌, ◌<◌, ◌+◌, ℕ, zero, suc, length, drop, slice_get, option_map, if◌then◌else◌, sym, arith, Bool, true, false, cond, All, List, [], ◌∷◌, find, Option, None, Some, Result, Err, ok_or, option_and_then, refl, ap, ◌∙◌}
 use Rattle.std.proofs.lemmas.Slice.Eq.{bytes_eq-Decides}
 use Rattle.std.proofs.lemmas.List.Elements.{All-head, All-tail}
 use Rattle.std.specs.Str.{bytes_eq}
@@ -7,6 +7,8 @@ use Rattle.bay_tree.specs.Rows.{leaf_of, place_of}
 use Rattle.bay_tree.specs.declared.fault.TreeFault.{TreeFault}
 use Rattle.bay_tree.specs.declared.fault.TreeFault.TheVariants.{NoSuchName}
 use Rattle.bay_tree.specs.declared.row.Row.{Row}
+use Rattle.bay_nodes.specs.declared.switch.Switch.{Switch}
+use Rattle.bay_port.specs.Sound.{sound_from, tells_bad}
 
 other_text : (xs ys : List ℕ) → xs ≢ ys → bytes_eq xs ys ≡ false
 other_text xs ys other = by_test (bytes_eq xs ys) refl
@@ -34,3 +36,17 @@ not-found name rows r fault failed is none =
     by_place : (o : Option ℕ) → r ≡ ok_or o NoSuchName → r ≡ Err NoSuchName
     by_place None e = e
     by_place (Some k) e = absurd cc
+
+-- the first switch that is not bad, from a place on
+pub sound-turn : (rows : List Row) (j k : ℕ) (switches : List Switch) → j < length switches
+    → sound_from rows k (drop j switches)
+    ≡ (if tells_bad (k + 1) rows then sound_from rows (k + 1) (drop (j + 1) switches)
+    else option_map (λ (s : Switch). s.id) (slice_get switches j))
+sound-turn rows j k [] lt = absurd (omega arith)
+sound-turn rows zero k (switch ∷ switches) lt = refl
+sound-turn rows (suc j) k (switch ∷ switches) lt =
+    let next : suc j + 1 ≡ suc (j + 1) = omega arith in
+    sound-turn rows j k switches (omega arith)
+    ∙ ap (λ n. if tells_bad (k + 1) rows
+    then sound_from rows (k + 1) (drop n (switch ∷ switches))
+    else option_map (λ (s : Switch). s.id) (slice_get switches j)) (sym next)

@@ -41,8 +41,11 @@ pub puts-nothing : (old text : List ℕ) → length old ≤ 65536 → text ≡ [
     → PutsWhole old text old true
 puts-nothing old text within none =
     let n : length text ≡ 0 = ap length none in
-    record { fits = grind (arith, nat_tests); after = λ e. sym (append-nil old)
-        ∙ ap (λ t. old ++ t) (sym none) }
+    record {
+      fits = grind (arith, nat_tests);
+      after = λ e. sym (append-nil old)
+          ∙ ap (λ t. old ++ t) (sym none);
+    }
 
 -- the next part
 pub text-turn : (parts : List (Bor (List ℕ))) (k : ℕ) (d : Bor (List ℕ)) → k < length parts

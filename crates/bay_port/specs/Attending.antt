@@ -1,6 +1,6 @@
 -- What is done with the connection of the process behind a turn: what it is told, and what it
 -- sends.
-use Rattle.std.specs.Prelude.{◌≡◌, ℕ, Bool, true, false, List, [], ◌∷◌, ◌++◌, drop, is_none, Option, None, Some, Result, Ok, Err, if◌then◌else◌, ⊥}
+use Rattle.std.specs.Prelude.{◌≡◌, ℕ, Bool, true, false, List, [], ◌∷◌, ◌++◌, drop, is_none, Option, None, Some, Result, Ok, Err, if◌then◌else◌}
 use Rattle.bay_device.specs.Device.{State}
 use Rattle.bay_lines.specs.Fronts.{front}
 use Rattle.bay_port.specs.Fit.{is_waiting, is_wrong}

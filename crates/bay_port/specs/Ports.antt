@@ -1,5 +1,5 @@
 -- What is kept of the process, and the line that a turn takes of it.
-use Rattle.std.specs.Prelude.{ℕ, List, [], Option, None, Some, option_and_then}
+use Rattle.std.specs.Prelude.{ℕ, Bool, true, false, List, [], Option, None, option_and_then}
 use Rattle.bay_device.specs.Device.{State}
 use Rattle.bay_lines.specs.Fronts.{Front, Waiting, Overlong, Whole, front}
 use Rattle.bay_port.specs.Fit.{bad_or_none, line_or_none}
@@ -17,6 +17,12 @@ pub record PortData : Type 0 where
 -- a port with nothing in it
 abbrev pub bare : Standing → PortData
 bare standing = record { standing = standing; kept = []; queue = [] }
+
+-- it has gone, and there may be switches that are not bad yet
+abbrev pub is_leaving : Standing → Bool
+is_leaving Away = false
+is_leaving Leaving = true
+is_leaving Here = false
 
 -- the line of a turn, if there is one, and the port behind it
 pub record Taken : Type 0 where

@@ -4,15 +4,15 @@ ghost use Rattle.bay_lines.specs.Fronts.{front};
 ghost use Rattle.bay_port.specs.Fit.{bad_or_none, is_waiting, is_wrong, line_or_none, said};
 ghost use Rattle.bay_port.specs.Fit as spec;
 
+use arrayvec::ArrayVec;
 use bay_lines::front::{Found, line_in_front};
-use bay_lines::kept::Kept;
 use bay_trace::trace::read_process_line;
 
 /// How many octets a line has at most.
 const LINE: usize = 256;
 
 /// A line of a turn.
-pub type Line = Kept<LINE>;
+pub type Line = ArrayVec<u8, LINE>;
 
 /// Whether a line tells of a contact, an input or a measure.
 fn is_told(line: &[u8]) -> bool
@@ -31,28 +31,26 @@ fn is_fit(line: &[u8]) -> bool
 /// Puts a line of a turn, and answers whether it tells anything.
 pub fn put_line(line: &mut Line, text: &[u8]) -> bool
     requires { length text.now ≤ 256 }
-    ensures { said result line.new ≡ line_or_none text.now }
+    ensures { said result line.new.items ≡ line_or_none text.now }
 {
     if !is_told(text) {
         return false;
     }
     line.clear();
-    line.put(text)
+    line.try_extend_from_slice(text).is_ok()
 }
 
 /// Puts the line that tells that the switch with this id is bad, and answers whether it can be
 /// taken.
 fn put_bad(line: &mut Line, id: &str) -> bool
-    ensures { said result line.new ≡ bad_or_none id.now }
+    ensures { said result line.new.items ≡ bad_or_none id.now }
 {
     line.clear();
-    if !line.put(b"0 contact ") {
+    let _ = line.try_extend_from_slice(b"0 contact ");
+    if line.try_extend_from_slice(id.as_bytes()).is_err() {
         return false;
     }
-    if !line.put(id.as_bytes()) {
-        return false;
-    }
-    if !line.put(b" 3") {
+    if line.try_extend_from_slice(b" 3").is_err() {
         return false;
     }
     is_told(line.as_slice())
@@ -60,7 +58,7 @@ fn put_bad(line: &mut Line, id: &str) -> bool
 
 /// The same, if there is such a switch.
 pub fn put_bad_line(line: &mut Line, id: Option<&str>) -> bool
-    ensures { said result line.new
+    ensures { said result line.new.items
         ≡ option_and_then bad_or_none (option_map (λ s. s.now) id.entry) }
 {
     match id {

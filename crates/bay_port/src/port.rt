@@ -5,6 +5,7 @@ ghost use Rattle.bay_port.specs.Attending.{Does, Leads, checked, offered, read_b
 ghost use Rattle.bay_port.specs.Ports.{bare, taken_front, taken_line};
 ghost use Rattle.bay_port.specs.Fit.{said};
 ghost use Rattle.bay_lines.specs.Fronts.{front};
+ghost use Rattle.bay_port.specs.Ports as spec;
 ghost use Rattle.bay_port.specs.Telling.{told_text};
 
 use crate::fit::{Line, is_waiting_in_front, is_wrong_in_front, put_bad_line, put_line};
@@ -77,6 +78,13 @@ impl Port {
         self.standing
     }
 
+    /// Whether the process has gone, and there may be switches that are not bad yet.
+    pub fn is_leaving(&self) -> bool
+        ensures { result ≡ spec.is_leaving self.now.standing }
+    {
+        self.standing == Standing::Leaving
+    }
+
     /// How many octets are kept, and how many wait to be told.
     pub fn sizes(&self) -> (usize, usize) {
         (self.kept.as_slice().len(), self.queue.as_slice().len())
@@ -93,7 +101,7 @@ impl Port {
 
     /// The line that stands in front of what was sent, if there is one.
     fn take_front(&mut self, line: &mut Line) -> bool
-        ensures line { said result line.new
+        ensures line { said result line.new.items
             ≡ (taken_front (front self.old.kept) self.old).line }
         ensures port { self.new ≡ (taken_front (front self.old.kept) self.old).port }
     {
@@ -110,7 +118,7 @@ impl Port {
 
     /// Takes the line that the port has for a turn, and answers whether there is one.
     pub fn take_line(&mut self, device: &Device, line: &mut Line) -> bool
-        ensures line { said result line.new ≡ (taken_line device.now self.old).line }
+        ensures line { said result line.new.items ≡ (taken_line device.now self.old).line }
         ensures port { self.new ≡ (taken_line device.now self.old).port }
     {
         match self.standing {
