@@ -163,10 +163,10 @@ module _ {F L H R W : Type 0} (reads : FileReads F)
   DoesTask Replay old new answer =
       Prints contents (IsReplay (remaining old.reader.inner) new.reader.has_failed) old.writer
       new.writer answer × (new.files ≡ old.files) × (new.host ≡ old.host)
-  DoesTask (Serve bay program port turns trace) old new answer =
+  DoesTask (Serve bay program port turns trace process) old new answer =
       ServesFiles step acts contents reads old.files
       (record { bay = bay; form = form_of program; program = name_of program; trace = trace })
-      (record { port = port; turns = turns }) old.host new.host old.writer new.writer answer
+      (record { port = port; turns = turns; process = process }) old.host new.host old.writer new.writer answer
       × (new.files ≡ old.files) × (new.reader ≡ old.reader)
 
   -- The words ask for a task, and it is done.

@@ -162,6 +162,7 @@ fn do_task<F: FileSystem, L: Link + Drop, H: Host<L>, R: Read, W: Write>(
             port,
             turns,
             trace,
+            process,
         } => {
             let (form, program) = form_of(program);
             let named = Named {
@@ -170,7 +171,12 @@ fn do_task<F: FileSystem, L: Link + Drop, H: Host<L>, R: Read, W: Write>(
                 program,
                 trace,
             };
-            serve(alloc, named, files, host, Numbers { port, turns }, writer)
+            let numbers = Numbers {
+                port,
+                turns,
+                process,
+            };
+            serve(alloc, named, files, host, numbers, writer)
         }
         Task::Compile { bay, logic, out } => compile(alloc, bay, logic, out, files, writer),
     }
@@ -178,7 +184,7 @@ fn do_task<F: FileSystem, L: Link + Drop, H: Host<L>, R: Read, W: Write>(
 
 /// Does what the words after the program's name ask for. A check and a compilation read files by
 /// their names, a replay what the reader has, and a compilation writes a file; serving reads files,
-/// and asks the host for a port and the time. What is printed goes to the writer.
+/// and asks the host for ports and the time. What is printed goes to the writer.
 pub fn obey<F: FileSystem, L: Link + Drop, H: Host<L>, R: Read, W: Write>(
     alloc: Global,
     words: &[&str],

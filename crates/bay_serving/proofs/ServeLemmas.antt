@@ -1,5 +1,5 @@
 -- Lemmas on serving, turn by turn.
-use Rattle.std.proofs.Common.{◌≡◌, ◌≢◌, ◌⊎◌, ℕ, suc, ◌+◌, ◌==◌, Bool, true, false, IsErr, MatchBool, List, ◌∷◌, length, drop, slice_get, Option, Result, Ok, Err, inl, inr, refl, sym, ap, subst, ◌∙◌, arith, []}
+use Rattle.std.proofs.Common.{◌≡◌, ◌≢◌, ◌⊎◌, ℕ, suc, ◌+◌, ◌==◌, Bool, true, false, IsErr, MatchBool, List, ◌∷◌, length, drop, slice_get, Option, None, Some, Result, Ok, Err, inl, inr, refl, sym, ap, subst, ◌∙◌, arith, []}
 use Rattle.std.proofs.lemmas.Bool.Decides.{nat_tests}
 use Rattle.bay_device.specs.Device.{State}
 use Rattle.bay_device.specs.Report.{IsReport}
@@ -16,7 +16,8 @@ use Rattle.bay_serving.specs.Serve.{ServesDevice}
 use Rattle.bay_report.specs.declared.load.Form.{Form}
 use Rattle.bay_serving.specs.declared.serve.Numbers.{Numbers}
 use Rattle.bay_report.specs.TextLines.{CutsLine, lines_of}
-use Rattle.bay_serving.specs.ServeReport.{MayPause, Serving, ServesTurns, TellsTurn, TurnFails, TurnGoes, text_of_next, told_lines}
+use Rattle.bay_serving.specs.ServeReport.{AfterTurn, Hearing, Hears, MayPause, Serving, ServesTurns, TellsNews, TellsTurn, TurnFails, TurnGoes, chosen, from_port, is_gone, text_of_next, told_lines, with_process}
+use Rattle.bay_port.specs.declared.news.News.{News}
 use Rattle.bay_serving.specs.Serving.{TriesTurn}
 use Rattle.bay_serving.specs.TurnLines.{is_quiet, turn_text}
 use Rattle.bay_serving.specs.declared.serving.Tried.{Tried}
@@ -93,24 +94,82 @@ module _ {L B : Type 0} (below : B → L) (does : L → Call → L → Type 0) (
     memory = s.memory;
   }
 
+-- ---- the line of a turn
+
+-- where there is no line the list is empty
+pub no-line : {T : Type 0} (lines : List T) → slice_get lines 0 ≡ None → drop 1 lines ≡ lines
+no-line [] e = refl
+no-line (line ∷ lines) e = absurd cc
+
+module _ {L : Type 0} (s : State) (lines : List (ℕ × List ℕ)) (process : Option (Hearing L)) where
+  -- of a process that has gone its own line comes first
+  pub chosen-gone : is_gone process ≡ true → chosen s lines process ≡ from_port s lines process
+  chosen-gone e = rw e refl
+
+  -- and else the next of the trace
+  pub chosen-traced : (line : ℕ × List ℕ) → is_gone process ≡ false
+      → slice_get lines 0 ≡ Some line
+      → chosen s lines process
+      ≡ record { line = Some line; lines = drop 1 lines; process = process }
+  chosen-traced line e is = rw (e, is) refl
+
+  -- and behind them that of the process
+  pub chosen-heard : is_gone process ≡ false → slice_get lines 0 ≡ None
+      → chosen s lines process ≡ from_port s lines process
+  chosen-heard e is = rw (e, is) refl
+
+-- the line of the port and what it leaves go by no lines
+pub from_port-line : {L : Type 0} (s : State) (lines : List (ℕ × List ℕ))
+    (process : Option (Hearing L)) → (from_port s lines process).line ≡ (from_port s [] process).line
+from_port-line s lines None = refl
+from_port-line s lines (Some p) = refl
+
+pub from_port-lines : {L : Type 0} (s : State) (lines : List (ℕ × List ℕ))
+    (process : Option (Hearing L)) → (from_port s lines process).lines ≡ lines
+from_port-lines s lines None = refl
+from_port-lines s lines (Some p) = refl
+
+pub from_port-process : {L : Type 0} (s : State) (lines : List (ℕ × List ℕ))
+    (process : Option (Hearing L))
+    → (from_port s lines process).process ≡ (from_port s [] process).process
+from_port-process s lines None = refl
+from_port-process s lines (Some p) = refl
+
 -- ---- one turn
 
 module _ {L B H W : Type 0} (below : B → L) (does : L → Call → L → Type 0) (failures : L → ℕ)
     (acts : H → HostCall L → H → Type 0) (contents : W → Option (List ℕ)) where
-  -- a turn was done over the link that has another below it, and what it tells was printed
+  -- a turn was done over the link that has another below it, what it tells was printed, and the
+  -- process was attended to
   pub turn-goes : (line : Option (ℕ × List ℕ)) (text : Option (List ℕ)) (clock now : ℕ)
       (link-before link-after : B) (before after : Held) (host-before host-after : H)
-      (old new : Writing W) (turn : Turn) (s : State) (r : Result ℕ WriteFault)
+      (process-before process-after : Option (Hearing L))
+      (old between new : Writing W) (turn : Turn) (s : State) (r answer : Result ℕ WriteFault)
       → text ≡ text_of_next line → now ≡ moment_at clock before → s ≡ after.device
       → acts host-before (Tells clock) host-after
       → Serves (Called (λ o call n. does (below o) call (below n)) (λ b. failures (below b)))
       link-before link-after (moment_at clock before) (line_in text) before after turn
-      → TellsTurn contents now turn s old new r
+      → TellsTurn contents now turn s old between r
+      → AfterTurn r
+      ((process-after ≡ process-before) × (new ≡ between) × (answer ≡ r))
+      (Hears (Called does failures) contents now turn s process-before process-after between new
+      answer)
       → TurnGoes (Called does failures) acts contents line
-      (record { link = below link-before; held = before; host = host-before }) old
-      (record { link = below link-after; held = after; host = host-after }) new r
-  turn-goes line text clock now link-before link-after before after host-before host-after old new
-      turn s r same is whole told serves tells = record {
+      (record {
+        link = below link-before;
+        held = before;
+        host = host-before;
+        process = process-before;
+      }) old
+      (record {
+        link = below link-after;
+        held = after;
+        host = host-after;
+        process = process-after;
+      }) new answer
+  turn-goes line text clock now link-before link-after before after host-before host-after
+      process-before process-after old between new turn s r answer same is whole told serves tells
+      hears = record {
         clock = clock;
         told = told;
         turn = turn;
@@ -119,13 +178,25 @@ module _ {L B H W : Type 0} (below : B → L) (does : L → Call → L → Type 
             (moment_at clock before) (line_in t) before after turn) same
             (serves-below below does failures link-before link-after (moment_at clock before)
             (line_in text) before after turn serves);
+        between = between;
+        outcome = r;
         printed =
-            subst (λ m. TellsTurn contents m turn after.device old new r) is
-            (subst (λ d. TellsTurn contents now turn d old new r) whole tells);
+            subst (λ m. TellsTurn contents m turn after.device old between r) is
+            (subst (λ d. TellsTurn contents now turn d old between r) whole tells);
+        hears =
+            subst (λ m. AfterTurn r
+            ((process-after ≡ process-before) × (new ≡ between) × (answer ≡ r))
+            (Hears (Called does failures) contents m turn after.device process-before process-after
+            between new answer)) is
+            (subst (λ d. AfterTurn r
+            ((process-after ≡ process-before) × (new ≡ between) × (answer ≡ r))
+            (Hears (Called does failures) contents now turn d process-before process-after between
+            new answer)) whole hears);
       }
 
 module _ {L H W : Type 0} (step : L → Call → L → Type 0) (acts : H → HostCall L → H → Type 0)
     (contents : W → Option (List ℕ)) where
+  -- which fault it is makes no difference
   tells-cut : (now : ℕ) (turn : Turn) (s : State) (old new : Writing W) (one other : WriteFault)
       → TellsTurn contents now turn s old new (Err one)
       → TellsTurn contents now turn s old new (Err other)
@@ -139,19 +210,66 @@ module _ {L H W : Type 0} (step : L → Call → L → Type 0) (acts : H → Hos
       by_quiet true stays = let e = stays.1 in absurd cc
       by_quiet false prints = prints
 
+  news-cut : (now : ℕ) (news : Option News) (old new : Writing W) (one other : WriteFault)
+      → TellsNews contents now news old new (Err one)
+      → TellsNews contents now news old new (Err other)
+  news-cut now None old new one other stays = let e = stays.1 in absurd cc
+  news-cut now (Some news) old new one other prints = prints
+
+  hears-cut : (now : ℕ) (turn : Turn) (s : State) (before after : Option (Hearing L))
+      (old new : Writing W) (one other : WriteFault)
+      → Hears step contents now turn s before after old new (Err one)
+      → Hears step contents now turn s before after old new (Err other)
+  hears-cut now turn s None None old new one other stays = let e = stays.1 in absurd cc
+  hears-cut now turn s None (Some after) old new one other h = absurd h
+  hears-cut now turn s (Some before) None old new one other h = absurd h
+  hears-cut now turn s (Some before) (Some after) old new one other h = record {
+    news = h.news;
+    attends = h.attends;
+    printed = news-cut now h.news old new one other h.printed;
+  }
+
   goes-cut : (line : Option (ℕ × List ℕ)) (before : Serving L H) (old : Writing W)
       (after : Serving L H) (new : Writing W) (one other : WriteFault)
       → TurnGoes step acts contents line before old after new (Err one)
       → TurnGoes step acts contents line before old after new (Err other)
-  goes-cut line before old after new one other goes = record {
-    clock = goes.clock;
-    told = goes.told;
-    turn = goes.turn;
-    serves = goes.serves;
-    printed =
-        tells-cut (moment_at goes.clock before.held) goes.turn after.held.device old new one other
-        goes.printed;
-  }
+  goes-cut line before old after new one other goes =
+      by_outcome goes.outcome goes.printed goes.hears
+    where
+      now : ℕ
+      now = moment_at goes.clock before.held
+
+      by_outcome : (r : Result ℕ WriteFault)
+          → TellsTurn contents now goes.turn after.held.device old goes.between r
+          → AfterTurn r
+          ((after.process ≡ before.process) × (new ≡ goes.between)
+          × (◌≡◌ {A = Result ℕ WriteFault} (Err one) r))
+          (Hears step contents now goes.turn after.held.device before.process after.process
+          goes.between new (Err one))
+          → TurnGoes step acts contents line before old after new (Err other)
+      by_outcome (Ok status) printed hears = record {
+        clock = goes.clock;
+        told = goes.told;
+        turn = goes.turn;
+        serves = goes.serves;
+        between = goes.between;
+        outcome = Ok status;
+        printed = printed;
+        hears =
+            hears-cut now goes.turn after.held.device before.process after.process goes.between new
+            one other hears;
+      }
+      by_outcome (Err fault) printed hears = record {
+        clock = goes.clock;
+        told = goes.told;
+        turn = goes.turn;
+        serves = goes.serves;
+        between = goes.between;
+        outcome = Err other;
+        printed =
+            tells-cut now goes.turn after.held.device old goes.between fault other printed;
+        hears = (hears.0, hears.1, refl);
+      }
 
   -- its lines could not be written
   pub tried-cut : (line : Option (ℕ × List ℕ)) (before : Serving L H) (old : Writing W)
@@ -166,13 +284,14 @@ module _ {L H W : Type 0} (step : L → Call → L → Type 0) (acts : H → Hos
 module _ {L H W : Type 0} (step : L → Call → L → Type 0) (acts : H → HostCall L → H → Type 0)
     (contents : W → Option (List ℕ)) where
   -- there was a pause behind it, or none
-  pub may-pause : (link : L) (held : Held) (before after : H)
+  pub may-pause : (link : L) (held : Held) (process : Option (Hearing L)) (before after : H)
       → (after ≡ before) ⊎ acts before Pauses after
-      → MayPause acts (record { link = link; held = held; host = before })
-      (record { link = link; held = held; host = after })
-  may-pause link held before after (inl same) =
-      inl (ap (λ (h : H). record { link = link; held = held; host = h }) same)
-  may-pause link held before after (inr paused) = inr (paused, refl, refl)
+      → MayPause acts
+      (record { link = link; held = held; host = before; process = process })
+      (record { link = link; held = held; host = after; process = process })
+  may-pause link held process before after (inl same) =
+      inl (ap (λ (h : H). record { link = link; held = held; host = h; process = process }) same)
+  may-pause link held process before after (inr paused) = inr (paused, refl, refl, refl)
 
 -- ---- how far serving has come
 
@@ -192,89 +311,112 @@ module _ {L H W : Type 0} (step : L → Call → L → Type 0) (acts : H → Hos
 
   module _ (turns : ℕ) (lines : List (ℕ × List ℕ)) (before : Serving L H) (old : Writing W)
       (left more : ℕ) (rest : List (ℕ × List ℕ)) (here : Serving L H) (mid : Writing W)
-      (reached : Reached turns lines before old left rest here mid) where
-    -- one turn more was done
-    pub Reached-step : (after next : Serving L H) (new : Writing W) (status : ℕ) → left ≡ suc more
-        → TurnGoes step acts contents (slice_get rest 0) here mid after new (Ok status)
-        → MayPause acts after next
-        → Reached turns lines before old more (drop 1 rest) next new
-    Reached-step after next new status e goes pause =
-        record {
-          goes = λ host last answer s. reached.goes host last answer
-              (rw e (inr (after, new, Ok status, goes, (next, pause, s))));
-        }
+      (reached : Reached turns lines before old left rest here mid) (e : left ≡ suc more)
+      (line : Option (ℕ × List ℕ)) (lines-after : List (ℕ × List ℕ))
+      (process-after : Option (Hearing L))
+      (same : line ≡ (chosen here.held.device rest here.process).line)
+      (dropped : lines-after ≡ (chosen here.held.device rest here.process).lines)
+      (left-as : process-after ≡ (chosen here.held.device rest here.process).process) where
+    -- what is served as the turn begins
+    abbrev pub there : Serving L H
+    there = with_process process-after here
+
+    as-chosen : (after : Serving L H) (new : Writing W) (answer : Result ℕ WriteFault)
+        → TurnGoes step acts contents line there mid after new answer
+        → TurnGoes step acts contents (chosen here.held.device rest here.process).line
+        (with_process (chosen here.held.device rest here.process).process here) mid after new answer
+    as-chosen after new answer goes =
+        subst (λ l. TurnGoes step acts contents l
+        (with_process (chosen here.held.device rest here.process).process here) mid after new
+        answer) same
+        (subst (λ p. TurnGoes step acts contents line (with_process p here) mid after new answer)
+        left-as goes)
+
+    fails-chosen : (host : H) (new : Writing W) (answer : Result ℕ WriteFault)
+        → TurnFails step acts contents line there mid host new answer
+        → TurnFails step acts contents (chosen here.held.device rest here.process).line here mid
+        host new answer
+    fails-chosen host new answer fails =
+        subst (λ l. TurnFails step acts contents l here mid host new answer) same
+        (record {
+          clock = fails.clock;
+          told = fails.told;
+          fault = fails.fault;
+          is = fails.is;
+          printed = fails.printed;
+        })
 
     -- the next is not done
-    pub Reached-stop : (host : H) (new : Writing W) (answer : Result ℕ WriteFault) → left ≡ suc more
-        → TurnFails step acts contents (slice_get rest 0) here mid host new answer
+    Reached-stop : (host : H) (new : Writing W) (answer : Result ℕ WriteFault)
+        → TurnFails step acts contents line there mid host new answer
         → ServesTurns step acts contents turns lines before old host new answer
-    Reached-stop host new answer e fails = reached.goes host new answer (rw e (inl fails))
+    Reached-stop host new answer fails =
+        reached.goes host new answer (rw e (inl (fails-chosen host new answer fails)))
 
     -- the lines of the next can't be written
-    pub Reached-cut : (after : Serving L H) (new : Writing W) (fault : WriteFault) → left ≡ suc more
-        → TurnGoes step acts contents (slice_get rest 0) here mid after new (Err fault)
+    Reached-cut : (after : Serving L H) (new : Writing W) (fault : WriteFault)
+        → TurnGoes step acts contents line there mid after new (Err fault)
         → ServesTurns step acts contents turns lines before old after.host new (Err fault)
-    Reached-cut after new fault e goes =
+    Reached-cut after new fault goes =
         reached.goes after.host new (Err fault)
-        (rw e (inr (after, new, Err fault, goes, (refl, refl, refl))))
+        (rw e (inr (after, new, Err fault, as-chosen after new (Err fault) goes,
+        (refl, refl, refl))))
 
-    module _ (line : Option (ℕ × List ℕ)) (lines-after : List (ℕ × List ℕ))
-        (same : line ≡ slice_get rest 0) (dropped : lines-after ≡ drop 1 rest) (e : left ≡ suc more)
+    -- one turn was tried, and done
+    pub Reached-done : (after next : Serving L H) (new : Writing W) (t : Tried) (was_idle : Bool)
+        → t ≡ tried.Done was_idle → TriesTurn step acts contents line there mid after new (Ok t)
+        → MayPause acts after next
+        → Reached turns lines before old more lines-after next new
+    Reached-done after next new (tried.Done w) was_idle is goes pause =
+        record {
+          goes = λ host last answer s. reached.goes host last answer
+              (rw e (inr (after, new, Ok goes.0, as-chosen after new (Ok goes.0) goes.1,
+              (next, pause,
+              subst (λ ls. ServesTurns step acts contents more ls next new host last answer) dropped
+              s))));
+        }
+    Reached-done after next new (tried.Ends s) was_idle is fails pause = absurd cc
+
+    -- it was not done
+    pub Reached-ends : (after : Serving L H) (new : Writing W) (t : Tried) (status : ℕ)
+        → t ≡ tried.Ends status → TriesTurn step acts contents line there mid after new (Ok t)
+        → ServesTurns step acts contents turns lines before old after.host new (Ok status)
+    Reached-ends after new (tried.Done w) status is goes = absurd cc
+    Reached-ends after new (tried.Ends s) status is fails =
+        subst (λ n. ServesTurns step acts contents turns lines before old after.host new (Ok n))
+        (ap status-of is) (Reached-stop after.host new (Ok s) fails)
       where
-        -- one turn was tried, and done
-        pub Reached-done : (after next : Serving L H) (new : Writing W) (t : Tried)
-            (was_idle : Bool)
-            → t ≡ tried.Done was_idle → TriesTurn step acts contents line here mid after new (Ok t)
-            → MayPause acts after next
-            → Reached turns lines before old more lines-after next new
-        Reached-done after next new (tried.Done w) was_idle is goes pause =
-            subst (λ ls. Reached turns lines before old more ls next new) (sym dropped)
-            (Reached-step after next new goes.0 e
-            (subst (λ l. TurnGoes step acts contents l here mid after new (Ok goes.0)) same
-            goes.1) pause)
-        Reached-done after next new (tried.Ends s) was_idle is fails pause = absurd cc
+        status-of : Tried → ℕ
+        status-of (tried.Done w) = 0
+        status-of (tried.Ends n) = n
 
-        -- it was not done
-        pub Reached-ends : (after : Serving L H) (new : Writing W) (t : Tried) (status : ℕ)
-            → t ≡ tried.Ends status → TriesTurn step acts contents line here mid after new (Ok t)
-            → ServesTurns step acts contents turns lines before old after.host new (Ok status)
-        Reached-ends after new (tried.Done w) status is goes = absurd cc
-        Reached-ends after new (tried.Ends s) status is fails =
-            Reached-stop after.host new (Ok status) e
-            (subst (λ n. TurnFails step acts contents (slice_get rest 0) here mid after.host new
-            (Ok n)) (ap status-of is)
-            (subst (λ l. TurnFails step acts contents l here mid after.host new (Ok s)) same
-            fails))
-          where
-            status-of : Tried → ℕ
-            status-of (tried.Done w) = 0
-            status-of (tried.Ends n) = n
+    -- what is to be printed for it could not be written
+    pub Reached-fails : (after : Serving L H) (new : Writing W) (fault : WriteFault)
+        (r : Result ℕ WriteFault) → IsErr r
+        → TriesTurn step acts contents line there mid after new (Err fault)
+        → ServesTurns step acts contents turns lines before old after.host new r
+    Reached-fails after new fault (Ok x) is tries = absurd cc
+    Reached-fails after new fault (Err f) is (inl goes) =
+        Reached-cut after new f
+        (goes-cut step acts contents line there mid after new fault f goes)
+    Reached-fails after new fault (Err f) is (inr fails) =
+        Reached-stop after.host new (Err f)
+        (record {
+          clock = fails.clock;
+          told = fails.told;
+          fault = fails.fault;
+          is = fails.is;
+          printed = fails.printed;
+        })
 
-        -- what is to be printed for it could not be written
-        pub Reached-fails : (after : Serving L H) (new : Writing W) (fault : WriteFault)
-            (r : Result ℕ WriteFault) → IsErr r
-            → TriesTurn step acts contents line here mid after new (Err fault)
-            → ServesTurns step acts contents turns lines before old after.host new r
-        Reached-fails after new fault (Ok x) is tries = absurd cc
-        Reached-fails after new fault (Err f) is (inl goes) =
-            Reached-cut after new f e
-            (subst (λ l. TurnGoes step acts contents l here mid after new (Err f)) same
-            (goes-cut step acts contents line here mid after new fault f goes))
-        Reached-fails after new fault (Err f) is (inr fails) =
-            Reached-stop after.host new (Err f) e
-            (subst (λ l. TurnFails step acts contents l here mid after.host new (Err f)) same
-            (record {
-              clock = fails.clock;
-              told = fails.told;
-              fault = fails.fault;
-              is = fails.is;
-              printed = fails.printed;
-            }))
-
-    -- there is none left
-    pub Reached-end : left ≡ 0
-        → ServesTurns step acts contents turns lines before old here.host mid (Ok 0)
-    Reached-end e = reached.goes here.host mid (Ok 0) (rw e (refl, (refl, refl)))
+  -- there is none left
+  pub Reached-end : (turns : ℕ) (lines : List (ℕ × List ℕ)) (before : Serving L H)
+      (old : Writing W) (left : ℕ) (rest : List (ℕ × List ℕ)) (here : Serving L H)
+      (mid : Writing W)
+      → Reached turns lines before old left rest here mid → left ≡ 0
+      → ServesTurns step acts contents turns lines before old here.host mid (Ok 0)
+  Reached-end turns lines before old left rest here mid reached e =
+      reached.goes here.host mid (Ok 0) (rw e (refl, (refl, refl)))
 
 -- ---- what follows the line of a load that is served
 

@@ -14,7 +14,9 @@ use Rattle.bay_serving.specs.Host.{HostCall, Binds}
 use Rattle.bay_report.specs.Load.{LoadsTo}
 use Rattle.bay_report.specs.Report.{IsLast, Prints, Refuses, UnreadReport, report_text}
 use Rattle.bay_report.specs.TextLines.{lines_of}
-use Rattle.bay_serving.specs.ServeReport.{ServesTurns, told_lines}
+use Rattle.bay_serving.specs.ServeReport.{Hearing, ServesTurns, told_lines}
+use Rattle.bay_port.specs.Ports.{bare}
+use Rattle.bay_port.specs.declared.port.Standing.TheVariants.{Away}
 use Rattle.bay_report.specs.declared.load.Form.{Form}
 use Rattle.bay_serving.specs.declared.serve.Numbers.{Numbers}
 use Rattle.bay_serve.specs.Calls.{Call}
@@ -28,22 +30,53 @@ pub record FileNames : Type 0 where
 
 module _ {L H W : Type 0} (step : L → Call → L → Type 0) (acts : H → HostCall L → H → Type 0)
     (contents : W → Option (List ℕ)) where
-  -- the port can't be had, which is told; or it is served; or there is no memory for the server,
-  -- which is told
-  abbrev pub ServesBound : Numbers → List ℕ → State → Option L → H → H → Writing W → Writing W
-      → Result ℕ WriteFault → Type 0
-  ServesBound numbers trace s None host after old new answer =
-      Prints contents (IsLast (codes "fault 121\n") 3) old new answer × (after ≡ host)
-  ServesBound numbers trace s (Some link) host after old new answer =
+  -- a server is made, and turns are served; or there is no memory, which is told
+  abbrev pub ServesWith : Numbers → List ℕ → State → L → Option (Hearing L) → H → H → Writing W
+      → Writing W → Result ℕ WriteFault → Type 0
+  ServesWith numbers trace s link process host after old new answer =
       ServesTurns step acts contents numbers.turns (told_lines 1 (lines_of trace))
       (record {
         link = link;
         held = record { device = s; queues = replicate 8 [] };
         host = host;
+        process = process;
       }) old after new answer
       ⊎ (Prints contents (IsLast (codes "fault memory\n") 3) old new answer × (after ≡ host))
 
-  -- the port is bound
+  -- the port of the process can't be had, which is told; or a process may come to it
+  abbrev pub ServesHeard : Numbers → List ℕ → State → L → Option L → H → H → Writing W → Writing W
+      → Result ℕ WriteFault → Type 0
+  ServesHeard numbers trace s link None host after old new answer =
+      Prints contents (IsLast (codes "fault 121\n") 3) old new answer × (after ≡ host)
+  ServesHeard numbers trace s link (Some had) host after old new answer =
+      ServesWith numbers trace s link (Some (record { link = had; port = bare Away })) host after
+      old new answer
+
+  -- the port of the process is bound
+  pub record BindsProcess (numbers : Numbers) (trace : List ℕ) (s : State) (link : L) (port : ℕ)
+      (before after : H) (old new : Writing W) (answer : Result ℕ WriteFault) : Type 0 where
+    pub had : Option L
+    pub host : H
+    pub binds : acts before (Binds port had) host
+    pub goes_on : ServesHeard numbers trace s link had host after old new answer
+
+  -- there is a process, or none
+  abbrev pub ServesAlone : Option ℕ → Numbers → List ℕ → State → L → H → H → Writing W → Writing W
+      → Result ℕ WriteFault → Type 0
+  ServesAlone None numbers trace s link host after old new answer =
+      ServesWith numbers trace s link None host after old new answer
+  ServesAlone (Some port) numbers trace s link host after old new answer =
+      BindsProcess numbers trace s link port host after old new answer
+
+  -- the port of the clients can't be had, which is told; or it is served
+  abbrev pub ServesBound : Numbers → List ℕ → State → Option L → H → H → Writing W → Writing W
+      → Result ℕ WriteFault → Type 0
+  ServesBound numbers trace s None host after old new answer =
+      Prints contents (IsLast (codes "fault 121\n") 3) old new answer × (after ≡ host)
+  ServesBound numbers trace s (Some link) host after old new answer =
+      ServesAlone numbers.process numbers trace s link host after old new answer
+
+  -- the port of the clients is bound
   pub record BindsPort (numbers : Numbers) (trace : List ℕ) (s : State) (before after : H)
       (old new : Writing W) (answer : Result ℕ WriteFault) : Type 0 where
     pub had : Option L

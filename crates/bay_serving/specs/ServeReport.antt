@@ -1,12 +1,16 @@
 -- What serving comes to, turn by turn: what each turn does, and what is printed for it.
-use Rattle.std.specs.Prelude.{◌≡◌, ℕ, zero, suc, ◌+◌, List, ◌∷◌, drop, slice_get, Option, None, Some, option_map, Result, Ok, Err, ◌⊎◌, MatchBool, []}
+use Rattle.std.specs.Prelude.{◌≡◌, ℕ, zero, suc, ◌+◌, List, ◌∷◌, drop, slice_get, Option, None, Some, option_map, Result, Ok, Err, ◌⊎◌, MatchBool, Bool, false, if◌then◌else◌, []}
 use Rattle.std.specs.Borrow.{Bor}
 use Rattle.bay_device.specs.Device.{State}
 use Rattle.bay_io.specs.Watched.{Writing}
 use Rattle.bay_io.specs.declared.outbox.WriteFault.{WriteFault}
 use Rattle.bay_serving.specs.Host.{HostCall, Tells, Pauses}
 use Rattle.bay_report.specs.Report.{IsLast, Prints}
-use Rattle.bay_serving.specs.TurnLines.{is_quiet, turn_text, unserved_text}
+use Rattle.bay_serving.specs.TurnLines.{is_quiet, news_text, turn_text, unserved_text}
+use Rattle.bay_port.specs.Attending.{Attends, attended}
+use Rattle.bay_port.specs.Ports.{PortData, is_leaving, taken_line}
+use Rattle.bay_port.specs.Telling.{told_text}
+use Rattle.bay_port.specs.declared.news.News.{News}
 use Rattle.bay_serve.specs.Calls.{Call}
 use Rattle.bay_serve.specs.Served.{IsRefused, Serves, line_in, turn_refusal}
 use Rattle.bay_serve.specs.Turns.{Held, moment_at}
@@ -48,17 +52,95 @@ abbrev pub AfterTurn : Result ℕ WriteFault → Type 0 → Type 0 → Type 0
 AfterTurn (Err fault) ends goes = ends
 AfterTurn (Ok status) ends goes = goes
 
--- what is served, before or after a turn: the link, the server, and the host
+-- the process that is heard: its link, and what its port keeps
+pub record Hearing (L : Type 0) : Type 0 where
+  pub link : L
+  pub port : PortData
+
+-- what is served, before or after a turn: the link, the server, the host, and the process, if one
+-- is heard
 pub record Serving (L H : Type 0) : Type 0 where
   pub link : L
   pub held : Held
   pub host : H
+  pub process : Option (Hearing L)
+
+-- ---- the line of a turn
+
+-- the line of a turn, the lines behind it, and the process then
+pub record Chosen (L : Type 0) : Type 0 where
+  pub line : Option (ℕ × List ℕ)
+  pub lines : List (ℕ × List ℕ)
+  pub process : Option (Hearing L)
+
+-- a process has gone, and there may be switches that are not bad yet
+abbrev pub is_gone : {L : Type 0} → Option (Hearing L) → Bool
+is_gone None = false
+is_gone (Some p) = is_leaving p.port.standing
+
+-- a line of the process has no number
+abbrev pub unnumbered : List ℕ → ℕ × List ℕ
+unnumbered text = (0, text)
+
+-- the line that the port of the process has
+abbrev pub from_port : {L : Type 0} → State → List (ℕ × List ℕ) → Option (Hearing L) → Chosen L
+from_port s lines None = record { line = None; lines = lines; process = None }
+from_port s lines (Some p) = record {
+  line = option_map unnumbered (taken_line s p.port).line;
+  lines = lines;
+  process = Some (record { link = p.link; port = (taken_line s p.port).port });
+}
+
+-- the next line of the trace, or where there is none that of the process
+abbrev pub from_trace : {L : Type 0} → Option (ℕ × List ℕ) → State → List (ℕ × List ℕ)
+    → Option (Hearing L) → Chosen L
+from_trace None s lines process = from_port s lines process
+from_trace (Some line) s lines process =
+    record { line = Some line; lines = drop 1 lines; process = process }
+
+-- Behind a process that has gone no other line is taken before each switch is bad.
+abbrev pub chosen : {L : Type 0} → State → List (ℕ × List ℕ) → Option (Hearing L) → Chosen L
+chosen s lines process =
+    if is_gone process then from_port s lines process
+    else from_trace (slice_get lines 0) s lines process
+
+-- what is served, with the process as the choice of a line left it
+abbrev pub with_process : {L H : Type 0} → Option (Hearing L) → Serving L H → Serving L H
+with_process process b =
+    record { link = b.link; held = b.held; host = b.host; process = process }
+
+-- ---- a turn
 
 -- a pause was made, or none
 abbrev pub MayPause : {L H : Type 0} → (H → HostCall L → H → Type 0) → Serving L H → Serving L H
     → Type 0
 MayPause acts before after = (after ≡ before)
-    ⊎ (acts before.host Pauses after.host × (after.link ≡ before.link) × (after.held ≡ before.held))
+    ⊎ (acts before.host Pauses after.host × (after.link ≡ before.link)
+    × (after.held ≡ before.held) × (after.process ≡ before.process))
+
+-- what has become of the process's connection is printed and flushed
+abbrev pub TellsNews : {W : Type 0} → (W → Option (List ℕ)) → ℕ → Option News → Writing W
+    → Writing W → Result ℕ WriteFault → Type 0
+TellsNews contents now None old new answer = Stays old new answer
+TellsNews contents now (Some news) old new answer =
+    Prints contents (IsLast (news_text now news) 0) old new answer
+
+module _ {L W : Type 0} (step : L → Call → L → Type 0) (contents : W → Option (List ℕ)) where
+  -- the process is attended to, if one is heard, and what has become of it is printed
+  pub record AttendsTo (now : ℕ) (turn : Turn) (s : State) (before after : Hearing L)
+      (old new : Writing W) (answer : Result ℕ WriteFault) : Type 0 where
+    pub news : Option News
+    pub attends : Attends step (λ script. attended (told_text now turn s) s script before.port)
+        before.link after.link after.port news
+    pub printed : TellsNews contents now news old new answer
+
+  abbrev pub Hears : ℕ → Turn → State → Option (Hearing L) → Option (Hearing L) → Writing W
+      → Writing W → Result ℕ WriteFault → Type 0
+  Hears now turn s None None old new answer = Stays old new answer
+  Hears now turn s None (Some after) old new answer = ⊥
+  Hears now turn s (Some before) None old new answer = ⊥
+  Hears now turn s (Some before) (Some after) old new answer =
+      AttendsTo now turn s before after old new answer
 
 module _ {L H W : Type 0} (step : L → Call → L → Type 0) (acts : H → HostCall L → H → Type 0)
     (contents : W → Option (List ℕ)) where
@@ -73,7 +155,8 @@ module _ {L H W : Type 0} (step : L → Call → L → Type 0) (acts : H → Hos
     pub printed : Prints contents (IsLast (unserved_text fault (number_of_next line)) 3) old new
         answer
 
-  -- the clock was asked, the turn was done, and what it tells was printed
+  -- the clock was asked, the turn was done, what it tells was printed, and then the process was
+  -- attended to; or it could not be printed
   pub record TurnGoes (line : Option (ℕ × List ℕ)) (before : Serving L H) (old : Writing W)
       (after : Serving L H) (new : Writing W) (answer : Result ℕ WriteFault) : Type 0 where
     pub clock : ℕ
@@ -81,18 +164,27 @@ module _ {L H W : Type 0} (step : L → Call → L → Type 0) (acts : H → Hos
     pub turn : Turn
     pub serves : Serves step before.link after.link (moment_at clock before.held)
         (line_in (text_of_next line)) before.held after.held turn
-    pub printed : TellsTurn contents (moment_at clock before.held) turn after.held.device old new
-        answer
+    pub between : Writing W
+    pub outcome : Result ℕ WriteFault
+    pub printed : TellsTurn contents (moment_at clock before.held) turn after.held.device old
+        between outcome
+    pub hears : AfterTurn outcome
+        ((after.process ≡ before.process) × (new ≡ between) × (answer ≡ outcome))
+        (Hears step contents (moment_at clock before.held) turn after.held.device before.process
+        after.process between new answer)
 
-  -- So many turns are served, with the next line for each: all of them; up to one that is not done;
-  -- or up to one whose lines could not be written.
+  -- So many turns are served, each with its line: all of them; up to one that is not done; or up to
+  -- one whose lines could not be written.
   abbrev pub ServesTurns : ℕ → List (ℕ × List ℕ) → Serving L H → Writing W → H → Writing W
       → Result ℕ WriteFault → Type 0
   ServesTurns zero lines before old host new answer = (host ≡ before.host) × Stays old new answer
   ServesTurns (suc turns) lines before old host new answer =
-      TurnFails (slice_get lines 0) before old host new answer
+      TurnFails (chosen before.held.device lines before.process).line before old host new answer
       ⊎ ((after : Serving L H) × (mid : Writing W) × (told : Result ℕ WriteFault)
-      × TurnGoes (slice_get lines 0) before old after mid told
+      × TurnGoes (chosen before.held.device lines before.process).line
+      (with_process (chosen before.held.device lines before.process).process before) old after mid
+      told
       × AfterTurn told ((host ≡ after.host) × (new ≡ mid) × (answer ≡ told))
       ((next : Serving L H) × MayPause acts after next
-      × ServesTurns turns (drop 1 lines) next mid host new answer))
+      × ServesTurns turns (chosen before.held.device lines before.process).lines next mid host new
+      answer))

@@ -1,18 +1,18 @@
 -- What is printed for a turn of a server.
 use Rattle.std.specs.Prelude.{ℕ, Bool, ◌&&◌, ◌==◌, List, ◌∷◌, ◌++◌, length, codes, Option, None, Some, is_none, []}
+use Rattle.std.specs.Fmt.{decimal}
 use Rattle.bay_device.specs.Device.{State}
 use Rattle.bay_device.specs.declared.event.Why.TheVariants.{Fault, Memory}
-use Rattle.bay_report.specs.Lines.{closing_text, commands_text, refusal_line, unreadable_text}
+use Rattle.bay_port.specs.Code.{code_of as port_code_of}
+use Rattle.bay_port.specs.Telling.{told_text}
+use Rattle.bay_port.specs.declared.news.News.{News}
+use Rattle.bay_port.specs.declared.news.News.TheVariants.{Opened, Closed}
+use Rattle.bay_report.specs.Lines.{closing_text, unreadable_text}
 use Rattle.bay_serve.specs.Code.{code_of}
 use Rattle.bay_serve.specs.declared.fault.ServeFault.{ServeFault}
 use Rattle.bay_serve.specs.declared.fault.ServeFault.TheVariants.{BadLine, MomentTooLarge, OutOfMemory}
 use Rattle.bay_serve.specs.declared.told.Closing.{Closing}
 use Rattle.bay_serve.specs.declared.told.Turn.{Turn}
-
--- the refusal of what the trace's line told, if there was one
-abbrev pub refusal_text : ℕ → Option ℕ → List ℕ
-refusal_text now None = []
-refusal_text now (Some code) = refusal_line now code
 
 -- the lines of the associations that were closed, each with its number
 abbrev pub closings_text : ℕ → List (ℕ × Closing) → List ℕ
@@ -29,8 +29,13 @@ memories_text now (a ∷ more) = closing_text now a Memory ++ memories_text now 
 -- the closings
 abbrev pub turn_text : ℕ → Turn → State → List ℕ
 turn_text now turn s =
-    refusal_text now turn.refused ++ commands_text now s turn.commands
-    ++ closings_text now turn.closed ++ memories_text now turn.memory
+    told_text now turn s ++ closings_text now turn.closed ++ memories_text now turn.memory
+
+-- what has become of the process's connection
+abbrev pub news_text : ℕ → News → List ℕ
+news_text now Opened = decimal now ++ codes " process open\n"
+news_text now (Closed why) =
+    decimal now ++ codes " process closed " ++ decimal (port_code_of why) ++ codes "\n"
 
 -- the turn tells nothing
 abbrev pub is_quiet : Turn → Bool

@@ -3,17 +3,19 @@ ghost use Rattle.std.specs.Prelude.{◌≡◌, None, Ok, Err, false, replicate, 
 ghost use Rattle.bay_services.specs.Released.{AreTimed};
 ghost use Rattle.bay_files.specs.Files.{ReadsNamed};
 ghost use Rattle.bay_report.specs.Report.{Prints, UnreadReport};
-ghost use Rattle.bay_serving.specs.Serve.{LoadsServed, ServesBound, ServesDevice, ServesFiles, ServesRead, BindsPort};
+ghost use Rattle.bay_serving.specs.Serve.{LoadsServed, ServesBound, ServesDevice, ServesFiles, ServesHeard, ServesRead, ServesWith, BindsPort, BindsProcess};
 ghost use Rattle.bay_serve.specs.Calls.{Called};
 ghost use Rattle.bay_serve.specs.Served.{text_in};
 
 use crate::host::Host;
+use crate::process::Process;
 use crate::serving::serve_turns;
 use bay_device::device::Device;
 use bay_files::files::{BothFiles, FileSystem, read_both};
 use bay_io::input::ReadFault;
 use bay_io::outbox::WriteFault;
 use bay_io::writer::WatchedWriter;
+use bay_port::port::Port;
 use bay_report::load::{Form, load_program};
 use bay_report::output::{FAULT, NO_MEMORY, write_refusal, write_report, write_text, write_unread};
 use bay_serve::link::Link;
@@ -21,11 +23,13 @@ use bay_serve::server::Server;
 use std::alloc::Global;
 use std::io::Write;
 
-/// On which port clients are served, and for how many turns.
+/// On which port clients are served, for how many turns, and on which the process is heard, if it
+/// is.
 #[derive(Clone, Copy)]
 pub struct Numbers {
     pub port: u16,
     pub turns: u32,
+    pub process: Option<u16>,
 }
 
 /// What is served, by the names of its files: the bay, a program or an image, and the trace of the
@@ -36,6 +40,91 @@ pub struct Named<'a> {
     pub form: Form,
     pub program: &'a str,
     pub trace: Option<&'a str>,
+}
+
+/// Makes a server of a device, and serves it over a link, with a process or without.
+fn serve_with<L: Link + Drop, H: Host<L>, W: Write>(
+    alloc: Global,
+    device: Device,
+    link: L,
+    process: Option<Process<L>>,
+    host: &mut H,
+    trace: &[u8],
+    numbers: Numbers,
+    writer: &mut WatchedWriter<W>,
+) -> Result<u8, WriteFault>
+    requires closed { device.connections ≡ replicate 8 None }
+    requires timed { AreTimed device.controls.controls }
+    ensures { ServesWith (Called L.does L.failures) H.does W.contents numbers trace.now device link
+        process host.old host.new writer.old writer.new result }
+{
+    match Server::new(alloc, device) {
+        Ok(server) => serve_turns(
+            alloc,
+            server,
+            link,
+            process,
+            host,
+            trace,
+            numbers.turns,
+            writer,
+        ),
+        Err(_) => write_text(writer, NO_MEMORY, FAULT),
+    }
+}
+
+/// Serves a device with a process on the link of a port, if there was one.
+fn serve_heard<L: Link + Drop, H: Host<L>, W: Write>(
+    alloc: Global,
+    device: Device,
+    link: L,
+    had: Option<L>,
+    host: &mut H,
+    trace: &[u8],
+    numbers: Numbers,
+    writer: &mut WatchedWriter<W>,
+) -> Result<u8, WriteFault>
+    requires closed { device.connections ≡ replicate 8 None }
+    requires timed { AreTimed device.controls.controls }
+    ensures { ServesHeard (Called L.does L.failures) H.does W.contents numbers trace.now device link
+        had host.old host.new writer.old writer.new result }
+{
+    let Some(had) = had else {
+        return write_text(writer, b"fault 121\n", FAULT);
+    };
+    match Port::new(alloc) {
+        Ok(port) => serve_with(
+            alloc,
+            device,
+            link,
+            Some(Process::new(had, port)),
+            host,
+            trace,
+            numbers,
+            writer,
+        ),
+        Err(_) => write_text(writer, NO_MEMORY, FAULT),
+    }
+}
+
+/// Binds a port for the process, and serves a device with it.
+fn serve_process<L: Link + Drop, H: Host<L>, W: Write>(
+    alloc: Global,
+    device: Device,
+    link: L,
+    port: u16,
+    host: &mut H,
+    trace: &[u8],
+    numbers: Numbers,
+    writer: &mut WatchedWriter<W>,
+) -> Result<u8, WriteFault>
+    requires closed { device.connections ≡ replicate 8 None }
+    requires timed { AreTimed device.controls.controls }
+    ensures { BindsProcess (Called L.does L.failures) H.does W.contents numbers trace.now device
+        link port host.old host.new writer.old writer.new result }
+{
+    let had = host.bind(port);
+    serve_heard(alloc, device, link, had, host, trace, numbers, writer)
 }
 
 /// Serves a device over the link of a port, if there was one.
@@ -56,9 +145,9 @@ fn serve_link<L: Link + Drop, H: Host<L>, W: Write>(
     let Some(link) = link else {
         return write_text(writer, b"fault 121\n", FAULT);
     };
-    match Server::new(alloc, device) {
-        Ok(server) => serve_turns(alloc, server, link, host, trace, numbers.turns, writer),
-        Err(_) => write_text(writer, NO_MEMORY, FAULT),
+    match numbers.process {
+        Some(port) => serve_process(alloc, device, link, port, host, trace, numbers, writer),
+        None => serve_with(alloc, device, link, None, host, trace, numbers, writer),
     }
 }
 
@@ -165,8 +254,8 @@ fn serve_read<F: FileSystem, L: Link + Drop, H: Host<L>, W: Write>(
 }
 
 /// Serves files by their names: the bay is read, then the program or the image, then the trace;
-/// they are loaded, and the line of the load is written; the port is bound; and so many turns are
-/// served.
+/// they are loaded, and the line of the load is written; the port is bound, and behind it that of
+/// the process, if there is one; and so many turns are served.
 pub fn serve<F: FileSystem, L: Link + Drop, H: Host<L>, W: Write>(
     alloc: Global,
     named: Named<'_>,

@@ -1,5 +1,5 @@
 // A device is served, turn by turn.
-ghost use Rattle.std.specs.Prelude.{◌≡◌, ◌⊎◌, ◌+◌, ◌^◌, ◌<◌, ℕ, List, drop, false, length, slice_get, IfErr, IfOk, OnErr};
+ghost use Rattle.std.specs.Prelude.{◌≡◌, ◌⊎◌, IfErr, IfOk, OnErr};
 ghost use Rattle.bay_serving.specs.Host.{Pauses};
 ghost use Rattle.bay_report.specs.TextLines.{lines_of};
 ghost use Rattle.bay_serving.specs.ServeReport.{ServesTurns, next_view, number_of_next, text_of_next, told_lines};
@@ -10,11 +10,13 @@ ghost use Rattle.bay_serve.specs.Turns.{moment_at};
 
 use crate::busy::BusyLink;
 use crate::host::Host;
+use crate::process::{Process, attend_process, choose, line_of, was_busy};
+use crate::trace_lines::TraceLines;
 use crate::turns::{tell_turn, write_unserved};
 use bay_io::outbox::WriteFault;
 use bay_io::writer::WatchedWriter;
+use bay_port::fit::Line;
 use bay_report::output::CLEAN;
-use bay_report::text_lines::cut_line;
 use bay_serve::fault::ServeFault;
 use bay_serve::link::Link;
 use bay_serve::server::Server;
@@ -22,55 +24,6 @@ use bay_serve::told::Turn;
 use bay_serve::turn::serve_turn;
 use std::alloc::Global;
 use std::io::Write;
-use std::marker::Model;
-
-/// The lines of a trace that are not empty, one after another, each with its number among all.
-#[derive(Drop)]
-pub struct TraceLines<'a> {
-    rest: &'a [u8],
-    number: usize,
-}
-
-impl<'a> Model for TraceLines<'a> {
-    ghost use Rattle.std.specs.Prelude.{ℕ, List, ◌+◌, ◌^◌, ◌<◌, length};
-    ghost use Rattle.bay_report.specs.TextLines.{lines_of};
-    ghost use Rattle.bay_serving.specs.ServeReport.{told_lines};
-
-    ghost Value = { List (ℕ × List ℕ) };
-
-    ghost view = { λ t. told_lines t.number (lines_of t.rest.now) };
-
-    ghost invariant = { λ t. t.number + length t.rest.now < 2 ^ 64 };
-}
-
-impl<'a> TraceLines<'a> {
-    /// The lines of a trace, numbered from 1 on.
-    pub fn new(trace: &'a [u8]) -> Self
-        ensures { result ≡ told_lines 1 (lines_of trace.entry.now) }
-    {
-        TraceLines {
-            rest: trace,
-            number: 1,
-        }
-    }
-
-    /// The next line.
-    pub fn next_line(&mut self) -> Option<(usize, &'a [u8])>
-        ensures first { next_view result ≡ slice_get self.old 0 }
-        ensures others { self.new ≡ drop 1 self.old }
-    {
-        while !self.rest.is_empty() {
-            let (line, after) = cut_line(self.rest);
-            let number = self.number;
-            self.rest = after;
-            self.number += 1;
-            if !line.is_empty() {
-                return Some((number, line));
-            }
-        }
-        None
-    }
-}
 
 /// What came of a turn that was tried.
 #[derive(Clone, Copy, Debug, PartialEq, Eq)]
@@ -125,25 +78,31 @@ fn serve_line<L: Link>(
     }
 }
 
-/// Tries a turn, and prints what there is to print for it.
+/// Tries a turn, and prints what there is to print for it; behind it the process is attended to.
 fn try_turn<L: Link, H: Host<L>, W: Write>(
     alloc: Global,
     server: &mut Server,
     link: &mut BusyLink<L>,
+    process: &mut Option<Process<L>>,
     host: &mut H,
     line: Option<(usize, &[u8])>,
     writer: &mut WatchedWriter<W>,
 ) -> Result<Tried, WriteFault>
     ensures { TriesTurn (Called L.does L.failures) H.does W.contents (next_view line.entry)
-        (record { link = link.old.link; held = server.old; host = host.old }) writer.old
-        (record { link = link.new.link; held = server.new; host = host.new }) writer.new result }
+        (record { link = link.old.link; held = server.old; host = host.old; process = process.old })
+        writer.old
+        (record { link = link.new.link; held = server.new; host = host.new; process = process.new })
+        writer.new result }
 {
     let clock = host.now();
     let moment = clock.max(server.device().moment());
     match serve_line(alloc, server, link, clock, octets_of(line)) {
         Ok(turn) => {
-            tell_turn(writer, server.device(), moment, &turn)?;
-            let was_idle = !link.was_busy() && line.is_none();
+            let device = server.device();
+            tell_turn(writer, device, moment, &turn)?;
+            attend_process(process, device, moment, &turn, writer)?;
+            let is_busy = was_busy(process);
+            let was_idle = !link.was_busy() && !is_busy && line.is_none();
             Ok(Tried::Done { was_idle })
         }
         Err(fault) => {
@@ -162,25 +121,28 @@ fn rest<L, H: Host<L>>(host: &mut H, was_idle: bool)
     }
 }
 
-/// Serves so many turns, each with the next line as long as there is one, and prints what each
-/// tells: the exit status, which is 0 after the last turn, or 3 at one that is not done. After a
-/// turn in which nothing happened there is a pause.
+/// Serves so many turns, each with its line, and prints what each tells: the exit status, which is 0
+/// after the last turn, or 3 at one that is not done. After a turn in which nothing happened there
+/// is a pause.
 fn serve_lines<L: Link, H: Host<L>, W: Write>(
     alloc: Global,
     server: &mut Server,
     link: &mut BusyLink<L>,
+    process: &mut Option<Process<L>>,
     host: &mut H,
     lines: &mut TraceLines<'_>,
     turns: u32,
     writer: &mut WatchedWriter<W>,
 ) -> Result<u8, WriteFault>
     ensures { ServesTurns (Called L.does L.failures) H.does W.contents turns lines.old
-        (record { link = link.old.link; held = server.old; host = host.old }) writer.old host.new
-        writer.new result }
+        (record { link = link.old.link; held = server.old; host = host.old; process = process.old })
+        writer.old host.new writer.new result }
 {
+    let mut buffer = Line::new();
     for turn in 0..turns {
-        let line = lines.next_line();
-        match try_turn(alloc, server, link, host, line, writer)? {
+        let (traced, is_heard) = choose(lines, process, server.device(), &mut buffer);
+        let line = line_of(traced, is_heard, &buffer);
+        match try_turn(alloc, server, link, process, host, line, writer)? {
             Tried::Ends(status) => return Ok(status),
             Tried::Done { was_idle } => rest::<L, H>(host, was_idle),
         }
@@ -188,11 +150,13 @@ fn serve_lines<L: Link, H: Host<L>, W: Write>(
     Ok(CLEAN)
 }
 
-/// Serves so many turns over a link, each with the next line of a trace.
+/// Serves so many turns over a link, each with the next line of a trace, or behind them with that of
+/// a process, if there is one.
 pub fn serve_turns<L: Link + Drop, H: Host<L>, W: Write>(
     alloc: Global,
     server: Server,
     link: L,
+    process: Option<Process<L>>,
     host: &mut H,
     trace: &[u8],
     turns: u32,
@@ -200,16 +164,18 @@ pub fn serve_turns<L: Link + Drop, H: Host<L>, W: Write>(
 ) -> Result<u8, WriteFault>
     ensures { ServesTurns (Called L.does L.failures) H.does W.contents turns
         (told_lines 1 (lines_of trace.now))
-        (record { link = link; held = server; host = host.old }) writer.old host.new writer.new
-        result }
+        (record { link = link; held = server; host = host.old; process = process }) writer.old
+        host.new writer.new result }
 {
     let mut server = server;
     let mut link = BusyLink::new(link);
+    let mut process = process;
     let mut lines = TraceLines::new(trace);
     serve_lines(
         alloc,
         &mut server,
         &mut link,
+        &mut process,
         host,
         &mut lines,
         turns,

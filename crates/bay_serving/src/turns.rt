@@ -5,14 +5,17 @@ ghost use Rattle.bay_device.specs.declared.event.Why.TheVariants.{Fault};
 ghost use Rattle.bay_report.specs.Lines.{closing_text};
 ghost use Rattle.bay_report.specs.Report.{IsLast, Prints};
 ghost use Rattle.bay_serve.specs.Code.{code_of};
-ghost use Rattle.bay_serving.specs.ServeReport.{TellsTurn};
-ghost use Rattle.bay_serving.specs.TurnLines.{closings_text, memories_text, refusal_text, turn_text, unserved_text};
+ghost use Rattle.bay_serving.specs.ServeReport.{TellsNews, TellsTurn};
+ghost use Rattle.bay_port.specs.Telling.{refusal_text};
+ghost use Rattle.bay_port.specs.declared.news.News.TheVariants.{Closed, Opened};
+ghost use Rattle.bay_serving.specs.TurnLines.{closings_text, memories_text, news_text, turn_text, unserved_text};
 ghost use Rattle.bay_serving.specs.TurnLines as spec;
 
 use bay_device::device::Device;
 use bay_device::event::Why;
 use bay_io::outbox::WriteFault;
 use bay_io::writer::WatchedWriter;
+use bay_port::news::{News, Parting};
 use bay_report::lines::{put_closing_line, put_commands, put_refusal, put_unreadable};
 use bay_report::output::{CLEAN, FAULT, finish, write_text};
 use bay_serve::fault::ServeFault;
@@ -103,6 +106,61 @@ pub fn tell_turn<W: Write>(
         Ok(CLEAN)
     } else {
         write_turn(writer, device, moment, turn)
+    }
+}
+
+/// Writes that the process's connection was taken.
+fn put_opened<W: Write>(writer: &mut WatchedWriter<W>, moment: u64)
+    ensures { Puts W.contents writer.old (news_text moment Opened) writer.new }
+{
+    writer.put_number(moment);
+    writer.put(b" process open\n");
+}
+
+/// Writes that it was closed, with the number of the reason.
+fn put_parting<W: Write>(writer: &mut WatchedWriter<W>, moment: u64, why: Parting)
+    ensures { Puts W.contents writer.old (news_text moment (Closed why)) writer.new }
+{
+    writer.put_number(moment);
+    writer.put(b" process closed ");
+    writer.put_number(u64::from(why.code()));
+    writer.put(b"\n");
+}
+
+/// Writes what has become of the process's connection.
+fn put_news<W: Write>(writer: &mut WatchedWriter<W>, moment: u64, news: News)
+    ensures { Puts W.contents writer.old (news_text moment news) writer.new }
+{
+    match news {
+        News::Opened => put_opened(writer, moment),
+        News::Closed(why) => put_parting(writer, moment, why),
+    }
+}
+
+/// Writes it and flushes it.
+fn write_news<W: Write>(
+    writer: &mut WatchedWriter<W>,
+    moment: u64,
+    news: News,
+) -> Result<u8, WriteFault>
+    ensures { Prints W.contents (IsLast (news_text moment news) 0) writer.old writer.new result }
+{
+    put_news(writer, moment, news);
+    finish(writer, CLEAN)
+}
+
+/// Writes what has become of the process's connection, if anything has, and flushes it; else the
+/// writer is left alone.
+pub fn tell_news<W: Write>(
+    writer: &mut WatchedWriter<W>,
+    moment: u64,
+    news: Option<News>,
+) -> Result<u8, WriteFault>
+    ensures { TellsNews W.contents moment news writer.old writer.new result }
+{
+    match news {
+        Some(news) => write_news(writer, moment, news),
+        None => Ok(CLEAN),
     }
 }
 

@@ -1,4 +1,4 @@
-use Rattle.std.proofs.Common.{◌≡◌, ◌+◌, ◌-◌, suc, arith}
+use Rattle.std.proofs.Common.{◌≡◌, ◌+◌, ◌-◌, suc, sym, ◌∙◌, arith}
 use Rattle.std.proofs.lemmas.Bool.Decides.{nat_tests}
 use Rattle.bay_serving.proofs.ServeLemmas.{Reached-done, Reached-ends, Reached-fails}
 use Rattle.bay_serving.proofs.ServeLemmas.{may-pause}
@@ -10,12 +10,15 @@ returns-in_err-status g c =
     let more : c.args.turns - c.loop-turn.turn ≡ suc (c.args.turns - (c.loop-turn.turn + 1)) =
     grind (arith, nat_tests) in
     Reached-fails (Called g.L.Link.does g.L.Link.failures) g.H.Host.does g.W.Write.contents _ _ _ _
-    _ _ _ _ _ c.loop-turn.invariant.reached _ _ c.next_line-line.ensures.first
-    c.next_line-line.ensures.others more
+    _ _ _ _ _ c.loop-turn.invariant.reached more _ _ _
+    (c.line_of-line.ensures ∙ (rw c.device.ensures at c.choose-is_heard.ensures.line))
+    (rw c.device.ensures at c.choose-is_heard.ensures.lines)
+    (rw c.device.ensures at c.choose-is_heard.ensures.process)
     (record {
       link = c.try_turn.new.link.link;
       held = c.try_turn.new.server;
       host = c.try_turn.new.host;
+      process = c.try_turn.new.process;
     }) c.try_turn.new.writer _ c.from_residual.result
     c.from_residual.ensures.0 c.in_err-status.ensures
 
@@ -24,12 +27,15 @@ returns-in-Ends g c =
     let more : c.args.turns - c.loop-turn.turn ≡ suc (c.args.turns - (c.loop-turn.turn + 1)) =
     grind (arith, nat_tests) in
     Reached-ends (Called g.L.Link.does g.L.Link.failures) g.H.Host.does g.W.Write.contents _ _ _ _ _
-    _ _ _ _ c.loop-turn.invariant.reached _ _ c.next_line-line.ensures.first
-    c.next_line-line.ensures.others more
+    _ _ _ _ c.loop-turn.invariant.reached more _ _ _
+    (c.line_of-line.ensures ∙ (rw c.device.ensures at c.choose-is_heard.ensures.line))
+    (rw c.device.ensures at c.choose-is_heard.ensures.lines)
+    (rw c.device.ensures at c.choose-is_heard.ensures.process)
     (record {
       link = c.try_turn.new.link.link;
       held = c.try_turn.new.server;
       host = c.try_turn.new.host;
+      process = c.try_turn.new.process;
     }) c.try_turn.new.writer _ _ c.in-Ends.is c.in_ok-status.ensures
 
 pub loop-turn-preserved : goal.loop-turn-preserved
@@ -40,14 +46,17 @@ loop-turn-preserved g c =
       within = grind (arith, nat_tests);
       reached =
           Reached-done (Called g.L.Link.does g.L.Link.failures) g.H.Host.does g.W.Write.contents _ _
-          _ _ _ _ _ _ _ c.loop-turn.invariant.reached _ _ c.next_line-line.ensures.first
-          c.next_line-line.ensures.others more
+          _ _ _ _ _ _ _ c.loop-turn.invariant.reached more _ _ _
+          (c.line_of-line.ensures ∙ (rw c.device.ensures at c.choose-is_heard.ensures.line))
+    (rw c.device.ensures at c.choose-is_heard.ensures.lines)
+          (rw c.device.ensures at c.choose-is_heard.ensures.process)
           (record {
             link = c.try_turn.new.link.link;
             held = c.try_turn.new.server;
             host = c.try_turn.new.host;
+            process = c.try_turn.new.process;
           }) _ c.try_turn.new.writer _ _ c.in-Done.is
           c.in_ok-status.ensures
           (may-pause (Called g.L.Link.does g.L.Link.failures) g.H.Host.does g.W.Write.contents _
-          _ _ _ c.rest.ensures);
+          _ _ _ _ c.rest.ensures);
     }

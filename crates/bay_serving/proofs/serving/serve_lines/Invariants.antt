@@ -8,8 +8,14 @@ invariant-loop-turn g l = record {
   within : l.turn ≤ l.turns;
   reached : Reached (Called g.L.Link.does g.L.Link.failures) g.H.Host.does g.W.Write.contents
       l.turns l.initial.lines
-      (record { link = l.initial.link.link; held = l.initial.server; host = l.initial.host })
+      (record {
+        link = l.initial.link.link;
+        held = l.initial.server;
+        host = l.initial.host;
+        process = l.initial.process;
+      })
       l.initial.writer
-      (l.turns - l.turn) l.lines (record { link = l.link.link; held = l.server; host = l.host })
+      (l.turns - l.turn) l.lines
+      (record { link = l.link.link; held = l.server; host = l.host; process = l.process })
       l.writer;
 }

@@ -1,4 +1,4 @@
-use Rattle.std.proofs.Common.{◌≡◌, rules}
+use Rattle.std.proofs.Common.{◌≡◌, refl, rules}
 use Rattle.bay_serving.specs.ServeReport.{next_view}
 use Rattle.bay_serving.proofs.ServeLemmas.{tried-cut, turn-goes}
 use Rattle.bay_serve.specs.Calls.{Called}
@@ -10,26 +10,56 @@ returns-in_err-tell_turn-in-Ok g c =
     let now : c.max-moment.result ≡ moment_at c.now-clock.result c.args.server.now = search rules in
     tried-cut (Called g.L.Link.does g.L.Link.failures) g.H.Host.does g.W.Write.contents
     (next_view c.args.line)
-    (record { link = c.args.link.now.link; held = c.args.server.now; host = c.args.host.now })
+    (record {
+      link = c.args.link.now.link;
+      held = c.args.server.now;
+      host = c.args.host.now;
+      process = c.args.process.now;
+    })
     c.args.writer.now
     (record {
       link = c.serve_line.new.link.link;
       held = c.serve_line.new.server;
       host = c.now-clock.new.self;
+      process = c.args.process.now;
     }) c.tell_turn.new.writer _ c.from_residual.result
     c.from_residual.ensures.0
     (turn-goes (λ busy. busy.link) g.L.Link.does g.L.Link.failures g.H.Host.does g.W.Write.contents
-    _ _ _ _ _ _ _ _ _ _ _ _ _ _ _ c.octets_of.ensures now c.device-in-Ok.ensures
-    c.now-clock.ensures c.in-Ok.ensures.ok c.in_err-tell_turn-in-Ok.ensures)
+    _ _ _ _ _ _ _ _ _ _ _ _ _ _ _ _ _ _ _ c.octets_of.ensures now c.device-device.ensures
+    c.now-clock.ensures c.in-Ok.ensures.ok c.in_err-tell_turn-in-Ok.ensures (refl, refl, refl))
 
-pub returns-after-not-was_busy : goal.returns-after-not-was_busy
-returns-after-not-was_busy g c =
+pub returns-in_err-attend_process-in-Ok : goal.returns-in_err-attend_process-in-Ok
+returns-in_err-attend_process-in-Ok g c =
+    let now : c.max-moment.result ≡ moment_at c.now-clock.result c.args.server.now = search rules in
+    tried-cut (Called g.L.Link.does g.L.Link.failures) g.H.Host.does g.W.Write.contents
+    (next_view c.args.line)
+    (record {
+      link = c.args.link.now.link;
+      held = c.args.server.now;
+      host = c.args.host.now;
+      process = c.args.process.now;
+    })
+    c.args.writer.now
+    (record {
+      link = c.serve_line.new.link.link;
+      held = c.serve_line.new.server;
+      host = c.now-clock.new.self;
+      process = c.attend_process.new.process;
+    }) c.attend_process.new.writer _ c.from_residual-in_err-attend_process-in-Ok.result
+    c.from_residual-in_err-attend_process-in-Ok.ensures.0
+    (turn-goes (λ busy. busy.link) g.L.Link.does g.L.Link.failures g.H.Host.does g.W.Write.contents
+    _ _ _ _ _ _ _ _ _ _ _ _ _ _ _ _ _ _ _ c.octets_of.ensures now c.device-device.ensures
+    c.now-clock.ensures c.in-Ok.ensures.ok c.in_ok-tell_turn-in-Ok.ensures
+    c.in_err-attend_process-in-Ok.ensures)
+
+pub returns-after-not-is_busy : goal.returns-after-not-is_busy
+returns-after-not-is_busy g c =
     let now : c.max-moment.result ≡ moment_at c.now-clock.result c.args.server.now =
     search rules in (
-      c.in_ok-tell_turn-in-Ok.field-0,
-      rw c.was_busy.ensures
+      c.in_ok-attend_process-in-Ok.field-0,
+      rw (c.was_busy.ensures, c.was_busy-is_busy.ensures)
           (turn-goes (λ busy. busy.link) g.L.Link.does g.L.Link.failures g.H.Host.does
-          g.W.Write.contents _ _ _ _ _ _ _ _ _ _ _ _ _ _ _ c.octets_of.ensures now
-          c.device-in-Ok.ensures c.now-clock.ensures c.in-Ok.ensures.ok
-          c.in_ok-tell_turn-in-Ok.ensures),
+          g.W.Write.contents _ _ _ _ _ _ _ _ _ _ _ _ _ _ _ _ _ _ _ c.octets_of.ensures now
+          c.device-device.ensures c.now-clock.ensures c.in-Ok.ensures.ok
+          c.in_ok-tell_turn-in-Ok.ensures c.in_ok-attend_process-in-Ok.ensures),
     )

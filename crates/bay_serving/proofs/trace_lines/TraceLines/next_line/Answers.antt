@@ -1,6 +1,6 @@
 use Rattle.std.proofs.Common.{◌∙◌, drop, slice_get, sym, ap, arith}
 use Rattle.bay_serving.proofs.ServeLemmas.{told-line, told-blank, told-end}
-use Rattle.bay_serving.proofs.serving.TraceLines.next_line.Goals as goal
+use Rattle.bay_serving.proofs.trace_lines.TraceLines.next_line.Goals as goal
 
 pub returns-then-not-is_empty-clause-first : goal.returns-then-not-is_empty-clause-first
 returns-then-not-is_empty-clause-first c =

@@ -1,7 +1,7 @@
 use Rattle.std.proofs.Common.{◌≡◌, ◌+◌, ◌^◌, ◌<◌, length}
 use Rattle.bay_report.specs.TextLines.{lines_of}
 use Rattle.bay_serving.specs.ServeReport.{told_lines}
-use Rattle.bay_serving.proofs.serving.TraceLines.next_line.Given as goal
+use Rattle.bay_serving.proofs.trace_lines.TraceLines.next_line.Given as goal
 
 abbrev pub invariant-loop-self : goal.invariant-loop-self
 invariant-loop-self l = record {
