@@ -1,4 +1,5 @@
 pub mod AttendLemmas
 pub mod FitLemmas
+pub mod LawLemmas
 pub mod SoundLemmas
 pub mod TellingLemmas

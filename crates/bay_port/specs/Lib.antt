@@ -6,6 +6,7 @@ pub use Rattle.bay_serve.specs.Calls
 pub mod Attending
 pub mod Code
 pub mod Fit
+pub mod Laws
 pub mod Ports
 pub mod Sound
 pub mod Telling

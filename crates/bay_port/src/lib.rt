@@ -8,6 +8,7 @@
 
 pub mod attending;
 pub mod fit;
+pub mod laws;
 pub mod news;
 pub mod port;
 mod sound;

@@ -359,8 +359,13 @@ module _ {L H W : Type 0} (step : L → Call → L → Type 0) (acts : H → Hos
         → ServesTurns step acts contents turns lines before old after.host new (Err fault)
     Reached-cut after new fault goes =
         reached.goes after.host new (Err fault)
-        (rw e (inr (after, new, Err fault, as-chosen after new (Err fault) goes,
-        (refl, refl, refl))))
+        (rw e (inr (
+          after,
+          new,
+          Err fault,
+          as-chosen after new (Err fault) goes,
+          (refl, refl, refl),
+        )))
 
     -- one turn was tried, and done
     pub Reached-done : (after next : Serving L H) (new : Writing W) (t : Tried) (was_idle : Bool)
@@ -370,10 +375,18 @@ module _ {L H W : Type 0} (step : L → Call → L → Type 0) (acts : H → Hos
     Reached-done after next new (tried.Done w) was_idle is goes pause =
         record {
           goes = λ host last answer s. reached.goes host last answer
-              (rw e (inr (after, new, Ok goes.0, as-chosen after new (Ok goes.0) goes.1,
-              (next, pause,
-              subst (λ ls. ServesTurns step acts contents more ls next new host last answer) dropped
-              s))));
+              (rw e (inr (
+                after,
+                new,
+                Ok goes.0,
+                as-chosen after new (Ok goes.0) goes.1,
+                (
+                  next,
+                  pause,
+                  subst (λ ls. ServesTurns step acts contents more ls next new host last answer) dropped
+                      s,
+                ),
+              )));
         }
     Reached-done after next new (tried.Ends s) was_idle is fails pause = absurd cc
 

@@ -1,5 +1,5 @@
 -- What is printed for a turn of a server.
-use Rattle.std.specs.Prelude.{ℕ, Bool, ◌&&◌, ◌==◌, List, ◌∷◌, ◌++◌, length, codes, Option, None, Some, is_none, []}
+use Rattle.std.specs.Prelude.{ℕ, Bool, ◌&&◌, ◌==◌, List, ◌∷◌, ◌++◌, length, codes, is_none, []}
 use Rattle.std.specs.Fmt.{decimal}
 use Rattle.bay_device.specs.Device.{State}
 use Rattle.bay_device.specs.declared.event.Why.TheVariants.{Fault, Memory}

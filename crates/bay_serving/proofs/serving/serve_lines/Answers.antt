@@ -1,4 +1,4 @@
-use Rattle.std.proofs.Common.{◌≡◌, ◌+◌, ◌-◌, suc, sym, ◌∙◌, arith}
+use Rattle.std.proofs.Common.{◌≡◌, ◌+◌, ◌-◌, suc, ◌∙◌, arith}
 use Rattle.std.proofs.lemmas.Bool.Decides.{nat_tests}
 use Rattle.bay_serving.proofs.ServeLemmas.{Reached-done, Reached-ends, Reached-fails}
 use Rattle.bay_serving.proofs.ServeLemmas.{may-pause}
@@ -48,7 +48,7 @@ loop-turn-preserved g c =
           Reached-done (Called g.L.Link.does g.L.Link.failures) g.H.Host.does g.W.Write.contents _ _
           _ _ _ _ _ _ _ c.loop-turn.invariant.reached more _ _ _
           (c.line_of-line.ensures ∙ (rw c.device.ensures at c.choose-is_heard.ensures.line))
-    (rw c.device.ensures at c.choose-is_heard.ensures.lines)
+          (rw c.device.ensures at c.choose-is_heard.ensures.lines)
           (rw c.device.ensures at c.choose-is_heard.ensures.process)
           (record {
             link = c.try_turn.new.link.link;

@@ -1,0 +1,283 @@
+-- Lemmas on what holds of the port of a process.
+use Rattle.std.proofs.Common.{◌≡◌, ◌≢◌, ℕ, zero, suc, ◌+◌, ◌<◌, Bool, true, false, List, [], ◌∷◌, ◌++◌, length, take, drop, is_none, is_some, Option, None, Some, option_and_then, nat_le, Result, Ok, Err, refl, sym, ap, ◌∙◌, subst, arith, append_assoc, append-nil, take-append-drop}
+use Rattle.bay_tree.specs.declared.row.Row.{Row}
+use Rattle.bay_nodes.specs.declared.switch.Switch.{Switch}
+use Rattle.bay_device.specs.Device.{State}
+use Rattle.bay_lines.specs.Fronts.{Front, Waiting, Overlong, Whole, front}
+use Rattle.bay_port.specs.Attending.{Attended, Part, Script, attended, attended_here, behind, checked, closed_or_kept, attended_as, left_in, offered, offered_of, on_heard, read_by, taken_in, talked, told_to}
+use Rattle.bay_port.specs.Fit.{bad_line, bad_or_none, is_told, is_waiting, is_wrong, line_or_none}
+use Rattle.bay_port.specs.Laws.{AreBad, IsReadable, IsSilent, TellsInOrder, taken_of}
+use Rattle.bay_port.specs.Ports.{PortData, bare, taken_as, taken_front}
+use Rattle.bay_port.specs.Sound.{first_sound, sound_from, tells_bad}
+use Rattle.bay_port.specs.Telling.{fits_in}
+use Rattle.bay_port.specs.declared.news.News.TheVariants.{Closed}
+use Rattle.bay_port.specs.declared.news.Parting.{Parting}
+use Rattle.bay_port.specs.declared.port.Standing.{Standing}
+use Rattle.bay_port.specs.declared.port.Standing.TheVariants.{Away, Leaving, Here}
+use Rattle.bay_serve.specs.Calls.{Call, Accepts, Reads, Writes, Closes, Heard, Octets, Silence, Over, Broken}
+use Rattle.bay_trace.specs.Trace.{NamedData}
+use Rattle.bay_serve.specs.Served.{line_of, refusal_at, refusal_of}
+
+-- ---- lines that are not refused
+
+told-right : (line : List ℕ) → is_told line ≡ true → refusal_at (Some line) false ≡ None
+told-right line e = by_line (line_of line) e
+  where
+    by_line : (o : Option NamedData) → is_some o ≡ true → refusal_of o false ≡ None
+    by_line None e = absurd cc
+    by_line (Some told) e = refl
+
+some-right : (line found : List ℕ) → line_or_none line ≡ Some found
+    → refusal_at (Some found) false ≡ None
+some-right line found e = by_test (is_told line) refl
+  where
+    by_test : (v : Bool) → is_told line ≡ v → refusal_at (Some found) false ≡ None
+    by_test true is =
+        let some : Some line ≡ Some found = rw is at e in
+        let same : line ≡ found = cc in
+        subst (λ l. refusal_at (Some l) false ≡ None) same (told-right line is)
+    by_test false is = let none : None ≡ Some found = rw is at e in absurd cc
+
+bad-right : (id found : List ℕ) → bad_or_none id ≡ Some found
+    → refusal_at (Some found) false ≡ None
+bad-right id found e = by_room (nat_le (length (bad_line id)) 256) refl
+  where
+    by_room : (v : Bool) → nat_le (length (bad_line id)) 256 ≡ v
+        → refusal_at (Some found) false ≡ None
+    by_room true is = some-right (bad_line id) found (rw is at e)
+    by_room false is = let none : None ≡ Some found = rw is at e in absurd cc
+
+sound-right : (o : Option (List ℕ)) (found : List ℕ)
+    → option_and_then bad_or_none o ≡ Some found → refusal_at (Some found) false ≡ None
+sound-right None found e = absurd cc
+sound-right (Some id) found e = bad-right id found e
+
+front-right : (f : Front) (p : PortData) (found : List ℕ)
+    → (taken_front f p).line ≡ Some found → refusal_at (Some found) false ≡ None
+front-right Waiting p found e = absurd cc
+front-right Overlong p found e = absurd cc
+front-right (Whole line rest) p found e = some-right line found e
+
+taken-right : (standing : Standing) (s : State) (p : PortData) (found : List ℕ)
+    → (taken_as standing s p).line ≡ Some found → refusal_at (Some found) false ≡ None
+taken-right Away s p found e = absurd cc
+taken-right Leaving s p found e = sound-right (first_sound s) found e
+taken-right Here s p found e = front-right (front p.kept) p found e
+
+pub is-readable : (s : State) (p : PortData) → IsReadable s p
+is-readable s p found e = taken-right p.standing s p found e
+
+-- ---- switches that are bad
+
+all-bad : (rows : List Row) (k : ℕ) (switches : List Switch)
+    → is_none (sound_from rows k switches) ≡ true
+    → (j : ℕ) → j < length switches → tells_bad (k + j + 1) rows ≡ true
+all-bad rows k [] e j lt = absurd (omega arith)
+all-bad rows k (switch ∷ switches) e j lt =
+    by_test (λ rest. all-bad rows (k + 1) switches rest) (tells_bad (k + 1) rows) refl j lt
+  where
+    by_test : (is_none (sound_from rows (k + 1) switches) ≡ true
+        → (i : ℕ) → i < length switches → tells_bad (k + 1 + i + 1) rows ≡ true)
+        → (v : Bool) → tells_bad (k + 1) rows ≡ v
+        → (j : ℕ) → j < length (switch ∷ switches) → tells_bad (k + j + 1) rows ≡ true
+    by_test more true is zero lt =
+        let here : k + 0 + 1 ≡ k + 1 = omega arith in ap (λ n. tells_bad n rows) here ∙ is
+    by_test more true is (suc i) lt =
+        let next : k + suc i + 1 ≡ k + 1 + i + 1 = omega arith in
+        ap (λ n. tells_bad n rows) next ∙ more (rw is at e) i (omega arith)
+    by_test more false is j lt = let none : false ≡ true = rw is at e in absurd cc
+
+are-bad : (s : State) → is_none (first_sound s) ≡ true → AreBad s
+are-bad s e k lt =
+    let here : 0 + k + 1 ≡ k + 1 = omega arith in
+    ap (λ n. tells_bad n s.rows) (sym here) ∙ all-bad s.rows 0 s.switches e k lt
+
+closed-bare : (r : Result PortData Parting) (calls : List Call) (why : Parting)
+    → (closed_or_kept r calls).news ≡ Some (Closed why)
+    → (closed_or_kept r calls).port ≡ bare Leaving
+closed-bare (Ok p) calls why e = absurd cc
+closed-bare (Err w) calls why e = refl
+
+accepted-bare : (taken : Option Bool) (p : PortData) (why : Parting)
+    → (taken_in taken p).news ≡ Some (Closed why) → (taken_in taken p).port ≡ bare Leaving
+accepted-bare None p why e = absurd cc
+accepted-bare (Some false) p why e = absurd cc
+accepted-bare (Some true) p why e = absurd cc
+
+left-bad : (v : Bool) (p : PortData) → p.standing ≡ Leaving
+    → (left_in v p).port.standing ≢ Leaving → v ≡ true
+left-bad true p leaving other = refl
+left-bad false p leaving other = absurd (other leaving)
+
+closed-as : (standing : Standing) (text : List ℕ) (s : State) (script : Script) (p : PortData)
+    (why : Parting) → (attended_as standing text s script p).news ≡ Some (Closed why)
+    → (attended_as standing text s script p).port ≡ bare Leaving
+closed-as Away text s script p why e = accepted-bare script.accepted p why e
+closed-as Leaving text s script p why e = absurd cc
+closed-as Here text s script p why e =
+    let part = talked text (script.taken, script.heard) p in
+    closed-bare part.after part.calls why e
+
+pub is-silent : (text : List ℕ) (s : State) (script : Script) (p : PortData)
+    → IsSilent text s script p
+is-silent text s script p = record {
+  closed = λ why e. closed-as p.standing text s script p why e;
+  lines = λ leaving. ap (λ standing. (taken_as standing s p).line) leaving;
+  calls = λ leaving. ap (λ standing. (attended_as standing text s script p).calls) leaving;
+  ends = λ leaving other.
+      are-bad s (left-bad (is_none (first_sound s)) p leaving
+      (λ e. other (ap (λ standing. (attended_as standing text s script p).port.standing) leaving
+      ∙ e)));
+}
+
+-- ---- what is told
+
+taken-append : (xs ys : List Call) → taken_of (xs ++ ys) ≡ taken_of xs ++ taken_of ys
+taken-append [] ys = refl
+taken-append (Accepts a taken ∷ xs) ys = taken-append xs ys
+taken-append (Reads a room heard ∷ xs) ys = taken-append xs ys
+taken-append (Writes a octets None ∷ xs) ys = taken-append xs ys
+taken-append (Writes a octets (Some n) ∷ xs) ys =
+    ap (λ l. take n octets ++ l) (taken-append xs ys)
+    ∙ sym (append_assoc (take n octets) (taken_of xs) (taken_of ys))
+taken-append (Closes a ∷ xs) ys = taken-append xs ys
+
+-- a part took a front of what was to be told, and the rest still waits, unless it led to a closing
+record Tells (all : List ℕ) (part : Part) : Type 0 where
+  rest : List ℕ
+  whole : all ≡ taken_of part.calls ++ rest
+  waits : (p : PortData) → part.after ≡ Ok p → p.queue ≡ rest
+
+tells-behind : (all : List ℕ) (r : Result PortData Parting) (calls : List Call)
+    (f : PortData → Part) → Tells all (record { after = r; calls = calls })
+    → ((p : PortData) → Tells p.queue (f p))
+    → Tells all (behind (record { after = r; calls = calls }) f)
+tells-behind all (Err why) calls f t next =
+    record { rest = t.rest; whole = t.whole; waits = λ p e. absurd cc }
+tells-behind all (Ok p) calls f t next =
+    let n = next p in
+    record {
+      rest = n.rest;
+      whole = t.whole
+          ∙ ap (λ l. taken_of calls ++ l) (sym (t.waits p refl) ∙ n.whole)
+          ∙ sym (append_assoc (taken_of calls) (taken_of (f p).calls) n.rest)
+          ∙ ap (λ l. l ++ n.rest) (sym (taken-append calls (f p).calls));
+      waits = n.waits;
+    }
+
+tells-told : (text : List ℕ) (p : PortData) → Tells (p.queue ++ text) (told_to text p)
+tells-told text p = by_room (fits_in p.queue text) refl
+  where
+    by_room : (v : Bool) → fits_in p.queue text ≡ v → Tells (p.queue ++ text) (told_to text p)
+    by_room true e = rw e (record {
+      rest = p.queue ++ text;
+      whole = refl;
+      waits = λ q is. let same : record p { queue = p.queue ++ text } ≡ q = cc in
+          ap (λ (d : PortData). d.queue) (sym same);
+    })
+    by_room false e = rw e (record { rest = p.queue ++ text; whole = refl; waits = λ q is. absurd cc })
+
+tells-taken : (queue : List ℕ) (taken : Option ℕ) (p : PortData) → p.queue ≡ queue
+    → Tells queue (offered_of queue taken p)
+tells-taken [] taken p is =
+    record {
+      rest = [];
+      whole = refl;
+      waits = λ q e. let same : p ≡ q = cc in ap (λ (d : PortData). d.queue) (sym same) ∙ is;
+    }
+tells-taken (b ∷ bs) None p is =
+    record { rest = b ∷ bs; whole = refl; waits = λ q e. absurd cc }
+tells-taken (b ∷ bs) (Some n) p is =
+    record {
+      rest = drop n (b ∷ bs);
+      whole = sym (take-append-drop n (b ∷ bs))
+          ∙ ap (λ l. l ++ drop n (b ∷ bs)) (sym (append-nil (take n (b ∷ bs))));
+      waits = λ q e. let same : record p { queue = drop n p.queue } ≡ q = cc in
+          ap (λ (d : PortData). d.queue) (sym same) ∙ ap (drop n) is;
+    }
+
+tells-read : (heard : Heard) (p : PortData) → Tells p.queue (read_by heard p)
+tells-read heard p = by_front (is_waiting (front p.kept)) refl
+  where
+    by_heard : (h : Heard) → Tells p.queue (on_heard h p (Reads 1 4096 h ∷ []))
+    by_heard (Octets octets) = record {
+      rest = p.queue;
+      whole = refl;
+      waits = λ q e. let same : record p { kept = p.kept ++ octets } ≡ q = cc in
+          ap (λ (d : PortData). d.queue) (sym same);
+    }
+    by_heard Silence = record {
+      rest = p.queue;
+      whole = refl;
+      waits = λ q e. let same : p ≡ q = cc in ap (λ (d : PortData). d.queue) (sym same);
+    }
+    by_heard Over = record { rest = p.queue; whole = refl; waits = λ q e. absurd cc }
+    by_heard Broken = record { rest = p.queue; whole = refl; waits = λ q e. absurd cc }
+
+    by_front : (v : Bool) → is_waiting (front p.kept) ≡ v → Tells p.queue (read_by heard p)
+    by_front true e = rw e (by_heard heard)
+    by_front false e = rw e (record {
+      rest = p.queue;
+      whole = refl;
+      waits = λ q e. let same : p ≡ q = cc in ap (λ (d : PortData). d.queue) (sym same);
+    })
+
+tells-checked : (p : PortData) → Tells p.queue (checked p)
+tells-checked p = by_front (is_wrong (front p.kept)) refl
+  where
+    by_front : (v : Bool) → is_wrong (front p.kept) ≡ v → Tells p.queue (checked p)
+    by_front true e = rw e (record { rest = p.queue; whole = refl; waits = λ q e. absurd cc })
+    by_front false e = rw e (record {
+      rest = p.queue;
+      whole = refl;
+      waits = λ q e. let same : p ≡ q = cc in ap (λ (d : PortData). d.queue) (sym same);
+    })
+
+tells-talked : (text : List ℕ) (answers : Option ℕ × Heard) (p : PortData)
+    → Tells (p.queue ++ text) (talked text answers p)
+tells-talked text answers p =
+    let all = p.queue ++ text in
+    let a = told_to text p in
+    let ta = tells-behind all a.after a.calls (offered answers.0)
+    (record {
+      rest = (tells-told text p).rest;
+      whole = (tells-told text p).whole;
+      waits = (tells-told text p).waits;
+    })
+    (λ q. tells-taken q.queue answers.0 q refl) in
+    let b = behind a (offered answers.0) in
+    let tb = tells-behind all b.after b.calls (read_by answers.1)
+    (record { rest = ta.rest; whole = ta.whole; waits = ta.waits })
+    (λ q. tells-read answers.1 q) in
+    let c = behind b (read_by answers.1) in
+    tells-behind all c.after c.calls checked
+    (record { rest = tb.rest; whole = tb.whole; waits = tb.waits }) tells-checked
+
+closed-tells : (all : List ℕ) (r : Result PortData Parting) (calls : List Call) (rest : List ℕ)
+    → all ≡ taken_of calls ++ rest → all ≡ taken_of (closed_or_kept r calls).calls ++ rest
+closed-tells all (Ok p) calls rest e = e
+closed-tells all (Err why) calls rest e =
+    e ∙ ap (λ l. l ++ rest)
+    (sym (append-nil (taken_of calls)) ∙ sym (taken-append calls (Closes 1 ∷ [])))
+
+kept-waits : (r : Result PortData Parting) (calls : List Call) (rest : List ℕ)
+    → ((p : PortData) → r ≡ Ok p → p.queue ≡ rest) → (closed_or_kept r calls).news ≡ None
+    → (closed_or_kept r calls).port.queue ≡ rest
+kept-waits (Ok p) calls rest waits e = waits p refl
+kept-waits (Err why) calls rest waits e = absurd cc
+
+pub tells-in-order : (text : List ℕ) (s : State) (script : Script) (p : PortData)
+    → p.standing ≡ Here → TellsInOrder text s script p
+tells-in-order text s script p here =
+    let part = talked text (script.taken, script.heard) p in
+    let t = tells-talked text (script.taken, script.heard) p in
+    let is : attended text s script p ≡ attended_here part =
+    ap (λ standing. attended_as standing text s script p) here in
+    record {
+      rest = t.rest;
+      whole = closed-tells (p.queue ++ text) part.after part.calls t.rest t.whole
+          ∙ ap (λ (a : Attended). taken_of a.calls ++ t.rest) (sym is);
+      waits = λ none. ap (λ (a : Attended). a.port.queue) is
+          ∙ kept-waits part.after part.calls t.rest t.waits
+          (ap (λ (a : Attended). a.news) (sym is) ∙ none);
+    }
