@@ -11,6 +11,7 @@
 // - `device`: a device as a library is called.
 // - `replay`: readers and writers that go by a few octets at a time, and that fail.
 // - `serve`: serving over a link and a host in memory, and over those of the system.
+// - `process`: a process that is heard, over links in memory.
 // - `memory_link`, `memory`: clients in memory, and turns over them.
 // - `links`: a link over sockets call by call, and the system's clock.
 // - `sockets`: a client and the server in turn, on 127.0.0.1.
@@ -36,6 +37,8 @@ mod links;
 mod memory;
 #[cfg(test)]
 mod memory_link;
+#[cfg(test)]
+mod process;
 #[cfg(test)]
 mod replay;
 #[cfg(test)]

@@ -102,7 +102,7 @@ impl Host<Hasty> for Still {
 }
 
 /// What is printed where the words ask to serve a trace, and how it ends.
-fn served<L: Link + Drop, H: Host<L>>(
+pub fn served<L: Link + Drop, H: Host<L>>(
     alloc: Global,
     host: &mut H,
     trace: &str,

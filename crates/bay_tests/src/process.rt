@@ -1,0 +1,142 @@
+// A process that is heard, over links in memory.
+use crate::serve::served;
+use bay_main::host::Host;
+use bay_serve::link::{Got, Link, LinkFault};
+use std::test::Fail;
+
+/// A link on which no client connects, or one process, which sends some pieces and then its end, and
+/// wants to be told one text.
+#[derive(Drop)]
+struct Scripted {
+    waits: bool,
+    pieces: [&'static [u8]; 3],
+    at: usize,
+    wanted: &'static [u8],
+    failures: u64,
+}
+
+impl Link for Scripted {
+    ghost failures = { λ link. link.failures };
+
+    fn accept(&mut self, _a: u16) -> Result<bool, LinkFault> {
+        let waits = self.waits;
+        self.waits = false;
+        Ok(waits)
+    }
+
+    fn read(&mut self, _a: u16, room: &mut [u8]) -> Result<Got, LinkFault> {
+        let piece = self.pieces.as_slice().get(self.at).copied().unwrap_or(b"");
+        self.at = self.at.saturating_add(1);
+        let count = room.len().min(piece.len());
+        room[..count].copy_from_slice(&piece[..count]);
+        if count > 0 {
+            return Ok(Got::Bytes(count));
+        }
+        Ok(Got::End)
+    }
+
+    fn write(&mut self, _a: u16, octets: &[u8]) -> Result<usize, LinkFault> {
+        if octets == self.wanted {
+            return Ok(octets.len());
+        }
+        self.failures = self.failures.saturating_add(1);
+        Err(LinkFault)
+    }
+
+    fn close(&mut self, _a: u16) {}
+}
+
+/// A host whose clock goes by a second at each look. At port 9 is the process, if it is anywhere.
+#[derive(Drop)]
+struct Sides {
+    pieces: [&'static [u8]; 3],
+    has_process: bool,
+    now: u64,
+}
+
+impl Host<Scripted> for Sides {
+    fn bind(&mut self, port: u16) -> Option<Scripted> {
+        if port == 9 && !self.has_process {
+            return None;
+        }
+        Some(Scripted {
+            waits: port == 9,
+            pieces: self.pieces,
+            at: 0,
+            wanted: b"4000 refused 113\n",
+            failures: 0,
+        })
+    }
+
+    fn now(&mut self) -> u64 {
+        self.now = self.now.saturating_add(1000);
+        self.now
+    }
+
+    fn pause(&mut self) {}
+}
+
+/// A host with a process that sends these pieces.
+fn sides(pieces: [&'static [u8]; 3]) -> Sides {
+    Sides {
+        pieces,
+        has_process: true,
+        now: 0,
+    }
+}
+
+const WORDS: [&str; 11] = [
+    "serve",
+    "--bay",
+    "bay",
+    "--logic",
+    "logic",
+    "--port",
+    "7",
+    "--turns",
+    "8",
+    "--process",
+    "9",
+];
+
+#[test]
+fn lines_and_what_is_told(rt: HostRuntime) -> Result<(), Fail> {
+    let mut host = sides([b"0 contact Q 1\n0 con", b"tact X 2\r\n", b""]);
+    let (printed, status) = served(rt.alloc(), &mut host, "", WORDS.as_slice());
+    let wanted =
+        b"instructions=2 depth=1 budget=2\n1000 process open\n4000 refused 113\n4000 process closed 0\n".as_slice();
+    assert!(rt; printed.as_slice() == wanted && status == 0);
+    Ok(())
+}
+
+#[test]
+fn what_is_not_told_in_order(rt: HostRuntime) -> Result<(), Fail> {
+    let mut host = sides([b"0 contact X 1\n", b"", b""]);
+    let (printed, status) = served(rt.alloc(), &mut host, "", WORDS.as_slice());
+    let wanted =
+        b"instructions=2 depth=1 budget=2\n1000 process open\n3000 refused 113\n3000 process closed 131\n".as_slice();
+    assert!(rt; printed.as_slice() == wanted && status == 0);
+    Ok(())
+}
+
+#[test]
+fn lines_that_cannot_be_taken(rt: HostRuntime) -> Result<(), Fail> {
+    for last in [b"0 scan\n".as_slice(), b"0 contact Q 4\n".as_slice()] {
+        let mut host = sides([b"0 contact Q 1\n", b"\n", last]);
+        let (printed, status) = served(rt.alloc(), &mut host, "", WORDS.as_slice());
+        let wanted =
+            b"instructions=2 depth=1 budget=2\n1000 process open\n4000 process closed 120\n".as_slice();
+        assert!(rt; printed.as_slice() == wanted && status == 0);
+    }
+    Ok(())
+}
+
+#[test]
+fn a_port_that_cannot_be_had(rt: HostRuntime) -> Result<(), Fail> {
+    let mut host = sides([b"", b"", b""]);
+    host.has_process = false;
+    let (printed, status) = served(rt.alloc(), &mut host, "", WORDS.as_slice());
+    let wanted = b"instructions=2 depth=1 budget=2\nfault 121\n".as_slice();
+    assert!(rt; printed.as_slice() == wanted && status == 3);
+    Ok(())
+}
