@@ -1,4 +1,5 @@
 -- What follows the line of a load that is compiled.
+use Rattle.bay_io.specs.Calls.{WriteCall}
 use Rattle.std.proofs.Common.{ℕ, List, Option, Result, Ok, Err, IsErr, refl}
 use Rattle.bay_device.specs.Device.{State}
 use Rattle.bay_device.specs.Report.{IsReport}
@@ -11,13 +12,14 @@ use Rattle.bay_report.specs.Report.{IsLast, Prints, report_text}
 
 -- the line could not be written
 pub line-fails : {F W : Type 0} (writes : FileWrites F) (contents : W → Option (List ℕ))
+    (asks : W → WriteCall → W → Type 0)
     (out : List ℕ) (s : State) (report : Report) → IsReport s.machine.image report → (files : F)
     (old middle : Writing W) (fault : WriteFault)
-    → Prints contents (IsLast (report_text report) 0) old middle (Err fault)
+    → Prints contents asks (IsLast (report_text report) 0) old middle (Err fault)
     → (answer : Result ℕ WriteFault) → IsErr answer
-    → CompilesDevice writes contents out s files files old middle answer
-line-fails writes contents out s report is files old middle fault printed (Ok n) e = absurd cc
-line-fails writes contents out s report is files old middle fault printed (Err f) e =
+    → CompilesDevice writes contents asks out s files files old middle answer
+line-fails writes contents asks out s report is files old middle fault printed (Ok n) e = absurd cc
+line-fails writes contents asks out s report is files old middle fault printed (Err f) e =
     record {
       report = report;
       is = is;

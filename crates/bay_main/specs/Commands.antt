@@ -1,4 +1,5 @@
 -- What the commands come to: what is printed, the exit status, and what becomes of files.
+use Rattle.bay_io.specs.Calls.{WriteCall}
 use Rattle.std.specs.Prelude.{◌≡◌, ℕ, Bool, true, false, List, codes, Option, None, Some, Result, Ok, Err, is_err, ◌⊎◌}
 use Rattle.il_image.specs.Images.{encoded}
 use Rattle.il_image.specs.declared.opcode.Version.TheVariants.{Two}
@@ -38,85 +39,94 @@ FilesReport form (Ok both) text status = CheckReport both.bay form both.program 
 -- a check of a bay file and of a program or an image, by their names: both are read, and what they
 -- load to is printed
 pub record Checks {F W : Type 0} (reads : FileReads F)
-    (contents : W → Option (List ℕ)) (form : Form) (bay program : List ℕ) (files : F)
+    (contents : W → Option (List ℕ)) (asks : W → WriteCall → W → Type 0) (form : Form)
+    (bay program : List ℕ) (files : F)
     (old new : Writing W) (answer : Result ℕ WriteFault) : Type 0 where
   pub read : Result FilesData ReadFault
   pub is_read : ReadsBoth reads files bay program read
-  pub printed : Prints contents (FilesReport form read) old new answer
+  pub printed : Prints contents asks (FilesReport form read) old new answer
 
 -- how a file was written to which a program is compiled: whole; not at all; or there was no memory,
 -- which is told
-abbrev pub EndsWritten : {W : Type 0} → (W → Option (List ℕ)) → Option FileFault → Writing W
+abbrev pub EndsWritten : {W : Type 0} → (W → Option (List ℕ)) → (W → WriteCall → W → Type 0)
+    → Option FileFault → Writing W
     → Writing W → Result ℕ WriteFault → Type 0
-EndsWritten contents None old new answer = (new ≡ old) × (answer ≡ Ok 0)
-EndsWritten contents (Some unwritten.Failed) old new answer = (new ≡ old) × (is_err answer ≡ true)
-EndsWritten contents (Some unwritten.OutOfMemory) old new answer =
-    Prints contents (IsLast (codes "fault memory\n") 3) old new answer
+EndsWritten contents asks None old new answer = (new ≡ old) × (answer ≡ Ok 0)
+EndsWritten contents asks (Some unwritten.Failed) old new answer =
+    (new ≡ old) × (is_err answer ≡ true)
+EndsWritten contents asks (Some unwritten.OutOfMemory) old new answer =
+    Prints contents asks (IsLast (codes "fault memory\n") 3) old new answer
 
 -- a command that has printed a load's line makes the image, and writes it to the file of this name;
 -- or there is no memory for it, which is told, and no file is touched
 abbrev pub WritesImage : {F W : Type 0} → FileWrites F
-    → (W → Option (List ℕ)) → List ℕ → State → F → F → Writing W → Writing W → Result ℕ WriteFault
+    → (W → Option (List ℕ)) → (W → WriteCall → W → Type 0) → List ℕ → State → F → F → Writing W
+    → Writing W → Result ℕ WriteFault
     → Type 0
-WritesImage writes contents out s before after old new answer =
+WritesImage writes contents asks out s before after old new answer =
     ((fault : Option FileFault)
     × WritesWhole writes 100 0 out (encoded Two s.machine.image) before after fault
-    × EndsWritten contents fault old new answer)
-    ⊎ (Prints contents (IsLast (codes "fault memory\n") 3) old new answer × (after ≡ before))
+    × EndsWritten contents asks fault old new answer)
+    ⊎ (Prints contents asks (IsLast (codes "fault memory\n") 3) old new answer × (after ≡ before))
 
 -- what follows a load's line: the image, where it was printed
-abbrev pub GoesOn : {F W : Type 0} → FileWrites F → (W → Option (List ℕ)) → List ℕ → State → F → F
+abbrev pub GoesOn : {F W : Type 0} → FileWrites F → (W → Option (List ℕ))
+    → (W → WriteCall → W → Type 0) → List ℕ → State → F → F
     → Writing W → Writing W → Result ℕ WriteFault → Result ℕ WriteFault → Type 0
-GoesOn writes contents out s before after old new (Err fault) answer =
+GoesOn writes contents asks out s before after old new (Err fault) answer =
     (new ≡ old) × (after ≡ before) × (answer ≡ Err fault)
-GoesOn writes contents out s before after old new (Ok status) answer =
-    WritesImage writes contents out s before after old new answer
+GoesOn writes contents asks out s before after old new (Ok status) answer =
+    WritesImage writes contents asks out s before after old new answer
 
 -- a device is compiled to: its load's line is printed, and then the image is written
 pub record CompilesDevice {F W : Type 0} (writes : FileWrites F) (contents : W → Option (List ℕ))
+    (asks : W → WriteCall → W → Type 0)
     (out : List ℕ) (s : State) (before after : F) (old new : Writing W)
     (answer : Result ℕ WriteFault) : Type 0 where
   pub report : Report
   pub is : IsReportOf s.machine.image report
   pub middle : Writing W
   pub told : Result ℕ WriteFault
-  pub printed : Prints contents (IsLast (report_text report) 0) old middle told
-  pub goes_on : GoesOn writes contents out s before after middle new told answer
+  pub printed : Prints contents asks (IsLast (report_text report) 0) old middle told
+  pub goes_on : GoesOn writes contents asks out s before after middle new told answer
 
 -- what was loaded is compiled; of a refused load the refusal is printed, and no file is touched
 abbrev pub CompilesLoaded : {F W : Type 0} → FileWrites F
-    → (W → Option (List ℕ)) → List ℕ → Result State LoadFault → F → F → Writing W → Writing W
+    → (W → Option (List ℕ)) → (W → WriteCall → W → Type 0) → List ℕ → Result State LoadFault → F → F
+    → Writing W → Writing W
     → Result ℕ WriteFault → Type 0
-CompilesLoaded writes contents out (Err fault) before after old new answer =
-    Prints contents (Refuses fault) old new answer × (after ≡ before)
-CompilesLoaded writes contents out (Ok s) before after old new answer =
-    CompilesDevice writes contents out s before after old new answer
+CompilesLoaded writes contents asks out (Err fault) before after old new answer =
+    Prints contents asks (Refuses fault) old new answer × (after ≡ before)
+CompilesLoaded writes contents asks out (Ok s) before after old new answer =
+    CompilesDevice writes contents asks out s before after old new answer
 
 -- what was read is loaded and compiled; its load may want memory. Where it can't be read, that is
 -- printed, and no file is touched
 abbrev pub CompilesRead : {F W : Type 0} → FileWrites F
-    → (W → Option (List ℕ)) → List ℕ → Result FilesData ReadFault → F → F → Writing W → Writing W
+    → (W → Option (List ℕ)) → (W → WriteCall → W → Type 0) → List ℕ → Result FilesData ReadFault → F
+    → F → Writing W → Writing W
     → Result ℕ WriteFault → Type 0
-CompilesRead writes contents out (Err fault) before after old new answer =
-    Prints contents (UnreadReport fault) old new answer × (after ≡ before)
-CompilesRead writes contents out (Ok both) before after old new answer =
+CompilesRead writes contents asks out (Err fault) before after old new answer =
+    Prints contents asks (UnreadReport fault) old new answer × (after ≡ before)
+CompilesRead writes contents asks out (Ok both) before after old new answer =
     (loaded : Result State LoadFault)
     × ((load_of both.bay both.program ≡ loaded) ⊎ (loaded ≡ Err wants_memory))
-    × CompilesLoaded writes contents out loaded before after old new answer
+    × CompilesLoaded writes contents asks out loaded before after old new answer
 
 -- a compilation of a bay file and a program to a file, by their names: both are read, loaded and
 -- compiled; where the file is one of the two, nothing is read, printed or touched, and the write
 -- counts as failed
 abbrev pub Compiles : {F W : Type 0} → FileReads F
     → FileWrites F → (F → List ℕ → List ℕ → Bool → Type 0)
-    → (W → Option (List ℕ)) → List ℕ → List ℕ → List ℕ → F → F → Writing W → Writing W
+    → (W → Option (List ℕ)) → (W → WriteCall → W → Type 0) → List ℕ → List ℕ → List ℕ → F → F
+    → Writing W → Writing W
     → Result ℕ WriteFault → Type 0
-Compiles reads writes same contents bay logic out before after old new answer =
+Compiles reads writes same contents asks bay logic out before after old new answer =
     ((same before out bay true ⊎ same before out logic true) × (new ≡ old) × (after ≡ before)
     × (is_err answer ≡ true))
     ⊎ (same before out bay false × same before out logic false
     × ((read : Result FilesData ReadFault) × ReadsBoth reads before bay logic read
-    × CompilesRead writes contents out read before after old new answer))
+    × CompilesRead writes contents asks out read before after old new answer))
 
 -- how a command ends by what it answers
 abbrev pub Ends : Result ℕ WriteFault → Ended → Type 0
@@ -149,24 +159,28 @@ module _ {F L H R W : Type 0} (reads : FileReads F)
     (writes : FileWrites F)
     (same : F → List ℕ → List ℕ → Bool → Type 0)
     (step : L → Call → L → Type 0) (acts : H → HostCall L → H → Type 0)
-    (remaining : R → Option (List ℕ)) (contents : W → Option (List ℕ)) where
+    (remaining : R → Option (List ℕ)) (contents : W → Option (List ℕ))
+    (asks : W → WriteCall → W → Type 0) where
   -- A task is done: what is printed and answered, and what becomes of files and ports. Only a
   -- replay reads what the reader has.
   abbrev pub DoesTask : Task (List ℕ) → Around F H R W → Around F H R W → Result ℕ WriteFault
       → Type 0
   DoesTask (Check bay program) old new answer =
-      Checks reads contents (form_of program) bay (name_of program) old.files old.writer new.writer
+      Checks reads contents asks (form_of program) bay (name_of program) old.files old.writer
+      new.writer
       answer × (new.files ≡ old.files) × (new.host ≡ old.host) × (new.reader ≡ old.reader)
   DoesTask (Compile bay logic out) old new answer =
-      Compiles reads writes same contents bay logic out old.files new.files old.writer new.writer
+      Compiles reads writes same contents asks bay logic out old.files new.files old.writer
+      new.writer
       answer × (new.host ≡ old.host) × (new.reader ≡ old.reader)
   DoesTask Replay old new answer =
-      Prints contents (IsReplay (remaining old.reader.inner) new.reader.has_failed) old.writer
+      Prints contents asks (IsReplay (remaining old.reader.inner) new.reader.has_failed) old.writer
       new.writer answer × (new.files ≡ old.files) × (new.host ≡ old.host)
   DoesTask (Serve bay program port turns trace process) old new answer =
-      ServesFiles step acts contents reads old.files
+      ServesFiles step acts contents asks reads old.files
       (record { bay = bay; form = form_of program; program = name_of program; trace = trace })
-      (record { port = port; turns = turns; process = process }) old.host new.host old.writer new.writer answer
+      (record { port = port; turns = turns; process = process }) old.host new.host old.writer
+      new.writer answer
       × (new.files ≡ old.files) × (new.reader ≡ old.reader)
 
   -- The words ask for a task, and it is done.
@@ -188,7 +202,7 @@ module _ {F L H R W : Type 0} (reads : FileReads F)
   -- There is no memory to read the words, which is told.
   pub record Unread (old new : Around F H R W) (ended : Ended) : Type 0 where
     pub answer : Result ℕ WriteFault
-    pub told : Prints contents (IsLast (codes "fault memory\n") 3) old.writer new.writer answer
+    pub told : Prints contents asks (IsLast (codes "fault memory\n") 3) old.writer new.writer answer
     pub ends : Ends answer ended
     pub untouched : (new.files ≡ old.files) × (new.host ≡ old.host) × (new.reader ≡ old.reader)
 

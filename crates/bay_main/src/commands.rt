@@ -9,6 +9,7 @@ use crate::check::check_run;
 use crate::ending::Ended;
 use bay_device::device::Device;
 use bay_files::files::{BothFiles, FileFault, FileSystem, read_both, write_whole};
+use bay_io::calls::{Sink, Source};
 use bay_io::outbox::WriteFault;
 use bay_io::reader::WatchedReader;
 use bay_io::writer::WatchedWriter;
@@ -23,10 +24,9 @@ use bay_serving::serve::{Named, Numbers, serve};
 use bay_words::task::{Program, Task};
 use bay_words::words::{WordsFault, task_of};
 use std::alloc::Global;
-use std::io::{Read, Write};
 
 /// Checks a bay file and a program or an image, by their names.
-fn check<F: FileSystem, W: Write>(
+fn check<F: FileSystem, W: Sink>(
     alloc: Global,
     form: Form,
     bay: &str,
@@ -34,7 +34,8 @@ fn check<F: FileSystem, W: Write>(
     files: &F,
     writer: &mut WatchedWriter<W>,
 ) -> Result<u8, WriteFault>
-    ensures { Checks F.reads W.contents form bay.now program.now files.now writer.old writer.new
+    ensures { Checks F.reads W.contents W.does form bay.now program.now files.now writer.old
+        writer.new
         result }
 {
     match read_both(alloc, files, bay, program) {
@@ -50,14 +51,15 @@ fn check<F: FileSystem, W: Write>(
 }
 
 /// Makes a device's image, and writes it to the file of this name.
-fn write_image<F: FileSystem, W: Write>(
+fn write_image<F: FileSystem, W: Sink>(
     alloc: Global,
     device: &Device,
     out: &str,
     files: &mut F,
     writer: &mut WatchedWriter<W>,
 ) -> Result<u8, WriteFault>
-    ensures { WritesImage F.writes W.contents out.now device.now files.old files.new writer.old
+    ensures { WritesImage F.writes W.contents W.does out.now device.now files.old files.new
+        writer.old
         writer.new result }
 {
     let Ok(image) = device.image() else {
@@ -71,14 +73,15 @@ fn write_image<F: FileSystem, W: Write>(
 }
 
 /// Writes the line of a device's load, and then its image to the file of this name.
-fn compile_device<F: FileSystem, W: Write>(
+fn compile_device<F: FileSystem, W: Sink>(
     alloc: Global,
     device: &Device,
     out: &str,
     files: &mut F,
     writer: &mut WatchedWriter<W>,
 ) -> Result<u8, WriteFault>
-    ensures { CompilesDevice F.writes W.contents out.now device.now files.old files.new writer.old
+    ensures { CompilesDevice F.writes W.contents W.does out.now device.now files.old files.new
+        writer.old
         writer.new result }
 {
     write_report(writer, device.report())?;
@@ -86,14 +89,14 @@ fn compile_device<F: FileSystem, W: Write>(
 }
 
 /// Compiles what was read of a bay file and a program to the file of this name.
-fn compile_files<F: FileSystem, W: Write>(
+fn compile_files<F: FileSystem, W: Sink>(
     alloc: Global,
     both: &BothFiles,
     out: &str,
     files: &mut F,
     writer: &mut WatchedWriter<W>,
 ) -> Result<u8, WriteFault>
-    ensures { CompilesRead F.writes W.contents out.now
+    ensures { CompilesRead F.writes W.contents W.does out.now
         (Ok (record { bay = both.now.bay.items; program = both.now.program.items })) files.old
         files.new writer.old writer.new result }
 {
@@ -104,7 +107,7 @@ fn compile_files<F: FileSystem, W: Write>(
 }
 
 /// Compiles a bay file and a program to a file, by their names.
-fn compile<F: FileSystem, W: Write>(
+fn compile<F: FileSystem, W: Sink>(
     alloc: Global,
     bay: &str,
     logic: &str,
@@ -112,7 +115,7 @@ fn compile<F: FileSystem, W: Write>(
     files: &mut F,
     writer: &mut WatchedWriter<W>,
 ) -> Result<u8, WriteFault>
-    ensures { Compiles F.reads F.writes F.same W.contents bay.now logic.now out.now files.old
+    ensures { Compiles F.reads F.writes F.same W.contents W.does bay.now logic.now out.now files.old
         files.new writer.old writer.new result }
 {
     if files.is_same(alloc, out, bay) || files.is_same(alloc, out, logic) {
@@ -136,7 +139,7 @@ fn form_of<'a>(program: Program<&'a str>) -> (Form, &'a str)
 }
 
 /// Does a task.
-fn do_task<F: FileSystem, L: Link + Drop, H: Host<L>, R: Read, W: Write>(
+fn do_task<F: FileSystem, L: Link + Drop, H: Host<L>, R: Source, W: Sink>(
     alloc: Global,
     task: Task<&str>,
     files: &mut F,
@@ -145,7 +148,7 @@ fn do_task<F: FileSystem, L: Link + Drop, H: Host<L>, R: Read, W: Write>(
     writer: &mut WatchedWriter<W>,
 ) -> Result<u8, WriteFault>
     ensures { DoesTask F.reads F.writes F.same (Called L.does L.failures) H.does R.remaining
-        W.contents (task_view task.entry)
+        W.contents W.does (task_view task.entry)
         (record { files = files.old; host = host.old; reader = reader.old; writer = writer.old })
         (record { files = files.new; host = host.new; reader = reader.new; writer = writer.new })
         result }
@@ -185,7 +188,7 @@ fn do_task<F: FileSystem, L: Link + Drop, H: Host<L>, R: Read, W: Write>(
 /// Does what the words after the program's name ask for. A check and a compilation read files by
 /// their names, a replay what the reader has, and a compilation writes a file; serving reads files,
 /// and asks the host for ports and the time. What is printed goes to the writer.
-pub fn obey<F: FileSystem, L: Link + Drop, H: Host<L>, R: Read, W: Write>(
+pub fn obey<F: FileSystem, L: Link + Drop, H: Host<L>, R: Source, W: Sink>(
     alloc: Global,
     words: &[&str],
     files: &mut F,
@@ -194,6 +197,7 @@ pub fn obey<F: FileSystem, L: Link + Drop, H: Host<L>, R: Read, W: Write>(
     writer: &mut WatchedWriter<W>,
 ) -> Ended
     ensures { Obeys F.reads F.writes F.same (Called L.does L.failures) H.does R.remaining W.contents
+        W.does
         (map (λ w. w.now) words.now)
         (record { files = files.old; host = host.old; reader = reader.old; writer = writer.old })
         (record { files = files.new; host = host.new; reader = reader.new; writer = writer.new })

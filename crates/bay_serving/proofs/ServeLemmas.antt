@@ -1,4 +1,5 @@
 -- Lemmas on serving, turn by turn.
+use Rattle.bay_io.specs.Calls.{WriteCall}
 use Rattle.std.proofs.Common.{◌≡◌, ◌≢◌, ◌⊎◌, ℕ, suc, ◌+◌, ◌==◌, Bool, true, false, IsErr, MatchBool, List, ◌∷◌, length, drop, slice_get, Option, None, Some, Result, Ok, Err, inl, inr, refl, sym, ap, subst, ◌∙◌, arith, []}
 use Rattle.std.proofs.lemmas.Bool.Decides.{nat_tests}
 use Rattle.bay_device.specs.Device.{State}
@@ -120,7 +121,8 @@ module _ {L : Type 0} (s : State) (lines : List (ℕ × List ℕ)) (process : Op
 
 -- the line of the port and what it leaves go by no lines
 pub from_port-line : {L : Type 0} (s : State) (lines : List (ℕ × List ℕ))
-    (process : Option (Hearing L)) → (from_port s lines process).line ≡ (from_port s [] process).line
+    (process : Option (Hearing L))
+    → (from_port s lines process).line ≡ (from_port s [] process).line
 from_port-line s lines None = refl
 from_port-line s lines (Some p) = refl
 
@@ -138,7 +140,8 @@ from_port-process s lines (Some p) = refl
 -- ---- one turn
 
 module _ {L B H W : Type 0} (below : B → L) (does : L → Call → L → Type 0) (failures : L → ℕ)
-    (acts : H → HostCall L → H → Type 0) (contents : W → Option (List ℕ)) where
+    (acts : H → HostCall L → H → Type 0) (contents : W → Option (List ℕ))
+    (asks : W → WriteCall → W → Type 0) where
   -- a turn was done over the link that has another below it, what it tells was printed, and the
   -- process was attended to
   pub turn-goes : (line : Option (ℕ × List ℕ)) (text : Option (List ℕ)) (clock now : ℕ)
@@ -149,12 +152,13 @@ module _ {L B H W : Type 0} (below : B → L) (does : L → Call → L → Type 
       → acts host-before (Tells clock) host-after
       → Serves (Called (λ o call n. does (below o) call (below n)) (λ b. failures (below b)))
       link-before link-after (moment_at clock before) (line_in text) before after turn
-      → TellsTurn contents now turn s old between r
+      → TellsTurn contents asks now turn s old between r
       → AfterTurn r
       ((process-after ≡ process-before) × (new ≡ between) × (answer ≡ r))
-      (Hears (Called does failures) contents now turn s process-before process-after between new
+      (Hears (Called does failures) contents asks now turn s process-before process-after between
+      new
       answer)
-      → TurnGoes (Called does failures) acts contents line
+      → TurnGoes (Called does failures) acts contents asks line
       (record {
         link = below link-before;
         held = before;
@@ -181,45 +185,47 @@ module _ {L B H W : Type 0} (below : B → L) (does : L → Call → L → Type 
         between = between;
         outcome = r;
         printed =
-            subst (λ m. TellsTurn contents m turn after.device old between r) is
-            (subst (λ d. TellsTurn contents now turn d old between r) whole tells);
+            subst (λ m. TellsTurn contents asks m turn after.device old between r) is
+            (subst (λ d. TellsTurn contents asks now turn d old between r) whole tells);
         hears =
             subst (λ m. AfterTurn r
             ((process-after ≡ process-before) × (new ≡ between) × (answer ≡ r))
-            (Hears (Called does failures) contents m turn after.device process-before process-after
+            (Hears (Called does failures) contents asks m turn after.device process-before
+            process-after
             between new answer)) is
             (subst (λ d. AfterTurn r
             ((process-after ≡ process-before) × (new ≡ between) × (answer ≡ r))
-            (Hears (Called does failures) contents now turn d process-before process-after between
+            (Hears (Called does failures) contents asks now turn d process-before process-after
+            between
             new answer)) whole hears);
       }
 
 module _ {L H W : Type 0} (step : L → Call → L → Type 0) (acts : H → HostCall L → H → Type 0)
-    (contents : W → Option (List ℕ)) where
+    (contents : W → Option (List ℕ)) (asks : W → WriteCall → W → Type 0) where
   -- which fault it is makes no difference
   tells-cut : (now : ℕ) (turn : Turn) (s : State) (old new : Writing W) (one other : WriteFault)
-      → TellsTurn contents now turn s old new (Err one)
-      → TellsTurn contents now turn s old new (Err other)
+      → TellsTurn contents asks now turn s old new (Err one)
+      → TellsTurn contents asks now turn s old new (Err other)
   tells-cut now turn s old new one other tells = by_quiet (is_quiet turn) tells
     where
       by_quiet : (b : Bool) → MatchBool b
           ((new ≡ old) × (◌≡◌ {A = Result ℕ WriteFault} (Err one) (Ok 0)))
-          (Prints contents (IsLast (turn_text now turn s) 0) old new (Err one))
+          (Prints contents asks (IsLast (turn_text now turn s) 0) old new (Err one))
           → MatchBool b ((new ≡ old) × (◌≡◌ {A = Result ℕ WriteFault} (Err other) (Ok 0)))
-          (Prints contents (IsLast (turn_text now turn s) 0) old new (Err other))
+          (Prints contents asks (IsLast (turn_text now turn s) 0) old new (Err other))
       by_quiet true stays = let e = stays.1 in absurd cc
       by_quiet false prints = prints
 
   news-cut : (now : ℕ) (news : Option News) (old new : Writing W) (one other : WriteFault)
-      → TellsNews contents now news old new (Err one)
-      → TellsNews contents now news old new (Err other)
+      → TellsNews contents asks now news old new (Err one)
+      → TellsNews contents asks now news old new (Err other)
   news-cut now None old new one other stays = let e = stays.1 in absurd cc
   news-cut now (Some news) old new one other prints = prints
 
   hears-cut : (now : ℕ) (turn : Turn) (s : State) (before after : Option (Hearing L))
       (old new : Writing W) (one other : WriteFault)
-      → Hears step contents now turn s before after old new (Err one)
-      → Hears step contents now turn s before after old new (Err other)
+      → Hears step contents asks now turn s before after old new (Err one)
+      → Hears step contents asks now turn s before after old new (Err other)
   hears-cut now turn s None None old new one other stays = let e = stays.1 in absurd cc
   hears-cut now turn s None (Some after) old new one other h = absurd h
   hears-cut now turn s (Some before) None old new one other h = absurd h
@@ -231,8 +237,8 @@ module _ {L H W : Type 0} (step : L → Call → L → Type 0) (acts : H → Hos
 
   goes-cut : (line : Option (ℕ × List ℕ)) (before : Serving L H) (old : Writing W)
       (after : Serving L H) (new : Writing W) (one other : WriteFault)
-      → TurnGoes step acts contents line before old after new (Err one)
-      → TurnGoes step acts contents line before old after new (Err other)
+      → TurnGoes step acts contents asks line before old after new (Err one)
+      → TurnGoes step acts contents asks line before old after new (Err other)
   goes-cut line before old after new one other goes =
       by_outcome goes.outcome goes.printed goes.hears
     where
@@ -240,13 +246,13 @@ module _ {L H W : Type 0} (step : L → Call → L → Type 0) (acts : H → Hos
       now = moment_at goes.clock before.held
 
       by_outcome : (r : Result ℕ WriteFault)
-          → TellsTurn contents now goes.turn after.held.device old goes.between r
+          → TellsTurn contents asks now goes.turn after.held.device old goes.between r
           → AfterTurn r
           ((after.process ≡ before.process) × (new ≡ goes.between)
           × (◌≡◌ {A = Result ℕ WriteFault} (Err one) r))
-          (Hears step contents now goes.turn after.held.device before.process after.process
+          (Hears step contents asks now goes.turn after.held.device before.process after.process
           goes.between new (Err one))
-          → TurnGoes step acts contents line before old after new (Err other)
+          → TurnGoes step acts contents asks line before old after new (Err other)
       by_outcome (Ok status) printed hears = record {
         clock = goes.clock;
         told = goes.told;
@@ -275,14 +281,14 @@ module _ {L H W : Type 0} (step : L → Call → L → Type 0) (acts : H → Hos
   pub tried-cut : (line : Option (ℕ × List ℕ)) (before : Serving L H) (old : Writing W)
       (after : Serving L H) (new : Writing W) (fault : WriteFault) (r : Result Tried WriteFault)
       → IsErr r
-      → TurnGoes step acts contents line before old after new (Err fault)
-      → TriesTurn step acts contents line before old after new r
+      → TurnGoes step acts contents asks line before old after new (Err fault)
+      → TriesTurn step acts contents asks line before old after new r
   tried-cut line before old after new fault (Ok x) e goes = absurd cc
   tried-cut line before old after new fault (Err f) e goes =
       inl (goes-cut line before old after new fault f goes)
 
 module _ {L H W : Type 0} (step : L → Call → L → Type 0) (acts : H → HostCall L → H → Type 0)
-    (contents : W → Option (List ℕ)) where
+    (contents : W → Option (List ℕ)) (asks : W → WriteCall → W → Type 0) where
   -- there was a pause behind it, or none
   pub may-pause : (link : L) (held : Held) (process : Option (Hearing L)) (before after : H)
       → (after ≡ before) ⊎ acts before Pauses after
@@ -296,14 +302,14 @@ module _ {L H W : Type 0} (step : L → Call → L → Type 0) (acts : H → Hos
 -- ---- how far serving has come
 
 module _ {L H W : Type 0} (step : L → Call → L → Type 0) (acts : H → HostCall L → H → Type 0)
-    (contents : W → Option (List ℕ)) where
+    (contents : W → Option (List ℕ)) (asks : W → WriteCall → W → Type 0) where
   -- what is left to be served goes on to all of it
   pub record Reached (turns : ℕ) (lines : List (ℕ × List ℕ)) (before : Serving L H)
       (old : Writing W) (left : ℕ) (rest : List (ℕ × List ℕ)) (here : Serving L H) (mid : Writing W)
       : Type 0 where
     pub goes : (host : H) (new : Writing W) (answer : Result ℕ WriteFault)
-        → ServesTurns step acts contents left rest here mid host new answer
-        → ServesTurns step acts contents turns lines before old host new answer
+        → ServesTurns step acts contents asks left rest here mid host new answer
+        → ServesTurns step acts contents asks turns lines before old host new answer
 
   pub Reached-start : (turns : ℕ) (lines : List (ℕ × List ℕ)) (before : Serving L H)
       (old : Writing W) → Reached turns lines before old turns lines before old
@@ -322,22 +328,24 @@ module _ {L H W : Type 0} (step : L → Call → L → Type 0) (acts : H → Hos
     there = with_process process-after here
 
     as-chosen : (after : Serving L H) (new : Writing W) (answer : Result ℕ WriteFault)
-        → TurnGoes step acts contents line there mid after new answer
-        → TurnGoes step acts contents (chosen here.held.device rest here.process).line
+        → TurnGoes step acts contents asks line there mid after new answer
+        → TurnGoes step acts contents asks (chosen here.held.device rest here.process).line
         (with_process (chosen here.held.device rest here.process).process here) mid after new answer
     as-chosen after new answer goes =
-        subst (λ l. TurnGoes step acts contents l
+        subst (λ l. TurnGoes step acts contents asks l
         (with_process (chosen here.held.device rest here.process).process here) mid after new
         answer) same
-        (subst (λ p. TurnGoes step acts contents line (with_process p here) mid after new answer)
+        (subst (λ p. TurnGoes step acts contents asks line (with_process p here) mid after new
+        answer)
         left-as goes)
 
     fails-chosen : (host : H) (new : Writing W) (answer : Result ℕ WriteFault)
-        → TurnFails step acts contents line there mid host new answer
-        → TurnFails step acts contents (chosen here.held.device rest here.process).line here mid
+        → TurnFails step acts contents asks line there mid host new answer
+        → TurnFails step acts contents asks (chosen here.held.device rest here.process).line here
+        mid
         host new answer
     fails-chosen host new answer fails =
-        subst (λ l. TurnFails step acts contents l here mid host new answer) same
+        subst (λ l. TurnFails step acts contents asks l here mid host new answer) same
         (record {
           clock = fails.clock;
           told = fails.told;
@@ -348,15 +356,15 @@ module _ {L H W : Type 0} (step : L → Call → L → Type 0) (acts : H → Hos
 
     -- the next is not done
     Reached-stop : (host : H) (new : Writing W) (answer : Result ℕ WriteFault)
-        → TurnFails step acts contents line there mid host new answer
-        → ServesTurns step acts contents turns lines before old host new answer
+        → TurnFails step acts contents asks line there mid host new answer
+        → ServesTurns step acts contents asks turns lines before old host new answer
     Reached-stop host new answer fails =
         reached.goes host new answer (rw e (inl (fails-chosen host new answer fails)))
 
     -- the lines of the next can't be written
     Reached-cut : (after : Serving L H) (new : Writing W) (fault : WriteFault)
-        → TurnGoes step acts contents line there mid after new (Err fault)
-        → ServesTurns step acts contents turns lines before old after.host new (Err fault)
+        → TurnGoes step acts contents asks line there mid after new (Err fault)
+        → ServesTurns step acts contents asks turns lines before old after.host new (Err fault)
     Reached-cut after new fault goes =
         reached.goes after.host new (Err fault)
         (rw e (inr (
@@ -369,7 +377,8 @@ module _ {L H W : Type 0} (step : L → Call → L → Type 0) (acts : H → Hos
 
     -- one turn was tried, and done
     pub Reached-done : (after next : Serving L H) (new : Writing W) (t : Tried) (was_idle : Bool)
-        → t ≡ tried.Done was_idle → TriesTurn step acts contents line there mid after new (Ok t)
+        → t ≡ tried.Done was_idle
+        → TriesTurn step acts contents asks line there mid after new (Ok t)
         → MayPause acts after next
         → Reached turns lines before old more lines-after next new
     Reached-done after next new (tried.Done w) was_idle is goes pause =
@@ -383,7 +392,8 @@ module _ {L H W : Type 0} (step : L → Call → L → Type 0) (acts : H → Hos
                 (
                   next,
                   pause,
-                  subst (λ ls. ServesTurns step acts contents more ls next new host last answer) dropped
+                  subst (λ ls. ServesTurns step acts contents asks more ls next new host last
+                      answer) dropped
                       s,
                 ),
               )));
@@ -392,11 +402,12 @@ module _ {L H W : Type 0} (step : L → Call → L → Type 0) (acts : H → Hos
 
     -- it was not done
     pub Reached-ends : (after : Serving L H) (new : Writing W) (t : Tried) (status : ℕ)
-        → t ≡ tried.Ends status → TriesTurn step acts contents line there mid after new (Ok t)
-        → ServesTurns step acts contents turns lines before old after.host new (Ok status)
+        → t ≡ tried.Ends status → TriesTurn step acts contents asks line there mid after new (Ok t)
+        → ServesTurns step acts contents asks turns lines before old after.host new (Ok status)
     Reached-ends after new (tried.Done w) status is goes = absurd cc
     Reached-ends after new (tried.Ends s) status is fails =
-        subst (λ n. ServesTurns step acts contents turns lines before old after.host new (Ok n))
+        subst (λ n. ServesTurns step acts contents asks turns lines before old after.host new
+        (Ok n))
         (ap status-of is) (Reached-stop after.host new (Ok s) fails)
       where
         status-of : Tried → ℕ
@@ -406,12 +417,12 @@ module _ {L H W : Type 0} (step : L → Call → L → Type 0) (acts : H → Hos
     -- what is to be printed for it could not be written
     pub Reached-fails : (after : Serving L H) (new : Writing W) (fault : WriteFault)
         (r : Result ℕ WriteFault) → IsErr r
-        → TriesTurn step acts contents line there mid after new (Err fault)
-        → ServesTurns step acts contents turns lines before old after.host new r
+        → TriesTurn step acts contents asks line there mid after new (Err fault)
+        → ServesTurns step acts contents asks turns lines before old after.host new r
     Reached-fails after new fault (Ok x) is tries = absurd cc
     Reached-fails after new fault (Err f) is (inl goes) =
         Reached-cut after new f
-        (goes-cut step acts contents line there mid after new fault f goes)
+        (goes-cut step acts contents asks line there mid after new fault f goes)
     Reached-fails after new fault (Err f) is (inr fails) =
         Reached-stop after.host new (Err f)
         (record {
@@ -427,20 +438,21 @@ module _ {L H W : Type 0} (step : L → Call → L → Type 0) (acts : H → Hos
       (old : Writing W) (left : ℕ) (rest : List (ℕ × List ℕ)) (here : Serving L H)
       (mid : Writing W)
       → Reached turns lines before old left rest here mid → left ≡ 0
-      → ServesTurns step acts contents turns lines before old here.host mid (Ok 0)
+      → ServesTurns step acts contents asks turns lines before old here.host mid (Ok 0)
   Reached-end turns lines before old left rest here mid reached e =
       reached.goes here.host mid (Ok 0) (rw e (refl, (refl, refl)))
 
 -- ---- what follows the line of a load that is served
 
 module _ {L H W : Type 0} (step : L → Call → L → Type 0) (acts : H → HostCall L → H → Type 0)
-    (contents : W → Option (List ℕ)) (numbers : Numbers) (trace : List ℕ) (s : State)
+    (contents : W → Option (List ℕ)) (asks : W → WriteCall → W → Type 0) (numbers : Numbers)
+    (trace : List ℕ) (s : State)
     (report : Report) (is : IsReport s.machine.image report) where
   -- the line could not be written
   pub line-fails : (host : H) (old middle : Writing W) (fault : WriteFault)
-      → Prints contents (IsLast (report_text report) 0) old middle (Err fault)
+      → Prints contents asks (IsLast (report_text report) 0) old middle (Err fault)
       → (answer : Result ℕ WriteFault) → IsErr answer
-      → ServesDevice step acts contents numbers trace s host host old middle answer
+      → ServesDevice step acts contents asks numbers trace s host host old middle answer
   line-fails host old middle fault printed (Ok n) e = absurd cc
   line-fails host old middle fault printed (Err f) e =
       record {

@@ -1,5 +1,6 @@
 -- What the command to serve comes to: files are read and loaded, a port is bound, and turns are
 -- served.
+use Rattle.bay_io.specs.Calls.{WriteCall}
 use Rattle.std.specs.Prelude.{◌≡◌, ℕ, List, replicate, codes, Option, None, Some, Result, Ok, Err, ◌⊎◌, []}
 use Rattle.bay_device.specs.Device.{State}
 use Rattle.bay_device.specs.Report.{IsReport as IsReportOf}
@@ -29,25 +30,25 @@ pub record FileNames : Type 0 where
   pub trace : Option (List ℕ)
 
 module _ {L H W : Type 0} (step : L → Call → L → Type 0) (acts : H → HostCall L → H → Type 0)
-    (contents : W → Option (List ℕ)) where
+    (contents : W → Option (List ℕ)) (asks : W → WriteCall → W → Type 0) where
   -- a server is made, and turns are served; or there is no memory, which is told
   abbrev pub ServesWith : Numbers → List ℕ → State → L → Option (Hearing L) → H → H → Writing W
       → Writing W → Result ℕ WriteFault → Type 0
   ServesWith numbers trace s link process host after old new answer =
-      ServesTurns step acts contents numbers.turns (told_lines 1 (lines_of trace))
+      ServesTurns step acts contents asks numbers.turns (told_lines 1 (lines_of trace))
       (record {
         link = link;
         held = record { device = s; queues = replicate 8 [] };
         host = host;
         process = process;
       }) old after new answer
-      ⊎ (Prints contents (IsLast (codes "fault memory\n") 3) old new answer × (after ≡ host))
+      ⊎ (Prints contents asks (IsLast (codes "fault memory\n") 3) old new answer × (after ≡ host))
 
   -- the port of the process can't be had, which is told; or a process may come to it
   abbrev pub ServesHeard : Numbers → List ℕ → State → L → Option L → H → H → Writing W → Writing W
       → Result ℕ WriteFault → Type 0
   ServesHeard numbers trace s link None host after old new answer =
-      Prints contents (IsLast (codes "fault 121\n") 3) old new answer × (after ≡ host)
+      Prints contents asks (IsLast (codes "fault 121\n") 3) old new answer × (after ≡ host)
   ServesHeard numbers trace s link (Some had) host after old new answer =
       ServesWith numbers trace s link (Some (record { link = had; port = bare Away })) host after
       old new answer
@@ -72,7 +73,7 @@ module _ {L H W : Type 0} (step : L → Call → L → Type 0) (acts : H → Hos
   abbrev pub ServesBound : Numbers → List ℕ → State → Option L → H → H → Writing W → Writing W
       → Result ℕ WriteFault → Type 0
   ServesBound numbers trace s None host after old new answer =
-      Prints contents (IsLast (codes "fault 121\n") 3) old new answer × (after ≡ host)
+      Prints contents asks (IsLast (codes "fault 121\n") 3) old new answer × (after ≡ host)
   ServesBound numbers trace s (Some link) host after old new answer =
       ServesAlone numbers.process numbers trace s link host after old new answer
 
@@ -99,14 +100,14 @@ module _ {L H W : Type 0} (step : L → Call → L → Type 0) (acts : H → Hos
     pub is : IsReportOf s.machine.image report
     pub middle : Writing W
     pub told : Result ℕ WriteFault
-    pub printed : Prints contents (IsLast (report_text report) 0) old middle told
+    pub printed : Prints contents asks (IsLast (report_text report) 0) old middle told
     pub goes_on : FollowsLine numbers trace s before after middle new told answer
 
   -- what was loaded is served; of a refused load the refusal is printed
   abbrev pub ServesLoaded : Numbers → List ℕ → Result State LoadFault → H → H → Writing W
       → Writing W → Result ℕ WriteFault → Type 0
   ServesLoaded numbers trace (Err fault) before after old new answer =
-      Prints contents (Refuses fault) old new answer × (after ≡ before)
+      Prints contents asks (Refuses fault) old new answer × (after ≡ before)
   ServesLoaded numbers trace (Ok s) before after old new answer =
       ServesDevice numbers trace s before after old new answer
 
@@ -120,7 +121,7 @@ module _ {L H W : Type 0} (step : L → Call → L → Type 0) (acts : H → Hos
   abbrev pub ServesTrace : Numbers → Form → FilesData → Result (List ℕ) ReadFault → H → H
       → Writing W → Writing W → Result ℕ WriteFault → Type 0
   ServesTrace numbers form both (Err fault) before after old new answer =
-      Prints contents (UnreadReport fault) old new answer × (after ≡ before)
+      Prints contents asks (UnreadReport fault) old new answer × (after ≡ before)
   ServesTrace numbers form both (Ok trace) before after old new answer =
       LoadsServed numbers form both trace before after old new answer
 
@@ -128,7 +129,7 @@ module _ {L H W : Type 0} (step : L → Call → L → Type 0) (acts : H → Hos
       → Numbers → Form → Option (List ℕ) → Result FilesData ReadFault → H → H → Writing W
       → Writing W → Result ℕ WriteFault → Type 0
   ServesRead reads files numbers form trace (Err fault) before after old new answer =
-      Prints contents (UnreadReport fault) old new answer × (after ≡ before)
+      Prints contents asks (UnreadReport fault) old new answer × (after ≡ before)
   ServesRead reads files numbers form trace (Ok both) before after old new answer =
       (read : Result (List ℕ) ReadFault) × ReadsNamed reads files trace read
       × ServesTrace numbers form both read before after old new answer

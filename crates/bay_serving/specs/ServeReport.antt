@@ -1,4 +1,5 @@
 -- What serving comes to, turn by turn: what each turn does, and what is printed for it.
+use Rattle.bay_io.specs.Calls.{WriteCall}
 use Rattle.std.specs.Prelude.{◌≡◌, ℕ, zero, suc, ◌+◌, List, ◌∷◌, drop, slice_get, Option, None, Some, option_map, Result, Ok, Err, ◌⊎◌, MatchBool, Bool, false, if◌then◌else◌, []}
 use Rattle.std.specs.Borrow.{Bor}
 use Rattle.bay_device.specs.Device.{State}
@@ -41,11 +42,12 @@ abbrev pub Stays : {W : Type 0} → Writing W → Writing W → Result ℕ Write
 Stays old new answer = (new ≡ old) × (answer ≡ Ok 0)
 
 -- what a turn tells is printed and flushed; where it tells nothing the writer is left alone
-abbrev pub TellsTurn : {W : Type 0} → (W → Option (List ℕ)) → ℕ → Turn → State → Writing W
+abbrev pub TellsTurn : {W : Type 0} → (W → Option (List ℕ)) → (W → WriteCall → W → Type 0) → ℕ
+    → Turn → State → Writing W
     → Writing W → Result ℕ WriteFault → Type 0
-TellsTurn contents now turn s old new answer =
+TellsTurn contents asks now turn s old new answer =
     MatchBool (is_quiet turn) (Stays old new answer)
-    (Prints contents (IsLast (turn_text now turn s) 0) old new answer)
+    (Prints contents asks (IsLast (turn_text now turn s) 0) old new answer)
 
 -- what follows a turn whose lines could not be written, and another
 abbrev pub AfterTurn : Result ℕ WriteFault → Type 0 → Type 0 → Type 0
@@ -119,20 +121,22 @@ MayPause acts before after = (after ≡ before)
     × (after.held ≡ before.held) × (after.process ≡ before.process))
 
 -- what has become of the process's connection is printed and flushed
-abbrev pub TellsNews : {W : Type 0} → (W → Option (List ℕ)) → ℕ → Option News → Writing W
+abbrev pub TellsNews : {W : Type 0} → (W → Option (List ℕ)) → (W → WriteCall → W → Type 0) → ℕ
+    → Option News → Writing W
     → Writing W → Result ℕ WriteFault → Type 0
-TellsNews contents now None old new answer = Stays old new answer
-TellsNews contents now (Some news) old new answer =
-    Prints contents (IsLast (news_text now news) 0) old new answer
+TellsNews contents asks now None old new answer = Stays old new answer
+TellsNews contents asks now (Some news) old new answer =
+    Prints contents asks (IsLast (news_text now news) 0) old new answer
 
-module _ {L W : Type 0} (step : L → Call → L → Type 0) (contents : W → Option (List ℕ)) where
+module _ {L W : Type 0} (step : L → Call → L → Type 0) (contents : W → Option (List ℕ))
+    (asks : W → WriteCall → W → Type 0) where
   -- the process is attended to, if one is heard, and what has become of it is printed
   pub record AttendsTo (now : ℕ) (turn : Turn) (s : State) (before after : Hearing L)
       (old new : Writing W) (answer : Result ℕ WriteFault) : Type 0 where
     pub news : Option News
     pub attends : Attends step (λ script. attended (told_text now turn s) s script before.port)
         before.link after.link after.port news
-    pub printed : TellsNews contents now news old new answer
+    pub printed : TellsNews contents asks now news old new answer
 
   abbrev pub Hears : ℕ → Turn → State → Option (Hearing L) → Option (Hearing L) → Writing W
       → Writing W → Result ℕ WriteFault → Type 0
@@ -143,7 +147,7 @@ module _ {L W : Type 0} (step : L → Call → L → Type 0) (contents : W → O
       AttendsTo now turn s before after old new answer
 
 module _ {L H W : Type 0} (step : L → Call → L → Type 0) (acts : H → HostCall L → H → Type 0)
-    (contents : W → Option (List ℕ)) where
+    (contents : W → Option (List ℕ)) (asks : W → WriteCall → W → Type 0) where
   -- the clock was asked for the moment of a turn, which was not done: why not is printed, and
   -- nothing has changed
   pub record TurnFails (line : Option (ℕ × List ℕ)) (before : Serving L H) (old : Writing W)
@@ -152,7 +156,8 @@ module _ {L H W : Type 0} (step : L → Call → L → Type 0) (acts : H → Hos
     pub told : acts before.host (Tells clock) host
     pub fault : ServeFault
     pub is : IsRefused fault (turn_refusal clock (text_of_next line) before.held)
-    pub printed : Prints contents (IsLast (unserved_text fault (number_of_next line)) 3) old new
+    pub printed : Prints contents asks (IsLast (unserved_text fault (number_of_next line)) 3) old
+        new
         answer
 
   -- the clock was asked, the turn was done, what it tells was printed, and then the process was
@@ -166,11 +171,12 @@ module _ {L H W : Type 0} (step : L → Call → L → Type 0) (acts : H → Hos
         (line_in (text_of_next line)) before.held after.held turn
     pub between : Writing W
     pub outcome : Result ℕ WriteFault
-    pub printed : TellsTurn contents (moment_at clock before.held) turn after.held.device old
+    pub printed : TellsTurn contents asks (moment_at clock before.held) turn after.held.device old
         between outcome
     pub hears : AfterTurn outcome
         ((after.process ≡ before.process) × (new ≡ between) × (answer ≡ outcome))
-        (Hears step contents (moment_at clock before.held) turn after.held.device before.process
+        (Hears step contents asks (moment_at clock before.held) turn after.held.device
+        before.process
         after.process between new answer)
 
   -- So many turns are served, each with its line: all of them; up to one that is not done; or up to

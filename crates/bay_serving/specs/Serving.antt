@@ -1,4 +1,5 @@
 -- One turn of serving, as it is tried.
+use Rattle.bay_io.specs.Calls.{WriteCall}
 use Rattle.std.specs.Prelude.{ℕ, List, Option, Result, Ok, Err, ◌⊎◌}
 use Rattle.bay_io.specs.Watched.{Writing}
 use Rattle.bay_io.specs.declared.outbox.WriteFault.{WriteFault}
@@ -9,15 +10,15 @@ use Rattle.bay_serving.specs.declared.serving.Tried.TheVariants as tried
 use Rattle.bay_serve.specs.Calls.{Call}
 
 module _ {L H W : Type 0} (step : L → Call → L → Type 0) (acts : H → HostCall L → H → Type 0)
-    (contents : W → Option (List ℕ)) where
+    (contents : W → Option (List ℕ)) (asks : W → WriteCall → W → Type 0) where
   -- a turn was done, or it was not, and what is to be printed for it was; or that could not be
   -- written
   abbrev pub TriesTurn : Option (ℕ × List ℕ) → Serving L H → Writing W → Serving L H → Writing W
       → Result Tried WriteFault → Type 0
   TriesTurn line before old after new (Ok (tried.Done was_idle)) =
-      (status : ℕ) × TurnGoes step acts contents line before old after new (Ok status)
+      (status : ℕ) × TurnGoes step acts contents asks line before old after new (Ok status)
   TriesTurn line before old after new (Ok (tried.Ends status)) =
-      TurnFails step acts contents line before old after.host new (Ok status)
+      TurnFails step acts contents asks line before old after.host new (Ok status)
   TriesTurn line before old after new (Err fault) =
-      TurnGoes step acts contents line before old after new (Err fault)
-      ⊎ TurnFails step acts contents line before old after.host new (Err fault)
+      TurnGoes step acts contents asks line before old after new (Err fault)
+      ⊎ TurnFails step acts contents asks line before old after.host new (Err fault)

@@ -8,6 +8,7 @@ ghost use Rattle.bay_serving.specs.ServeReport.{AttendsTo, Hears, chosen, from_p
 use crate::trace_lines::TraceLines;
 use crate::turns::tell_news;
 use bay_device::device::Device;
+use bay_io::calls::Sink;
 use bay_io::outbox::WriteFault;
 use bay_io::writer::WatchedWriter;
 use bay_port::attending::attend;
@@ -16,7 +17,6 @@ use bay_port::port::Port;
 use bay_report::output::CLEAN;
 use bay_serve::link::Link;
 use bay_serve::told::Turn;
-use std::io::Write;
 use std::marker::Model;
 
 /// A process that is heard on a link of its own; and whether it is known that anything has happened
@@ -135,14 +135,15 @@ pub fn line_of<'a>(
 }
 
 /// Attends to a process behind a turn, and tells what has become of it.
-fn attend_one<L: Link, W: Write>(
+fn attend_one<L: Link, W: Sink>(
     process: &mut Process<L>,
     device: &Device,
     moment: u64,
     turn: &Turn,
     writer: &mut WatchedWriter<W>,
 ) -> Result<u8, WriteFault>
-    ensures { AttendsTo (Called L.does L.failures) W.contents moment turn.now device.now process.old
+    ensures { AttendsTo (Called L.does L.failures) W.contents W.does moment turn.now device.now
+        process.old
         process.new writer.old writer.new result }
 {
     let sizes = process.port.sizes();
@@ -152,14 +153,15 @@ fn attend_one<L: Link, W: Write>(
 }
 
 /// Attends to the process behind a turn, if one is heard.
-pub fn attend_process<L: Link, W: Write>(
+pub fn attend_process<L: Link, W: Sink>(
     process: &mut Option<Process<L>>,
     device: &Device,
     moment: u64,
     turn: &Turn,
     writer: &mut WatchedWriter<W>,
 ) -> Result<u8, WriteFault>
-    ensures { Hears (Called L.does L.failures) W.contents moment turn.now device.now process.old
+    ensures { Hears (Called L.does L.failures) W.contents W.does moment turn.now device.now
+        process.old
         process.new writer.old writer.new result }
 {
     match process {

@@ -12,6 +12,7 @@ use crate::process::Process;
 use crate::serving::serve_turns;
 use bay_device::device::Device;
 use bay_files::files::{BothFiles, FileSystem, read_both};
+use bay_io::calls::Sink;
 use bay_io::input::ReadFault;
 use bay_io::outbox::WriteFault;
 use bay_io::writer::WatchedWriter;
@@ -21,7 +22,6 @@ use bay_report::output::{FAULT, NO_MEMORY, write_refusal, write_report, write_te
 use bay_serve::link::Link;
 use bay_serve::server::Server;
 use std::alloc::Global;
-use std::io::Write;
 
 /// On which port clients are served, for how many turns, and on which the process is heard, if it
 /// is.
@@ -43,7 +43,7 @@ pub struct Named<'a> {
 }
 
 /// Makes a server of a device, and serves it over a link, with a process or without.
-fn serve_with<L: Link + Drop, H: Host<L>, W: Write>(
+fn serve_with<L: Link + Drop, H: Host<L>, W: Sink>(
     alloc: Global,
     device: Device,
     link: L,
@@ -55,7 +55,8 @@ fn serve_with<L: Link + Drop, H: Host<L>, W: Write>(
 ) -> Result<u8, WriteFault>
     requires closed { device.connections ≡ replicate 8 None }
     requires timed { AreTimed device.controls.controls }
-    ensures { ServesWith (Called L.does L.failures) H.does W.contents numbers trace.now device link
+    ensures { ServesWith (Called L.does L.failures) H.does W.contents W.does numbers trace.now
+        device link
         process host.old host.new writer.old writer.new result }
 {
     match Server::new(alloc, device) {
@@ -74,7 +75,7 @@ fn serve_with<L: Link + Drop, H: Host<L>, W: Write>(
 }
 
 /// Serves a device with a process on the link of a port, if there was one.
-fn serve_heard<L: Link + Drop, H: Host<L>, W: Write>(
+fn serve_heard<L: Link + Drop, H: Host<L>, W: Sink>(
     alloc: Global,
     device: Device,
     link: L,
@@ -86,7 +87,8 @@ fn serve_heard<L: Link + Drop, H: Host<L>, W: Write>(
 ) -> Result<u8, WriteFault>
     requires closed { device.connections ≡ replicate 8 None }
     requires timed { AreTimed device.controls.controls }
-    ensures { ServesHeard (Called L.does L.failures) H.does W.contents numbers trace.now device link
+    ensures { ServesHeard (Called L.does L.failures) H.does W.contents W.does numbers trace.now
+        device link
         had host.old host.new writer.old writer.new result }
 {
     let Some(had) = had else {
@@ -108,7 +110,7 @@ fn serve_heard<L: Link + Drop, H: Host<L>, W: Write>(
 }
 
 /// Binds a port for the process, and serves a device with it.
-fn serve_process<L: Link + Drop, H: Host<L>, W: Write>(
+fn serve_process<L: Link + Drop, H: Host<L>, W: Sink>(
     alloc: Global,
     device: Device,
     link: L,
@@ -120,7 +122,8 @@ fn serve_process<L: Link + Drop, H: Host<L>, W: Write>(
 ) -> Result<u8, WriteFault>
     requires closed { device.connections ≡ replicate 8 None }
     requires timed { AreTimed device.controls.controls }
-    ensures { BindsProcess (Called L.does L.failures) H.does W.contents numbers trace.now device
+    ensures { BindsProcess (Called L.does L.failures) H.does W.contents W.does numbers trace.now
+        device
         link port host.old host.new writer.old writer.new result }
 {
     let had = host.bind(port);
@@ -128,7 +131,7 @@ fn serve_process<L: Link + Drop, H: Host<L>, W: Write>(
 }
 
 /// Serves a device over the link of a port, if there was one.
-fn serve_link<L: Link + Drop, H: Host<L>, W: Write>(
+fn serve_link<L: Link + Drop, H: Host<L>, W: Sink>(
     alloc: Global,
     device: Device,
     link: Option<L>,
@@ -139,7 +142,8 @@ fn serve_link<L: Link + Drop, H: Host<L>, W: Write>(
 ) -> Result<u8, WriteFault>
     requires closed { device.connections ≡ replicate 8 None }
     requires timed { AreTimed device.controls.controls }
-    ensures { ServesBound (Called L.does L.failures) H.does W.contents numbers trace.now device link
+    ensures { ServesBound (Called L.does L.failures) H.does W.contents W.does numbers trace.now
+        device link
         host.old host.new writer.old writer.new result }
 {
     let Some(link) = link else {
@@ -152,7 +156,7 @@ fn serve_link<L: Link + Drop, H: Host<L>, W: Write>(
 }
 
 /// Binds a port, and serves a device on it.
-fn serve_port<L: Link + Drop, H: Host<L>, W: Write>(
+fn serve_port<L: Link + Drop, H: Host<L>, W: Sink>(
     alloc: Global,
     device: Device,
     host: &mut H,
@@ -162,7 +166,7 @@ fn serve_port<L: Link + Drop, H: Host<L>, W: Write>(
 ) -> Result<u8, WriteFault>
     requires closed { device.connections ≡ replicate 8 None }
     requires timed { AreTimed device.controls.controls }
-    ensures { BindsPort (Called L.does L.failures) H.does W.contents numbers trace.now device
+    ensures { BindsPort (Called L.does L.failures) H.does W.contents W.does numbers trace.now device
         host.old host.new writer.old writer.new result }
 {
     let link = host.bind(numbers.port);
@@ -170,7 +174,7 @@ fn serve_port<L: Link + Drop, H: Host<L>, W: Write>(
 }
 
 /// Writes the line of a device's load, and then serves it.
-fn serve_device<L: Link + Drop, H: Host<L>, W: Write>(
+fn serve_device<L: Link + Drop, H: Host<L>, W: Sink>(
     alloc: Global,
     device: Device,
     host: &mut H,
@@ -180,7 +184,8 @@ fn serve_device<L: Link + Drop, H: Host<L>, W: Write>(
 ) -> Result<u8, WriteFault>
     requires closed { device.connections ≡ replicate 8 None }
     requires timed { AreTimed device.controls.controls }
-    ensures { ServesDevice (Called L.does L.failures) H.does W.contents numbers trace.now device
+    ensures { ServesDevice (Called L.does L.failures) H.does W.contents W.does numbers trace.now
+        device
         host.old host.new writer.old writer.new result }
 {
     write_report(writer, device.report())?;
@@ -188,7 +193,7 @@ fn serve_device<L: Link + Drop, H: Host<L>, W: Write>(
 }
 
 /// Loads what was read of a bay file and of a program or an image, and serves it.
-fn serve_octets<L: Link + Drop, H: Host<L>, W: Write>(
+fn serve_octets<L: Link + Drop, H: Host<L>, W: Sink>(
     alloc: Global,
     form: Form,
     both: &BothFiles,
@@ -197,7 +202,7 @@ fn serve_octets<L: Link + Drop, H: Host<L>, W: Write>(
     numbers: Numbers,
     writer: &mut WatchedWriter<W>,
 ) -> Result<u8, WriteFault>
-    ensures { LoadsServed (Called L.does L.failures) H.does W.contents numbers form
+    ensures { LoadsServed (Called L.does L.failures) H.does W.contents W.does numbers form
         (record { bay = both.now.bay.items; program = both.now.program.items }) trace.now host.old
         host.new writer.old writer.new result }
 {
@@ -225,7 +230,7 @@ fn read_named<F: FileSystem>(
 }
 
 /// Reads the trace, if it was named, and serves what was read.
-fn serve_read<F: FileSystem, L: Link + Drop, H: Host<L>, W: Write>(
+fn serve_read<F: FileSystem, L: Link + Drop, H: Host<L>, W: Sink>(
     alloc: Global,
     named: Named<'_>,
     both: &BothFiles,
@@ -234,7 +239,8 @@ fn serve_read<F: FileSystem, L: Link + Drop, H: Host<L>, W: Write>(
     numbers: Numbers,
     writer: &mut WatchedWriter<W>,
 ) -> Result<u8, WriteFault>
-    ensures { ServesRead (Called L.does L.failures) H.does W.contents F.reads files.now numbers
+    ensures { ServesRead (Called L.does L.failures) H.does W.contents W.does F.reads files.now
+        numbers
         named.entry.form (text_in named.entry.trace)
         (Ok (record { bay = both.now.bay.items; program = both.now.program.items })) host.old
         host.new writer.old writer.new result }
@@ -256,7 +262,7 @@ fn serve_read<F: FileSystem, L: Link + Drop, H: Host<L>, W: Write>(
 /// Serves files by their names: the bay is read, then the program or the image, then the trace;
 /// they are loaded, and the line of the load is written; the port is bound, and behind it that of
 /// the process, if there is one; and so many turns are served.
-pub fn serve<F: FileSystem, L: Link + Drop, H: Host<L>, W: Write>(
+pub fn serve<F: FileSystem, L: Link + Drop, H: Host<L>, W: Sink>(
     alloc: Global,
     named: Named<'_>,
     files: &F,
@@ -264,7 +270,7 @@ pub fn serve<F: FileSystem, L: Link + Drop, H: Host<L>, W: Write>(
     numbers: Numbers,
     writer: &mut WatchedWriter<W>,
 ) -> Result<u8, WriteFault>
-    ensures { ServesFiles (Called L.does L.failures) H.does W.contents F.reads files.now
+    ensures { ServesFiles (Called L.does L.failures) H.does W.contents W.does F.reads files.now
         (record {
           bay = named.entry.bay.now;
           form = named.entry.form;

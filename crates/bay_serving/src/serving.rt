@@ -13,6 +13,7 @@ use crate::host::Host;
 use crate::process::{Process, attend_process, choose, line_of, was_busy};
 use crate::trace_lines::TraceLines;
 use crate::turns::{tell_turn, write_unserved};
+use bay_io::calls::Sink;
 use bay_io::outbox::WriteFault;
 use bay_io::writer::WatchedWriter;
 use bay_port::fit::Line;
@@ -23,7 +24,6 @@ use bay_serve::server::Server;
 use bay_serve::told::Turn;
 use bay_serve::turn::serve_turn;
 use std::alloc::Global;
-use std::io::Write;
 
 /// What came of a turn that was tried.
 #[derive(Clone, Copy, Debug, PartialEq, Eq)]
@@ -79,7 +79,7 @@ fn serve_line<L: Link>(
 }
 
 /// Tries a turn, and prints what there is to print for it; behind it the process is attended to.
-fn try_turn<L: Link, H: Host<L>, W: Write>(
+fn try_turn<L: Link, H: Host<L>, W: Sink>(
     alloc: Global,
     server: &mut Server,
     link: &mut BusyLink<L>,
@@ -88,7 +88,7 @@ fn try_turn<L: Link, H: Host<L>, W: Write>(
     line: Option<(usize, &[u8])>,
     writer: &mut WatchedWriter<W>,
 ) -> Result<Tried, WriteFault>
-    ensures { TriesTurn (Called L.does L.failures) H.does W.contents (next_view line.entry)
+    ensures { TriesTurn (Called L.does L.failures) H.does W.contents W.does (next_view line.entry)
         (record { link = link.old.link; held = server.old; host = host.old; process = process.old })
         writer.old
         (record { link = link.new.link; held = server.new; host = host.new; process = process.new })
@@ -121,10 +121,10 @@ fn rest<L, H: Host<L>>(host: &mut H, was_idle: bool)
     }
 }
 
-/// Serves so many turns, each with its line, and prints what each tells: the exit status, which is 0
-/// after the last turn, or 3 at one that is not done. After a turn in which nothing happened there
-/// is a pause.
-fn serve_lines<L: Link, H: Host<L>, W: Write>(
+/// Serves so many turns, each with its line, and prints what each tells: the exit status, which is
+/// 0 after the last turn, or 3 at one that is not done. After a turn in which nothing happened
+/// there is a pause.
+fn serve_lines<L: Link, H: Host<L>, W: Sink>(
     alloc: Global,
     server: &mut Server,
     link: &mut BusyLink<L>,
@@ -134,7 +134,7 @@ fn serve_lines<L: Link, H: Host<L>, W: Write>(
     turns: u32,
     writer: &mut WatchedWriter<W>,
 ) -> Result<u8, WriteFault>
-    ensures { ServesTurns (Called L.does L.failures) H.does W.contents turns lines.old
+    ensures { ServesTurns (Called L.does L.failures) H.does W.contents W.does turns lines.old
         (record { link = link.old.link; held = server.old; host = host.old; process = process.old })
         writer.old host.new writer.new result }
 {
@@ -150,9 +150,9 @@ fn serve_lines<L: Link, H: Host<L>, W: Write>(
     Ok(CLEAN)
 }
 
-/// Serves so many turns over a link, each with the next line of a trace, or behind them with that of
-/// a process, if there is one.
-pub fn serve_turns<L: Link + Drop, H: Host<L>, W: Write>(
+/// Serves so many turns over a link, each with the next line of a trace, or behind them with that
+/// of a process, if there is one.
+pub fn serve_turns<L: Link + Drop, H: Host<L>, W: Sink>(
     alloc: Global,
     server: Server,
     link: L,
@@ -162,7 +162,7 @@ pub fn serve_turns<L: Link + Drop, H: Host<L>, W: Write>(
     turns: u32,
     writer: &mut WatchedWriter<W>,
 ) -> Result<u8, WriteFault>
-    ensures { ServesTurns (Called L.does L.failures) H.does W.contents turns
+    ensures { ServesTurns (Called L.does L.failures) H.does W.contents W.does turns
         (told_lines 1 (lines_of trace.now))
         (record { link = link; held = server; host = host.old; process = process }) writer.old
         host.new writer.new result }

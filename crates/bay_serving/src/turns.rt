@@ -13,6 +13,7 @@ ghost use Rattle.bay_serving.specs.TurnLines as spec;
 
 use bay_device::device::Device;
 use bay_device::event::Why;
+use bay_io::calls::Sink;
 use bay_io::outbox::WriteFault;
 use bay_io::writer::WatchedWriter;
 use bay_port::news::{News, Parting};
@@ -20,11 +21,10 @@ use bay_report::lines::{put_closing_line, put_commands, put_refusal, put_unreada
 use bay_report::output::{CLEAN, FAULT, finish, write_text};
 use bay_serve::fault::ServeFault;
 use bay_serve::told::{Closing, Turn};
-use std::io::Write;
 
 /// Writes the line of a refusal, if there was one.
-fn put_refused<W: Write>(writer: &mut WatchedWriter<W>, moment: u64, refused: Option<u8>)
-    ensures { Puts W.contents writer.old (refusal_text moment refused) writer.new }
+fn put_refused<W: Sink>(writer: &mut WatchedWriter<W>, moment: u64, refused: Option<u8>)
+    ensures { Puts W.contents W.does writer.old (refusal_text moment refused) writer.new }
 {
     match refused {
         Some(code) => put_refusal(writer, moment, code),
@@ -33,8 +33,9 @@ fn put_refused<W: Write>(writer: &mut WatchedWriter<W>, moment: u64, refused: Op
 }
 
 /// Writes the line of an association that was closed, with the number of the reason.
-fn put_entry<W: Write>(writer: &mut WatchedWriter<W>, moment: u64, entry: (u16, Closing))
-    ensures { Puts W.contents writer.old (closing_text moment entry.0 (Fault (code_of entry.1)))
+fn put_entry<W: Sink>(writer: &mut WatchedWriter<W>, moment: u64, entry: (u16, Closing))
+    ensures { Puts W.contents W.does writer.old
+        (closing_text moment entry.0 (Fault (code_of entry.1)))
         writer.new }
 {
     let (association, closing) = entry;
@@ -42,8 +43,8 @@ fn put_entry<W: Write>(writer: &mut WatchedWriter<W>, moment: u64, entry: (u16, 
 }
 
 /// Writes the lines of the associations that were closed.
-fn put_closings<W: Write>(writer: &mut WatchedWriter<W>, moment: u64, closed: &[(u16, Closing)])
-    ensures { Puts W.contents writer.old (closings_text moment closed.now) writer.new }
+fn put_closings<W: Sink>(writer: &mut WatchedWriter<W>, moment: u64, closed: &[(u16, Closing)])
+    ensures { Puts W.contents W.does writer.old (closings_text moment closed.now) writer.new }
 {
     for entry in closed {
         put_entry(writer, moment, *entry);
@@ -51,8 +52,8 @@ fn put_closings<W: Write>(writer: &mut WatchedWriter<W>, moment: u64, closed: &[
 }
 
 /// Writes the lines of those that were closed for want of memory.
-fn put_memories<W: Write>(writer: &mut WatchedWriter<W>, moment: u64, memory: &[u16])
-    ensures { Puts W.contents writer.old (memories_text moment memory.now) writer.new }
+fn put_memories<W: Sink>(writer: &mut WatchedWriter<W>, moment: u64, memory: &[u16])
+    ensures { Puts W.contents W.does writer.old (memories_text moment memory.now) writer.new }
 {
     for association in memory {
         put_closing_line(writer, moment, *association, Why::Memory);
@@ -60,8 +61,8 @@ fn put_memories<W: Write>(writer: &mut WatchedWriter<W>, moment: u64, memory: &[
 }
 
 /// Writes what is printed for a turn.
-fn put_turn<W: Write>(writer: &mut WatchedWriter<W>, device: &Device, moment: u64, turn: &Turn)
-    ensures { Puts W.contents writer.old (turn_text moment turn.now device.now) writer.new }
+fn put_turn<W: Sink>(writer: &mut WatchedWriter<W>, device: &Device, moment: u64, turn: &Turn)
+    ensures { Puts W.contents W.does writer.old (turn_text moment turn.now device.now) writer.new }
 {
     put_refused(writer, moment, turn.refused);
     put_commands(writer, device, moment, turn.commands.as_slice());
@@ -80,13 +81,13 @@ fn is_quiet(turn: &Turn) -> bool
 }
 
 /// Writes the lines of a turn, and flushes them.
-fn write_turn<W: Write>(
+fn write_turn<W: Sink>(
     writer: &mut WatchedWriter<W>,
     device: &Device,
     moment: u64,
     turn: &Turn,
 ) -> Result<u8, WriteFault>
-    ensures { Prints W.contents (IsLast (turn_text moment turn.now device.now) 0) writer.old
+    ensures { Prints W.contents W.does (IsLast (turn_text moment turn.now device.now) 0) writer.old
         writer.new result }
 {
     put_turn(writer, device, moment, turn);
@@ -94,13 +95,13 @@ fn write_turn<W: Write>(
 }
 
 /// Writes the lines of a turn, and flushes them; where it tells nothing the writer is left alone.
-pub fn tell_turn<W: Write>(
+pub fn tell_turn<W: Sink>(
     writer: &mut WatchedWriter<W>,
     device: &Device,
     moment: u64,
     turn: &Turn,
 ) -> Result<u8, WriteFault>
-    ensures { TellsTurn W.contents moment turn.now device.now writer.old writer.new result }
+    ensures { TellsTurn W.contents W.does moment turn.now device.now writer.old writer.new result }
 {
     if is_quiet(turn) {
         Ok(CLEAN)
@@ -110,16 +111,16 @@ pub fn tell_turn<W: Write>(
 }
 
 /// Writes that the process's connection was taken.
-fn put_opened<W: Write>(writer: &mut WatchedWriter<W>, moment: u64)
-    ensures { Puts W.contents writer.old (news_text moment Opened) writer.new }
+fn put_opened<W: Sink>(writer: &mut WatchedWriter<W>, moment: u64)
+    ensures { Puts W.contents W.does writer.old (news_text moment Opened) writer.new }
 {
     writer.put_number(moment);
     writer.put(b" process open\n");
 }
 
 /// Writes that it was closed, with the number of the reason.
-fn put_parting<W: Write>(writer: &mut WatchedWriter<W>, moment: u64, why: Parting)
-    ensures { Puts W.contents writer.old (news_text moment (Closed why)) writer.new }
+fn put_parting<W: Sink>(writer: &mut WatchedWriter<W>, moment: u64, why: Parting)
+    ensures { Puts W.contents W.does writer.old (news_text moment (Closed why)) writer.new }
 {
     writer.put_number(moment);
     writer.put(b" process closed ");
@@ -128,8 +129,8 @@ fn put_parting<W: Write>(writer: &mut WatchedWriter<W>, moment: u64, why: Partin
 }
 
 /// Writes what has become of the process's connection.
-fn put_news<W: Write>(writer: &mut WatchedWriter<W>, moment: u64, news: News)
-    ensures { Puts W.contents writer.old (news_text moment news) writer.new }
+fn put_news<W: Sink>(writer: &mut WatchedWriter<W>, moment: u64, news: News)
+    ensures { Puts W.contents W.does writer.old (news_text moment news) writer.new }
 {
     match news {
         News::Opened => put_opened(writer, moment),
@@ -138,12 +139,13 @@ fn put_news<W: Write>(writer: &mut WatchedWriter<W>, moment: u64, news: News)
 }
 
 /// Writes it and flushes it.
-fn write_news<W: Write>(
+fn write_news<W: Sink>(
     writer: &mut WatchedWriter<W>,
     moment: u64,
     news: News,
 ) -> Result<u8, WriteFault>
-    ensures { Prints W.contents (IsLast (news_text moment news) 0) writer.old writer.new result }
+    ensures { Prints W.contents W.does (IsLast (news_text moment news) 0) writer.old writer.new
+        result }
 {
     put_news(writer, moment, news);
     finish(writer, CLEAN)
@@ -151,12 +153,12 @@ fn write_news<W: Write>(
 
 /// Writes what has become of the process's connection, if anything has, and flushes it; else the
 /// writer is left alone.
-pub fn tell_news<W: Write>(
+pub fn tell_news<W: Sink>(
     writer: &mut WatchedWriter<W>,
     moment: u64,
     news: Option<News>,
 ) -> Result<u8, WriteFault>
-    ensures { TellsNews W.contents moment news writer.old writer.new result }
+    ensures { TellsNews W.contents W.does moment news writer.old writer.new result }
 {
     match news {
         Some(news) => write_news(writer, moment, news),
@@ -165,8 +167,9 @@ pub fn tell_news<W: Write>(
 }
 
 /// Writes which line of the trace can't be read.
-fn write_bad_line<W: Write>(writer: &mut WatchedWriter<W>, number: usize) -> Result<u8, WriteFault>
-    ensures { Prints W.contents (IsLast (unserved_text ServeFault.BadLine number) 3) writer.old
+fn write_bad_line<W: Sink>(writer: &mut WatchedWriter<W>, number: usize) -> Result<u8, WriteFault>
+    ensures { Prints W.contents W.does (IsLast (unserved_text ServeFault.BadLine number) 3)
+        writer.old
         writer.new result }
 {
     put_unreadable(writer, number);
@@ -174,12 +177,12 @@ fn write_bad_line<W: Write>(writer: &mut WatchedWriter<W>, number: usize) -> Res
 }
 
 /// Writes why a turn is not done, by the number of its line of the trace.
-pub fn write_unserved<W: Write>(
+pub fn write_unserved<W: Sink>(
     writer: &mut WatchedWriter<W>,
     fault: ServeFault,
     number: usize,
 ) -> Result<u8, WriteFault>
-    ensures { Prints W.contents (IsLast (unserved_text fault number) 3) writer.old writer.new
+    ensures { Prints W.contents W.does (IsLast (unserved_text fault number) 3) writer.old writer.new
         result }
 {
     match fault {

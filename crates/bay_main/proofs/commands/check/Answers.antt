@@ -15,7 +15,7 @@ returns-in-Ok g c =
       read = Ok both;
       is_read = rw (c.as_slice.ensures.value, c.as_slice-in-Ok.ensures.value) c.in-Ok.ensures.ok;
       printed =
-          Prints-weaker g.W.Write.contents (CheckReport bay c.args.form program)
+          Prints-weaker g.W.Sink.contents g.W.Sink.does (CheckReport bay c.args.form program)
           (FilesReport c.args.form (Ok both)) c.args.writer.now c.check_run.new.writer
           c.check_run.result
           (λ text status told. told) c.check_run.ensures;
@@ -26,7 +26,7 @@ returns-in-Err g c = record {
   read = Err c.in-Err.fault;
   is_read = c.in-Err.ensures.err;
   printed =
-      Prints-weaker g.W.Write.contents (UnreadReport c.in-Err.fault)
+      Prints-weaker g.W.Sink.contents g.W.Sink.does (UnreadReport c.in-Err.fault)
       (FilesReport c.args.form (Err c.in-Err.fault)) c.args.writer.now c.write_unread.new.writer
       c.write_unread.result
       (λ text status told. told) c.write_unread.ensures;

@@ -4,7 +4,8 @@ use Rattle.bay_main.proofs.commands.compile_device.Goals as goal
 
 pub returns-in_err-write_report : goal.returns-in_err-write_report
 returns-in_err-write_report g c =
-    line-fails g.F.FileSystem.writes g.W.Write.contents c.args.out.now c.args.device.now
+    line-fails g.F.FileSystem.writes g.W.Sink.contents g.W.Sink.does c.args.out.now
+    c.args.device.now
     c.report.result c.report.ensures c.args.files.now c.args.writer.now
     c.write_report.new.writer c.in_err-write_report.field-0.0 c.in_err-write_report.ensures
     c.from_residual.result c.from_residual.ensures.0

@@ -5,7 +5,8 @@ use Rattle.bay_serving.proofs.serve.serve_device.Goals as goal
 
 pub returns-in_err-write_report : goal.returns-in_err-write_report
 returns-in_err-write_report g c =
-    line-fails (Called g.L.Link.does g.L.Link.failures) g.H.Host.does g.W.Write.contents
+    line-fails (Called g.L.Link.does g.L.Link.failures) g.H.Host.does g.W.Sink.contents
+    g.W.Sink.does
     c.args.numbers c.args.trace.now c.args.device c.report.result c.report.ensures
     c.args.host.now c.args.writer.now
     c.write_report.new.writer c.in_err-write_report.field-0.0 c.in_err-write_report.ensures

@@ -9,7 +9,8 @@ pub returns-in_err-status : goal.returns-in_err-status
 returns-in_err-status g c =
     let more : c.args.turns - c.loop-turn.turn ≡ suc (c.args.turns - (c.loop-turn.turn + 1)) =
     grind (arith, nat_tests) in
-    Reached-fails (Called g.L.Link.does g.L.Link.failures) g.H.Host.does g.W.Write.contents _ _ _ _
+    Reached-fails (Called g.L.Link.does g.L.Link.failures) g.H.Host.does g.W.Sink.contents
+    g.W.Sink.does _ _ _ _
     _ _ _ _ _ c.loop-turn.invariant.reached more _ _ _
     (c.line_of-line.ensures ∙ (rw c.device.ensures at c.choose-is_heard.ensures.line))
     (rw c.device.ensures at c.choose-is_heard.ensures.lines)
@@ -26,7 +27,8 @@ pub returns-in-Ends : goal.returns-in-Ends
 returns-in-Ends g c =
     let more : c.args.turns - c.loop-turn.turn ≡ suc (c.args.turns - (c.loop-turn.turn + 1)) =
     grind (arith, nat_tests) in
-    Reached-ends (Called g.L.Link.does g.L.Link.failures) g.H.Host.does g.W.Write.contents _ _ _ _ _
+    Reached-ends (Called g.L.Link.does g.L.Link.failures) g.H.Host.does g.W.Sink.contents
+    g.W.Sink.does _ _ _ _ _
     _ _ _ _ c.loop-turn.invariant.reached more _ _ _
     (c.line_of-line.ensures ∙ (rw c.device.ensures at c.choose-is_heard.ensures.line))
     (rw c.device.ensures at c.choose-is_heard.ensures.lines)
@@ -45,7 +47,8 @@ loop-turn-preserved g c =
     record {
       within = grind (arith, nat_tests);
       reached =
-          Reached-done (Called g.L.Link.does g.L.Link.failures) g.H.Host.does g.W.Write.contents _ _
+          Reached-done (Called g.L.Link.does g.L.Link.failures) g.H.Host.does g.W.Sink.contents
+          g.W.Sink.does _ _
           _ _ _ _ _ _ _ c.loop-turn.invariant.reached more _ _ _
           (c.line_of-line.ensures ∙ (rw c.device.ensures at c.choose-is_heard.ensures.line))
           (rw c.device.ensures at c.choose-is_heard.ensures.lines)
@@ -57,6 +60,7 @@ loop-turn-preserved g c =
             process = c.try_turn.new.process;
           }) _ c.try_turn.new.writer _ _ c.in-Done.is
           c.in_ok-status.ensures
-          (may-pause (Called g.L.Link.does g.L.Link.failures) g.H.Host.does g.W.Write.contents _
+          (may-pause (Called g.L.Link.does g.L.Link.failures) g.H.Host.does g.W.Sink.contents
+          g.W.Sink.does _
           _ _ _ _ c.rest.ensures);
     }

@@ -6,7 +6,8 @@ use Rattle.bay_serving.proofs.serving.serve_lines.Given as goal
 abbrev pub invariant-loop-turn : goal.invariant-loop-turn
 invariant-loop-turn g l = record {
   within : l.turn ≤ l.turns;
-  reached : Reached (Called g.L.Link.does g.L.Link.failures) g.H.Host.does g.W.Write.contents
+  reached : Reached (Called g.L.Link.does g.L.Link.failures) g.H.Host.does g.W.Sink.contents
+      g.W.Sink.does
       l.turns l.initial.lines
       (record {
         link = l.initial.link.link;

@@ -8,7 +8,7 @@ use Rattle.bay_serving.proofs.serving.try_turn.Goals as goal
 pub returns-in_err-tell_turn-in-Ok : goal.returns-in_err-tell_turn-in-Ok
 returns-in_err-tell_turn-in-Ok g c =
     let now : c.max-moment.result ≡ moment_at c.now-clock.result c.args.server.now = search rules in
-    tried-cut (Called g.L.Link.does g.L.Link.failures) g.H.Host.does g.W.Write.contents
+    tried-cut (Called g.L.Link.does g.L.Link.failures) g.H.Host.does g.W.Sink.contents g.W.Sink.does
     (next_view c.args.line)
     (record {
       link = c.args.link.now.link;
@@ -24,14 +24,15 @@ returns-in_err-tell_turn-in-Ok g c =
       process = c.args.process.now;
     }) c.tell_turn.new.writer _ c.from_residual.result
     c.from_residual.ensures.0
-    (turn-goes (λ busy. busy.link) g.L.Link.does g.L.Link.failures g.H.Host.does g.W.Write.contents
+    (turn-goes (λ busy. busy.link) g.L.Link.does g.L.Link.failures g.H.Host.does g.W.Sink.contents
+    g.W.Sink.does
     _ _ _ _ _ _ _ _ _ _ _ _ _ _ _ _ _ _ _ c.octets_of.ensures now c.device-device.ensures
     c.now-clock.ensures c.in-Ok.ensures.ok c.in_err-tell_turn-in-Ok.ensures (refl, refl, refl))
 
 pub returns-in_err-attend_process-in-Ok : goal.returns-in_err-attend_process-in-Ok
 returns-in_err-attend_process-in-Ok g c =
     let now : c.max-moment.result ≡ moment_at c.now-clock.result c.args.server.now = search rules in
-    tried-cut (Called g.L.Link.does g.L.Link.failures) g.H.Host.does g.W.Write.contents
+    tried-cut (Called g.L.Link.does g.L.Link.failures) g.H.Host.does g.W.Sink.contents g.W.Sink.does
     (next_view c.args.line)
     (record {
       link = c.args.link.now.link;
@@ -47,7 +48,8 @@ returns-in_err-attend_process-in-Ok g c =
       process = c.attend_process.new.process;
     }) c.attend_process.new.writer _ c.from_residual-in_err-attend_process-in-Ok.result
     c.from_residual-in_err-attend_process-in-Ok.ensures.0
-    (turn-goes (λ busy. busy.link) g.L.Link.does g.L.Link.failures g.H.Host.does g.W.Write.contents
+    (turn-goes (λ busy. busy.link) g.L.Link.does g.L.Link.failures g.H.Host.does g.W.Sink.contents
+    g.W.Sink.does
     _ _ _ _ _ _ _ _ _ _ _ _ _ _ _ _ _ _ _ c.octets_of.ensures now c.device-device.ensures
     c.now-clock.ensures c.in-Ok.ensures.ok c.in_ok-tell_turn-in-Ok.ensures
     c.in_err-attend_process-in-Ok.ensures)
@@ -59,7 +61,8 @@ returns-after-not-is_busy g c =
       c.in_ok-attend_process-in-Ok.field-0,
       rw (c.was_busy.ensures, c.was_busy-is_busy.ensures)
           (turn-goes (λ busy. busy.link) g.L.Link.does g.L.Link.failures g.H.Host.does
-          g.W.Write.contents _ _ _ _ _ _ _ _ _ _ _ _ _ _ _ _ _ _ _ c.octets_of.ensures now
+          g.W.Sink.contents g.W.Sink.does _ _ _ _ _ _ _ _ _ _ _ _ _ _ _ _ _ _ _ c.octets_of.ensures
+          now
           c.device-device.ensures c.now-clock.ensures c.in-Ok.ensures.ok
           c.in_ok-tell_turn-in-Ok.ensures c.in_ok-attend_process-in-Ok.ensures),
     )

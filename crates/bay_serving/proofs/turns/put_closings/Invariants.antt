@@ -5,5 +5,5 @@ use Rattle.bay_serving.proofs.turns.put_closings.Given as goal
 
 abbrev pub invariant-loop-entry : goal.invariant-loop-entry
 invariant-loop-entry g l =
-    Rest g.W.Write.contents l.initial.writer (closings_text l.moment l.closed)
+    Rest g.W.Sink.contents g.W.Sink.does l.initial.writer (closings_text l.moment l.closed)
     (closings_text l.moment (drop l.entry-index l.closed)) l.writer

@@ -5,5 +5,5 @@ use Rattle.bay_serving.proofs.turns.put_memories.Given as goal
 
 abbrev pub invariant-loop-association : goal.invariant-loop-association
 invariant-loop-association g l =
-    Rest g.W.Write.contents l.initial.writer (memories_text l.moment l.memory)
+    Rest g.W.Sink.contents g.W.Sink.does l.initial.writer (memories_text l.moment l.memory)
     (memories_text l.moment (drop l.association-index l.memory)) l.writer
