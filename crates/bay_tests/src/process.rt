@@ -77,7 +77,7 @@ impl Host<Scripted> for Sides {
 }
 
 /// A host with a process that sends these pieces.
-fn sides(pieces: [&'static [u8]; 3]) -> Sides {
+fn host_of(pieces: [&'static [u8]; 3]) -> Sides {
     Sides {
         pieces,
         has_process: true,
@@ -101,7 +101,7 @@ const WORDS: [&str; 11] = [
 
 #[test]
 fn lines_and_what_is_told(rt: HostRuntime) -> Result<(), Fail> {
-    let mut host = sides([b"0 contact Q 1\n0 con", b"tact X 2\r\n", b""]);
+    let mut host = host_of([b"0 contact Q 1\n0 con", b"tact X 2\r\n", b""]);
     let (printed, status) = served(rt.alloc(), &mut host, "", WORDS.as_slice());
     let wanted =
         b"instructions=2 depth=1 budget=2\n1000 process open\n4000 refused 113\n4000 process closed 0\n".as_slice();
@@ -111,7 +111,7 @@ fn lines_and_what_is_told(rt: HostRuntime) -> Result<(), Fail> {
 
 #[test]
 fn what_is_not_told_in_order(rt: HostRuntime) -> Result<(), Fail> {
-    let mut host = sides([b"0 contact X 1\n", b"", b""]);
+    let mut host = host_of([b"0 contact X 1\n", b"", b""]);
     let (printed, status) = served(rt.alloc(), &mut host, "", WORDS.as_slice());
     let wanted =
         b"instructions=2 depth=1 budget=2\n1000 process open\n3000 refused 113\n3000 process closed 131\n".as_slice();
@@ -122,7 +122,7 @@ fn what_is_not_told_in_order(rt: HostRuntime) -> Result<(), Fail> {
 #[test]
 fn lines_that_cannot_be_taken(rt: HostRuntime) -> Result<(), Fail> {
     for last in [b"0 scan\n".as_slice(), b"0 contact Q 4\n".as_slice()] {
-        let mut host = sides([b"0 contact Q 1\n", b"\n", last]);
+        let mut host = host_of([b"0 contact Q 1\n", b"\n", last]);
         let (printed, status) = served(rt.alloc(), &mut host, "", WORDS.as_slice());
         let wanted =
             b"instructions=2 depth=1 budget=2\n1000 process open\n4000 process closed 120\n".as_slice();
@@ -133,7 +133,7 @@ fn lines_that_cannot_be_taken(rt: HostRuntime) -> Result<(), Fail> {
 
 #[test]
 fn a_port_that_cannot_be_had(rt: HostRuntime) -> Result<(), Fail> {
-    let mut host = sides([b"", b"", b""]);
+    let mut host = host_of([b"", b"", b""]);
     host.has_process = false;
     let (printed, status) = served(rt.alloc(), &mut host, "", WORDS.as_slice());
     let wanted = b"instructions=2 depth=1 budget=2\nfault 121\n".as_slice();
