@@ -248,11 +248,8 @@ fn a_load(rt: HostRuntime) -> Result<(), Fail> {
     let refused = ended(&rt, &words, true)?;
     rt.remove_file(BAY)?;
     rt.remove_file(LOGIC)?;
-    assert!(rt;
-        done.as_str()
-            .starts_with("ExitCode(unix_exit_status(0))|instructions=0 ")
-    );
-    assert!(rt; done.as_str().ends_with("\n|"));
+    let loaded = "ExitCode(unix_exit_status(0))|instructions=2 depth=1 budget=2\n|";
+    assert!(rt; done.as_str() == loaded);
     assert!(rt; refused.as_str() == "ExitCode(unix_exit_status(1))|load refused 70 line 2\n|");
     Ok(())
 }
