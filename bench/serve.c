@@ -1,9 +1,11 @@
 /* Clients and a plain server for bench/serve, in C.
-   serve plain PORT SECONDS: serves up to eight clients on 127.0.0.1 by the loop that `bayctl serve` has (one connection is taken a turn, each client is
-   read once up to 4,096 octets, each answer is written), with sockets that do not block and a pause of 2 ms after a turn in which nothing came. To
-   each TPKT it answers fixed octets by its place: those of a connection, of an association, and then those of an identify.
-   serve load PORT CLIENTS SECONDS: connects so many clients, opens their associations, and then each sends an identify and waits for its answer, again
-   and again; prints how many answers came in a second. */
+   serve plain PORT SECONDS: serves up to eight clients on 127.0.0.1, with sockets that do not
+   block and a poll of 10 ms at most: a connection that waits is taken, each client that is ready
+   is read once up to 4,096 octets, and each answer is written at once. To each TPKT it answers
+   fixed octets by its place: those of a connection, of an association, and then of an identify.
+   serve load PORT CLIENTS SECONDS: connects so many clients, opens their associations, and then
+   each sends an identify and waits for its answer, again and again; prints how many answers came
+   in a second. */
 #include <arpa/inet.h>
 #include <errno.h>
 #include <fcntl.h>
@@ -69,6 +71,30 @@ static void answer(struct peer *p) {
     memmove(p->frame, p->frame + at, p->kept - at), p->kept -= at;
 }
 
+/* What waits for a client is offered to it once. */
+static void offer(struct peer *p) {
+    if (p->socket < 0 || !p->queued) return;
+    ssize_t n = write(p->socket, p->queue, p->queued);
+    if (n > 0) memmove(p->queue, p->queue + n, p->queued -= (size_t)n);
+    else if (n < 0 && errno != EAGAIN && errno != EINTR) drop(p);
+}
+
+/* A client is read once, and answered. */
+static void hear(struct peer *p) {
+    ssize_t n = read(p->socket, p->frame + p->kept, PIECE);
+    if (n > 0) p->kept += (size_t)n, answer(p), offer(p);
+    else if (n == 0 || (errno != EAGAIN && errno != EINTR)) drop(p);
+}
+
+/* A connection that waits is taken, if there is a place for it. */
+static void take(int listener) {
+    int one = 1, i, s;
+    for (i = 0; i < CLIENTS && peers[i].socket >= 0; i++) {}
+    if (i == CLIENTS || (s = accept(listener, NULL, NULL)) < 0) return;
+    fcntl(s, F_SETFL, O_NONBLOCK), setsockopt(s, IPPROTO_TCP, TCP_NODELAY, &one, sizeof one);
+    peers[i].socket = s;
+}
+
 static void plain(int port, double lasts) {
     int one = 1, listener = socket(AF_INET, SOCK_STREAM, 0);
     struct sockaddr_in at = address(port);
@@ -77,26 +103,17 @@ static void plain(int port, double lasts) {
     fcntl(listener, F_SETFL, O_NONBLOCK);
     for (int i = 0; i < CLIENTS; i++) peers[i].socket = -1;
     for (double stop = seconds() + lasts; seconds() < stop;) {
-        int busy = 0, s, i;
-        for (i = 0; i < CLIENTS && peers[i].socket >= 0; i++) {}
-        if (i < CLIENTS && (s = accept(listener, NULL, NULL)) >= 0) {
-            fcntl(s, F_SETFL, O_NONBLOCK), setsockopt(s, IPPROTO_TCP, TCP_NODELAY, &one, sizeof one);
-            peers[i].socket = s, busy = 1;
+        struct pollfd polls[CLIENTS + 1] = {{.fd = listener, .events = POLLIN}};
+        for (int i = 0; i < CLIENTS; i++) {
+            short events = peers[i].queued ? POLLIN | POLLOUT : POLLIN;
+            polls[i + 1] = (struct pollfd){.fd = peers[i].socket, .events = events};
         }
-        for (i = 0; i < CLIENTS; i++) {
-            struct peer *p = &peers[i];
-            if (p->socket < 0) continue;
-            ssize_t n = read(p->socket, p->frame + p->kept, PIECE);
-            if (n > 0) p->kept += (size_t)n, busy = 1, answer(p);
-            else if (n == 0 || (errno != EAGAIN && errno != EINTR)) drop(p), busy = 1;
+        if (poll(polls, CLIENTS + 1, 10) < 0 && errno != EINTR) fail("poll");
+        if (polls[0].revents) take(listener);
+        for (int i = 0; i < CLIENTS; i++) {
+            if (polls[i + 1].revents & POLLOUT) offer(&peers[i]);
+            if (polls[i + 1].revents & (POLLIN | POLLHUP | POLLERR)) hear(&peers[i]);
         }
-        for (i = 0; i < CLIENTS; i++) {
-            struct peer *p = &peers[i];
-            if (p->socket < 0 || !p->queued) continue;
-            ssize_t n = write(p->socket, p->queue, p->queued);
-            if (n > 0) memmove(p->queue, p->queue + n, p->queued -= (size_t)n), busy = 1;
-        }
-        if (!busy) usleep(2000);
     }
 }
 

@@ -1,9 +1,8 @@
 // A device served to clients over a link that may fail.
 //
 // What is handed out: `link` (the clients' connections, a trait whose meaning is the calls that
-// were made and what they answered), `tcp` (a link over the sockets of the system), `server` (a
-// device with what is still to be sent to each client), `turn` (one turn of the server), `told`
-// (what a turn tells).
+// were made and what they answered), `server` (a device with what is still to be sent to each
+// client), `turn` (one turn of the server), `told` (what a turn tells).
 //
 // Within: `queue` is what is still to be sent to one client, `standing` how an association stands
 // in a turn, `notes` what a turn has to remember, `line` what a line of the trace tells a server,
@@ -22,6 +21,5 @@ mod reading;
 mod sending;
 pub mod server;
 mod standing;
-pub mod tcp;
 pub mod told;
 pub mod turn;

@@ -1,10 +1,12 @@
-// A link that knows whether anything happens on it.
+// A link that knows whether its calls have left anything to do at once.
 ghost use Rattle.std.specs.Prelude.{◌≡◌};
 
 use bay_serve::link::{Got, Link, LinkFault};
 
-/// A link of which it is known whether a connection was taken, octets came or were taken, a
-/// client's end was seen, or a call failed.
+/// A link of which it is known whether its calls may have left something that can be done without
+/// waiting: a connection was taken, a read filled its room, a client's end was seen, a connection was
+/// closed, or a call failed. A read that did not fill its room has emptied the socket, and a write
+/// has been given all that waits: behind them there is something to do only once a socket is ready.
 #[derive(Drop)]
 pub struct BusyLink<L> {
     link: L,
@@ -12,7 +14,7 @@ pub struct BusyLink<L> {
 }
 
 impl<L> BusyLink<L> {
-    /// A link on which nothing has happened yet.
+    /// A link of which nothing is asked yet.
     pub fn new(link: L) -> Self
         ensures { result.link ≡ link }
     {
@@ -22,7 +24,7 @@ impl<L> BusyLink<L> {
         }
     }
 
-    /// Whether anything has happened since this was last asked.
+    /// Whether anything was left to do since this was last asked.
     pub fn was_busy(&mut self) -> bool
         ensures { self.new.link ≡ self.old.link }
     {
@@ -45,13 +47,18 @@ impl<L: Link> Link for BusyLink<L> {
 
     fn read(&mut self, a: u16, room: &mut [u8]) -> Result<Got, LinkFault> {
         let answer = self.link.read(a, room);
-        self.is_busy |= answer != Ok(Got::Nothing);
+        self.is_busy |= match answer {
+            Ok(Got::Nothing) => false,
+            Ok(Got::Bytes(count)) => count == room.len(),
+            Ok(Got::End) => true,
+            Err(_) => true,
+        };
         answer
     }
 
     fn write(&mut self, a: u16, octets: &[u8]) -> Result<usize, LinkFault> {
         let answer = self.link.write(a, octets);
-        self.is_busy |= answer != Ok(0);
+        self.is_busy |= answer.is_err();
         answer
     }
 

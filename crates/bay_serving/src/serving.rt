@@ -28,7 +28,7 @@ use std::alloc::Global;
 /// What came of a turn that was tried.
 #[derive(Clone, Copy, Debug, PartialEq, Eq)]
 pub enum Tried {
-    /// It was done, and nothing happened in it, or something did.
+    /// It was done, and left nothing to do at once, or something.
     Done { was_idle: bool },
     /// It was not done, and serving ends with this status.
     Ends(u8),
@@ -112,7 +112,7 @@ fn try_turn<L: Link, H: Host<L>, W: Sink>(
     }
 }
 
-/// Lets some milliseconds go by, where nothing happened.
+/// Waits, where there is nothing to do at once.
 fn rest<L, H: Host<L>>(host: &mut H, was_idle: bool)
     ensures { (host.new ≡ host.old) ⊎ H.does host.old Pauses host.new }
 {
@@ -122,7 +122,7 @@ fn rest<L, H: Host<L>>(host: &mut H, was_idle: bool)
 }
 
 /// Serves so many turns, each with its line, and prints what each tells: the exit status, which is
-/// 0 after the last turn, or 3 at one that is not done. After a turn in which nothing happened
+/// 0 after the last turn, or 3 at one that is not done. After a turn that left nothing to do at once
 /// there is a pause.
 fn serve_lines<L: Link, H: Host<L>, W: Sink>(
     alloc: Global,

@@ -2,19 +2,26 @@
 // clock.
 ghost use Rattle.std.specs.Prelude.{◌<◌, ◌≤◌};
 
-use crate::sockets::{client_of, read_some};
+use crate::sockets::{client_of, link_at, read_some};
 use bay_main::host::{Host, SystemHost};
+use bay_net::readiness::Readiness;
+use bay_net::tcp::TcpLink;
 use bay_serve::link::{Got, Link};
-use bay_serve::tcp::TcpLink;
 use std::alloc::Global;
-use std::net::{Ipv4Addr, SocketAddr, TcpStream};
+use std::cell::Cell;
+use std::io::Write;
+use std::net::{Ipv4Addr, Net, SocketAddr, TcpListener, TcpStream};
 use std::rt::{Clock, Runtime};
 use std::test::Fail;
-use std::thread;
-use std::time::Duration;
+use std::time::{Duration, Instant};
+use std::{io, thread};
 
 /// Takes the connection of a client under a number, and waits for it for some seconds at most.
-fn take(rt: &impl Clock, link: &mut TcpLink, association: u16) -> Result<bool, Fail>
+fn take<C: Clock>(
+    rt: &impl Clock,
+    link: &mut TcpLink<'_, C>,
+    association: u16,
+) -> Result<bool, Fail>
     requires low { 0 < association }
     requires high { association ≤ 8 }
 {
@@ -28,7 +35,7 @@ fn take(rt: &impl Clock, link: &mut TcpLink, association: u16) -> Result<bool, F
 }
 
 /// Sends octets to a client that reads none, until none can be taken: how many were.
-fn fill(alloc: Global, link: &mut TcpLink) -> Result<Option<usize>, Fail> {
+fn fill<C: Clock>(alloc: Global, link: &mut TcpLink<'_, C>) -> Result<Option<usize>, Fail> {
     let octets = vec![in alloc; 7u8; 65_536]?;
     let mut told = 0usize;
     for _ in 0..4000 {
@@ -65,7 +72,7 @@ fn drained<R: Runtime<A = Global>>(
 
 #[test]
 fn what_cannot_be_taken_is_not_told(rt: HostRuntime) -> Result<(), Fail> {
-    let mut link = TcpLink::bind(&rt, 0)?;
+    let mut link = link_at(&rt)?;
     let stream = client_of(&rt, &link)?;
     assert!(rt; take(&rt, &mut link, 1)?);
     assert!(rt; link.read(1, &mut [0; 16]) == Ok(Got::Nothing));
@@ -77,7 +84,7 @@ fn what_cannot_be_taken_is_not_told(rt: HostRuntime) -> Result<(), Fail> {
 
 #[test]
 fn another_connection_stays(rt: HostRuntime) -> Result<(), Fail> {
-    let mut link = TcpLink::bind(&rt, 0)?;
+    let mut link = link_at(&rt)?;
     let first = client_of(&rt, &link)?;
     assert!(rt; take(&rt, &mut link, 1)?);
     let second = client_of(&rt, &link)?;
@@ -92,7 +99,7 @@ fn another_connection_stays(rt: HostRuntime) -> Result<(), Fail> {
 
 #[test]
 fn listens_on_one_address(rt: HostRuntime) -> Result<(), Fail> {
-    let link = TcpLink::bind(&rt, 0)?;
+    let link = link_at(&rt)?;
     let other = SocketAddr::from((Ipv4Addr::new(127, 0, 0, 2), link.port()?));
     assert!(rt; TcpStream::connect(&rt, other).is_err());
     Ok(())
@@ -101,10 +108,95 @@ fn listens_on_one_address(rt: HostRuntime) -> Result<(), Fail> {
 #[test]
 fn the_clock_counts_milliseconds(rt: HostRuntime) -> Result<(), Fail> {
     let mut host = SystemHost::new(&rt);
-    let before = Host::<TcpLink>::now(&mut host);
+    let before = Host::<TcpLink<_>>::now(&mut host);
     thread::sleep(&rt, Duration::from_millis(50));
-    let after = Host::<TcpLink>::now(&mut host);
+    let after = Host::<TcpLink<_>>::now(&mut host);
     let gone = after.saturating_sub(before);
     assert!(rt; gone >= 45 && gone < 5000);
+    Ok(())
+}
+
+/// A clock that is set by hand, in seconds.
+#[derive(Drop)]
+struct SetClock {
+    seconds: Cell<u64>,
+}
+
+impl Clock for SetClock {
+    fn monotonic(&self) -> io::Result<Duration> {
+        Ok(Duration::from_secs(self.seconds.get()))
+    }
+
+    fn since_1970(&self) -> io::Result<Duration> {
+        Ok(Duration::from_secs(self.seconds.get()))
+    }
+}
+
+/// A link with two clients, of which the first sends an octet.
+fn link_of_two<'a, R: Runtime<A = Global> + Net<Listener = TcpListener, Stream = TcpStream>>(
+    rt: &R,
+    clock: &'a SetClock,
+) -> Result<(TcpLink<'a, SetClock>, [TcpStream; 2]), Fail> {
+    let readiness = Readiness::new(rt, rt.alloc())?;
+    let mut link = TcpLink::bind(rt, clock, &readiness, 0)?;
+    let first = client_of(rt, &link)?;
+    let is_first = take(rt, &mut link, 1)?;
+    let second = client_of(rt, &link)?;
+    if !is_first || !take(rt, &mut link, 2)? {
+        return Err(Fail::from("no connection waits"));
+    }
+    (&mut &first).write_all(b"a")?;
+    Ok((link, [first, second]))
+}
+
+/// What a connection has to read, which is waited for for some seconds.
+fn heard<C: Clock>(rt: &impl Clock, link: &mut TcpLink<'_, C>) -> Option<Got> {
+    for _ in 0..2000 {
+        match link.read(1, &mut [0; 16]) {
+            Ok(Got::Nothing) => thread::sleep(rt, Duration::from_millis(1)),
+            Ok(got) => return Some(got),
+            Err(_) => return None,
+        }
+    }
+    None
+}
+
+#[test]
+fn a_silent_connection_fails(rt: HostRuntime) -> Result<(), Fail> {
+    let clock = SetClock {
+        seconds: Cell::new(100),
+    };
+    let (mut link, _streams) = link_of_two(&rt, &clock)?;
+    clock.seconds.set(109);
+    assert_eq!(rt; heard(&rt, &mut link), Some(Got::Bytes(1)));
+    assert_eq!(rt; link.read(2, &mut [0; 16]), Ok(Got::Nothing));
+    clock.seconds.set(110);
+    assert_eq!(rt; link.read(1, &mut [0; 16]), Ok(Got::Nothing));
+    assert_eq!(rt; link.failures(), 0);
+    assert!(rt; link.read(2, &mut [0; 16]).is_err());
+    assert_eq!(rt; link.failures(), 1);
+    Ok(())
+}
+
+/// How many milliseconds a wait takes.
+fn waited(rt: &impl Clock, readiness: &mut Readiness, most: u64) -> Result<u128, Fail> {
+    let begun = Instant::now(rt)?;
+    readiness.wait(Duration::from_millis(most))?;
+    Ok(begun.elapsed(rt)?.as_millis())
+}
+
+#[test]
+fn a_wait_ends_where_a_socket_is_ready(rt: HostRuntime) -> Result<(), Fail> {
+    let mut readiness = Readiness::new(&rt, rt.alloc())?;
+    let mut link = TcpLink::bind(&rt, &rt, &readiness, 0)?;
+    assert!(rt; waited(&rt, &mut readiness, 50)? >= 45);
+    let stream = client_of(&rt, &link)?;
+    assert!(rt; waited(&rt, &mut readiness, 30_000)? < 15_000);
+    assert!(rt; take(&rt, &mut link, 1)?);
+    waited(&rt, &mut readiness, 50)?;
+    assert!(rt; waited(&rt, &mut readiness, 50)? >= 45);
+    (&mut &stream).write_all(b"a")?;
+    assert!(rt; waited(&rt, &mut readiness, 30_000)? < 15_000);
+    assert_eq!(rt; link.read(1, &mut [0; 16]), Ok(Got::Bytes(1)));
     Ok(())
 }

@@ -5,10 +5,11 @@ use bay_serve::link::{Got, Link, LinkFault};
 use std::test::Fail;
 
 /// A link on which no client connects, or one process, which sends some pieces and then its end, and
-/// wants to be told one text.
+/// wants to be told one text; behind its closing it may come again.
 #[derive(Drop)]
 struct Scripted {
     waits: bool,
+    comes_again: bool,
     pieces: [&'static [u8]; 3],
     at: usize,
     wanted: &'static [u8],
@@ -43,7 +44,9 @@ impl Link for Scripted {
         Err(LinkFault)
     }
 
-    fn close(&mut self, _a: u16) {}
+    fn close(&mut self, _a: u16) {
+        self.waits = self.comes_again;
+    }
 }
 
 /// A host whose clock goes by a second at each look. At port 9 is the process, if it is anywhere.
@@ -51,6 +54,7 @@ impl Link for Scripted {
 struct Sides {
     pieces: [&'static [u8]; 3],
     has_process: bool,
+    comes_again: bool,
     now: u64,
 }
 
@@ -61,6 +65,7 @@ impl Host<Scripted> for Sides {
         }
         Some(Scripted {
             waits: port == 9,
+            comes_again: self.comes_again,
             pieces: self.pieces,
             at: 0,
             wanted: b"4000 refused 113\n",
@@ -81,6 +86,7 @@ fn host_of(pieces: [&'static [u8]; 3]) -> Sides {
     Sides {
         pieces,
         has_process: true,
+        comes_again: false,
         now: 0,
     }
 }
@@ -138,5 +144,17 @@ fn a_port_that_cannot_be_had(rt: HostRuntime) -> Result<(), Fail> {
     let (printed, status) = served(rt.alloc(), &mut host, "", WORDS.as_slice());
     let wanted = b"instructions=2 depth=1 budget=2\nfault 121\n".as_slice();
     assert!(rt; printed.as_slice() == wanted && status == 3);
+    Ok(())
+}
+
+/// Another process comes only once each switch is bad: here one turn behind the closing.
+#[test]
+fn switches_are_bad_behind_a_process(rt: HostRuntime) -> Result<(), Fail> {
+    let mut host = host_of([b"0 contact Q 1\n", b"", b""]);
+    host.comes_again = true;
+    let (printed, status) = served(rt.alloc(), &mut host, "", WORDS.as_slice());
+    let wanted =
+        b"instructions=2 depth=1 budget=2\n1000 process open\n3000 process closed 0\n5000 process open\n6000 process closed 0\n8000 process open\n".as_slice();
+    assert!(rt; printed.as_slice() == wanted && status == 0);
     Ok(())
 }

@@ -1,12 +1,13 @@
 // Serving over a link and a host in memory, and over those of the system.
+use crate::sockets::link_at;
 use bay_io::input::ReadFault;
 use bay_io::reader::WatchedReader;
 use bay_io::writer::WatchedWriter;
 use bay_main::commands::obey;
 use bay_main::files::{FileFault, FileSystem};
 use bay_main::host::{Host, SystemHost};
+use bay_net::tcp::TcpLink;
 use bay_serve::link::{Got, Link, LinkFault};
-use bay_serve::tcp::TcpLink;
 use std::alloc::Global;
 use std::test::Fail;
 
@@ -184,7 +185,7 @@ fn files_and_ports_that_cannot_be_had(rt: HostRuntime) -> Result<(), Fail> {
 
 #[test]
 fn ports_of_the_system(rt: HostRuntime) -> Result<(), Fail> {
-    let link = TcpLink::bind(&rt, 0)?;
+    let link = link_at(&rt)?;
     let port = format!(in rt.alloc(); "{}", link.port()?)?;
     let words = [
         "serve",
@@ -198,11 +199,11 @@ fn ports_of_the_system(rt: HostRuntime) -> Result<(), Fail> {
         "3",
     ];
     let mut host = SystemHost::new(&rt);
-    let (printed, status) = served::<TcpLink, _>(rt.alloc(), &mut host, "", words.as_slice());
+    let (printed, status) = served::<TcpLink<_>, _>(rt.alloc(), &mut host, "", words.as_slice());
     let taken = b"instructions=2 depth=1 budget=2\nfault 121\n".as_slice();
     assert!(rt; printed.as_slice() == taken && status == 3);
     drop(link);
-    let (printed, status) = served::<TcpLink, _>(rt.alloc(), &mut host, "", words.as_slice());
+    let (printed, status) = served::<TcpLink<_>, _>(rt.alloc(), &mut host, "", words.as_slice());
     let served = b"instructions=2 depth=1 budget=2\n".as_slice();
     assert!(rt; printed.as_slice() == served && status == 0);
     Ok(())

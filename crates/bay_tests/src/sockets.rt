@@ -2,13 +2,14 @@
 use crate::session::{
     CONFIRM, CONNECT, CONNECTED, IDENTIFY, IDENTITY, REQUEST, has_octets, octets_of, server,
 };
+use bay_net::readiness::Readiness;
+use bay_net::tcp::TcpLink;
 use bay_serve::server::Server;
-use bay_serve::tcp::TcpLink;
 use bay_serve::turn::serve_turn;
 use std::alloc::Global;
 use std::io::{ErrorKind, Read, Write};
 use std::net::{Ipv4Addr, Net, SocketAddr, TcpListener, TcpStream};
-use std::rt::Runtime;
+use std::rt::{Clock, Runtime};
 use std::test::Fail;
 use std::thread;
 use std::time::Duration;
@@ -27,7 +28,7 @@ pub fn read_some(stream: &TcpStream, answer: &mut Vec<u8>) -> Result<(), Fail> {
 fn ask<R: Runtime<A = Global>>(
     rt: &R,
     server: &mut Server,
-    link: &mut TcpLink,
+    link: &mut TcpLink<'_, R>,
     stream: &TcpStream,
     octets: &[u8],
     count: usize,
@@ -45,10 +46,18 @@ fn ask<R: Runtime<A = Global>>(
     Ok(())
 }
 
-/// A client of the server, which waits for nothing.
-pub fn client_of<R: Net<Listener = TcpListener, Stream = TcpStream>>(
+/// A link at a port of the system's choice.
+pub fn link_at<R: Runtime<A = Global> + Net<Listener = TcpListener, Stream = TcpStream>>(
     rt: &R,
-    link: &TcpLink,
+) -> Result<TcpLink<'_, R>, Fail> {
+    let readiness = Readiness::new(rt, rt.alloc())?;
+    Ok(TcpLink::bind(rt, rt, &readiness, 0)?)
+}
+
+/// A client of the server, which waits for nothing.
+pub fn client_of<R: Net<Listener = TcpListener, Stream = TcpStream>, C: Clock>(
+    rt: &R,
+    link: &TcpLink<'_, C>,
 ) -> Result<TcpStream, Fail> {
     let address = SocketAddr::from((Ipv4Addr::LOCALHOST, link.port()?));
     let stream = TcpStream::connect(rt, address)?;
@@ -60,7 +69,7 @@ pub fn client_of<R: Net<Listener = TcpListener, Stream = TcpStream>>(
 fn talk<R: Runtime<A = Global>>(
     rt: &R,
     server: &mut Server,
-    link: &mut TcpLink,
+    link: &mut TcpLink<'_, R>,
     stream: &TcpStream,
     taken: &mut Vec<u8>,
 ) -> Result<(), Fail> {
@@ -74,7 +83,7 @@ fn talk<R: Runtime<A = Global>>(
 /// A client connects to a link, of which a server is made, and talks to it.
 fn serve_client<R: Runtime<A = Global>>(
     rt: &R,
-    link: &mut TcpLink,
+    link: &mut TcpLink<'_, R>,
     stream: &TcpStream,
     taken: &mut Vec<u8>,
 ) -> Result<(), Fail> {
@@ -87,7 +96,7 @@ fn session<R: Runtime<A = Global> + Net<Listener = TcpListener, Stream = TcpStre
     rt: &R,
     taken: &mut Vec<u8>,
 ) -> Result<(), Fail> {
-    let mut link = TcpLink::bind(rt, 0)?;
+    let mut link = link_at(rt)?;
     let stream = client_of(rt, &link)?;
     serve_client(rt, &mut link, &stream, taken)
 }

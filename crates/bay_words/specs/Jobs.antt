@@ -59,8 +59,12 @@ abbrev pub program_app : App
 program_app =
     let named = new_app (codes "bayctl") in
     record named {
-      top = record named.top
-          { no_binary_name = true; subcommand_required = true; arg_required_else_help = true };
+      top = record named.top {
+        no_binary_name = true;
+        subcommand_required = true;
+        arg_required_else_help = true;
+        has_version = true;
+      };
     }
 
 -- the program with all its commands

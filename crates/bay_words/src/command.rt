@@ -9,6 +9,10 @@ use clap::builder::ValueParser;
 use clap::{Arg, ArgAction, Command};
 use std::alloc::{AllocError, Global};
 
+/// The version of the program, of its formats and of its fault numbers: CHANGELOG.md says what each
+/// brought.
+const VERSION: &str = "1.0.0";
+
 /// The command with one more option, `--ID F`.
 fn with_file<'a>(
     alloc: Global,
@@ -153,6 +157,7 @@ fn program_command<'a>(alloc: Global) -> Result<Command<'a>, AllocError>
 {
     let command = Command::new(alloc, "bayctl")
         .about("The controller of one bay")
+        .version(VERSION)
         .no_binary_name(true)
         .subcommand_required(true)
         .arg_required_else_help(true)

@@ -1,0 +1,186 @@
+// A link over the sockets of the system, none of which waits.
+ghost use Rattle.std.specs.Prelude.{◌≡◌, ◌+◌, ◌-◌, ◌<◌, min};
+ghost use Rattle.std.specs.Io.{ReadsAtMost, WritesAtMost};
+
+use crate::readiness::{Readiness, add_listener, add_stream};
+use bay_serve::link::{Got, Link, LinkFault};
+use mio::Registry;
+use std::io;
+use std::io::{ErrorKind, Read, Write};
+use std::net::{Ipv4Addr, Net, SocketAddr, TcpListener, TcpStream};
+use std::time::{Clock, Instant};
+
+/// For how many seconds a connection may send nothing at all before it counts as failed.
+const SILENCE: u64 = 10;
+
+/// A connection that was taken, and the moment of that until its first octet has come.
+#[derive(Drop)]
+struct Peer {
+    stream: TcpStream,
+    silent_since: Option<Instant>,
+}
+
+/// A listener on 127.0.0.1, and the connections that were taken, each at its number's place.
+#[derive(Drop)]
+pub struct TcpLink<'a, C> {
+    clock: &'a C,
+    registry: Registry,
+    listener: TcpListener,
+    peers: [Option<Peer>; 8],
+    failures: u64,
+}
+
+/// Whether a call would have waited.
+fn would_wait(error: &io::Error) -> bool {
+    error.kind() == ErrorKind::WouldBlock || error.kind() == ErrorKind::Interrupted
+}
+
+/// The error of a read or a write where no connection is open.
+fn not_connected() -> io::Error {
+    io::Error::from(ErrorKind::NotConnected)
+}
+
+impl Peer {
+    /// Whether no octet has come for so long that none is waited for any more.
+    fn is_idle<C: Clock>(&self, clock: &C) -> bool {
+        match (&self.silent_since, Instant::now(clock)) {
+            (Some(since), Ok(now)) => now.saturating_duration_since(*since).as_secs() >= SILENCE,
+            _ => false,
+        }
+    }
+}
+
+/// Reads from a connection, if it is open.
+fn read_some(peer: &Option<Peer>, room: &mut [u8]) -> io::Result<usize>
+    ensures { ReadsAtMost result room.new }
+{
+    match peer {
+        Some(peer) => (&mut &peer.stream).read(room),
+        None => Err(not_connected()),
+    }
+}
+
+/// Writes to a connection, if it is open.
+fn write_some(peer: &Option<Peer>, octets: &[u8]) -> io::Result<usize>
+    ensures { WritesAtMost result octets.now }
+{
+    match peer {
+        Some(peer) => (&mut &peer.stream).write(octets),
+        None => Err(not_connected()),
+    }
+}
+
+impl<'a, C: Clock> TcpLink<'a, C> {
+    /// Listens on 127.0.0.1 at a port; at one that the system picks for port 0. The readiness tells
+    /// when a socket of the link is ready, and the clock how long a connection has been silent.
+    pub fn bind<R: Net<Listener = TcpListener, Stream = TcpStream>>(
+        rt: &R,
+        clock: &'a C,
+        readiness: &Readiness,
+        port: u16,
+    ) -> io::Result<TcpLink<'a, C>> {
+        let registry = readiness.registry()?;
+        let address = SocketAddr::from((Ipv4Addr::LOCALHOST, port));
+        let listener = TcpListener::bind(rt, address)?;
+        listener.set_nonblocking(true)?;
+        add_listener(&registry, &listener)?;
+        Ok(TcpLink {
+            clock,
+            registry,
+            listener,
+            peers: [None, None, None, None, None, None, None, None],
+            failures: 0,
+        })
+    }
+
+    /// The port at which it listens.
+    pub fn port(&self) -> io::Result<u16> {
+        Ok(self.listener.local_addr()?.port())
+    }
+
+    /// How often a call has failed, counted up to 18,446,744,073,709,551,615.
+    pub fn failures(&self) -> u64
+        ensures { result ≡ self.now.failures }
+    {
+        self.failures
+    }
+
+    /// A connection that waits; neither its reads nor its writes do, and what is written goes out at
+    /// once.
+    fn accept_one(&self) -> io::Result<Peer> {
+        let (stream, _) = self.listener.accept()?;
+        stream.set_nonblocking(true)?;
+        stream.set_nodelay(true)?;
+        add_stream(&self.registry, &stream)?;
+        let silent_since = Some(Instant::now(self.clock)?);
+        Ok(Peer {
+            stream,
+            silent_since,
+        })
+    }
+
+    /// Whether a connection has been silent for too long since it was taken.
+    fn is_idle(&self, place: usize) -> bool {
+        match self.peers.get(place) {
+            Some(Some(peer)) => peer.is_idle(self.clock),
+            _ => false,
+        }
+    }
+
+    /// A connection has sent octets.
+    fn hear(&mut self, place: usize)
+        ensures { self.new.failures ≡ self.old.failures }
+    {
+        if let Some(Some(peer)) = self.peers.get_mut(place) {
+            peer.silent_since = None;
+        }
+    }
+
+    /// A call has failed.
+    fn failed(&mut self) -> LinkFault
+        ensures { self.new.failures ≡ min (self.old.failures + 1) 18446744073709551615 }
+    {
+        self.failures = self.failures.saturating_add(1);
+        LinkFault
+    }
+}
+
+impl<C: Clock> Link for TcpLink<'_, C> {
+    ghost failures = { λ link. link.failures };
+
+    fn accept(&mut self, association: u16) -> Result<bool, LinkFault> {
+        match self.accept_one() {
+            Ok(peer) => {
+                self.peers[association as usize - 1] = Some(peer);
+                Ok(true)
+            }
+            Err(error) if would_wait(&error) => Ok(false),
+            Err(_) => Err(self.failed()),
+        }
+    }
+
+    fn read(&mut self, association: u16, room: &mut [u8]) -> Result<Got, LinkFault> {
+        let place = association as usize - 1;
+        match read_some(&self.peers[place], room) {
+            Ok(0) => Ok(Got::End),
+            Ok(n) => {
+                self.hear(place);
+                Ok(Got::Bytes(n))
+            }
+            Err(error) if would_wait(&error) && !self.is_idle(place) => Ok(Got::Nothing),
+            Err(_) => Err(self.failed()),
+        }
+    }
+
+    fn write(&mut self, association: u16, octets: &[u8]) -> Result<usize, LinkFault> {
+        match write_some(&self.peers[association as usize - 1], octets) {
+            Ok(n) => Ok(n),
+            Err(error) if would_wait(&error) => Ok(0),
+            Err(_) => Err(self.failed()),
+        }
+    }
+
+    fn close(&mut self, association: u16) {
+        self.peers[association as usize - 1] = None;
+    }
+}
