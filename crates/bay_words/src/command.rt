@@ -11,7 +11,7 @@ use std::alloc::{AllocError, Global};
 
 /// The version of the program, of its formats and of its fault numbers: CHANGELOG.md says what each
 /// brought.
-const VERSION: &str = "1.0.0";
+const VERSION: &str = "0.9.0";
 
 /// The command with one more option, `--ID F`.
 fn with_file<'a>(
