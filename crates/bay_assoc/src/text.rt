@@ -9,6 +9,7 @@ ghost use Rattle.bay_assoc.specs.Texts.{size_text, unit_text, accept_text, disco
 
 use crate::hearing::Accepted;
 use crate::presentation::Context;
+use bay_ber::outgoing::Outgoing;
 use bay_ber::tag::Tag;
 use bay_ber::writer::Writer;
 use std::alloc::{AllocError, Global};
@@ -184,15 +185,15 @@ pub(crate) fn connected(
     contexts: &[Context],
     accepted: Accepted,
     value: &[u8],
-) -> Result<Vec<u8>, AllocError>
+) -> Result<Outgoing, AllocError>
     requires selector { ForSome called (λ octets. length octets.now ≤ 16) }
     requires contexts { length contexts.now ≤ 16 }
     requires short { length value.now ≤ 271 }
     ensures text { IfOk result
-        (λ octets. octets.items
+        (λ octets. octets
         ≡ connected_text (option_map (λ octets. octets.now) called.entry) contexts.now accepted
         value.now) }
-    ensures few { IfOk result (λ octets. length octets.items ≤ 560) }
+    ensures few { IfOk result (λ octets. length octets ≤ 560) }
 {
     let mut writer = Writer::new(alloc, 560)?;
     put_connected(&mut writer, called, contexts, accepted, value);
@@ -232,10 +233,10 @@ fn put_associated(writer: &mut Writer, mms: u16, pdu: &[u8])
 }
 
 /// The answer to a request for an association (AARE), with a PDU of MMS.
-pub(crate) fn associated(alloc: Global, mms: u16, pdu: &[u8]) -> Result<Vec<u8>, AllocError>
+pub(crate) fn associated(alloc: Global, mms: u16, pdu: &[u8]) -> Result<Outgoing, AllocError>
     requires { length pdu.now ≤ 200 }
-    ensures text { IfOk result (λ octets. octets.items ≡ associated_text mms pdu.now) }
-    ensures few { IfOk result (λ octets. length octets.items ≤ 271) }
+    ensures text { IfOk result (λ octets. octets ≡ associated_text mms pdu.now) }
+    ensures few { IfOk result (λ octets. length octets ≤ 271) }
 {
     let mut writer = Writer::new(alloc, 271)?;
     put_associated(&mut writer, mms, pdu);
@@ -251,9 +252,9 @@ fn release() -> &'static [u8]
 }
 
 // The RLRE in the context of ACSE, as user data.
-fn release_user(alloc: Global, acse: u16) -> Result<Vec<u8>, AllocError>
-    ensures text { IfOk result (λ octets. octets.items ≡ user_text acse release_text) }
-    ensures few { IfOk result (λ octets. length octets.items ≤ 41) }
+fn release_user(alloc: Global, acse: u16) -> Result<Outgoing, AllocError>
+    ensures text { IfOk result (λ octets. octets ≡ user_text acse release_text) }
+    ensures few { IfOk result (λ octets. length octets ≤ 41) }
 {
     let mut writer = Writer::new(alloc, 41)?;
     put_user(&mut writer, acse, release());

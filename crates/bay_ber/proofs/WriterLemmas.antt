@@ -18,60 +18,60 @@ unfolding put
 over_put w sheet more is over = rw (← is, over) refl
 
 pub past_put : (w : Inside) (sheet : Sheet) (more : List ℕ) → seen w ≡ sheet → w.over ≡ false
-    → 32 ≤ length w.octets.items → length w.octets.items ≤ 32 + w.limit
-    → 32 + w.limit - length w.octets.items < length more
+    → 64 ≤ length w.octets.items → length w.octets.items ≤ 64 + w.limit
+    → 64 + w.limit - length w.octets.items < length more
     → sheet_of w.limit w.first true w.octets.items ≡ put sheet more
 unfolding put
 past_put w sheet more is clear front fit past =
-    let t = drop 32 w.octets.items in
-    let m = length-drop 32 w.octets.items in
+    let t = drop 64 w.octets.items in
+    let m = length-drop 64 w.octets.items in
     rw (← is, clear, lt-ltb (w.limit - length t) (length more) (omega arith)) refl
 
 pub fits_put : (w : Inside) (sheet : Sheet) (more new : List ℕ) → seen w ≡ sheet → w.over ≡ false
-    → 32 ≤ length w.octets.items → length w.octets.items ≤ 32 + w.limit
-    → length more ≤ 32 + w.limit - length w.octets.items → new ≡ w.octets.items ++ more
+    → 64 ≤ length w.octets.items → length w.octets.items ≤ 64 + w.limit
+    → length more ≤ 64 + w.limit - length w.octets.items → new ≡ w.octets.items ++ more
     → sheet_of w.limit w.first w.over new ≡ put sheet more
 unfolding put
 fits_put w sheet more new is clear front fit room added =
-    let t = drop 32 w.octets.items in
-    let m = length-drop 32 w.octets.items in
+    let t = drop 64 w.octets.items in
+    let m = length-drop 64 w.octets.items in
     rw (
       ← is,
       clear,
       added,
-      take-append-le 32 w.octets.items more front,
-      drop-append-le 32 w.octets.items more front,
+      take-append-le 64 w.octets.items more front,
+      drop-append-le 64 w.octets.items more front,
       le-ltb (w.limit - length t) (length more) (omega arith),
     ) refl
 
 -- ---- beginning again
 
 pub cleared : (w : Inside) (sheet : Sheet) (new : List ℕ) → seen w ≡ sheet
-    → new ≡ take 32 w.octets.items → sheet_of w.limit 32 false new ≡ empty sheet.limit
+    → new ≡ take 64 w.octets.items → sheet_of w.limit 64 false new ≡ empty sheet.limit
 cleared w sheet new is cut =
-    let n = ap length cut ∙ length-take 32 w.octets.items in
-    let m = length-take 32 new in
-    rw (← is, drop_all 32 new (omega arith), drop_all 32 (take 32 new) (omega arith)) refl
+    let n = ap length cut ∙ length-take 64 w.octets.items in
+    let m = length-take 64 new in
+    rw (← is, drop_all 64 new (omega arith), drop_all 64 (take 64 new) (omega arith)) refl
 
 -- ---- a value in place
 
-at_end : (over : Bool) (octets : List ℕ) (place : ℕ) → place ≡ length octets - 32
-    → IsLength place (held over (drop 32 octets))
+at_end : (over : Bool) (octets : List ℕ) (place : ℕ) → place ≡ length octets - 64
+    → IsLength place (held over (drop 64 octets))
 at_end true octets place is = tt
-at_end false octets place is = is ∙ sym (length-drop 32 octets)
+at_end false octets place is = is ∙ sym (length-drop 64 octets)
 
 pub is_end : (w : Inside) (sheet : Sheet) (place : ℕ) → seen w ≡ sheet
-    → place ≡ length w.octets.items - 32 → IsEnd place sheet
+    → place ≡ length w.octets.items - 64 → IsEnd place sheet
 unfolding IsEnd
 is_end w sheet place is at = rw (← is) (at_end w.over w.octets.items place at)
 
 pub is_open : (w : Inside) (sheet : Sheet) (start : ℕ) → seen w ≡ sheet → w.over ≡ false
-    → IsOpen start sheet → 32 + start + 2 ≤ length w.octets.items
+    → IsOpen start sheet → 64 + start + 2 ≤ length w.octets.items
 unfolding IsOpen
 is_open w sheet start is clear open_here =
-    let text : sheet.text ≡ Some (drop 32 w.octets.items) = rw (← is, clear) refl in
+    let text : sheet.text ≡ Some (drop 64 w.octets.items) = rw (← is, clear) refl in
     let two = rw text at open_here in
-    omega (arith, two, length-drop 32 w.octets.items)
+    omega (arith, two, length-drop 64 w.octets.items)
 
 pub over_closed : (w : Inside) (sheet : Sheet) (start : ℕ) → seen w ≡ sheet → w.over ≡ true
     → sheet ≡ closed sheet start
@@ -92,14 +92,14 @@ value_length text start tag more two is =
     omega arith
 
 pub past_closed : (w : Inside) (sheet : Sheet) (start count more : ℕ) → seen w ≡ sheet
-    → w.over ≡ false → 32 + start + 2 ≤ length w.octets.items
-    → length w.octets.items ≤ 32 + w.limit → count ≡ length w.octets.items - (32 + start + 2)
-    → more + 1 ≡ length (length_octets count) → 32 + w.limit - length w.octets.items < more
+    → w.over ≡ false → 64 + start + 2 ≤ length w.octets.items
+    → length w.octets.items ≤ 64 + w.limit → count ≡ length w.octets.items - (64 + start + 2)
+    → more + 1 ≡ length (length_octets count) → 64 + w.limit - length w.octets.items < more
     → sheet_of w.limit w.first true w.octets.items ≡ closed sheet start
 unfolding closed
 past_closed w sheet start count more is clear two fit counted size past =
-    let t = drop 32 w.octets.items in
-    let m = length-drop 32 w.octets.items in
+    let t = drop 64 w.octets.items in
+    let m = length-drop 64 w.octets.items in
     let c : length (drop (start + 2) t) ≡ count = length-drop (start + 2) t ∙ omega arith in
     let n = value_length t start (get_or t start 0) more (omega arith) (rw c size) in
     rw (
@@ -110,26 +110,26 @@ past_closed w sheet start count more is clear two fit counted size past =
     ) refl
 
 -- a list in which what stands at a place is written over, without what stands before the text
-behind_heads : (octets middle : List ℕ) (place start : ℕ) → place ≡ 32 + (start + 1)
+behind_heads : (octets middle : List ℕ) (place start : ℕ) → place ≡ 64 + (start + 1)
     → place ≤ length octets
-    → drop 32 (take place octets ++ middle) ≡ take (start + 1) (drop 32 octets) ++ middle
+    → drop 64 (take place octets ++ middle) ≡ take (start + 1) (drop 64 octets) ++ middle
 behind_heads octets middle place start is le =
     let n = length-take-le place octets le in
-    drop-append-le 32 (take place octets) middle (omega arith)
-    ∙ rw (is, drop-take 32 (start + 1) octets) refl
+    drop-append-le 64 (take place octets) middle (omega arith)
+    ∙ rw (is, drop-take 64 (start + 1) octets) refl
 
-value_in_place : (octets : List ℕ) (place start : ℕ) → place ≡ 32 + (start + 1)
-    → 32 + start + 2 ≤ length octets
-    → drop 32 (take place octets
-    ++ (length_octets (length (drop (start + 2) (drop 32 octets))) ++ drop (place + 1) octets))
-    ≡ take start (drop 32 octets)
-    ++ tagged (get_or (drop 32 octets) start 0) (drop (start + 2) (drop 32 octets))
+value_in_place : (octets : List ℕ) (place start : ℕ) → place ≡ 64 + (start + 1)
+    → 64 + start + 2 ≤ length octets
+    → drop 64 (take place octets
+    ++ (length_octets (length (drop (start + 2) (drop 64 octets))) ++ drop (place + 1) octets))
+    ≡ take start (drop 64 octets)
+    ++ tagged (get_or (drop 64 octets) start 0) (drop (start + 2) (drop 64 octets))
 unfolding tagged
 value_in_place octets place start is two =
-    let t = drop 32 octets in
-    let m = length-drop 32 octets in
+    let t = drop 64 octets in
+    let m = length-drop 64 octets in
     let e : drop (place + 1) octets ≡ drop (start + 2) t =
-    rw (drop-drop (start + 2) 32 octets, is) (ap (λ (n : ℕ). drop n octets) (omega arith)) in
+    rw (drop-drop (start + 2) 64 octets, is) (ap (λ (n : ℕ). drop n octets) (omega arith)) in
     let rest = length_octets (length (drop (start + 2) t)) ++ drop (start + 2) t in
     behind_heads octets _ place start is (omega arith)
     ∙ rw (
@@ -140,28 +140,28 @@ value_in_place octets place start is two =
     refl
 
 pub fits_closed : (w : Inside) (sheet : Sheet) (start count more place : ℕ) (new : List ℕ)
-    → seen w ≡ sheet → w.over ≡ false → 32 + start + 2 ≤ length w.octets.items
-    → length w.octets.items ≤ 32 + w.limit → count ≡ length w.octets.items - (32 + start + 2)
-    → more + 1 ≡ length (length_octets count) → more ≤ 32 + w.limit - length w.octets.items
-    → place ≡ 32 + (start + 1)
+    → seen w ≡ sheet → w.over ≡ false → 64 + start + 2 ≤ length w.octets.items
+    → length w.octets.items ≤ 64 + w.limit → count ≡ length w.octets.items - (64 + start + 2)
+    → more + 1 ≡ length (length_octets count) → more ≤ 64 + w.limit - length w.octets.items
+    → place ≡ 64 + (start + 1)
     → new ≡ take place w.octets.items ++ (length_octets count ++ drop (place + 1) w.octets.items)
     → sheet_of w.limit w.first w.over new ≡ closed sheet start
 unfolding closed
 fits_closed w sheet start count more place new is clear two fit counted size room at written =
     let o = w.octets.items in
-    let t = drop 32 o in
-    let m = length-drop 32 o in
+    let t = drop 64 o in
+    let m = length-drop 64 o in
     let c : length (drop (start + 2) t) ≡ count = length-drop (start + 2) t ∙ omega arith in
     let n = value_length t start (get_or t start 0) more (omega arith) (rw c size) in
     let a = length-take-le place o (omega arith) in
-    let heads : take 32 new ≡ take 32 o =
+    let heads : take 64 new ≡ take 64 o =
     rw (
       written,
-      take-append-le 32 (take place o) (length_octets count ++ drop (place + 1) o)
+      take-append-le 64 (take place o) (length_octets count ++ drop (place + 1) o)
           (omega arith),
     )
-    (take-take 32 place o (omega arith)) in
-    let text : drop 32 new
+    (take-take 64 place o (omega arith)) in
+    let text : drop 64 new
     ≡ take start t ++ tagged (get_or t start 0) (drop (start + 2) t) =
     rw (written, ← c) (value_in_place o place start at two) in
     rw (
@@ -186,62 +186,62 @@ length-in_place octets middle place within_it =
 
 -- ---- heads
 
-room_in_front : (first : ℕ) (octets : List ℕ) → 32 ≤ length octets
-    → length (drop first (take 32 octets)) ≡ 32 - first
+room_in_front : (first : ℕ) (octets : List ℕ) → 64 ≤ length octets
+    → length (drop first (take 64 octets)) ≡ 64 - first
 room_in_front first octets front =
-    length-drop first (take 32 octets) ∙ ap (λ (n : ℕ). n - first) (length-take-le 32 octets front)
+    length-drop first (take 64 octets) ∙ ap (λ (n : ℕ). n - first) (length-take-le 64 octets front)
 
 pub head_fits : (w : Inside) (sheet : Sheet) (head : List ℕ) → seen w ≡ sheet
-    → 32 ≤ length w.octets.items → w.first ≤ 32 → length head + length sheet.heads ≤ 32
+    → 64 ≤ length w.octets.items → w.first ≤ 64 → length head + length sheet.heads ≤ 64
     → length head ≤ w.first
 head_fits w sheet head is front heads fits =
     let n = room_in_front w.first w.octets.items front in
-    let e : length sheet.heads ≡ length (drop w.first (take 32 w.octets.items)) =
+    let e : length sheet.heads ≡ length (drop w.first (take 64 w.octets.items)) =
     rw (← is) refl in
     omega arith
 
 -- a head in front of the others
-head_in_front : (first n : ℕ) (octets head : List ℕ) → n ≡ length head → n ≤ first → first ≤ 32
-    → 32 ≤ length octets
-    → drop (first - n) (take 32 (take (first - n) octets ++ (head ++ drop (first - n + n) octets)))
-    ≡ head ++ drop first (take 32 octets)
+head_in_front : (first n : ℕ) (octets head : List ℕ) → n ≡ length head → n ≤ first → first ≤ 64
+    → 64 ≤ length octets
+    → drop (first - n) (take 64 (take (first - n) octets ++ (head ++ drop (first - n + n) octets)))
+    ≡ head ++ drop first (take 64 octets)
 head_in_front first n octets head count fits heads front =
     let k = first - n in
     let rest = drop (k + n) octets in
     let new = take k octets ++ (head ++ rest) in
-    let whole : 32 ≡ k + (length head + (32 - first)) = omega arith in
-    let e : drop k (take (k + (length head + (32 - first))) new)
-    ≡ take (length head + (32 - first)) (drop k new) =
-    drop-take k (length head + (32 - first)) new in
+    let whole : 64 ≡ k + (length head + (64 - first)) = omega arith in
+    let e : drop k (take (k + (length head + (64 - first))) new)
+    ≡ take (length head + (64 - first)) (drop k new) =
+    drop-take k (length head + (64 - first)) new in
     let at : drop k new ≡ head ++ rest =
     drop_at (take k octets) (head ++ rest) k (length-take-le k octets (omega arith)) in
-    let cut : take (length head + (32 - first)) (head ++ rest) ≡ head ++ take (32 - first) rest =
-    take-append-add head rest (32 - first) in
-    let same : take (32 - first) (drop first octets)
-    ≡ drop first (take (first + (32 - first)) octets) =
-    sym (drop-take first (32 - first) octets) in
+    let cut : take (length head + (64 - first)) (head ++ rest) ≡ head ++ take (64 - first) rest =
+    take-append-add head rest (64 - first) in
+    let same : take (64 - first) (drop first octets)
+    ≡ drop first (take (first + (64 - first)) octets) =
+    sym (drop-take first (64 - first) octets) in
     let sum : k + n ≡ first = omega arith in
-    let all : first + (32 - first) ≡ 32 = omega arith in
+    let all : first + (64 - first) ≡ 64 = omega arith in
     ap (λ (m : ℕ). drop k (take m new)) whole ∙ e
     ∙ rw (at, cut, sum, same, all) refl
 
-text_stays : (first n : ℕ) (octets head : List ℕ) → n ≡ length head → n ≤ first → first ≤ 32
-    → 32 ≤ length octets
-    → drop 32 (take (first - n) octets ++ (head ++ drop (first - n + n) octets)) ≡ drop 32 octets
+text_stays : (first n : ℕ) (octets head : List ℕ) → n ≡ length head → n ≤ first → first ≤ 64
+    → 64 ≤ length octets
+    → drop 64 (take (first - n) octets ++ (head ++ drop (first - n + n) octets)) ≡ drop 64 octets
 text_stays first n octets head count fits heads front =
     let k = first - n in
     let sum : k + n ≡ first = omega arith in
     let a = length-take-le k octets (omega arith) in
     let b = length-append (take k octets) head in
-    let c : 32 ≡ length (take k octets ++ head) + (32 - first) = omega arith in
-    let all : first + (32 - first) ≡ 32 = omega arith in
+    let c : 64 ≡ length (take k octets ++ head) + (64 - first) = omega arith in
+    let all : first + (64 - first) ≡ 64 = omega arith in
     rw (← append_assoc (take k octets) head (drop (k + n) octets))
     (ap (λ (m : ℕ). drop m (take k octets ++ head ++ drop (k + n) octets)) c
-    ∙ drop-append-add (take k octets ++ head) (drop (k + n) octets) (32 - first)
-    ∙ rw (drop-drop (32 - first) (k + n) octets, sum, all) refl)
+    ∙ drop-append-add (take k octets ++ head) (drop (k + n) octets) (64 - first)
+    ∙ rw (drop-drop (64 - first) (k + n) octets, sum, all) refl)
 
 pub fronted : (w : Inside) (sheet : Sheet) (head new : List ℕ) → seen w ≡ sheet
-    → 32 ≤ length w.octets.items → w.first ≤ 32 → length head ≤ w.first
+    → 64 ≤ length w.octets.items → w.first ≤ 64 → length head ≤ w.first
     → new ≡ take (w.first - length head) w.octets.items
     ++ (head ++ drop (w.first - length head + length head) w.octets.items)
     → sheet_of w.limit (w.first - length head) w.over new
@@ -255,33 +255,16 @@ fronted w sheet head new is front heads fits written =
     ) refl
 
 pub message_is : (w : Inside) (sheet : Sheet) → seen w ≡ sheet → w.over ≡ false
-    → 32 ≤ length w.octets.items → w.first ≤ 32
+    → 64 ≤ length w.octets.items → w.first ≤ 64
     → Some (drop w.first w.octets.items) ≡ message sheet
 unfolding message
 message_is w sheet is clear front heads =
     let o = w.octets.items in
-    let n = length-take-le 32 o front in
-    let e = drop-append-le w.first (take 32 o) (drop 32 o) (omega arith) in
-    rw (← is, clear, ← e, take-append-drop 32 o) refl
+    let n = length-take-le 64 o front in
+    let e = drop-append-le w.first (take 64 o) (drop 64 o) (omega arith) in
+    rw (← is, clear, ← e, take-append-drop 64 o) refl
 
 pub over_message : (w : Inside) (sheet : Sheet) → seen w ≡ sheet → w.over ≡ true
     → None ≡ message sheet
 unfolding message
 over_message w sheet is over = rw (← is, over) refl
-
--- ---- the message, moved to the front
-
-pub finished : (w : Inside) (sheet : Sheet) (end : ℕ) (moved cut : List ℕ) → seen w ≡ sheet
-    → w.over ≡ false → 32 ≤ length w.octets.items → w.first ≤ 32 → end ≡ length w.octets.items
-    → moved ≡ take 0 w.octets.items ++ (take (end - w.first) (drop w.first w.octets.items)
-    ++ drop (0 + (end - w.first)) w.octets.items)
-    → cut ≡ take (end - w.first) moved → Some cut ≡ message sheet
-finished w sheet end moved cut is clear front heads counted copied last =
-    let o = w.octets.items in
-    let n = length-drop w.first o in
-    let all : take (end - w.first) (drop w.first o) ≡ drop w.first o =
-    take_all (end - w.first) (drop w.first o) (omega arith) in
-    let e : cut ≡ drop w.first o =
-    last ∙ rw (copied, all) (take_at (drop w.first o) (drop (0 + (end - w.first)) o) (end - w.first)
-    (omega arith)) in
-    rw e (message_is w sheet is clear front heads)

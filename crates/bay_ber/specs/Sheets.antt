@@ -81,20 +81,20 @@ abbrev pub held : Bool → List ℕ → Option (List ℕ)
 held true octets = None
 held false octets = Some octets
 
--- what is held behind the first octet of the heads, with the text from the place 32 on
+-- what is held behind the first octet of the heads, with the text from the place 64 on
 abbrev pub sheet_of : ℕ → ℕ → Bool → List ℕ → Sheet
 sheet_of limit first over octets =
     record {
       limit = limit;
-      heads = drop first (take 32 octets);
-      text = held over (drop 32 octets);
+      heads = drop first (take 64 octets);
+      text = held over (drop 64 octets);
     }
 
--- What holds of the room of a writer: 32 octets for heads, which are free up to the first, and the
+-- What holds of the room of a writer: 64 octets for heads, which are free up to the first, and the
 -- limit behind them.
 pub record IsSound (count capacity first limit : ℕ) : Type 0 where
-  pub heads : first ≤ 32
-  pub front : 32 ≤ count
-  pub within : count ≤ 32 + limit
-  pub room : 32 + limit ≤ capacity
+  pub heads : first ≤ 64
+  pub front : 64 ≤ count
+  pub within : count ≤ 64 + limit
+  pub room : 64 + limit ≤ capacity
   pub short : limit < 2 ^ 32

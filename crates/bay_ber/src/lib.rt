@@ -4,14 +4,16 @@
 //
 // `tag`: tags, for reading and writing. `tlv`: the value at the front of octets. `values`: values
 // one after another. `known`: values whose tags are known, among others. `content`: integers, bit
-// strings and truth values. `writer`: the canonical spelling. `fault`: why octets are not read.
-// `laws`: what holds of the definitions that the contracts cite.
+// strings and truth values. `writer`: the canonical spelling. `outgoing`: octets with room in front
+// of them. `fault`: why octets are not read. `laws`: what holds of the definitions that the
+// contracts cite.
 #![tactic(auto)]
 
 pub mod content;
 pub mod fault;
 pub mod known;
 pub mod laws;
+pub mod outgoing;
 pub mod tag;
 pub mod tlv;
 pub mod values;

@@ -6,12 +6,13 @@ ghost use Rattle.bay_ber.specs.Writing.{length_octets, element, truth_octets, in
 ghost use Rattle.bay_ber.specs.Writing as spec;
 ghost use Rattle.bay_ber.specs.Sheets.{empty, put, closed, message, wrapped, IsEnd, IsOpen};
 
+use crate::outgoing::Outgoing;
 use crate::tag::Tag;
 use std::alloc::{AllocError, Global};
 use std::marker::Model;
 
 /// How many octets there are for heads in front of the text.
-pub const HEADROOM: usize = 32;
+pub const HEADROOM: usize = 64;
 
 // How many octets a length needs behind the first.
 fn octets_needed(length: u32) -> usize
@@ -366,9 +367,11 @@ impl Writer {
         }
         Some(&self.octets[self.first..])
     }
-    /// The heads and the text, as `message` gives them.
-    pub fn finish(self) -> Option<Vec<u8>>
-        ensures { option_map (λ octets. octets.items) result ≡ message self }
+
+    /// The heads and the text, as `message` gives them, with what room is left in front. The room
+    /// behind them is given back.
+    pub fn finish(self) -> Option<Outgoing>
+        ensures { result ≡ message self }
     {
         let Writer {
             mut octets,
@@ -379,15 +382,14 @@ impl Writer {
         if over {
             return None;
         }
-        let end = octets.len();
-        octets.copy_within(first..end, 0);
-        octets.truncate(end - first);
-        Some(octets)
+        octets.shrink_to_fit();
+        Some(Outgoing::behind(octets, first))
     }
+
     /// The heads and the text, of which it is known that they are held.
-    pub fn finish_held(self) -> Vec<u8>
+    pub fn finish_held(self) -> Outgoing
         requires { is_none (message self) ≡ false }
-        ensures { Some result.items ≡ message self }
+        ensures { Some result ≡ message self }
     {
         match self.finish() {
             Some(octets) => octets,

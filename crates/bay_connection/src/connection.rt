@@ -9,6 +9,7 @@ ghost use Rattle.bay_connection.specs.Feeding.{Feeds, indication_of, IsOpenFor, 
 use crate::heard::Fed;
 use crate::line::Line;
 use bay_assoc::hearing::Phase;
+use bay_ber::outgoing::Outgoing;
 use std::alloc::{AllocError, Global};
 use std::marker::Model;
 
@@ -107,12 +108,13 @@ impl Connection {
     }
 
     /// The octets in which a PDU of MMS is sent: a TSDU in the context of MMS, in data TPDUs of the
-    /// size agreed. The PDU is copied once. The association is open, and the PDU has at most 65,000
-    /// octets, as one within the size agreed has.
-    pub fn send(&self, pdu: &[u8]) -> Result<Vec<u8>, AllocError>
+    /// size agreed. Where one TPDU holds it and there is room in front of the PDU, nothing is
+    /// copied. The association is open, and the PDU has at most 65,000 octets, as one within the
+    /// size agreed has.
+    pub fn send(&self, pdu: Outgoing) -> Result<Outgoing, AllocError>
         requires open { IsSome (association_terms self.now.talk.phase) }
-        requires short { length pdu.now ≤ 65_000 }
-        ensures { IfOk result (λ octets. octets.items ≡ sending (terms_of self.now.talk) pdu.now) }
+        requires short { length pdu ≤ 65_000 }
+        ensures { IfOk result (λ octets. octets ≡ sending (terms_of self.now.talk) pdu) }
     {
         self.line.send(pdu)
     }

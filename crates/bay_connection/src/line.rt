@@ -12,6 +12,7 @@ use crate::heard::{Fed, Heard};
 use bay_assoc::assoc::Assoc;
 use bay_assoc::hearing;
 use bay_assoc::hearing::Phase;
+use bay_ber::outgoing::Outgoing;
 use bay_transport::fed::Got;
 use bay_transport::transport::Transport;
 use std::alloc::{AllocError, Global};
@@ -65,16 +66,34 @@ impl Line {
         &tsdu[tsdu.len() - self.pdu..]
     }
 
+    // The frames of a TSDU; where it is one frame and there is room, its header is written in front.
+    fn frames(&self, mut tsdu: Outgoing) -> Result<Outgoing, AllocError>
+        requires agreed { IsSome (agreed self.now.transport.stream) }
+        requires short { length tsdu ≤ 70_000 }
+        ensures { IfOk result (λ octets. octets ≡ sent (agreed self.now.transport.stream) tsdu) }
+    {
+        if let Some(header) = self.transport.header(tsdu.as_slice().len()) {
+            if tsdu.front(&header) {
+                return Ok(tsdu);
+            }
+        }
+        let octets = self.transport.wrap(&[], tsdu.as_slice())?;
+        Ok(Outgoing::new(octets))
+    }
+
     /// The octets in which a PDU of MMS is sent.
-    pub(crate) fn send(&self, pdu: &[u8]) -> Result<Vec<u8>, AllocError>
+    pub(crate) fn send(&self, mut pdu: Outgoing) -> Result<Outgoing, AllocError>
         requires kept { IsKept self.now }
         requires open { IsSome (association_terms self.now.assoc) }
-        requires short { length pdu.now ≤ 65_000 }
-        ensures { IfOk result (λ octets. octets.items
-            ≡ sending (terms_of (talk_of self.now)) pdu.now) }
+        requires short { length pdu ≤ 65_000 }
+        ensures { IfOk result (λ octets. octets ≡ sending (terms_of (talk_of self.now)) pdu) }
     {
-        let front = self.assoc.front(pdu.len() as u32);
-        self.transport.wrap(front.as_slice(), pdu)
+        let front = self.assoc.front(pdu.as_slice().len() as u32);
+        if pdu.front(front.as_slice()) {
+            return self.frames(pdu);
+        }
+        let octets = self.transport.wrap(front.as_slice(), pdu.as_slice())?;
+        Ok(Outgoing::new(octets))
     }
 
     // What is answered to a request that the association heard, in the TPDUs of the transport.

@@ -5,7 +5,7 @@ ghost use Rattle.bay_device.specs.Device as spec;
 ghost use Rattle.bay_device.specs.Outcomes.{due_without};
 
 use crate::event::Sent;
-use bay_base::listing::Listing;
+use bay_ber::outgoing::Outgoing;
 
 /// The octets that tell the client of an association of the end of what is operating; each is left
 /// out where its PDU has more octets than are agreed.
@@ -14,13 +14,13 @@ pub struct Due {
     /// The number of the association that operates.
     pub association: u16,
     /// The switch has reached its position.
-    pub positive: Option<Listing<u8>>,
+    pub positive: Option<Outgoing>,
     /// It has not reached it in time.
-    pub negative: Option<Listing<u8>>,
+    pub negative: Option<Outgoing>,
 }
 
 /// What is sent to an association, if it is anything.
-fn sent_to(association: u16, octets: Option<Listing<u8>>) -> Option<Sent>
+fn sent_to(association: u16, octets: Option<Outgoing>) -> Option<Sent>
     ensures { result ≡ spec.sent_to association octets }
 {
     match octets {

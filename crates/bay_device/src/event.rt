@@ -3,6 +3,7 @@ ghost use Rattle.std.specs.Prelude.{◌≡◌, ◌<◌, IfSome};
 ghost use Rattle.bay_device.specs.Outcomes as spec;
 
 use bay_base::listing::Listing;
+use bay_ber::outgoing::Outgoing;
 use bay_config::bay::MeterField;
 use bay_services::answer::Command;
 use bay_tree::leaf::Dbpos;
@@ -67,7 +68,7 @@ pub fn place_of(association: u16) -> Option<usize>
 pub struct Sent {
     /// The number of its association.
     pub association: u16,
-    pub octets: Listing<u8>,
+    pub octets: Outgoing,
 }
 
 /// Why the device closes an association.

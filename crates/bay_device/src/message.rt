@@ -14,7 +14,7 @@ ghost use Rattle.bay_device.specs.StateView.{state_view};
 use crate::due::Due;
 use crate::event::Sent;
 use crate::state::DeviceState;
-use bay_base::listing::Listing;
+use bay_ber::outgoing::Outgoing;
 use bay_connection::connection::Connection;
 use bay_services::answer::{Answer, Command, Ending};
 use bay_services::client::Client;
@@ -40,28 +40,15 @@ impl Made {
     }
 }
 
-/// The octets in which a PDU is sent.
-fn framed(connection: &Connection, pdu: &[u8]) -> Result<Listing<u8>, AllocError>
+/// The octets in which a report is sent, if there is one.
+fn framed(connection: &Connection, report: Option<Outgoing>) -> Result<Option<Outgoing>, AllocError>
     requires open { IsSome (association_terms connection.now.talk.phase) }
-    requires short { length pdu.now ≤ 65_000 }
-    ensures { IfOk result (λ octets. octets ≡ sending (terms_of connection.now.talk) pdu.now) }
-{
-    let octets = connection.send(pdu)?;
-    Ok(Listing::new(octets))
-}
-
-/// The same of a report, if there is one.
-fn framed_report(
-    connection: &Connection,
-    report: &Option<Listing<u8>>,
-) -> Result<Option<Listing<u8>>, AllocError>
-    requires open { IsSome (association_terms connection.now.talk.phase) }
-    requires short { IfSome report.now (λ pdu. length pdu ≤ 65_000) }
-    ensures { IfOk result (λ octets. octets ≡ sending_if (terms_of connection.now.talk) report.now) }
+    requires short { IfSome report (λ pdu. length pdu ≤ 65_000) }
+    ensures { IfOk result (λ octets. octets ≡ sending_if (terms_of connection.now.talk) report) }
 {
     match report {
         Some(pdu) => {
-            let octets = framed(connection, pdu.as_slice())?;
+            let octets = connection.send(pdu)?;
             Ok(Some(octets))
         }
         None => Ok(None),
@@ -69,14 +56,14 @@ fn framed_report(
 }
 
 /// What will tell an association of the end of what it operates.
-fn due_of(connection: &Connection, association: u16, ending: &Ending) -> Result<Due, AllocError>
+fn due_of(connection: &Connection, association: u16, ending: Ending) -> Result<Due, AllocError>
     requires open { IsSome (association_terms connection.now.talk.phase) }
-    requires short { AreShort ending.now }
+    requires short { AreShort ending }
     ensures { IfOk result (λ due. due
-        ≡ spec.due_of association (terms_of connection.now.talk) ending.now) }
+        ≡ spec.due_of association (terms_of connection.now.talk) ending) }
 {
-    let positive = framed_report(connection, &ending.positive)?;
-    let negative = framed_report(connection, &ending.negative)?;
+    let positive = framed(connection, ending.positive)?;
+    let negative = framed(connection, ending.negative)?;
     Ok(Due {
         association,
         positive,
@@ -88,12 +75,12 @@ fn due_of(connection: &Connection, association: u16, ending: &Ending) -> Result<
 fn due_if(
     connection: &Connection,
     association: u16,
-    ending: &Option<Ending>,
+    ending: Option<Ending>,
 ) -> Result<Option<Due>, AllocError>
     requires open { IsSome (association_terms connection.now.talk.phase) }
-    requires short { IsShort ending.now }
+    requires short { IsShort ending }
     ensures { IfOk result (λ due. due
-        ≡ spec.due_if association (terms_of connection.now.talk) ending.now) }
+        ≡ spec.due_if association (terms_of connection.now.talk) ending) }
 {
     match ending {
         Some(ending) => {
@@ -117,18 +104,18 @@ fn replace_due(due: &mut Option<Due>, new: Option<Due>)
 fn send_all(
     connection: &Connection,
     association: u16,
-    pdus: &[Listing<u8>],
+    pdus: Vec<Outgoing>,
     sent: &mut Vec<Sent>,
 ) -> Result<(), AllocError>
     requires open { IsSome (association_terms connection.now.talk.phase) }
-    requires short { All (λ pdu. length pdu ≤ 65_000) pdus.now }
+    requires short { All (λ pdu. length pdu ≤ 65_000) pdus.items }
     ensures ok { OnOk result
         (sent.new.items ≡ sent.old.items
-        ++ map (λ pdu. sent_on association (sending (terms_of connection.now.talk) pdu)) pdus.now) }
+        ++ map (λ pdu. sent_on association (sending (terms_of connection.now.talk) pdu)) pdus.items) }
     ensures kept { take (length sent.old.items) sent.new.items ≡ sent.old.items }
 {
     for pdu in pdus {
-        let octets = framed(connection, pdu.as_slice())?;
+        let octets = connection.send(pdu)?;
         sent.push(Sent {
             association,
             octets,
@@ -142,33 +129,28 @@ fn send_all(
 fn reply(
     connection: &Connection,
     association: u16,
-    answer: &Answer,
+    answer: Answer,
     made: &mut Made,
 ) -> Result<Option<Due>, AllocError>
     requires open { IsSome (association_terms connection.now.talk.phase) }
-    requires short { All (λ pdu. length pdu ≤ 65_000) answer.now.sent.items }
-    requires ending { IsShort answer.now.ending }
+    requires short { All (λ pdu. length pdu ≤ 65_000) answer.sent.items }
+    requires ending { IsShort answer.ending }
     ensures due { IfOk result
-        (λ due. due ≡ spec.due_if association (terms_of connection.now.talk) answer.now.ending) }
+        (λ due. due ≡ spec.due_if association (terms_of connection.now.talk) answer.ending) }
     ensures sent { OnOk result
         (made.new.sent.items ≡ made.old.sent.items
         ++ map (λ pdu. sent_on association (sending (terms_of connection.now.talk) pdu))
-        answer.now.sent.items) }
+        answer.sent.items) }
     ensures commands { OnOk result
-        (made.new.commands.items ≡ made.old.commands.items ++ answer.now.commands.items) }
+        (made.new.commands.items ≡ made.old.commands.items ++ answer.commands.items) }
     ensures sent_before { take (length made.old.sent.items) made.new.sent.items
         ≡ made.old.sent.items }
     ensures commands_before { take (length made.old.commands.items) made.new.commands.items
         ≡ made.old.commands.items }
 {
-    send_all(
-        connection,
-        association,
-        answer.sent.as_slice(),
-        &mut made.sent,
-    )?;
+    send_all(connection, association, answer.sent, &mut made.sent)?;
     made.commands.extend_from_slice(answer.commands.as_slice())?;
-    due_if(connection, association, &answer.ending)
+    due_if(connection, association, answer.ending)
 }
 
 /// Answers a PDU and does what it asks for; where there is no memory, the selection and the
@@ -196,7 +178,7 @@ fn answer(
         ≡ made.old.commands.items }
 {
     let answer = state.bay.answer(alloc, client, connection.pdu())?;
-    let due = reply(connection, client.association, &answer, made)?;
+    let due = reply(connection, client.association, answer, made)?;
     replace_due(&mut state.due, due);
     Ok(())
 }

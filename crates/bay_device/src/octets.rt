@@ -11,7 +11,7 @@ ghost use Rattle.bay_device.specs.declared.event.Why.TheVariants.{Memory};
 use crate::event::{Sent, Why};
 use crate::message::{Made, message};
 use crate::state::DeviceState;
-use bay_base::listing::Listing;
+use bay_ber::outgoing::Outgoing;
 use bay_connection::connection::Connection;
 use bay_connection::heard::Heard;
 use std::alloc::{AllocError, Global};
@@ -31,7 +31,7 @@ fn send(association: u16, octets: Vec<u8>, made: &mut Made) -> Result<(), AllocE
     ensures err { OnErr result (made.new.sent.items ≡ made.old.sent.items) }
     ensures commands { made.new.commands.items ≡ made.old.commands.items }
 {
-    let octets = Listing::new(octets);
+    let octets = Outgoing::new(octets);
     made.sent.push(Sent {
         association,
         octets,

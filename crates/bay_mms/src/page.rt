@@ -11,6 +11,7 @@ ghost use Rattle.bay_mms.specs.Responses.{names_text};
 ghost use Rattle.bay_mms.specs.Tags.{visible_tag};
 
 use crate::response::put_id;
+use bay_ber::outgoing::Outgoing;
 use bay_ber::tag::Tag;
 use bay_ber::writer::{Writer, element_length, integer_length};
 use bay_tree::fault::NamesFault;
@@ -130,15 +131,15 @@ pub fn write_page(
     tree: &Tree,
     after: Option<&[u8]>,
     size: u32,
-) -> Result<Vec<u8>, NamesFault>
+) -> Result<Outgoing, NamesFault>
     requires some { 256 ≤ size }
     requires size { size < 2 ^ 31 }
     ensures page { IfOk result
-        (λ octets. octets.items
+        (λ octets. octets
         ≡ first_page id size (names_of (rows_after tree.now (option_copied after.entry)))) }
     ensures unknown { (result ≡ Err NamesFault.NoSuchName)
         ↔ IsUnknown tree.now (option_copied after.entry) }
-    ensures short { IfOk result (λ octets. length octets.items ≤ size) }
+    ensures short { IfOk result (λ octets. length octets ≤ size) }
 {
     let first = first_after(tree, after)?;
     let mut writer = Writer::new(alloc, size)?;

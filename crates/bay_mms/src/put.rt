@@ -4,11 +4,12 @@ ghost use Rattle.bay_ber.specs.Sheets.{message};
 ghost use Rattle.bay_mms.specs.Writing.{or_long};
 
 use crate::fault::EncodeFault;
+use bay_ber::outgoing::Outgoing;
 use bay_ber::writer::Writer;
 
 /// What a writer holds.
-pub(crate) fn finish(writer: Writer) -> Result<Vec<u8>, EncodeFault>
-    ensures { Gives EncodeFault.OutOfMemory (λ octets. octets.items) result
+pub(crate) fn finish(writer: Writer) -> Result<Outgoing, EncodeFault>
+    ensures { Gives EncodeFault.OutOfMemory (λ octets. octets) result
         (or_long (message writer)) }
 {
     match writer.finish() {

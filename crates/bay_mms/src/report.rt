@@ -11,6 +11,7 @@ use crate::control::{Operate, Origin};
 use crate::fault::EncodeFault;
 use crate::leaf::put_position;
 use crate::put::finish;
+use bay_ber::outgoing::Outgoing;
 use bay_ber::tag::Tag;
 use bay_ber::writer::Writer;
 use std::alloc::Global;
@@ -235,8 +236,8 @@ pub fn write_failure(
     alloc: Global,
     failure: &ControlError<'_>,
     size: u32,
-) -> Result<Vec<u8>, EncodeFault>
-    ensures { Gives EncodeFault.OutOfMemory (λ octets. octets.items) result
+) -> Result<Outgoing, EncodeFault>
+    ensures { Gives EncodeFault.OutOfMemory (λ octets. octets) result
         (written size (failure_text failure.now)) }
 {
     let mut writer = Writer::new(alloc, size)?;
@@ -254,8 +255,8 @@ pub fn write_termination(
     item: &str,
     operate: &Operate<'_>,
     size: u32,
-) -> Result<Vec<u8>, EncodeFault>
-    ensures { Gives EncodeFault.OutOfMemory (λ octets. octets.items) result
+) -> Result<Outgoing, EncodeFault>
+    ensures { Gives EncodeFault.OutOfMemory (λ octets. octets) result
         (written size (termination_text domain.now item.now operate.now)) }
 {
     let mut writer = Writer::new(alloc, size)?;
@@ -274,8 +275,8 @@ pub fn write_failed_termination(
     item: &str,
     operate: &Operate<'_>,
     size: u32,
-) -> Result<Vec<u8>, EncodeFault>
-    ensures { Gives EncodeFault.OutOfMemory (λ octets. octets.items) result
+) -> Result<Outgoing, EncodeFault>
+    ensures { Gives EncodeFault.OutOfMemory (λ octets. octets) result
         (written size (failed_text failure.now domain.now item.now operate.now)) }
 {
     let mut writer = Writer::new(alloc, size)?;

@@ -14,6 +14,7 @@ use crate::fault::EncodeFault;
 use crate::put::finish;
 use crate::value::put_type;
 use bay_base::text::Text;
+use bay_ber::outgoing::Outgoing;
 use bay_ber::tag::Tag;
 use bay_ber::writer::Writer;
 use bay_tree::tree::{Handle, Tree};
@@ -337,9 +338,9 @@ pub fn write_response(
     alloc: Global,
     response: &Response<'_>,
     size: u32,
-) -> Result<Vec<u8>, EncodeFault>
+) -> Result<Outgoing, EncodeFault>
     requires { IsAnswerable response.now }
-    ensures { Gives EncodeFault.OutOfMemory (λ octets. octets.items) result
+    ensures { Gives EncodeFault.OutOfMemory (λ octets. octets) result
         (written size (response_text response.now)) }
 {
     let mut writer = Writer::new(alloc, size)?;
@@ -350,9 +351,9 @@ pub fn write_response(
 /// The answer to an initiate (ISO 9506-2, InitiateResponsePDU), which is the one canonical spelling
 /// and has at most 200 octets.
 #[tactic(auto, using(bay_ber::proofs::SheetLemmas::message_put, crate::proofs::AgreedLemmas::agreed_short, crate::proofs::AgreedLemmas::agreed_within))]
-pub fn write_agreed(alloc: Global, agreed: Agreed) -> Result<Vec<u8>, AllocError>
-    ensures text { IfOk result (λ octets. octets.items ≡ agreed_text agreed) }
-    ensures few { IfOk result (λ octets. length octets.items ≤ 200) }
+pub fn write_agreed(alloc: Global, agreed: Agreed) -> Result<Outgoing, AllocError>
+    ensures text { IfOk result (λ octets. octets ≡ agreed_text agreed) }
+    ensures few { IfOk result (λ octets. length octets ≤ 200) }
 {
     let mut writer = Writer::new(alloc, 200)?;
     put_agreed(&mut writer, agreed);
@@ -362,9 +363,9 @@ pub fn write_agreed(alloc: Global, agreed: Agreed) -> Result<Vec<u8>, AllocError
 /// A confirmed error under an invoke id (ISO 9506-2, Confirmed-ErrorPDU), which has at most 60
 /// octets.
 #[tactic(auto, using(bay_ber::proofs::SheetLemmas::message_put, crate::proofs::ShortLemmas::error_short, crate::proofs::ShortLemmas::error_within))]
-pub fn write_error(alloc: Global, id: u32, class: ErrorClass) -> Result<Vec<u8>, AllocError>
-    ensures text { IfOk result (λ octets. octets.items ≡ error_text id class) }
-    ensures few { IfOk result (λ octets. length octets.items ≤ 60) }
+pub fn write_error(alloc: Global, id: u32, class: ErrorClass) -> Result<Outgoing, AllocError>
+    ensures text { IfOk result (λ octets. octets ≡ error_text id class) }
+    ensures few { IfOk result (λ octets. length octets ≤ 60) }
 {
     let mut writer = Writer::new(alloc, 60)?;
     put_error(&mut writer, id, class);
@@ -378,9 +379,9 @@ pub fn write_reject(
     alloc: Global,
     id: Option<u32>,
     reason: RejectReason,
-) -> Result<Vec<u8>, AllocError>
-    ensures text { IfOk result (λ octets. octets.items ≡ reject_text id reason) }
-    ensures few { IfOk result (λ octets. length octets.items ≤ 60) }
+) -> Result<Outgoing, AllocError>
+    ensures text { IfOk result (λ octets. octets ≡ reject_text id reason) }
+    ensures few { IfOk result (λ octets. length octets ≤ 60) }
 {
     let mut writer = Writer::new(alloc, 60)?;
     put_reject(&mut writer, id, reason);
@@ -389,8 +390,8 @@ pub fn write_reject(
 
 /// The answer to a conclude (ISO 9506-2, Conclude-ResponsePDU), which has two octets.
 #[tactic(auto, using(bay_ber::proofs::SheetLemmas::message_put, crate::proofs::ShortLemmas::concluded_within))]
-pub fn write_conclude(alloc: Global) -> Result<Vec<u8>, AllocError>
-    ensures { IfOk result (λ octets. octets.items ≡ concluded_text) }
+pub fn write_conclude(alloc: Global) -> Result<Outgoing, AllocError>
+    ensures { IfOk result (λ octets. octets ≡ concluded_text) }
 {
     let mut writer = Writer::new(alloc, 2)?;
     put_concluded(&mut writer);

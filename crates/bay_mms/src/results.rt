@@ -16,6 +16,7 @@ use crate::fault::EncodeFault;
 use crate::put::finish;
 use crate::response::put_id;
 use crate::value::put_value;
+use bay_ber::outgoing::Outgoing;
 use bay_ber::tag::Tag;
 use bay_ber::writer::Writer;
 use bay_tree::tree::{Handle, Tree};
@@ -82,8 +83,8 @@ impl ReadResponse {
     }
 
     /// The response under an invoke id; TooLong where it has more octets than the size.
-    pub fn finish(self, id: u32) -> Result<Vec<u8>, EncodeFault>
-        ensures { Gives EncodeFault.OutOfMemory (λ octets. octets.items) result
+    pub fn finish(self, id: u32) -> Result<Outgoing, EncodeFault>
+        ensures { Gives EncodeFault.OutOfMemory (λ octets. octets) result
             (written self.size (read_text id self.octets)) }
     {
         let ReadResponse { mut results } = self;
@@ -97,7 +98,7 @@ impl ReadResponse {
 
 // Writes an invoke id in front of what was written.
 fn front_id(writer: &mut Writer, id: u32)
-    requires { length writer.old.heads + 14 ≤ 32 }
+    requires { length writer.old.heads + 14 ≤ 64 }
     ensures { writer.new ≡ record writer.old
         { heads = element int_tag (integer_octets (pos id)) ++ writer.old.heads } }
 {
@@ -186,8 +187,8 @@ impl WriteResponse {
 
     /// The response under an invoke id; TooLong where it has more octets than the size.
     #[tactic(auto, using(bay_ber::proofs::SheetLemmas::sheet_rules, bay_ber::proofs::SheetLemmas::message_put))]
-    pub fn finish(self, id: u32, size: u32) -> Result<Vec<u8>, EncodeFault>
-        ensures { Gives EncodeFault.OutOfMemory (λ octets. octets.items) result
+    pub fn finish(self, id: u32, size: u32) -> Result<Outgoing, EncodeFault>
+        ensures { Gives EncodeFault.OutOfMemory (λ octets. octets) result
             (written size (write_text id self)) }
     {
         let WriteResponse { alloc, results } = self;

@@ -11,6 +11,7 @@ ghost use Rattle.bay_mms.specs.Writing.{written};
 use crate::fault::EncodeFault;
 use crate::leaf::{put_leaf, put_leaf_type};
 use crate::put::finish;
+use bay_ber::outgoing::Outgoing;
 use bay_ber::tag::Tag;
 use bay_ber::writer::Writer;
 use bay_tree::tree::{Handle, Tree};
@@ -69,9 +70,9 @@ pub fn write_value(
     tree: &Tree,
     handle: Handle,
     size: u32,
-) -> Result<Vec<u8>, EncodeFault>
+) -> Result<Outgoing, EncodeFault>
     requires { IsHandle tree.now handle }
-    ensures { Gives EncodeFault.OutOfMemory (λ octets. octets.items) result
+    ensures { Gives EncodeFault.OutOfMemory (λ octets. octets) result
         (written size (datum_text (data_at tree.now handle))) }
 {
     let mut writer = Writer::new(alloc, size)?;
@@ -87,9 +88,9 @@ pub fn write_type(
     tree: &Tree,
     handle: Handle,
     size: u32,
-) -> Result<Vec<u8>, EncodeFault>
+) -> Result<Outgoing, EncodeFault>
     requires { IsHandle tree.now handle }
-    ensures { Gives EncodeFault.OutOfMemory (λ octets. octets.items) result
+    ensures { Gives EncodeFault.OutOfMemory (λ octets. octets) result
         (written size (type_text (type_at tree.now handle))) }
 {
     let mut writer = Writer::new(alloc, size)?;

@@ -1,5 +1,5 @@
 -- Answers within the size of a PDU.
-use Rattle.std.proofs.Common.{◌≡◌, ◌<◌, ◌≤◌, ℕ, Bool, true, false, cond, nat_le, List, ◌++◌, length, Option, Some, None, Result, Ok, Err, IfOk, IfSome, OnOk, IfErr, ◌⊎◌, inl, inr, pos, Vec, Global, is_ok, refl, ap, sym, subst, ◌∙◌, arith}
+use Rattle.std.proofs.Common.{◌≡◌, ◌<◌, ◌≤◌, ℕ, Bool, true, false, cond, nat_le, List, ◌++◌, length, Option, Some, None, Result, Ok, Err, IfOk, IfSome, OnOk, IfErr, ◌⊎◌, inl, inr, pos, is_ok, refl, ap, sym, subst, ◌∙◌, arith}
 use Rattle.std.proofs.lemmas.Bool.{cases_lt, le-leb, lt-leb}
 use Rattle.bay_base.specs.Exact.{Gives}
 use Rattle.bay_ber.proofs.SheetLemmas.{past, fits as fits_limit}
@@ -153,16 +153,16 @@ long_given size pdu (inr is) =
       | inr few ↦ let e : Ok pdu ≡ Err TooLong = sym (is_written size pdu few) ∙ is in cc
     ]
 
-long_told : (made : Result (Vec ℕ Global) EncodeFault) (e : EncodeFault) (size : ℕ)
+long_told : (made : Result (List ℕ) EncodeFault) (e : EncodeFault) (size : ℕ)
     (pdu : List ℕ) → made ≡ Err e → e ≡ TooLong
-    → Gives OutOfMemory (λ (octets : Vec ℕ Global). octets.items) made (written size pdu)
+    → Gives OutOfMemory (λ (octets : List ℕ). octets) made (written size pdu)
     → fitting size pdu ≡ None
 long_told made e size pdu is told gives = long_given size pdu (rw (is, told) at gives)
 
-pub lost_told : (r : Result (Option (List ℕ)) AllocError) (made : Result (Vec ℕ Global) EncodeFault)
+pub lost_told : (r : Result (Option (List ℕ)) AllocError) (made : Result (List ℕ) EncodeFault)
     (e : EncodeFault) (size : ℕ) (pdu : List ℕ) → made ≡ Err e
     → IfOk r (λ found. (found ≡ None) × (e ≡ TooLong))
-    → Gives OutOfMemory (λ (octets : Vec ℕ Global). octets.items) made (written size pdu)
+    → Gives OutOfMemory (λ (octets : List ℕ). octets) made (written size pdu)
     → IfOk r (λ found. found ≡ fitting size pdu)
 lost_told (Ok found) made e size pdu is h gives =
     h.0 ∙ sym (long_told made e size pdu is h.1 gives)
@@ -190,7 +190,7 @@ response_more id results =
       element_more (constructed 1) (number ++ four),
     )
 
-pub done : (r : Result (Vec ℕ Global) EncodeFault) (P : Type 0) → is_ok r ≡ true → OnOk r P → P
+pub done : (r : Result (List ℕ) EncodeFault) (P : Type 0) → is_ok r ≡ true → OnOk r P → P
 done (Ok x) P is p = p
 done (Err e) P is p = absurd cc
 

@@ -1,5 +1,5 @@
 // What a PDU comes to.
-use bay_base::listing::Listing;
+use bay_ber::outgoing::Outgoing;
 
 /// A switch is to be operated.
 #[derive(Clone, Copy, Debug, PartialEq, Eq)]
@@ -15,9 +15,9 @@ pub struct Command {
 #[derive(Drop)]
 pub struct Ending {
     /// The switch has reached its position.
-    pub positive: Option<Listing<u8>>,
+    pub positive: Option<Outgoing>,
     /// It has not reached it in time.
-    pub negative: Option<Listing<u8>>,
+    pub negative: Option<Outgoing>,
 }
 
 /// What a PDU of a client is answered, and what it asks of others than the bay.
@@ -25,7 +25,7 @@ pub struct Ending {
 pub struct Answer {
     /// The PDUs of MMS that are to be sent, in their order: reports that controls are refused, and
     /// then the response.
-    pub sent: Vec<Listing<u8>>,
+    pub sent: Vec<Outgoing>,
     /// The switches that are to be operated.
     pub commands: Vec<Command>,
     /// For an operate of a switch with enhanced security, what will tell of its end.

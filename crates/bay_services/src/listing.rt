@@ -13,6 +13,7 @@ ghost use Rattle.bay_services.specs.Views.{bay_view};
 use crate::bay::ServedBay;
 use crate::client::Client;
 use bay_base::text::Text;
+use bay_ber::outgoing::Outgoing;
 use bay_mms::fault::EncodeFault;
 use bay_mms::page::write_page;
 use bay_mms::request::Scope;
@@ -26,9 +27,9 @@ const NAMED_VARIABLE: i64 = 0;
 const DOMAIN: i64 = 9;
 
 // The error that there is no such object.
-fn write_unknown(alloc: Global, client: Client, id: u32) -> Result<Vec<u8>, EncodeFault>
+fn write_unknown(alloc: Global, client: Client, id: u32) -> Result<Outgoing, EncodeFault>
     requires { 256 ≤ client.size }
-    ensures { Gives EncodeFault.OutOfMemory (λ octets. octets.items) result
+    ensures { Gives EncodeFault.OutOfMemory (λ octets. octets) result
         (written client.size (error_text id NoSuchObject)) }
 {
     let error = write_error(alloc, id, ErrorClass::NoSuchObject)?;
@@ -41,8 +42,8 @@ fn write_names(
     client: Client,
     id: u32,
     names: &[Text],
-) -> Result<Vec<u8>, EncodeFault>
-    ensures { Gives EncodeFault.OutOfMemory (λ octets. octets.items) result
+) -> Result<Outgoing, EncodeFault>
+    ensures { Gives EncodeFault.OutOfMemory (λ octets. octets) result
         (written client.size (page_text id names.now false)) }
 {
     let service = Service::Names { names, more: false };
@@ -55,9 +56,9 @@ fn write_none(
     client: Client,
     id: u32,
     after: Option<&[u8]>,
-) -> Result<Vec<u8>, EncodeFault>
+) -> Result<Outgoing, EncodeFault>
     requires { 256 ≤ client.size }
-    ensures { Gives EncodeFault.OutOfMemory (λ octets. octets.items) result
+    ensures { Gives EncodeFault.OutOfMemory (λ octets. octets) result
         (written client.size (no_names id (option_copied after.entry))) }
 {
     match after {
@@ -74,9 +75,9 @@ impl ServedBay {
         client: Client,
         id: u32,
         after: Option<&[u8]>,
-    ) -> Result<Vec<u8>, EncodeFault>
+    ) -> Result<Outgoing, EncodeFault>
         requires { 256 ≤ client.size }
-        ensures { Gives EncodeFault.OutOfMemory (λ octets. octets.items) result
+        ensures { Gives EncodeFault.OutOfMemory (λ octets. octets) result
             (written client.size (domain_names id (bay_view self.now) (option_copied after.entry))) }
     {
         match after {
@@ -101,10 +102,10 @@ impl ServedBay {
         client: Client,
         id: u32,
         after: Option<&[u8]>,
-    ) -> Result<Vec<u8>, EncodeFault>
+    ) -> Result<Outgoing, EncodeFault>
         requires least { 256 ≤ client.size }
         requires most { client.size ≤ 65_000 }
-        ensures { Gives EncodeFault.OutOfMemory (λ octets. octets.items) result
+        ensures { Gives EncodeFault.OutOfMemory (λ octets. octets) result
             (written client.size (variable_names client id (bay_view self.now) (option_copied after.entry))) }
     {
         match write_page(alloc, id, &self.tree, after, client.size) {
@@ -123,10 +124,10 @@ impl ServedBay {
         class: i64,
         domain: &[u8],
         after: Option<&[u8]>,
-    ) -> Result<Vec<u8>, EncodeFault>
+    ) -> Result<Outgoing, EncodeFault>
         requires least { 256 ≤ client.size }
         requires most { client.size ≤ 65_000 }
-        ensures { Gives EncodeFault.OutOfMemory (λ octets. octets.items) result
+        ensures { Gives EncodeFault.OutOfMemory (λ octets. octets) result
             (written client.size (listing client id class (in_domain domain.now) (option_copied after.entry)
             (bay_view self.now))) }
     {
@@ -149,10 +150,10 @@ impl ServedBay {
         class: &i64,
         scope: &Scope<'_>,
         after: Option<&[u8]>,
-    ) -> Result<Vec<u8>, EncodeFault>
+    ) -> Result<Outgoing, EncodeFault>
         requires least { 256 ≤ client.size }
         requires most { client.size ≤ 65_000 }
-        ensures { Gives EncodeFault.OutOfMemory (λ octets. octets.items) result
+        ensures { Gives EncodeFault.OutOfMemory (λ octets. octets) result
             (written client.size (listing client id class.now (place scope.now) (option_copied after.entry)
             (bay_view self.now))) }
     {

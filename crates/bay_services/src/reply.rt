@@ -4,12 +4,12 @@ ghost use Rattle.bay_base.specs.Exact.{Gives};
 ghost use Rattle.bay_mms.specs.Writing.{written};
 ghost use Rattle.bay_services.specs.Replies as spec;
 
-use bay_base::listing::Listing;
+use bay_ber::outgoing::Outgoing;
 use bay_mms::fault::EncodeFault;
 use std::alloc::AllocError;
 
 // No PDU, where it has more octets than it may have.
-fn lost(fault: EncodeFault) -> Result<Option<Listing<u8>>, AllocError>
+fn lost(fault: EncodeFault) -> Result<Option<Outgoing>, AllocError>
     ensures { IfOk result (λ found. (found ≡ None) × (fault ≡ EncodeFault.TooLong)) }
 {
     match fault {
@@ -19,14 +19,14 @@ fn lost(fault: EncodeFault) -> Result<Option<Listing<u8>>, AllocError>
 }
 
 /// A PDU that was made, if it has no more octets than it may have.
-pub fn fitting(made: Result<Vec<u8>, EncodeFault>) -> Result<Option<Listing<u8>>, AllocError>
+pub fn fitting(made: Result<Outgoing, EncodeFault>) -> Result<Option<Outgoing>, AllocError>
     ensures pdu { (size : ℕ) (pdu : List ℕ)
-        → Gives EncodeFault.OutOfMemory (λ octets. octets.items) made (written size pdu)
+        → Gives EncodeFault.OutOfMemory (λ octets. octets) made (written size pdu)
         → IfOk result (λ found. found ≡ spec.fitting size pdu) }
     ensures made { IfOk result (λ found. IfSome found (λ _. is_ok made ≡ true)) }
 {
     match made {
-        Ok(pdu) => Ok(Some(Listing::new(pdu))),
+        Ok(pdu) => Ok(Some(pdu)),
         Err(fault) => lost(fault),
     }
 }

@@ -21,7 +21,7 @@ use crate::bay::ServedBay;
 use crate::client::Client;
 use crate::reply::fitting;
 use crate::writing::Written;
-use bay_base::listing::Listing;
+use bay_ber::outgoing::Outgoing;
 use bay_mms::data::Data;
 use bay_mms::fault::{EncodeFault, MmsFault};
 use bay_mms::request::{Call, ObjectName, Request, read_request};
@@ -33,7 +33,7 @@ use bay_mms::results::{ReadResponse, WriteResponse};
 use std::alloc::{AllocError, Global};
 
 // An answer that does nothing.
-fn said(alloc: Global, pdu: Listing<u8>) -> Result<Answer, AllocError>
+fn said(alloc: Global, pdu: Outgoing) -> Result<Answer, AllocError>
     ensures { IfOk result (λ answer. (b : Bay) → AnswersAs answer b (spec.said pdu b)) }
 {
     Ok(Answer {
@@ -49,7 +49,7 @@ fn failed(alloc: Global, id: u32, class: ErrorClass) -> Result<Answer, AllocErro
         → AnswersAs answer b (spec.said (error_text id class) b)) }
 {
     let error = write_error(alloc, id, class)?;
-    said(alloc, Listing::new(error))
+    said(alloc, error)
 }
 
 // A reject, which does nothing.
@@ -57,7 +57,7 @@ fn rejected(alloc: Global, id: Option<u32>, reason: RejectReason) -> Result<Answ
     ensures { IfOk result (λ answer. (b : Bay) → AnswersAs answer b (spec.rejected id reason b)) }
 {
     let reject = write_reject(alloc, id, reason)?;
-    said(alloc, Listing::new(reject))
+    said(alloc, reject)
 }
 
 // The answer to a conclude, which does nothing.
@@ -65,7 +65,7 @@ fn concluded(alloc: Global) -> Result<Answer, AllocError>
     ensures { IfOk result (λ answer. (b : Bay) → AnswersAs answer b (spec.said concluded_text b)) }
 {
     let conclude = write_conclude(alloc)?;
-    said(alloc, Listing::new(conclude))
+    said(alloc, conclude)
 }
 
 // What answers octets that ask for nothing that is served.
@@ -88,10 +88,10 @@ fn responded(
     alloc: Global,
     client: Client,
     id: u32,
-    response: Result<Vec<u8>, EncodeFault>,
+    response: Result<Outgoing, EncodeFault>,
 ) -> Result<Answer, AllocError>
     ensures { (pdu : List ℕ) (b : Bay)
-        → Gives EncodeFault.OutOfMemory (λ octets. octets.items) response
+        → Gives EncodeFault.OutOfMemory (λ octets. octets) response
         (written client.size pdu)
         → IfOk result (λ answer. AnswersAs answer b (spec.responded client id b pdu)) }
 {
@@ -150,8 +150,8 @@ impl ServedBay {
         client: Client,
         id: u32,
         names: &[ObjectName<'_>],
-    ) -> Result<Vec<u8>, EncodeFault>
-        ensures response { Gives EncodeFault.OutOfMemory (λ octets. octets.items) result
+    ) -> Result<Outgoing, EncodeFault>
+        ensures response { Gives EncodeFault.OutOfMemory (λ octets. octets) result
             (written client.size (read_text id
             (read_all client (map naming names.now) (nothing_read (bay_view self.old))).results)) }
         ensures after { OnOk result

@@ -22,8 +22,8 @@ use crate::client::Client;
 use crate::reply::fitting;
 use crate::target::{ControlPart, Target};
 use arrayvec::ArrayVec;
-use bay_base::listing::Listing;
 use bay_base::text::Text;
+use bay_ber::outgoing::Outgoing;
 use bay_control::cause::AddCause;
 use bay_control::request::{Ask, Origin};
 use bay_mms::control::{Cancel, Operate, cancel_of, operate_of};
@@ -54,7 +54,7 @@ pub struct Written {
     /// The results of the variables.
     pub response: WriteResponse,
     /// The reports that controls are refused.
-    pub reports: Vec<Listing<u8>>,
+    pub reports: Vec<Outgoing>,
     pub commands: Vec<Command>,
     pub ending: Option<Ending>,
 }
@@ -116,7 +116,7 @@ impl ServedBay {
         part: Part,
         control: &Cancel<'_>,
         why: AddCause,
-        reports: &mut Vec<Listing<u8>>,
+        reports: &mut Vec<Outgoing>,
     ) -> Result<(), AllocError>
         requires { IsHandle self.now.tree part.row }
         ensures { OnOk result (reports.new.items

@@ -3,6 +3,7 @@ use Rattle.std.proofs.Common.{◌≡◌, ℕ, zero, suc, ◌+◌, ◌-◌, ◌*�
 use Rattle.std.proofs.lemmas.Bool.{le-ltb}
 use Rattle.std.proofs.lemmas.List.{append-nil, append_assoc, length-append, length-take, length-drop, length-take-le, take-append-drop, take_at, drop_at, take_rest, drop-drop}
 use Rattle.std.proofs.Math.Nat.{suc-mul, add-div_left, div-eq_of_lt, lt-div-mul-add}
+use Rattle.bay_transport.specs.Connect.{frame_header}
 use Rattle.bay_transport.specs.Frame.{IsFrame, Cut, cut}
 use Rattle.bay_transport.specs.Doings.{Delivers, TransportConnection, Going, Joins, Finishes, effect_of, connection_after, on_effect, run}
 use Rattle.bay_transport.specs.Wrap.{data_frame, data_frames, full_before, wrapped, AreWithin, Carries}
@@ -85,6 +86,15 @@ pub wrapped_alone : (size : ℕ) (front rest : List ℕ) → 3 < size → length
     → data_frame true (front ++ rest) ≡ wrapped size (front ++ rest)
 wrapped_alone size front rest some fits few =
     sym (wrapped_last size (front ++ rest) some (omega (arith, length-append front rest)))
+
+-- what stands before a TSDU that one data TPDU holds
+pub wrapped_behind : (size count : ℕ) (tsdu : List ℕ) → 3 < size → count ≤ size - 3
+    → length tsdu ≡ count
+    → frame_header (count + 3) ++ (2 ∷ 0xF0 ∷ 0x80 ∷ tsdu) ≡ wrapped size tsdu
+wrapped_behind size count tsdu some few is =
+    let n : count + 3 ≡ length (2 ∷ 0xF0 ∷ 0x80 ∷ tsdu) = omega arith in
+    ap (λ (k : ℕ). frame_header k ++ (2 ∷ 0xF0 ∷ 0x80 ∷ tsdu)) n
+    ∙ sym (wrapped_last size tsdu some (omega arith))
 
 -- ---- what it comes to
 

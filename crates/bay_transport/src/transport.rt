@@ -1,5 +1,5 @@
 // A connection as its user sees it.
-ghost use Rattle.std.specs.Prelude.{◌≡◌, ◌+◌, ◌≤◌, ◌++◌, [], IfOk, IfErr, OnErr, IsSome, IfSome, length, take};
+ghost use Rattle.std.specs.Prelude.{◌≡◌, ◌+◌, ◌<◌, ◌≤◌, ◌++◌, [], ℕ, List, None, IfOk, IfErr, OnErr, IsSome, IfSome, length, take};
 ghost use Rattle.bay_transport.specs.Assembly.{KeepsShown};
 ghost use Rattle.bay_transport.specs.Doings.{start, after};
 ghost use Rattle.bay_transport.specs.Feeding.{Feeds, RefusesPiece, IsWithinLimits, agreed, ended, broken, doing_for};
@@ -8,7 +8,7 @@ ghost use Rattle.bay_transport.specs.Wrap.{wrapped, Carries};
 use crate::fault::TransportFault;
 use crate::fed::Fed;
 use crate::reader::{Reader, ReaderState};
-use crate::wrap::wrap;
+use crate::wrap::{header, wrap};
 use std::alloc::{AllocError, Global};
 use std::marker::Model;
 
@@ -96,6 +96,22 @@ impl Transport {
         match self.reader.state {
             ReaderState::Open => self.reader.assembly.size,
             ReaderState::Closed | ReaderState::Refused => None,
+        }
+    }
+
+    /// What stands before a TSDU of so many octets where one data TPDU of the size agreed holds it,
+    /// so that these octets and then the TSDU's are what `wrap` gives; None where it takes several.
+    pub fn header(&self, count: usize) -> Option<[u8; 7]>
+        requires { IsSome (agreed self.now.stream) }
+        ensures exact { IfSome result (λ header. (tsdu : List ℕ) → length tsdu ≡ count
+            → IfSome (agreed self.now.stream) (λ size. header ++ tsdu ≡ wrapped size tsdu)) }
+        ensures several { result ≡ None
+            → IfSome (agreed self.now.stream) (λ size. size < count + 3) }
+    {
+        let _ = &self.reader.assembly;
+        match self.agreed_size() {
+            Some(size) => header(size, count),
+            None => unreachable!(),
         }
     }
 

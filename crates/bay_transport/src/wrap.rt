@@ -1,5 +1,5 @@
 // TSDUs to be sent: data TPDUs in their frames (X.224 13.7).
-ghost use Rattle.std.specs.Prelude.{◌≡◌, ◌+◌, ◌<◌, ◌≤◌, ◌++◌, length, IfOk, OnOk};
+ghost use Rattle.std.specs.Prelude.{◌≡◌, ◌+◌, ◌<◌, ◌≤◌, ◌++◌, ℕ, List, None, length, IfOk, IfSome, OnOk};
 ghost use Rattle.bay_transport.specs.Wrap.{data_frame, wrapped, Carries};
 ghost use Rattle.bay_transport.specs.Assembly.{IsSize};
 
@@ -46,6 +46,21 @@ fn frames_length(room: usize, count: usize) -> usize
 {
     let full = (count.max(1) - 1) / room;
     count + (full + 1) * BEFORE_DATA
+}
+
+/// What stands before a TSDU of so many octets in the one frame that holds it; None where it takes
+/// several data TPDUs of at most this size.
+pub(crate) fn header(size: usize, count: usize) -> Option<[u8; BEFORE_DATA]>
+    requires { IsSize size }
+    ensures exact { IfSome result (λ header. (tsdu : List ℕ) → length tsdu ≡ count
+        → header ++ tsdu ≡ wrapped size tsdu) }
+    ensures several { result ≡ None → size < count + 3 }
+{
+    if size - 3 < count {
+        return None;
+    }
+    let [version, reserved, high, low] = frame_header(count + 3);
+    Some([version, reserved, high, low, 2, 0xF0, 0x80])
 }
 
 /// The data TPDUs of a TSDU, each of at most this size in octets. Its octets are the front and then

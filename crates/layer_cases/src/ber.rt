@@ -4,6 +4,7 @@ ghost use Rattle.std.specs.Prelude.{◌<◌, IfOk};
 use anyhow::{Context, Result, bail};
 use bay_ber::content::{bits_of, bool_of, int_of};
 use bay_ber::fault::BerFault;
+use bay_ber::outgoing::Outgoing;
 use bay_ber::tag::{Class, Tag};
 use bay_ber::tlv::read_tlv;
 use bay_ber::values::{Values, whole_value};
@@ -134,7 +135,7 @@ fn put(alloc: Global, writer: &mut Writer, kind: &str, tag: Tag, what: &str) -> 
 }
 
 /// What is written by what the words say, `KIND:TAG:WHAT`, if it is within the limit.
-fn built(alloc: Global, limit: u32, words: &str) -> Result<Option<Vec<u8>>> {
+fn built(alloc: Global, limit: u32, words: &str) -> Result<Option<Outgoing>> {
     let mut writer = Writer::new(alloc, limit)?;
     for word in words.split(" ") {
         let (kind, rest) = word.split_once(":").context("no tag")?;

@@ -3,6 +3,7 @@ use crate::rows::position_of;
 use crate::written::check_written;
 use anyhow::{Result, bail};
 use bay_base::text::Text;
+use bay_ber::outgoing::Outgoing;
 use bay_mms::control::{Operate, Origin};
 use bay_mms::report::{ControlError, write_failed_termination, write_failure, write_termination};
 use bay_mms::response::{Agreed, ErrorClass, RejectReason, Response, Service, write_response};
@@ -37,7 +38,7 @@ fn add_read(response: &mut ReadResponse, tree: &Tree, word: &str) -> Result<()> 
 }
 
 /// The octets of what is read of variables, each by a word.
-fn read(alloc: Global, tree: &Tree, id: u32, words: &[&str]) -> Result<Vec<u8>> {
+fn read(alloc: Global, tree: &Tree, id: u32, words: &[&str]) -> Result<Outgoing> {
     let mut response = ReadResponse::new(alloc, SIZE)?;
     for word in words {
         add_read(&mut response, tree, word)?;
@@ -46,7 +47,7 @@ fn read(alloc: Global, tree: &Tree, id: u32, words: &[&str]) -> Result<Vec<u8>> 
 }
 
 /// The octets of what comes of writes, each `success` or a number.
-fn write(alloc: Global, id: u32, words: &[&str]) -> Result<Vec<u8>> {
+fn write(alloc: Global, id: u32, words: &[&str]) -> Result<Outgoing> {
     let mut response = WriteResponse::new(alloc);
     for word in words {
         match word.parse::<u8>() {
@@ -75,7 +76,7 @@ fn agreed_of(words: &[&str]) -> Result<Agreed> {
 /// The octets of a response of a kind, which is made of words alone, of which the first is mostly
 /// its id. They stand in one function: the borrow checker wants the types of a response's parts
 /// named where one is written.
-fn plain(alloc: Global, kind: &str, id: Option<u32>, words: &[&str]) -> Result<Vec<u8>> {
+fn plain(alloc: Global, kind: &str, id: Option<u32>, words: &[&str]) -> Result<Outgoing> {
     let written = match (kind, id, words) {
         ("initiate", _, _) => write_response(alloc, &Response::Initiate(agreed_of(words)?), SIZE),
         ("conclude", _, _) => write_response(alloc, &Response::Conclude, SIZE),
@@ -109,7 +110,7 @@ fn plain(alloc: Global, kind: &str, id: Option<u32>, words: &[&str]) -> Result<V
 }
 
 /// The octets of a page: whether more names follow, and the names.
-fn page(alloc: Global, id: u32, more: &str, words: &[&str]) -> Result<Vec<u8>> {
+fn page(alloc: Global, id: u32, more: &str, words: &[&str]) -> Result<Outgoing> {
     let names = names_of(alloc, words)?;
     let service = Service::Names {
         names: names.as_slice(),
@@ -119,14 +120,14 @@ fn page(alloc: Global, id: u32, more: &str, words: &[&str]) -> Result<Vec<u8>> {
 }
 
 /// The octets of the type of a row.
-fn attributes(alloc: Global, tree: &Tree, id: u32, name: &str) -> Result<Vec<u8>> {
+fn attributes(alloc: Global, tree: &Tree, id: u32, name: &str) -> Result<Outgoing> {
     let handle = tree.find(name)?;
     let service = Service::Attributes { tree, handle };
     Ok(write_response(alloc, &Response::Confirmed { id, service }, SIZE)?)
 }
 
 /// The octets of a response: its kind, its invoke id, and the other words.
-fn response(alloc: Global, tree: &Tree, kind: &str, words: &[&str]) -> Result<Vec<u8>> {
+fn response(alloc: Global, tree: &Tree, kind: &str, words: &[&str]) -> Result<Outgoing> {
     let [id, rest @ ..] = words else {
         return plain(alloc, kind, None, words);
     };
@@ -170,7 +171,7 @@ fn operate_of<'a>(alloc: Global, words: &[&str], or_ident: &'a [u8]) -> Result<O
 
 /// The octets of a report on an operate of an identity: of a failure an object and a cause come
 /// before the domain, the item and the operate.
-fn report(alloc: Global, kind: &str, words: &[&str], identity: &[u8]) -> Result<Vec<u8>> {
+fn report(alloc: Global, kind: &str, words: &[&str], identity: &[u8]) -> Result<Outgoing> {
     match (kind, words) {
         ("termination", [domain, item, operate @ ..]) => {
             let operate = operate_of(alloc, operate, identity)?;
@@ -203,7 +204,7 @@ fn report(alloc: Global, kind: &str, words: &[&str], identity: &[u8]) -> Result<
 }
 
 /// The octets of a response or a report.
-fn written(alloc: Global, tree: &Tree, kind: &str, words: &[&str]) -> Result<Vec<u8>> {
+fn written(alloc: Global, tree: &Tree, kind: &str, words: &[&str]) -> Result<Outgoing> {
     let identity = match (kind, words) {
         ("termination", [_, _, _, _, identity, ..])
         | ("failed", [_, _, _, _, _, _, identity, ..])

@@ -15,7 +15,7 @@ pub returns-clause-text : goal.returns-clause-text
 returns-clause-text c =
     let text = associated_text c.args.mms c.args.pdu.now in
     let few = associated_short c.args.mms c.args.pdu.now c.requires in
-    let is : Some c.finish_held.result.items ≡ Some text =
+    let is : Some c.finish_held.result ≡ Some text =
     c.finish_held.ensures ∙ short_message 271 text c.in_ok-writer.writer _ c.in_ok-writer.ensures
     c.put_associated.ensures few in
     cc
@@ -24,8 +24,8 @@ pub returns-clause-few : goal.returns-clause-few
 returns-clause-few c =
     let text = associated_text c.args.mms c.args.pdu.now in
     let few = associated_short c.args.mms c.args.pdu.now c.requires in
-    let is : Some c.finish_held.result.items ≡ Some text =
+    let is : Some c.finish_held.result ≡ Some text =
     c.finish_held.ensures ∙ short_message 271 text c.in_ok-writer.writer _ c.in_ok-writer.ensures
     c.put_associated.ensures few in
-    let same : c.finish_held.result.items ≡ text = cc in
+    let same : c.finish_held.result ≡ text = cc in
     rw same few

@@ -25,7 +25,7 @@ returns-clause-text c =
     connected_short (option_map (λ octets. octets.now) c.args.called) c.args.contexts.now
     c.args.accepted c.args.value.now
     (at_most_16 c.args.called c.requires.selector) c.requires.contexts c.requires.short in
-    let is : Some c.finish_held.result.items ≡ Some text =
+    let is : Some c.finish_held.result ≡ Some text =
     c.finish_held.ensures ∙ short_message 560 text c.in_ok-writer.writer _ c.in_ok-writer.ensures
     c.put_connected.ensures few in
     cc
@@ -39,8 +39,8 @@ returns-clause-few c =
     connected_short (option_map (λ octets. octets.now) c.args.called) c.args.contexts.now
     c.args.accepted c.args.value.now
     (at_most_16 c.args.called c.requires.selector) c.requires.contexts c.requires.short in
-    let is : Some c.finish_held.result.items ≡ Some text =
+    let is : Some c.finish_held.result ≡ Some text =
     c.finish_held.ensures ∙ short_message 560 text c.in_ok-writer.writer _ c.in_ok-writer.ensures
     c.put_connected.ensures few in
-    let same : c.finish_held.result.items ≡ text = cc in
+    let same : c.finish_held.result ≡ text = cc in
     rw same few

@@ -15,7 +15,7 @@ pub returns-clause-text : goal.returns-clause-text
 returns-clause-text c =
     let text = user_text c.args.acse release_text in
     let few = released_short c.args.acse in
-    let is : Some c.finish_held.result.items ≡ Some text =
+    let is : Some c.finish_held.result ≡ Some text =
     c.finish_held.ensures ∙ short_message 41 text c.in_ok-writer.writer _ c.in_ok-writer.ensures
     (rw c.release.ensures at c.put_user.ensures) few in
     cc
@@ -24,8 +24,8 @@ pub returns-clause-few : goal.returns-clause-few
 returns-clause-few c =
     let text = user_text c.args.acse release_text in
     let few = released_short c.args.acse in
-    let is : Some c.finish_held.result.items ≡ Some text =
+    let is : Some c.finish_held.result ≡ Some text =
     c.finish_held.ensures ∙ short_message 41 text c.in_ok-writer.writer _ c.in_ok-writer.ensures
     (rw c.release.ensures at c.put_user.ensures) few in
-    let same : c.finish_held.result.items ≡ text = cc in
+    let same : c.finish_held.result ≡ text = cc in
     rw same few

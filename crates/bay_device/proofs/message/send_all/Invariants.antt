@@ -1,4 +1,5 @@
-use Rattle.std.proofs.Common.{◌≡◌, ◌++◌, length, map, drop, take}
+use Rattle.std.proofs.Common.{◌≡◌, ◌≤◌, ℕ, List, All, ◌++◌, length, map, take}
+use Rattle.std.specs.Vec.Iter.{into_iter_items, into_iter_len}
 use Rattle.bay_connection.specs.Talk.{sending, terms_of}
 use Rattle.bay_device.specs.Hearing.{sent_on}
 use Rattle.bay_device.proofs.message.send_all.Given as goal
@@ -6,8 +7,11 @@ use Rattle.bay_device.proofs.message.send_all.Given as goal
 abbrev pub invariant-loop-pdu : goal.invariant-loop-pdu
 invariant-loop-pdu l = record {
   goes : l.initial.sent.items
-      ++ map (λ pdu. sent_on l.association (sending (terms_of l.connection.talk) pdu)) l.pdus
+      ++ map (λ pdu. sent_on l.association (sending (terms_of l.connection.talk) pdu))
+      (into_iter_items l.initial.pdu-iterator)
       ≡ l.sent.items ++ map (λ pdu. sent_on l.association
-      (sending (terms_of l.connection.talk) pdu)) (drop l.pdu-index l.pdus);
+      (sending (terms_of l.connection.talk) pdu)) (into_iter_items l.pdu-iterator);
   kept : take (length l.initial.sent.items) l.sent.items ≡ l.initial.sent.items;
+  short : All {X = List ℕ} (λ pdu. length pdu ≤ 65000) (into_iter_items l.pdu-iterator);
+  counted : into_iter_len l.pdu-iterator ≡ length (into_iter_items l.pdu-iterator);
 }

@@ -15,7 +15,7 @@ pub returns-clause-page : goal.returns-clause-page
 returns-clause-page c =
     let names = names_from c.args.tree.now c.in_ok-first.first in
     let page = first_page c.args.id c.args.size names in
-    let is : Some c.finish_held.result.items ≡ Some page =
+    let is : Some c.finish_held.result ≡ Some page =
     c.finish_held.ensures ∙ short_message c.args.size page c.in_ok-writer.writer _
     c.in_ok-writer.ensures c.put_page.ensures
     (first_page_short c.args.id c.args.size names c.requires.some) in
@@ -25,9 +25,9 @@ pub returns-clause-short : goal.returns-clause-short
 returns-clause-short c =
     let names = names_from c.args.tree.now c.in_ok-first.first in
     let page = first_page c.args.id c.args.size names in
-    let is : Some c.finish_held.result.items ≡ Some page =
+    let is : Some c.finish_held.result ≡ Some page =
     c.finish_held.ensures ∙ short_message c.args.size page c.in_ok-writer.writer _
     c.in_ok-writer.ensures c.put_page.ensures
     (first_page_short c.args.id c.args.size names c.requires.some) in
-    let same : c.finish_held.result.items ≡ page = cc in
+    let same : c.finish_held.result ≡ page = cc in
     rw same (first_page_short c.args.id c.args.size names c.requires.some)

@@ -1,11 +1,10 @@
-use Rattle.std.proofs.Common.{◌∙◌, Some, ap, sym}
+use Rattle.std.proofs.Common.{sym}
 use Rattle.bay_services.proofs.ReplyLemmas.{fits_given, lost_told, lost_none}
 use Rattle.bay_services.proofs.reply.fitting.Goals as goal
 
 pub returns-in-Ok-clause-pdu : goal.returns-in-Ok-clause-pdu
 returns-in-Ok-clause-pdu c size pdu gives =
-    ap Some c.new.ensures
-    ∙ sym (fits_given size pdu c.in-Ok.pdu.items (rw c.in-Ok.is at gives))
+    sym (fits_given size pdu c.in-Ok.pdu (rw c.in-Ok.is at gives))
 
 pub returns-in-Err-clause-pdu : goal.returns-in-Err-clause-pdu
 returns-in-Err-clause-pdu c size pdu gives =

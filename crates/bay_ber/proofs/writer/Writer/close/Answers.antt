@@ -38,12 +38,12 @@ write_length-requires-clause-place c =
 
 pub invariant_of-self-2 : goal.invariant_of-self-2
 invariant_of-self-2 c =
-    let two : 32 + c.args.start + 2 ≤ length c.self.inside.octets.items =
+    let two : 64 + c.args.start + 2 ≤ length c.self.inside.octets.items =
     is_open c.self.inside _ _ c.self.view_is c.if-self.false c.requires in
     let n = ap length c.write_length.ensures.items in
     let m =
     length-in_place c.self.inside.octets.items
-    (length_octets (c.len.result - (32 + c.args.start + 2))) (32 + c.args.start + 1) (omega arith)
+    (length_octets (c.len.result - (64 + c.args.start + 2))) (64 + c.args.start + 1) (omega arith)
     in
     record {
       heads = c.self.invariant.heads;

@@ -1,4 +1,4 @@
-use Rattle.std.proofs.Common.{ℕ, List, Option, Vec, Global, length, ap, arith, subst, pos}
+use Rattle.std.proofs.Common.{ℕ, List, Option, length, ap, arith, subst, pos}
 use Rattle.bay_base.specs.Exact.{Gives}
 use Rattle.bay_mms.specs.Tags.{int_tag}
 use Rattle.bay_mms.specs.Writing.{or_long}
@@ -20,7 +20,7 @@ pub returns : goal.returns
 returns c =
     rw (← c.self.view_is) (
     subst
-    (λ (m : Option (List ℕ)). Gives OutOfMemory (λ (octets : Vec ℕ Global). octets.items)
+    (λ (m : Option (List ℕ)). Gives OutOfMemory (λ (octets : List ℕ). octets)
     c.finish.result (or_long m))
     (response_is c.args.id c.self.inside.results c.wrap.new.self c.wrap-2.new.self
     c.front_id.new.writer c.wrap-3.new.self c.self.invariant c.wrap.ensures.limit

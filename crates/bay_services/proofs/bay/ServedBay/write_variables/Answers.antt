@@ -11,10 +11,10 @@ returns-in-Ok c =
     let b = bay_view c.args.self.now in
     let known = λ (none : _). let refused = c.write_page.ensures.unknown.1 none in absurd cc in
     let page =
-    page_is c.args.client c.args.id b (option_copied c.args.after) c.in-Ok.page.items
+    page_is c.args.client c.args.id b (option_copied c.args.after) c.in-Ok.page
     c.in-Ok.ensures.page known in
     ap (written c.args.client.size) page
-    ∙ is_written c.args.client.size c.in-Ok.page.items c.in-Ok.ensures.short
+    ∙ is_written c.args.client.size c.in-Ok.page c.in-Ok.ensures.short
 
 pub returns-in-Err-NoSuchName : goal.returns-in-Err-NoSuchName
 returns-in-Err-NoSuchName c =
