@@ -1,29 +1,12 @@
--- What the association hears, and what is sent.
-use Rattle.std.proofs.Common.{◌≡◌, ℕ, ◌-◌, List, [], ◌∷◌, ◌++◌, length, drop, Option, Some, None, Ok, Err, IsSome, IfSome, ok_or, refl, sym, ap, ◌∙◌, arith}
+-- What the association hears.
+use Rattle.std.proofs.Common.{◌≡◌, ℕ, ◌-◌, List, [], ◌∷◌, ◌++◌, length, drop, Option, Some, None, Ok, Err, ok_or, refl, sym, ap, ◌∙◌, arith}
 use Rattle.std.proofs.lemmas.List.{length-append, drop_at}
 use Rattle.bay_transport.specs.Doings.{Delivers, Stream}
-use Rattle.bay_transport.specs.Wrap.{wrapped}
 use Rattle.bay_assoc.specs.declared.fault.AssocFault.{AssocFault}
-use Rattle.bay_assoc.specs.declared.hearing.AssociationTerms.{AssociationTerms}
 use Rattle.bay_assoc.specs.declared.hearing.Phase.{Phase}
 use Rattle.bay_assoc.specs.Code.{code_of}
 use Rattle.bay_assoc.specs.Hearing.{answer, mms, released, aborted, hearing}
-use Rattle.bay_assoc.specs.Texts.{user_text, transfer_text}
-use Rattle.bay_connection.specs.Talk.{answers, tells, releases, ends, fails, closed, sent, told, sending_in}
-
--- ---- what is sent
-
-pub sent_is : (size : Option ℕ) (octets tsdu : List ℕ) → IsSome size
-    → IfSome size (λ n. octets ≡ wrapped n tsdu) → octets ≡ sent size tsdu
-sent_is (Some n) octets tsdu some is = is
-sent_is None octets tsdu some is = absurd (cc)
-
-pub sending_is : (size : Option ℕ) (terms : Option AssociationTerms) (octets tsdu pdu : List ℕ)
-    → IsSome terms → octets ≡ sent size tsdu
-    → IfSome terms (λ l. tsdu ≡ transfer_text (user_text l.contexts.mms pdu))
-    → octets ≡ sending_in size terms pdu
-sending_is size (Some l) octets tsdu pdu some is text = rw (← text) is
-sending_is size None octets tsdu pdu some is text = absurd (cc)
+use Rattle.bay_connection.specs.Talk.{answers, tells, releases, ends, fails, closed, sent, told}
 
 -- ---- what is heard
 

@@ -1,6 +1,5 @@
 -- What is made of an answer, and put back where there was no memory for it.
-use Rattle.std.proofs.Common.{◌≡◌, ◌<◌, ℕ, ◌+◌, List, [], ◌∷◌, ◌++◌, length, map, drop, take, get_or, Option, Some, None, IsSome, IfSome, Result, Ok, Err, refl, ap, sym, ◌∙◌, arith, append_assoc}
-use Rattle.std.proofs.lemmas.Grind.{common_steps}
+use Rattle.std.proofs.Common.{◌≡◌, ◌≤◌, ℕ, suc, All, List, [], ◌∷◌, ◌++◌, length, map, take, Option, Some, None, IsSome, IfSome, Result, Ok, Err, refl, ap, ◌∙◌, arith}
 use Rattle.std.specs.Result.{OnErr, OnOk}
 use Rattle.bay_assoc.specs.declared.hearing.AssociationTerms.{AssociationTerms}
 use Rattle.bay_connection.specs.Talk.{Terms, sending}
@@ -32,18 +31,19 @@ front-whole (x ∷ xs) = ap (λ ys. x ∷ ys) (front-whole xs)
 pub front-of : {A : Type 0} (xs ys : List A) → take (length xs) (xs ++ ys) ≡ xs
 front-of xs ys = front-kept xs xs ys (front-whole xs)
 
-rest-more : {A : Type 0} (xs : List A) (i : ℕ) (d : A) → i < length xs
-    → drop i xs ≡ get_or xs i d ∷ drop (i + 1) xs
-rest-more xs i d lt = grind (arith, common_steps)
+-- a list that is gone over
+pub nothing-left : {A : Type 0} (xs : List A) → length xs ≡ 0 → xs ≡ []
+nothing-left [] is = refl
+nothing-left (x ∷ xs) is = absurd (omega arith)
 
--- one more of a list that is gone over
-pub one-more : {A B : Type 0} (f : A → B) (before : List B) (xs : List A) (i : ℕ) (d : A)
-    → i < length xs
-    → before ++ map f (drop i xs) ≡ (before ++ f (get_or xs i d) ∷ []) ++ map f (drop (i + 1) xs)
-one-more f before xs i d lt =
-    let rest : drop i xs ≡ get_or xs i d ∷ drop (i + 1) xs = rest-more xs i d lt in
-    ap (λ ys. before ++ map f ys) rest
-    ∙ sym (append_assoc before (f (get_or xs i d) ∷ []) (map f (drop (i + 1) xs)))
+pub first-short : (pdu : List ℕ) (rest : List (List ℕ))
+    → All {X = List ℕ} (λ p. length p ≤ 65000) (pdu ∷ rest) → length pdu ≤ 65000
+first-short pdu rest all = all 0 [] (omega arith)
+
+pub others-short : (pdu : List ℕ) (rest : List (List ℕ))
+    → All {X = List ℕ} (λ p. length p ≤ 65000) (pdu ∷ rest)
+    → All {X = List ℕ} (λ p. length p ≤ 65000) rest
+others-short pdu rest all k d lt = all (suc k) d (omega (arith, lt))
 
 -- a device, and what is made of it
 abbrev done : State → List Sent → List Command → Done

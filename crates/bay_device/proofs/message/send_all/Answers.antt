@@ -1,40 +1,56 @@
-use Rattle.std.proofs.Common.{◌≡◌, ◌≤◌, ℕ, List, [], ◌∷◌, ◌++◌, length, map, drop, get_or, refl, ap, sym, ◌∙◌, arith, append-nil}
-use Rattle.std.proofs.Math.ListN.{drop_of_length-le}
+use Rattle.std.proofs.Common.{◌≡◌, ◌≤◌, ◌<◌, ◌+◌, ℕ, suc, List, [], ◌∷◌, ◌++◌, All, length, map, get_or, refl, ap, sym, ◌∙◌, arith, append-nil, append_assoc}
+use Rattle.std.specs.Vec.Iter.{into_iter_items}
 use Rattle.bay_connection.specs.Talk.{Terms, sending, terms_of}
 use Rattle.bay_device.specs.Hearing.{sent_on}
 use Rattle.bay_device.specs.declared.event.Sent.{Sent}
-use Rattle.bay_device.proofs.MessageLemmas.{front-kept, front-whole, one-more}
+use Rattle.bay_device.proofs.MessageLemmas.{first-short, front-kept, front-whole, nothing-left, others-short}
 use Rattle.bay_device.proofs.message.send_all.Goals as goal
 
 pub loop-pdu-init : goal.loop-pdu-init
-loop-pdu-init c = record { goes = refl; kept = front-whole c.args.sent.now.items }
+loop-pdu-init c = record {
+  goes = refl;
+  kept = front-whole c.args.sent.now.items;
+  short = rw c.into_iter-pdu-iterator.ensures.into_iter_gives.0 c.requires.short;
+  counted = c.into_iter-pdu-iterator.ensures.into_iter_gives.1;
+}
+
+pub send-requires-clause-short : goal.send-requires-clause-short
+send-requires-clause-short c =
+    first-short c.in-Some.pdu (into_iter_items c.next.new.self)
+    (rw c.in-Some.ensures.steps.0 at c.loop-pdu.invariant.short)
 
 pub loop-pdu-preserved : goal.loop-pdu-preserved
 loop-pdu-preserved c =
-    let pdus = c.args.pdus.now in
+    let at = c.loop-pdu in
     let a = c.args.association in
     let terms : Terms = terms_of c.args.connection.now.talk in
-    let pdu : List ℕ = get_or pdus c.loop-pdu.pdu-index c.pdu-item.result in
+    let pdu : List ℕ = c.in-Some.pdu in
+    let rest = into_iter_items c.next.new.self in
+    let steps : into_iter_items at.pdu-iterator ≡ pdu ∷ rest = c.in-Some.ensures.steps.0 in
     let frame : List ℕ → Sent = λ p. sent_on a (sending terms p) in
-    let octets =
-    c.in_ok-octets.ensures ∙ ap (λ p. sending terms p) (c.as_slice.ensures ∙ c.pdu-item.is) in
     let items =
-    c.in_ok-push.ensures.items ∙ ap (λ o. c.loop-pdu.sent.items ++ sent_on a o ∷ []) octets in
+    c.in_ok-push.ensures.items
+    ∙ ap (λ o. at.sent.items ++ sent_on a o ∷ []) c.in_ok-octets.ensures in
     rw items record {
-      goes = c.loop-pdu.invariant.goes
-          ∙ one-more frame c.loop-pdu.sent.items pdus c.loop-pdu.pdu-index c.pdu-item.result
-          c.loop-pdu-test.true;
-      kept = front-kept c.args.sent.now.items c.loop-pdu.sent.items
-          (sent_on a (sending terms pdu) ∷ []) c.loop-pdu.invariant.kept;
+      goes = at.invariant.goes ∙ ap (λ ps. at.sent.items ++ map frame ps) steps
+          ∙ sym (append_assoc at.sent.items (frame pdu ∷ []) (map frame rest));
+      kept = front-kept c.args.sent.now.items at.sent.items (frame pdu ∷ []) at.invariant.kept;
+      short = others-short pdu rest (rw steps at at.invariant.short);
+      counted = let was = at.invariant.counted in
+          let gone = c.in-Some.ensures.steps.1 in
+          let short = ap length steps in
+          omega arith;
     }
 
 pub returns-clause-ok : goal.returns-clause-ok
 returns-clause-ok c =
-    let pdus = c.args.pdus.now in
+    let at = c.loop-pdu in
     let a = c.args.association in
     let terms : Terms = terms_of c.args.connection.now.talk in
-    let past : length pdus ≤ c.loop-pdu.pdu-index = omega (arith, c.loop-pdu-test.false) in
-    let none : drop c.loop-pdu.pdu-index pdus ≡ [] = drop_of_length-le pdus past in
-    sym (c.loop-pdu.invariant.goes
-    ∙ ap (λ ps. c.loop-pdu.sent.items ++ map (λ p. sent_on a (sending terms p)) ps) none
-    ∙ append-nil c.loop-pdu.sent.items)
+    let frame : List ℕ → Sent = λ p. sent_on a (sending terms p) in
+    let empty : into_iter_items at.pdu-iterator ≡ [] =
+    nothing-left _ (sym at.invariant.counted ∙ c.in-None.ensures.steps.0) in
+    sym (ap (λ ps. c.args.sent.now.items ++ map frame ps)
+    (sym c.into_iter-pdu-iterator.ensures.into_iter_gives.0)
+    ∙ at.invariant.goes ∙ ap (λ ps. at.sent.items ++ map frame ps) empty
+    ∙ append-nil at.sent.items)
