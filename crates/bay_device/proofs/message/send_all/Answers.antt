@@ -1,4 +1,4 @@
-use Rattle.std.proofs.Common.{◌≡◌, ◌≤◌, ◌<◌, ◌+◌, ℕ, suc, List, [], ◌∷◌, ◌++◌, All, length, map, get_or, refl, ap, sym, ◌∙◌, arith, append-nil, append_assoc}
+use Rattle.std.proofs.Common.{◌≡◌, ℕ, List, [], ◌∷◌, ◌++◌, length, map, refl, ap, rules, sym, ◌∙◌, arith, append-nil, append_assoc}
 use Rattle.std.specs.Vec.Iter.{into_iter_items}
 use Rattle.bay_connection.specs.Talk.{Terms, sending, terms_of}
 use Rattle.bay_device.specs.Hearing.{sent_on}
@@ -11,7 +11,7 @@ loop-pdu-init c = record {
   goes = refl;
   kept = front-whole c.args.sent.now.items;
   short = rw c.into_iter-pdu-iterator.ensures.into_iter_gives.0 c.requires.short;
-  counted = c.into_iter-pdu-iterator.ensures.into_iter_gives.1;
+  counted = search rules;
 }
 
 pub send-requires-clause-short : goal.send-requires-clause-short
