@@ -32,7 +32,7 @@ known_ok (Some y) x e = cc
 pub ok_same : {A : Type 0} (x y : A) → (◌≡◌ {A = Result A ImageFault} (Ok x) (Ok y)) → x ≡ y
 ok_same x y e = cc
 
-chosen_ok : {A : Type 0} (b : Bool) (x y : A)
+pub chosen_ok : {A : Type 0} (b : Bool) (x y : A)
     → (◌≡◌ {A = Result A ImageFault} (cond b (Err Truncated) (Ok x)) (Ok y)) → (b ≡ false) × (x ≡ y)
 chosen_ok true x y e = absurd cc
 chosen_ok false x y e = (refl, cc)

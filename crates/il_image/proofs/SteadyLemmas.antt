@@ -40,10 +40,11 @@ abbrev pub Steady : {A : Type 0} → (List ℕ → Read A) → Type 0
 Steady item = (octets more : List ℕ) → (item octets ≡ Err Truncated → ⊥)
     → item (octets ++ more) ≡ later (item octets) more
 
-err_same : {A : Type 0} (e f : ImageFault) → ◌≡◌ {A = Result A ImageFault} (Err e) (Err f) → e ≡ f
+pub err_same : {A : Type 0} (e f : ImageFault) → ◌≡◌ {A = Result A ImageFault} (Err e) (Err f)
+    → e ≡ f
 err_same e f h = cc
 
-steady_then : {A B : Type 0} (item : List ℕ → Read A) (g : A → List ℕ → Read B) → Steady item
+pub steady_then : {A B : Type 0} (item : List ℕ → Read A) (g : A → List ℕ → Read B) → Steady item
     → ((x : A) → Steady (g x)) → Steady (λ octets. item octets >>= (λ r. g r.0 r.1))
 steady_then {A} {B} item g s t octets more = go (item octets) refl
   where
@@ -71,20 +72,21 @@ steady_then {A} {B} item g s t octets more = go (item octets) refl
         ap (λ (q : Read A). q >>= (λ (p : A × List ℕ). g p.0 p.1)) here
         ∙ ap (λ (q : Read A). later (q >>= (λ (p : A × List ℕ). g p.0 p.1)) more) (sym e)
 
-steady_ok : {A : Type 0} (x : A) → Steady (λ octets. Ok (x, octets))
+pub steady_ok : {A : Type 0} (x : A) → Steady (λ octets. Ok (x, octets))
 steady_ok x octets more ne = refl
 
-steady_known : {A B : Type 0} (o : Option A) (f : A → List ℕ → Read B) → ((x : A) → Steady (f x))
+pub steady_known : {A B : Type 0} (o : Option A) (f : A → List ℕ → Read B)
+    → ((x : A) → Steady (f x))
     → Steady (λ octets. known o >>= (λ x. f x octets))
 steady_known None f s octets more ne = refl
 steady_known (Some x) f s octets more ne = s x octets more ne
 
-steady_if : {A : Type 0} (b : Bool) (f g : List ℕ → Read A) → Steady f → Steady g
+pub steady_if : {A : Type 0} (b : Bool) (f g : List ℕ → Read A) → Steady f → Steady g
     → Steady (λ octets. cond b (f octets) (g octets))
 steady_if true f g s t octets more ne = s octets more ne
 steady_if false f g s t octets more ne = t octets more ne
 
-steady_octet : Steady octet_at
+pub steady_octet : Steady octet_at
 steady_octet [] more ne = absurd (ne refl)
 steady_octet (x ∷ octets) more ne = refl
 
@@ -96,7 +98,7 @@ whole_front s octets more le =
     ∙ from_front s octets
 
 -- so many octets are taken
-steady_taken : {A : Type 0} (n : ℕ) (f : List ℕ → A)
+pub steady_taken : {A : Type 0} (n : ℕ) (f : List ℕ → A)
     → ((octets more : List ℕ) → n ≤ length octets → f (octets ++ more) ≡ f octets)
     → Steady {A = A} (λ octets. cond {A = Read A} (ltb (length octets) n) (Err Truncated)
     (Ok (f octets, drop n octets)))
@@ -116,33 +118,33 @@ steady_taken {A} n f same octets more = go (ltb (length octets) n) refl
         le-ltb (length (octets ++ more)) n (omega (arith, length-append octets more)) in
         rw (e, longer, same octets more le, drop-append-le n octets more le) refl
 
-steady_number : Steady number_at
+pub steady_number : Steady number_at
 steady_number =
     steady_taken 2 (from_be_bytes w16) (λ octets more le. whole_front size.Two octets more le)
 
-steady_signed : (s : Size) → Steady (signed_at s)
+pub steady_signed : (s : Size) → Steady (signed_at s)
 steady_signed s =
     steady_taken (octet_count s)
     (λ octets. cast_signed (bits_of_size s) (from_be_bytes (bits_of_size s) octets))
     (λ octets more le. ap (cast_signed (bits_of_size s)) (whole_front s octets more le))
 
-steady_value : (s : Size) (t : ElementaryType) → Steady (value_at s t)
+pub steady_value : (s : Size) (t : ElementaryType) → Steady (value_at s t)
 steady_value s t =
     steady_then (signed_at s) (λ z octets. known (value_of t z) >>= (λ v. Ok (v, octets)))
     (steady_signed s) (λ z. steady_known (value_of t z) (λ v octets. Ok (v, octets))
     (λ v. steady_ok v))
 
-steady_width : (version : Version) → Steady (width_at version)
+pub steady_width : (version : Version) → Steady (width_at version)
 steady_width version =
     steady_then octet_at (λ octet octets. known (width_of version octet) >>= (λ w. Ok (w, octets)))
     steady_octet (λ octet. steady_known (width_of version octet) (λ w octets. Ok (w, octets))
     (λ w. steady_ok w))
 
-steady_with : (make : ℕ → Instr) → Steady (with_number make)
+pub steady_with : (make : ℕ → Instr) → Steady (with_number make)
 steady_with make =
     steady_then number_at (λ n octets. Ok (make n, octets)) steady_number (λ n. steady_ok (make n))
 
-steady_operand : (version : Version) (o : Opcode) → Steady (operand_from version o)
+pub steady_operand : (version : Version) (o : Opcode) → Steady (operand_from version o)
 steady_operand version Halt = steady_ok instr.Halt
 steady_operand version (Push t) =
     steady_then (value_at (size_of t) t) (λ v octets. Ok (instr.Push v, octets))
@@ -159,12 +161,12 @@ steady_operand version (Widen w) = steady_ok (instr.Widen w)
 steady_operand version (Jump when) = steady_with (λ n. instr.Jump when n)
 steady_operand version (Timer use_of) = steady_with (λ n. instr.Timer use_of n)
 
-steady_opcode : {A : Type 0} (r : Result Opcode ImageFault) (f : Opcode → List ℕ → Read A)
+pub steady_opcode : {A : Type 0} (r : Result Opcode ImageFault) (f : Opcode → List ℕ → Read A)
     → ((o : Opcode) → Steady (f o)) → Steady (λ octets. r >>= (λ o. f o octets))
 steady_opcode (Ok o) f s octets more ne = s o octets more ne
 steady_opcode (Err e) f s octets more ne = refl
 
-steady_instr : (version : Version) → Steady (instr_from version)
+pub steady_instr : (version : Version) → Steady (instr_from version)
 unfolding instr_from
 steady_instr version =
     steady_then octet_at (λ octet octets. known_opcode version (opcode_of octet)
@@ -172,14 +174,14 @@ steady_instr version =
     (λ octet. steady_opcode (known_opcode version (opcode_of octet)) (operand_from version)
     (steady_operand version))
 
-steady_type : (version : Version) → Steady (type_at version)
+pub steady_type : (version : Version) → Steady (type_at version)
 steady_type version =
     steady_then octet_at (λ octet octets. known (type_of_octet version octet)
     >>= (λ t. Ok (t, octets))) steady_octet
     (λ octet. steady_known (type_of_octet version octet) (λ t octets. Ok (t, octets))
     (λ t. steady_ok t))
 
-steady_access : Steady access_at
+pub steady_access : Steady access_at
 steady_access =
     steady_then octet_at (λ octet octets. known (access_of octet) >>= (λ w. Ok (w, octets)))
     steady_octet (λ octet. steady_known (access_of octet) (λ w octets. Ok (w, octets))
@@ -206,7 +208,7 @@ still_bad n octets more e = elim (cases_lt (length octets) n) [
     take_all (x ∷ xs) zero h = absurd (omega arith)
     take_all (x ∷ xs) (suc k) h = ap (λ (ys : List ℕ). x ∷ ys) (take_all xs k (omega arith))
 
-steady_length : (n : ℕ) → Steady (name_of_length n)
+pub steady_length : (n : ℕ) → Steady (name_of_length n)
 steady_length n octets more =
     go (list_all is_name_octet (take n octets)) (ltb (length octets) n) refl refl
   where
@@ -221,14 +223,14 @@ steady_length n octets more =
         le-ltb (length (octets ++ more)) n (omega (arith, length-append octets more)) in
         rw (take-append-le n octets more le, e, longer, f, drop-append-le n octets more le) refl
 
-steady_name : Steady name_at
+pub steady_name : Steady name_at
 steady_name =
     steady_then octet_at (λ n octets. cond (eqb n 0 || ltb 64 n) (Err BadOpcode)
     (name_of_length n octets)) steady_octet
     (λ n. steady_if (eqb n 0 || ltb 64 n) (λ octets. Err BadOpcode) (name_of_length n)
     (λ octets more ne. refl) (steady_length n))
 
-steady_point : (version : Version) → Steady (point_at version)
+pub steady_point : (version : Version) → Steady (point_at version)
 unfolding point_at
 steady_point version =
     steady_then (type_at version)
@@ -243,13 +245,13 @@ steady_point version =
     (λ n octets. Ok (record { name = n; elementary = t; writable = w }, octets)) steady_name
     (λ n. steady_ok (record { name = n; elementary = t; writable = w }))))
 
-steady_variable : (version : Version) → Steady (variable_at version)
+pub steady_variable : (version : Version) → Steady (variable_at version)
 unfolding variable_at
 steady_variable version =
     steady_then (type_at version) (λ t octets. value_at (value_size version) t octets)
     (steady_type version) (λ t. steady_value (value_size version) t)
 
-steady_timer : (version : Version) → Steady (timer_at version)
+pub steady_timer : (version : Version) → Steady (timer_at version)
 unfolding timer_at
 steady_timer One = λ octets more ne. refl
 steady_timer Two =
@@ -257,7 +259,7 @@ steady_timer Two =
     steady_octet (λ octet. steady_known (kind_of_octet octet) (λ k octets. Ok (k, octets))
     (λ k. steady_ok k))
 
-steady_items : {A : Type 0} (item : List ℕ → Read A) → Steady item → (n : ℕ)
+pub steady_items : {A : Type 0} (item : List ℕ → Read A) → Steady item → (n : ℕ)
     → Steady (items_at item n)
 steady_items item s zero = steady_ok []
 steady_items item s (suc n) =
@@ -265,12 +267,12 @@ steady_items item s (suc n) =
     (λ x. steady_then (items_at item n) (λ xs octets. Ok (x ∷ xs, octets))
     (steady_items item s n) (λ xs. steady_ok (x ∷ xs)))
 
-steady_counted : {A : Type 0} (item : List ℕ → Read A) → Steady item → Steady (counted_at item)
+pub steady_counted : {A : Type 0} (item : List ℕ → Read A) → Steady item → Steady (counted_at item)
 steady_counted item s =
     steady_then number_at (λ n octets. items_at item n octets) steady_number
     (λ n. steady_items item s n)
 
-steady_version : Steady version_at
+pub steady_version : Steady version_at
 steady_version [] more ne = absurd (ne refl)
 steady_version (x ∷ octets) more ne = go (eqb x 1) (eqb x 2)
   where

@@ -3,6 +3,7 @@ pub use Rattle.bay_base.specs.Exact
 -- Its own definitions.
 pub mod Arithmetic
 pub mod Codes
+pub mod Cuts
 pub mod Decoding
 pub mod Effects
 pub mod Growth

@@ -1,5 +1,6 @@
 // Laws of the definitions. Each function does nothing, and its contract is the law.
 ghost use Rattle.std.specs.Prelude.{◌≡◌, ◌∷◌, ◌++◌, ◌⊎◌, ◌↔◌, ◌<◌, Err, IsTrue, length, List, Ok, Some, slice_index, take, true, ℕ};
+ghost use Rattle.il_image.specs.Cuts.{IsRightSoFar};
 ghost use Rattle.il_image.specs.Decoding.{IsFirstBad, decoded};
 ghost use Rattle.il_image.specs.Images.{Image, IsImage, encoded, mark};
 ghost use Rattle.il_image.specs.Kinds.{HasKind, is_within, join};
@@ -98,4 +99,12 @@ pub fn images_end()
     ensures front { (octets : List ℕ) (i : Image) (n : ℕ) → decoded octets ≡ Ok i
         → n < length octets → decoded (take n octets) ≡ Err Truncated }
     ensures first { (octets : List ℕ) → decoded octets ≡ Err BadOpcode → IsFirstBad octets }
+{}
+
+/// Octets that are cut short are right so far: others complete them to an image; or they are an
+/// image and have others behind it; or they end in an initial value, or its code in an instruction,
+/// of which no value or instruction with that much room begins so.
+pub fn cut_short_is_right_so_far()
+    ensures { (octets : List ℕ) → AreOctets octets → decoded octets ≡ Err Truncated
+        → IsRightSoFar octets }
 {}

@@ -1,0 +1,481 @@
+-- Code that is cut short: others complete it, or it ends in an instruction that has no room.
+use Rattle.std.proofs.Common.{◌≡◌, ℕ, zero, suc, ◌+◌, ◌-◌, ◌^◌, ◌<◌, ◌≤◌, Bool, true, false, cond, eqb, List, [], ◌∷◌, ◌++◌, length, take, drop, Option, Some, None, refl, sym, subst, ap, ◌∙◌, arith, append-nil, inl, inr}
+use Rattle.std.specs.Prelude.{Ok, Err, Result, ◌⊎◌}
+use Rattle.std.specs.Int.{from_be_bytes, w16}
+use Rattle.std.proofs.lemmas.Bool.{cases_eq, cases_lt, eq-eqb}
+use Rattle.std.proofs.lemmas.List.{append_assoc, length-append, length-drop, length-take, length-take-le, take-append-drop}
+use Rattle.std.proofs.Math.Seq.{take-append_seam}
+use Rattle.std.proofs.Math.ListN.{drop_of_length-le}
+use Rattle.bay_base.specs.Results.{◌>>=◌}
+use Rattle.bay_base.specs.declared.types.ElementaryType.{ElementaryType}
+use Rattle.bay_base.specs.declared.types.ElementaryType.TheVariants as elementary
+use Rattle.il_image.specs.declared.fault.ImageFault.{ImageFault}
+use Rattle.il_image.specs.declared.fault.ImageFault.TheVariants.{BadOpcode, Truncated}
+use Rattle.il_image.specs.declared.instr.Instr.{Instr}
+use Rattle.il_image.specs.declared.instr.Instr.TheVariants as instr
+use Rattle.il_image.specs.declared.arithmetic.Operation.{Operation}
+use Rattle.il_image.specs.declared.arithmetic.Width.{Width}
+use Rattle.il_image.specs.declared.arithmetic.Width.TheVariants as width
+use Rattle.il_image.specs.declared.opcode.Opcode.{Opcode}
+use Rattle.il_image.specs.declared.opcode.Opcode.TheVariants as opcode
+use Rattle.il_image.specs.declared.opcode.Version.{Version}
+use Rattle.il_image.specs.declared.opcode.Version.TheVariants.{One, Two}
+use Rattle.il_image.specs.declared.value.Value.{Value}
+use Rattle.il_image.specs.Cuts.{IsInstrOf, IsShortOf}
+use Rattle.il_image.specs.Decoding.{code_at, code_fault, code_of_length, fault_behind, unless}
+use Rattle.il_image.specs.Octets.{AreOctets, number_octets, octet_count, size_of}
+use Rattle.il_image.specs.Opcodes.{is_known, opcode_of, width_of}
+use Rattle.il_image.specs.Reading.{Read, instr_from, known, known_opcode, number_at, operand_from, value_at}
+use Rattle.il_image.specs.Spelling.{spelling}
+use Rattle.il_image.specs.Values.{default_value}
+use Rattle.il_image.proofs.CodeLemmas.{fault_step, less}
+use Rattle.il_image.proofs.LocalLemmas.{again, local_instr}
+use Rattle.il_image.proofs.EndLemmas.{EndsIn, Few, IsAll, all_told, are_more, are_none, few_told, join_octets, ok_is, through}
+use Rattle.il_image.proofs.InstrLemmas.{behind_octets}
+use Rattle.il_image.proofs.PlaceLemmas.{spelled_so}
+use Rattle.il_image.proofs.ReadLemmas.{take_octets, took_number}
+use Rattle.il_image.proofs.SteadyLemmas.{err_same, steady_instr, steady_number}
+use Rattle.il_image.proofs.ShortLemmas.{behind_number, Never, copies, copies_fit, copies_size, err_mapped, known_never, number_short, take_all, taken_short, value_few}
+
+-- ---- code
+
+-- Code whose instructions are whole up to a part of one more.
+record InCode (version : Version) (octets : List ℕ) : Type 0 where
+  pub done : List ℕ
+  pub cut : List ℕ
+  pub parts : octets ≡ done ++ cut
+  pub whole : code_fault version (length done) done ≡ None
+  pub some : 0 < length cut
+  pub short : instr_from version cut ≡ Err Truncated
+  pub on : (more : List ℕ) → code_fault version (length (cut ++ more)) (cut ++ more) ≡ None
+      → code_fault version (length (octets ++ more)) (octets ++ more) ≡ None
+
+some_fault : (e f : ImageFault) → Some e ≡ Some f → e ≡ f
+some_fault e f h = cc
+
+code_cut : (version : Version) (n : ℕ) (octets : List ℕ) → length octets ≤ n → AreOctets octets
+    → code_fault version n octets ≡ Some Truncated → InCode version octets
+code_cut version zero octets le fits e = absurd cc
+code_cut version (suc n) [] le fits e = absurd cc
+code_cut version (suc n) (x ∷ octets) le fits e =
+    go (code_cut version n) (instr_from version (x ∷ octets)) refl e
+  where
+    go : ((rest : List ℕ) → length rest ≤ n → AreOctets rest
+        → code_fault version n rest ≡ Some Truncated → InCode version rest)
+        → (r : Read Instr) → instr_from version (x ∷ octets) ≡ r
+        → fault_behind r (λ rest. code_fault version n rest) ≡ Some Truncated
+        → InCode version (x ∷ octets)
+    go on (Err f) is e = record {
+      done = [];
+      cut = x ∷ octets;
+      parts = refl;
+      whole = refl;
+      some = omega arith;
+      short = is ∙ ap (λ (g : ImageFault). Err g) (some_fault f Truncated e);
+      on = λ more h. h;
+    }
+    go on (Ok (i, rest)) is e =
+        let s = spelled_so version (x ∷ octets) i rest fits is in
+        let fewer = less version (x ∷ octets) i rest is in
+        let c =
+        on rest (omega arith)
+        (behind_octets (spelling i) rest (subst AreOctets s.1 fits)) e in
+        record {
+          done = spelling i ++ c.done;
+          cut = c.cut;
+          parts = s.1 ∙ ap (λ (ys : List ℕ). spelling i ++ ys) c.parts
+              ∙ sym (append_assoc (spelling i) c.done c.cut);
+          whole =
+              fault_step version (spelling i ++ c.done) i c.done
+              (again (instr_from version) (spelling i) i (steady_instr version) (x ∷ octets) rest
+              fits
+              (local_instr version (x ∷ octets) i rest is)
+              (λ front good is. (spelled_so version front i [] good is).1) c.done) ∙ c.whole;
+          some = c.some;
+          short = c.short;
+          on = λ more h.
+              fault_step version (x ∷ octets ++ more) i (rest ++ more)
+              (ok_is (instr_from version) (steady_instr version) (x ∷ octets) more i rest is)
+              ∙ c.on more h;
+        }
+
+code_whole : (version : Version) (n : ℕ) (octets more : List ℕ) → length octets ≤ n
+    → code_fault version n octets ≡ None → code_fault version (length more) more ≡ None
+    → code_fault version (length (octets ++ more)) (octets ++ more) ≡ None
+code_whole version n [] more le e h = h
+code_whole version zero (x ∷ octets) more le e h = absurd (omega arith)
+code_whole version (suc n) (x ∷ octets) more le e h =
+    go (λ rest fewer f. code_whole version n rest more fewer f h)
+    (instr_from version (x ∷ octets)) refl e
+  where
+    go : ((rest : List ℕ) → length rest ≤ n → code_fault version n rest ≡ None
+        → code_fault version (length (rest ++ more)) (rest ++ more) ≡ None)
+        → (r : Read Instr) → instr_from version (x ∷ octets) ≡ r
+        → fault_behind r (λ rest. code_fault version n rest) ≡ None
+        → code_fault version (length (x ∷ octets ++ more)) (x ∷ octets ++ more) ≡ None
+    go on (Err f) is e = absurd cc
+    go on (Ok (i, rest)) is e =
+        let fewer = less version (x ∷ octets) i rest is in
+        fault_step version (x ∷ octets ++ more) i (rest ++ more)
+        (ok_is (instr_from version) (steady_instr version) (x ∷ octets) more i rest is)
+        ∙ on rest (omega arith) e
+
+-- An instruction of the version has the part's first octet, and more octets.
+abbrev pub BeginsInstr : Version → List ℕ → Type 0
+BeginsInstr version part = (i : Instr) × IsInstrOf version i × IsShortOf part (spelling i)
+
+-- an operand of the opcode that has more octets
+record Operand (version : Version) (o : Opcode) (octets : List ℕ) : Type 0 where
+  pub operand : List ℕ
+  pub instr : Instr
+  pub fits : AreOctets operand
+  pub is : operand_from version o operand ≡ Ok (instr, [])
+  pub fewer : length octets < length operand
+
+zero_operand : (version : Version) (o : Opcode) (n : ℕ) (i : Instr) (octets : List ℕ)
+    → operand_from version o (copies 0 n) ≡ Ok (i, []) → length octets < n
+    → Operand version o octets
+zero_operand version o n i octets is fewer = record {
+  operand = copies 0 n;
+  instr = i;
+  fits = copies_fit 0 n (omega arith);
+  is = is;
+  fewer = omega (arith, copies_size 0 n);
+}
+
+numbered_few : (make : ℕ → Instr) (octets : List ℕ)
+    → ◌≡◌ {A = Read Instr} (number_at octets >>= (λ n. Ok (make n.0, n.1))) (Err Truncated)
+    → length octets < 2
+numbered_few make octets =
+    taken_short 2 octets (from_be_bytes w16 octets, drop 2 octets)
+    (λ (n : ℕ × List ℕ). Ok (make n.0, n.1)) (λ e. cc)
+
+push_begins : (version : Version) (t : ElementaryType) (octets : List ℕ)
+    → length octets < octet_count (size_of t) → Operand version (opcode.Push t) octets
+unfolding copies
+push_begins version elementary.Bool octets = zero_operand version (opcode.Push elementary.Bool) 1
+    (instr.Push (default_value elementary.Bool)) octets refl
+push_begins version elementary.Int octets = zero_operand version (opcode.Push elementary.Int) 2
+    (instr.Push (default_value elementary.Int)) octets refl
+push_begins version elementary.Dint octets = zero_operand version (opcode.Push elementary.Dint) 4
+    (instr.Push (default_value elementary.Dint)) octets refl
+push_begins version elementary.Lint octets = zero_operand version (opcode.Push elementary.Lint) 8
+    (instr.Push (default_value elementary.Lint)) octets refl
+push_begins version elementary.Time octets = zero_operand version (opcode.Push elementary.Time) 4
+    (instr.Push (default_value elementary.Time)) octets refl
+
+width_reads : (version : Version) (o : Operation)
+    → operand_from version (opcode.Compute o) (2 ∷ []) ≡ Ok (instr.Compute o width.Int, [])
+width_reads One o = refl
+width_reads Two o = refl
+
+operand_begins : (version : Version) (o : Opcode) (octets : List ℕ)
+    → operand_from version o octets ≡ Err Truncated → Operand version o octets
+unfolding copies
+operand_begins version opcode.Halt octets e = absurd cc
+operand_begins version (opcode.Push t) octets e =
+    push_begins version t octets
+    (value_few (size_of t) t octets (err_mapped (value_at (size_of t) t octets)
+    (λ (v : Value × List ℕ). (instr.Push v.0, v.1)) e))
+operand_begins version opcode.Drop octets e = absurd cc
+operand_begins version (opcode.Slot u) octets e =
+    zero_operand version (opcode.Slot u) 2 (instr.Slot u 0) octets refl
+    (numbered_few (λ n. instr.Slot u n) octets e)
+operand_begins version opcode.Not octets e = absurd cc
+operand_begins version (opcode.Combine c) octets e = absurd cc
+operand_begins version (opcode.Compute o) [] e = record {
+  operand = 2 ∷ [];
+  instr = instr.Compute o width.Int;
+  fits = are_more 2 [] (omega arith) are_none;
+  is = width_reads version o;
+  fewer = omega arith;
+}
+operand_begins version (opcode.Compute o) (x ∷ octets) e =
+    absurd (known_never (width_of version x) octets
+    (err_mapped (known (width_of version x) >>= (λ (w : Width). Ok (w, octets)))
+    (λ (w : Width × List ℕ). (instr.Compute o w.0, w.1)) e))
+operand_begins version (opcode.Compare c) octets e = absurd cc
+operand_begins version (opcode.Widen w) octets e = absurd cc
+operand_begins version (opcode.Jump when) octets e =
+    zero_operand version (opcode.Jump when) 2 (instr.Jump when 0) octets refl
+    (numbered_few (λ n. instr.Jump when n) octets e)
+operand_begins version (opcode.Timer u) octets e =
+    zero_operand version (opcode.Timer u) 2 (instr.Timer u 0) octets refl
+    (numbered_few (λ n. instr.Timer u n) octets e)
+
+instr_begins : (version : Version) (octets : List ℕ) → AreOctets octets → 0 < length octets
+    → instr_from version octets ≡ Err Truncated → BeginsInstr version octets
+unfolding instr_from
+instr_begins version [] fits some e = absurd (omega arith)
+instr_begins version (x ∷ octets) fits some e = named_by (opcode_of x) refl e
+  where
+    known_by : (o : Opcode) (b : Bool) → opcode_of x ≡ Some o → is_known version o ≡ b
+        → ◌≡◌ {A = Read Instr} (◌>>=◌ {A = Opcode} (cond b (Ok o) (Err BadOpcode))
+        (λ o. operand_from version o octets)) (Err Truncated) → BeginsInstr version (x ∷ octets)
+    known_by o false is k e = absurd cc
+    known_by o true is k e =
+        let a = operand_begins version o octets e in
+        let read : instr_from version (x ∷ a.operand) ≡ Ok (a.instr, []) = rw (is, k) a.is in
+        let same : x ∷ a.operand ≡ spelling a.instr =
+        (spelled_so version (x ∷ a.operand) a.instr [] (are_more x a.operand (fits 0) a.fits)
+        read).1 ∙ append-nil (spelling a.instr) in
+        let fewer = a.fewer in
+        let size : suc (length a.operand) ≡ length (spelling a.instr) = ap length same in (
+          a.instr,
+          ap (instr_from version) (sym same) ∙ read,
+          record { first = ap (take 1) same; fewer = omega arith },
+        )
+
+    named_by : (o : Option Opcode) → opcode_of x ≡ o
+        → ◌≡◌ {A = Read Instr} (known_opcode version o >>= (λ o. operand_from version o octets))
+        (Err Truncated) → BeginsInstr version (x ∷ octets)
+    named_by None is e = absurd cc
+    named_by (Some o) is e = known_by o (is_known version o) is refl e
+
+halt_reads : (version : Version) (rest : List ℕ)
+    → instr_from version (1 ∷ rest) ≡ Ok (instr.Halt, rest)
+unfolding instr_from opcode_of
+halt_reads One rest = refl
+halt_reads Two rest = refl
+
+halts : (version : Version) (n : ℕ) → code_fault version (length (copies 1 n)) (copies 1 n) ≡ None
+unfolding copies
+halts version zero = refl
+halts version (suc n) =
+    fault_step version (1 ∷ copies 1 n) instr.Halt (copies 1 n) (halt_reads version (copies 1 n))
+    ∙ halts version n
+
+-- nothing is asked
+abbrev pub Any : {B : Type 0} → B → Type 0
+Any x = Unit {0}
+
+code_reads : (version : Version) (n : ℕ) (octets more : List ℕ) → AreOctets more
+    → length (octets ++ more) ≡ n
+    → code_fault version (length (octets ++ more)) (octets ++ more) ≡ None
+    → EndsIn (code_of_length version n) Any octets
+code_reads version n octets more fits size none =
+    let all = take_all n (octets ++ more) (omega arith) in
+    record {
+      more = more;
+      fits = fits;
+      what = octets ++ more;
+      is = rw (all, none, eq-eqb (length (octets ++ more)) n size) refl;
+      ends = tt;
+    }
+
+pub code_start : (version : Version) (n : ℕ) → EndsIn (code_of_length version n) Any []
+code_start version n =
+    code_reads version n [] (copies 1 n) (copies_fit 1 n (omega arith)) (copies_size 1 n)
+    (halts version n)
+
+-- Code of the length stands first, and others behind it.
+pub record Past (version : Version) (size : ℕ) (octets : List ℕ) : Type 0 where
+  pub code : List ℕ
+  pub others : List ℕ
+  pub parts : octets ≡ code ++ others
+  pub len : length code ≡ size
+  pub whole : code_fault version (length code) code ≡ None
+  pub some : 0 < length others
+
+-- A part of an instruction stands last, for which the length has no room.
+pub record Part (version : Version) (size : ℕ) (octets : List ℕ) : Type 0 where
+  pub done : List ℕ
+  pub part : List ℕ
+  pub parts : octets ≡ done ++ part
+  pub whole : code_fault version (length done) done ≡ None
+  pub few : length done < size
+  pub begins : BeginsInstr version (take (size - length done) part)
+  pub none : (i : Instr) (rest : List ℕ) → AreOctets rest → IsInstrOf version i
+      → take (size - length done) part ++ rest ≡ spelling i
+      → size - length done < length (spelling i)
+
+module _ (version : Version) (n : ℕ) (octets : List ℕ) (fits : AreOctets octets) where
+  whole_front : code_fault version (length (take n octets)) (take n octets) ≡ None
+      → ◌≡◌ {A = Result (List ℕ) ImageFault}
+      (cond (eqb (length octets) n) (Ok octets) (Err Truncated)) (Err Truncated)
+      → EndsIn (code_of_length version n) Any octets
+      ⊎ (Past version n octets ⊎ Part version n octets)
+  whole_front none e = elim (cases_lt (length octets) n) [
+    | inl short ↦ inl (
+        let k = n - length octets in
+        let all = take_all n octets (omega arith) in
+        let size : length (octets ++ copies 1 k) ≡ n =
+        omega (arith, length-append octets (copies 1 k), copies_size 1 k) in
+        code_reads version n octets (copies 1 k) (copies_fit 1 k (omega arith)) size
+        (code_whole version (length octets) octets (copies 1 k) (omega arith)
+        (ap (λ (xs : List ℕ). code_fault version (length xs) xs) (sym all) ∙ none)
+        (halts version k)))
+    | inr long ↦ inr (inl (record {
+      code = take n octets;
+      others = drop n octets;
+      parts = sym (take-append-drop n octets);
+      len = length-take-le n octets long;
+      whole = none;
+      some = elim (cases_eq (length octets) n) [
+        | inl same ↦ absurd (never (eqb (length octets) n) (eq-eqb (length octets) n same) e)
+        | inr other ↦ omega (arith, length-drop n octets)
+      ];
+    }))
+  ]
+    where
+      never : (b : Bool) → b ≡ true → ◌≡◌ {A = Result (List ℕ) ImageFault}
+          (cond b (Ok octets) (Err Truncated)) (Err Truncated) → ⊥
+      never true is e = absurd cc
+      never false is e = absurd cc
+
+  module _ (c : InCode version (take n octets)) where
+    sizes : length c.done + length c.cut ≤ n
+    sizes =
+        let a : length (take n octets) ≡ length c.done + length c.cut =
+        ap length c.parts ∙ length-append c.done c.cut in
+        let b = length-take n octets in
+        omega arith
+
+    exact : n ≤ length octets → length c.done + length c.cut ≡ n
+    exact long =
+        sym (ap length c.parts ∙ length-append c.done c.cut) ∙ length-take-le n octets long
+
+    front_is : take (n - length c.done) (c.cut ++ drop n octets) ≡ c.cut
+    front_is = elim (cases_lt (length octets) n) [
+      | inl short ↦
+          let few = sizes in
+          rw (
+            drop_of_length-le octets (let h : length octets ≤ n = omega arith in h),
+            append-nil c.cut,
+          ) (take_all (n - length c.done) c.cut (omega arith))
+      | inr long ↦
+          let same = exact long in
+          let is : n - length c.done ≡ length c.cut = omega arith in
+          ap (λ (k : ℕ). take k (c.cut ++ drop n octets)) is
+          ∙ take-append_seam c.cut (drop n octets)
+    ]
+
+    ended : Few (λ more. IsAll (instr_from version (c.cut ++ more)))
+        (n - length c.done - length c.cut) → EndsIn (code_of_length version n) Any octets
+    ended f = elim (cases_lt (length octets) n) [
+      | inl short ↦
+          let all = take_all n octets (omega arith) in
+          let k = n - length octets - length f.octets in
+          let front : length octets ≡ length c.done + length c.cut =
+          ap length (sym all ∙ c.parts) ∙ length-append c.done c.cut in
+          let few = f.few in
+          let more = f.octets ++ copies 1 k in
+          let size : length (octets ++ more) ≡ n =
+          omega (
+            arith,
+            length-append octets more,
+            length-append f.octets (copies 1 k),
+            copies_size 1 k,
+          ) in
+          let here : code_fault version (length (c.cut ++ more)) (c.cut ++ more) ≡ None =
+          ap (λ (xs : List ℕ). code_fault version (length xs) xs)
+          (sym (append_assoc c.cut f.octets (copies 1 k)))
+          ∙ fault_step version ((c.cut ++ f.octets) ++ copies 1 k) f.is.0 (copies 1 k)
+          (ok_is (instr_from version) (steady_instr version) (c.cut ++ f.octets) (copies 1 k)
+          f.is.0 [] f.is.1) ∙ halts version k in
+          code_reads version n octets more
+          (join_octets f.octets (copies 1 k) f.fits (copies_fit 1 k (omega arith))) size
+          (ap (λ (xs : List ℕ). code_fault version (length (xs ++ more)) (xs ++ more)) (sym all)
+          ∙ c.on more here)
+      | inr long ↦
+          let same = exact long in
+          let few = f.few in
+          absurd (none_left f.octets (omega arith) f.is)
+    ]
+      where
+        none_left : (more : List ℕ) → length more ≤ 0 → IsAll (instr_from version (c.cut ++ more))
+            → ⊥
+        none_left [] le is =
+            (let no : ◌≡◌ {A = Read Instr} (Err Truncated) (Ok (is.0, [])) =
+            sym c.short ∙ ap (instr_from version) (sym (append-nil c.cut)) ∙ is.1 in cc)
+        none_left (x ∷ more) le is = omega arith
+
+    part_front : EndsIn (code_of_length version n) Any octets
+        ⊎ (Past version n octets ⊎ Part version n octets)
+    part_front = elim (few_told (λ more. IsAll (instr_from version (c.cut ++ more)))
+        (λ more. all_told (instr_from version (c.cut ++ more)))
+        (n - length c.done - length c.cut)) [
+          | inl f ↦ inl (ended f)
+          | inr none ↦ inr (inr (
+              let some = c.some in
+              let few = sizes in
+              record {
+                done = c.done;
+                part = c.cut ++ drop n octets;
+                parts = sym (take-append-drop n octets)
+                    ∙ ap (λ (xs : List ℕ). xs ++ drop n octets) c.parts
+                    ∙ append_assoc c.done c.cut (drop n octets);
+                whole = c.whole;
+                few = omega arith;
+                begins = subst (BeginsInstr version) (sym front_is)
+                    (instr_begins version c.cut
+                    (behind_octets c.done c.cut
+                    (subst AreOctets c.parts (take_octets n octets fits)))
+                    c.some c.short);
+                none = λ i rest good is e. elim
+                    (cases_lt (n - length c.done) (length (spelling i))) [
+                      | inl lt ↦ lt
+                      | inr le ↦ absurd (
+                          let parts : c.cut ++ rest ≡ spelling i =
+                          ap (λ (xs : List ℕ). xs ++ rest) (sym front_is) ∙ e in
+                          let size : length (c.cut ++ rest) ≡ length (spelling i) =
+                          ap length parts in
+                          none (record {
+                            octets = rest;
+                            fits = good;
+                            few = omega (arith, length-append c.cut rest);
+                            is = (i, ap (instr_from version) parts ∙ is);
+                          }))
+                    ];
+              }))
+        ]
+
+  length_of_code : code_of_length version n octets ≡ Err Truncated
+      → EndsIn (code_of_length version n) Any octets
+      ⊎ (Past version n octets ⊎ Part version n octets)
+  length_of_code = go (code_fault version (length (take n octets)) (take n octets)) refl
+    where
+      go : (o : Option ImageFault)
+          → code_fault version (length (take n octets)) (take n octets) ≡ o
+          → ◌≡◌ {A = Result (List ℕ) ImageFault}
+          (unless o (cond (eqb (length octets) n) (Ok octets) (Err Truncated))) (Err Truncated)
+          → EndsIn (code_of_length version n) Any octets
+          ⊎ (Past version n octets ⊎ Part version n octets)
+      go None is e = whole_front is e
+      go (Some f) is e =
+          let same : f ≡ Truncated = err_same {A = List ℕ} f Truncated e in
+          part_front (code_cut version (length (take n octets)) (take n octets) (omega arith)
+          (take_octets n octets fits) (is ∙ ap (λ (x : ImageFault). Some x) same))
+
+-- Code behind its length, with others behind it or cut short within an instruction.
+pub record CodeCut (version : Version) (octets : List ℕ) : Type 0 where
+  pub size : ℕ
+  pub small : size ≤ 65_535
+  pub rest : List ℕ
+  pub parts : octets ≡ number_octets size ++ rest
+  pub is : Past version size rest ⊎ Part version size rest
+
+pub code_short : (version : Version) (octets : List ℕ) → AreOctets octets
+    → code_at version octets ≡ Err Truncated → EndsIn (code_at version) Any octets
+    ⊎ CodeCut version octets
+unfolding code_at
+code_short version octets fits e =
+    elim (through number_at (λ n octets. code_of_length version n octets) Any steady_number Never
+    (λ n rest. Past version n rest ⊎ Part version n rest) octets (λ f. inl (number_short octets f))
+    (code_start version)
+    (λ n rest is f. length_of_code version n rest (behind_number octets n rest fits is) f) e) [
+      | inl a ↦ inl a
+      | inr c ↦ elim c [
+        | inl d ↦ absurd d
+        | inr d ↦ inr (
+            let took = took_number octets d.0.0 d.0.1 d.1 in
+            let small : d.0.0 < 2 ^ 16 = took.1 fits in
+            record {
+              size = d.0.0;
+              small = omega arith;
+              rest = d.0.1;
+              parts = took.0.parts ∙ ap (λ (ys : List ℕ). ys ++ d.0.1) (took.0.is fits);
+              is = d.2;
+            })
+      ]
+    ]
