@@ -2,7 +2,7 @@
 variables of several values)."""
 import itertools
 import math
-from dataclasses import dataclass
+from dataclasses import dataclass, field
 
 STEPS, CHOICES = 20_000, 20_000  # how far it looks for products, and for the fewest of them
 
@@ -156,16 +156,22 @@ def search(rest, covers, left):
 @dataclass
 class Condition:
     """A sum of products: of each the words for its parts; no product is never, one without parts is
-    always. `is_least` is whether no shorter sum is possible."""
+    always. `is_least` is whether no shorter sum is possible; `facts` are the parts once more, each
+    as a variable with the words of its values."""
     products: list
     is_least: bool = True
+    facts: list = field(default_factory=list)
 
     def told(self):
+        return ' or '.join(self.lines())
+
+    def lines(self):
+        """The words of each product; never and always have one line."""
         if not self.products:
-            return 'never'
+            return ['never']
         if self.products == [[]]:
-            return 'always'
-        return ' or '.join(' and '.join(parts) for parts in self.products)
+            return ['always']
+        return [' and '.join(parts) for parts in self.products]
 
 
 def part_told(variable, values):
@@ -184,10 +190,14 @@ def condition(variables, holds):
     places = matters(variables, holds)
     kept = [variables[place] for place in places]
     if not kept:
-        return Condition([[]] if next(iter(holds.values()), False) else [])
+        is_always = next(iter(holds.values()), False)
+        return Condition([[]], facts=[[]]) if is_always else Condition([])
     sizes = [len(variable.values) for variable in kept]
     table = table_of([len(variable.values) for variable in variables], holds, places)
     products, is_least = fewest(Products(sizes).of(table), table, sizes)
-    told = [[part_told(variable, values) for variable, values in zip(kept, product)
-             if values != (1 << len(variable.values)) - 1] for product in products]
-    return Condition(told, is_least)
+    parts = [[(variable, values) for variable, values in zip(kept, product)
+              if values != (1 << len(variable.values)) - 1] for product in products]
+    told = [[part_told(*part) for part in product] for product in parts]
+    facts = [[(variable, [word for at, word in enumerate(variable.values) if values >> at & 1])
+              for variable, values in product] for product in parts]
+    return Condition(told, is_least, facts)

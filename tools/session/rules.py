@@ -1,24 +1,33 @@
-"""The rules of an interlocking: what may never be released, and what is to be always, in which state of the bay.
+"""The rules of an interlocking: what may never be released, and what is to be always, in which
+state of the bay.
 
     # a comment
     look   M1_AA 0|5
     never  QB1 open|close when QC1 not off and not BYPASS
     always QA1 open
     always QA1 close      when QB1 on and QB2 off and QC1 off and (QB9 on or QB9 off)
+    never  QC9 close      until U_DEAD and M1_HZ 0 for 10s
+    always QC9 close      after U_DEAD and M1_HZ 0 for 10s when QB9 off
 
-A condition is made with and, or, not and parentheses of: a switch and its positions (intermediate, off, on, bad; several with |; `not` before
-them), an input alone, or an input or a measure and its values (`M1_AA 0|5`). `is` may stand before positions and values. Names are compared
-as upper case, and # begins a comment. `look` says which values a switch, an input or a measure goes through: all positions, 0 and 1, and of a
-measure 0 alone, where nothing is said."""
+A condition is made with and, or, not and parentheses of: a switch and its positions (intermediate,
+off, on, bad; several with |; `not` before them), an input alone, or an input or a measure and its
+values (`M1_AA 0|5`). `is` may stand before positions and values. Names are compared as upper case,
+and # begins a comment. `look` says which values a switch, an input or a measure goes through: all
+positions, 0 and 1, and of a measure 0 alone, where nothing is said.
+
+`never .. until C for T` forbids a release until C has held without a break for the time T, and
+`always .. after C for T` demands it from then on; `when` says in which combinations that is asked.
+A time is a number with a unit (d, h, m, s, ms), or several of them: 10s, 1m30s, 500ms."""
 import re
-from dataclasses import dataclass
+from dataclasses import dataclass, field
 from typing import Callable
 
 POSITIONS = {'INTERMEDIATE': 0, 'OFF': 1, 'ON': 2, 'BAD': 3}
 TRUTHS = {'FALSE': 0, 'TRUE': 1}
 WAYS = {'OPEN': 0, 'CLOSE': 1}
 KNOWN = {**POSITIONS, **TRUTHS}
-WORDS = {'WHEN', 'AND', 'OR', 'NOT', 'IS', '(', ')', '|'}
+WORDS = {'WHEN', 'AND', 'OR', 'NOT', 'IS', 'FOR', '(', ')', '|'}
+UNITS = {'D': 86_400_000, 'H': 3_600_000, 'M': 60_000, 'S': 1000, 'MS': 1}
 
 
 class BadRule(Exception):
@@ -26,26 +35,38 @@ class BadRule(Exception):
 
 
 @dataclass
+class Since:
+    """A condition that holds for a time, in milliseconds; `names` are those that it names."""
+    condition: Callable
+    names: set
+    time: int
+
+
+@dataclass
 class Rule:
-    """`ways` are the releases of a switch (0 to open, 1 to close) that may not be, or are to be, where the condition holds of a state, which
-    gives each name its value."""
+    """`ways` are the releases of a switch (0 to open, 1 to close) that may not be, or are to be,
+    where the condition holds of a state, which gives each name its value. `since` is the condition
+    of a rule with a time."""
     line: int
     text: str
     wanted: bool
     switch: str
     ways: list
     condition: Callable
+    since: Since | None = None
+    names: set = field(default_factory=set)
 
     def breaks(self, releases):
-        """Whether what is released of each switch breaks the rule, in a state in which its condition holds."""
+        """Whether what is released of each switch breaks the rule, in a state in which its
+        condition holds."""
         return any(releases[self.switch][way] != self.wanted for way in self.ways)
 
 
 class Reader:
-    """Reads one rule, word by word."""
+    """Reads one rule, word by word. `names` are those that its conditions name."""
 
     def __init__(self, text, switches, others):
-        self.switches, self.others = switches, others
+        self.switches, self.others, self.names = switches, others, set()
         self.words = re.findall(r'[A-Za-z0-9_\-]+|\S', text)
 
     def peek(self):
@@ -54,7 +75,8 @@ class Reader:
     def take(self, *wanted):
         """The next word, where it is one of these, or any if none are given."""
         if not self.words or (wanted and self.peek() not in wanted):
-            raise BadRule(f'{" or ".join(wanted).lower() or "a word"} is wanted, not {self.words[0] if self.words else "the end"}')
+            told = ' or '.join(wanted).lower() or 'a word'
+            raise BadRule(f'{told} is wanted, not {self.words[0] if self.words else "the end"}')
         return self.words.pop(0).upper()
 
     def may_take(self, word):
@@ -66,10 +88,21 @@ class Reader:
         if switch not in self.switches:
             raise BadRule(f'{switch} is no switch of the bay')
         ways = self.several(lambda: WAYS[self.take(*WAYS)])
+        since = self.since('AFTER' if wanted else 'UNTIL')
         condition = self.any_of() if self.words and self.take('WHEN') else lambda state: True
         if self.words:
             raise BadRule(f'{self.words[0]} can\'t stand here')
-        return Rule(line, text, wanted, switch, ways, condition)
+        return Rule(line, text, wanted, switch, ways, condition, since, self.names)
+
+    def since(self, word):
+        """The condition of `until C for T` or `after C for T`, or None."""
+        if self.peek() in ('UNTIL', 'AFTER') and self.peek() != word:
+            raise BadRule('never goes with `until`, and always with `after`')
+        if not self.may_take(word):
+            return None
+        condition, names = self.any_of(), set(self.names)
+        self.take('FOR')
+        return Since(condition, names, time_of(self.take()))
 
     def several(self, one):
         found = [one()]
@@ -103,10 +136,12 @@ class Reader:
         """A name and its values."""
         name = self.take()
         if name not in self.switches and name not in self.others:
-            raise BadRule(f'{name} is no switch, input or measure that is looked at')
+            raise BadRule(f'{name} is no switch, input or measure of the bay')
+        self.names.add(name)
         told = self.may_take('IS')
         negated = self.may_take('NOT')
-        if name not in self.switches and not told and not negated and (not self.words or self.peek() in WORDS):
+        is_alone = not told and not negated and (not self.words or self.peek() in WORDS)
+        if name not in self.switches and is_alone:
             return lambda state: state[name] != 0
         values = self.several(lambda: self.value(name))
         return lambda state: (state[name] in values) != negated
@@ -122,6 +157,16 @@ class Reader:
         return int(word)
 
 
+def time_of(word):
+    """The milliseconds of a time."""
+    if not re.fullmatch(r'(\d+(MS|[DHMS]))+', word):
+        raise BadRule(f'{word.lower()} is no time: 5s, 1m30s or 500ms is wanted')
+    time = sum(int(number) * UNITS[unit] for number, unit in re.findall(r'(\d+)(MS|[DHMS])', word))
+    if not 0 < time < 2 ** 31:
+        raise BadRule(f'{word.lower()} is no time that a timer has')
+    return time
+
+
 def values_of(text):
     """Values parted by |, or None where they can't be read."""
     try:
@@ -131,7 +176,8 @@ def values_of(text):
 
 
 def lines_of(text):
-    """The lines that say something, each with its number, without comments and with single blanks."""
+    """The lines that say something, each with its number, without comments and with single
+    blanks."""
     for number, line in enumerate(text.split('\n'), 1):
         rule = ' '.join(line.partition('#')[0].split())
         if rule:
@@ -151,8 +197,19 @@ def read_looks(text):
     return looks
 
 
+def held(option):
+    """The values of names that an option holds: NAME=VALUE|VALUE, parted by commas."""
+    found = {}
+    for part in filter(None, (option or '').split(',')):
+        name, _, values = part.partition('=')
+        found[name.upper()] = values_of(values)
+        if found[name.upper()] is None:
+            raise BadRule(f'{part}: NAME=VALUE|VALUE is wanted')
+    return found
+
+
 def read_rules(text, switches, others):
-    """The rules of a text, for the names of switches and of what else is looked at, in upper case."""
+    """The rules of a text, for the names of switches and of what else a bay has, in upper case."""
     rules = []
     for number, line in lines_of(text):
         if line.split(' ')[0].upper() != 'LOOK':

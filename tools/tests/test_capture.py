@@ -1,4 +1,5 @@
-"""Captures made by hand: in order, out of order, repeated, with what is missing; pcap and pcapng."""
+"""Captures made by hand: in order, out of order, repeated, with what is missing; pcap and
+pcapng."""
 import pathlib
 import struct
 import sys

@@ -1,0 +1,186 @@
+"""The report of an audit: one page of HTML that needs no other file, to be printed and signed."""
+import datetime
+import hashlib
+import html
+import pathlib
+import re
+
+from .bay import WAYS
+from .judging import released, uncovered
+from .matrix import draw
+
+TOOLS = pathlib.Path(__file__).resolve().parent.parent
+CHANGES = TOOLS.parent / 'CHANGELOG.md'
+STYLE = '''
+@page { size: A4; margin: 16mm 15mm 18mm;
+  @bottom-right { content: counter(page) " / " counter(pages); font: 8pt sans-serif; color: #555 }
+  @bottom-left { content: "%s"; font: 8pt sans-serif; color: #555 } }
+* { box-sizing: border-box }
+body { font: 10pt/1.4 "DejaVu Sans", Verdana, Helvetica, Arial, sans-serif; color: #1a1a1a;
+  max-width: 190mm; margin: 0 auto; padding: 6mm; -webkit-print-color-adjust: exact;
+  print-color-adjust: exact }
+@media print { body { padding: 0; max-width: none; font-size: 9pt } }
+h1 { font-size: 17pt; margin: 0 0 1mm } h2 { font-size: 12pt; margin: 7mm 0 2mm;
+  border-bottom: 1px solid #999; padding-bottom: 1mm; break-after: avoid }
+p { margin: 1.5mm 0 } table { border-collapse: collapse; width: 100%% }
+th, td { text-align: left; vertical-align: top; padding: 1mm 2mm 1mm 0;
+  border-bottom: 1px solid #ddd } tr { break-inside: avoid } thead { display: table-header-group }
+th { font-weight: bold } td.number, th.number { text-align: right; white-space: nowrap }
+code { font-family: "DejaVu Sans Mono", Consolas, monospace; font-size: 0.88em;
+  overflow-wrap: anywhere } td.name { white-space: nowrap }
+.verdict { border: 2px solid; padding: 2mm 4mm; margin: 4mm 0; font-size: 12pt; font-weight: bold }
+.good { color: #1b5e20 } .bad { color: #b3261e } .mark { font-weight: bold; white-space: nowrap }
+.quiet { color: #555 } svg { max-width: 100%%; height: auto }
+.figure { break-inside: avoid } .sign { break-inside: avoid; margin-top: 4mm }
+.sign table { width: calc(100%% - 2px); margin: 1px }
+.sign td { height: 14mm; border: 1px solid #777; padding: 1mm 2mm; width: 25%% }
+.sign th { border: 1px solid #777; padding: 1mm 2mm; background: #f1f1f1 }
+'''
+
+
+def escaped(text):
+    return html.escape(str(text))
+
+
+def code(text):
+    return f'<code>{escaped(text)}</code>'
+
+
+def sum_of(octets):
+    return hashlib.sha256(octets).hexdigest()
+
+
+def version():
+    """The tool's version: the newest day of CHANGELOG.md, and a sum of its files."""
+    day = re.search(r'^## (\S+)', CHANGES.read_text(encoding='utf-8'), re.M)
+    paths = [TOOLS / 'audit', *sorted(path for name in ('auditing', 'session', 'diagnosis')
+                                      for path in (TOOLS / name).glob('*.py'))]
+    found = sum_of(b''.join(path.read_bytes() for path in paths))
+    return f'{day[1] if day else "of no day"}, SHA-256 of its files {found[:16]}'
+
+
+def table(heads, rows, style=''):
+    """A table; of a head a leading # says that its column has numbers, and ! names."""
+    kinds = [{'#': ' class="number"', '!': ' class="name"'}.get(head[:1], '') for head in heads]
+    told = ''.join(f'<th scope="col"{kind}>{escaped(head.lstrip("#!"))}</th>'
+                   for head, kind in zip(heads, kinds))
+    head = f'<thead><tr>{told}</tr></thead>' if any(heads) else ''
+    body = ''.join('<tr>' + ''.join(f'<td{kind}>{cell}</td>' for kind, cell in zip(kinds, row))
+                   + '</tr>' for row in rows)
+    return f'<table{style}>{head}<tbody>{body}</tbody></table>'
+
+
+def product_list(condition):
+    """The products of a condition, one below the other."""
+    if condition is None:
+        return 'has too many parts to be shortened: the matrix tells it'
+    first, *others = [code(line) for line in condition.lines()]
+    return first + ''.join(f'<br><span class="quiet">or</span> {other}' for other in others)
+
+
+class Report:
+    """An audit as a page. `files` are what was read, by what it is: name and octets."""
+
+    def __init__(self, audit, files, bayctl, moment):
+        self.audit, self.bay, self.files, self.bayctl = audit, audit.bay, files, bayctl
+        self.moment = datetime.datetime.fromtimestamp(moment, datetime.UTC)
+        self.bare = uncovered(audit)
+
+    def page(self):
+        bay = self.bay.file['bay']
+        title = f'Audit of the interlocking of bay {bay["domain"]}'
+        style = STYLE % f'Bay {bay["domain"]}, {self.moment:%Y-%m-%d %H:%M} UTC'
+        parts = [f'<h1>{escaped(title)}</h1>', self.verdict(), self.what_was_read(),
+                 self.what_was_looked_at(), self.rules(), self.conditions(), self.uncovered(),
+                 self.matrix(), self.signatures()]
+        return ('<!DOCTYPE html>\n<html lang="en"><head><meta charset="utf-8">'
+                '<meta name="viewport" content="width=device-width">'
+                f'<title>{escaped(title)}</title><style>{style}</style></head>\n<body>\n'
+                + '\n'.join(parts) + '\n</body></html>\n')
+
+    def verdict(self):
+        findings = self.audit.findings
+        broken = sum(it.broken > 0 for it in findings)
+        idle = sum(not it.looked for it in findings)
+        if self.audit.is_passed():
+            told, kind = f'PASSED: all {len(findings)} rules hold.', 'good'
+        else:
+            why = [f'{broken} of {len(findings)} rules are broken'] if broken else []
+            why += [f'{idle} are asked of no combination'] if idle else []
+            told, kind = f'NOT PASSED: {", ".join(why) or "there are no rules"}.', 'bad'
+        return f'<p class="verdict {kind}">{told}</p>'
+
+    def what_was_read(self):
+        bay = self.bay.file['bay']
+        rows = [(what, code(name), f'{len(octets):,}', code(sum_of(octets)))
+                for what, (name, octets) in self.files.items()]
+        program = pathlib.Path(self.bayctl).read_bytes()
+        rows.append(('bayctl', code(pathlib.Path(self.bayctl).name), f'{len(program):,}',
+                     code(sum_of(program))))
+        about = [('Bay', escaped(bay['domain'])),
+                 ('Device', escaped(f'{bay["vendor"]} {bay["model"]}, {bay["revision"]}')),
+                 ('Date', f'{self.moment:%Y-%m-%d %H:%M:%S} UTC'),
+                 ('Tool', f'tools/audit of {escaped(version())}')]
+        return ('<h2>What was audited</h2>' + table(['', ''], about) + '<p></p>'
+                + table(['', 'File', '#Octets', 'SHA-256'], rows))
+
+    def what_was_looked_at(self):
+        audit, program = self.audit, self.bay.program
+        rows = [(escaped(it.name), {'contact': 'switch'}.get(it.verb, it.verb),
+                 escaped(', '.join(it.words())) + (' (held)' if len(it.values) == 1 else ''))
+                for it in self.bay.things]
+        told = (f'{len(audit.table):,} combinations, {audit.scans:,} scans. Each combination is '
+                'scanned at once and '
+                + ', '.join(f'{at:,} ms' for at in audit.offsets[1:]) + ' after it is reached.')
+        notes = [f'Not read by the program, and so not combined: {", ".join(self.bay.unread)}.'
+                 ] if self.bay.unread else []
+        if program.points is None:
+            notes.append('This tool can\'t follow the program, so all points are combined.')
+        if program.timers and not audit.has_times():
+            notes.append(f'The program has {program.timers} timers, and no rule has a time: '
+                         '<b>timers are not audited.</b>')
+        if program.untold:
+            notes.append('The times of these timers are not in the text, and their moments are not '
+                         f'looked at: {escaped(", ".join(program.untold))}.')
+        return ('<h2>What was looked at</h2>' + f'<p>{told}</p>'
+                + ''.join(f'<p>{note}</p>' for note in notes)
+                + table(['Point', 'Kind', 'Values'], rows))
+
+    def rules(self):
+        rows = []
+        for it in self.audit.findings:
+            kind = 'good' if it.verdict() == 'holds' else 'bad'
+            told = code(it.rule.text)
+            if it.broken:
+                told += (f'<br><span class="quiet">first by {escaped(self.bay.told(it.first))}, '
+                         f'{it.after:,} ms after</span>')
+            rows.append((it.rule.line, told, f'{it.looked:,}', f'{it.broken:,}',
+                         f'<span class="mark {kind}">{it.verdict()}</span>'))
+        heads = ['#Line', 'Rule', '#Asked', '#Broken', 'Verdict']
+        return '<h2>Rules</h2>' + (table(heads, rows) if rows else '<p>There are none.</p>')
+
+    def conditions(self):
+        rows = [(f'<b>{escaped(name)}</b> {WAYS[way]}', product_list(it))
+                for (name, way), it in released(self.audit).items()]
+        return ('<h2>Derived conditions</h2><p class="quiet">The least condition under which each '
+                'release stands once timers have run out.</p>'
+                + table(['!Release', 'stands where'], rows))
+
+    def uncovered(self):
+        rows = [(f'<b>{escaped(name)}</b> {WAYS[way]}', f'{count:,}', product_list(it))
+                for (name, way), (count, it) in self.bare.items()]
+        lead = ('<h2>Releases that no rule covers</h2><p class="quiet">What the program releases '
+                'and no rule with <code>always</code> asks for.</p>')
+        return lead + (table(['!Release', '#Combinations', 'where'], rows) if rows else
+                       '<p>None: each release is asked for by a rule.</p>')
+
+    def matrix(self):
+        return ('<div class="figure"><h2>Matrix</h2><p class="quiet">In how many of the '
+                'combinations with a position or value each release stands; a column is empty '
+                'where the release does not depend on it.</p>'
+                + draw(self.bay, self.audit.table, width=820) + '</div>')
+
+    def signatures(self):
+        rows = [(who, '', '', '') for who in ('Tested by', 'Checked by', 'Accepted by')]
+        return ('<div class="sign"><h2>Signatures</h2>'
+                + table(['', 'Name', 'Date', 'Signature'], rows) + '</div>')
