@@ -114,13 +114,14 @@ class Reader:
 
     def declare(self, number, tokens):
         """name {, name} : type [:= literal] ;"""
-        if is_operator(tokens[0]):
-            raise Misplaced(f'{tokens[0].text} stands in a block of declarations: END_VAR is missing', tokens[0], [(self.block[1], 'the block begins here')])
+        is_named = len(tokens) > 1 and tokens[1].text in (':', ',')
+        if is_operator(tokens[0]) and not is_named:
+            raise Misplaced(f'{tokens[0].text} stands in a block of declarations: END_VAR is '
+                            'missing', tokens[0], [(self.block[1], 'the block begins here')])
         names, at = [], 0
         while True:
             if at >= len(tokens) or tokens[at].kind != 'name':
-                told = reserved_told(tokens[at]) if at < len(tokens) else ''
-                raise Misplaced(f'a name is wanted{" here" if at < len(tokens) else " behind the comma"}{told}', tokens[min(at, len(tokens) - 1)])
+                raise self.no_name(tokens, at)
             names.append(tokens[at])
             at += 1
             if at < len(tokens) and tokens[at].text == ',':
@@ -129,6 +130,15 @@ class Reader:
             break
         kind, initial = self.tail(tokens[at:], names[-1])
         self.declarations += [Declaration(name, number, self.block[0], kind, initial) for name in names]
+
+    def no_name(self, tokens, at):
+        """Why no name of a variable stands here."""
+        if at >= len(tokens):
+            return Misplaced('a name is wanted behind the comma', tokens[-1])
+        if tokens[at].kind == 'word':
+            return Misplaced(f'{tokens[at].text} is a word of the language, so no variable can have '
+                             'that name', tokens[at])
+        return Misplaced('a name is wanted here', tokens[at])
 
     def tail(self, rest, before):
         if not rest or rest[0].text != ':':
@@ -167,6 +177,9 @@ class Reader:
         first = tokens[0]
         if any(token.means(*TYPES, *TIMERS) for token in tokens[1:]):
             return Misplaced('a declaration stands between VAR and END_VAR, before the first instruction', first)
+        if len(tokens) > 1 and tokens[1].text == '(':
+            return Misplaced(f'{first.text} is no operator: a timer is called by CAL, as '
+                             f'CAL {first.text}(IN := a, PT := T#5s)', first)
         if len(tokens) > 1 and tokens[1].text == ':':
             return Misplaced('behind a label an instruction may stand, and nothing else', tokens[2])
         return Misplaced(f'{first.text} is no operator{near(first.text, OPERATORS)} (behind a label a : is wanted)', first)

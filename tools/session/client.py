@@ -1,4 +1,5 @@
-"""A client of MMS over TCP: it connects, asks one thing after the other, and hands on the reports that come between."""
+"""A client of MMS over TCP: it connects, asks one thing after the other, and hands on the reports
+that come between."""
 import socket
 import time
 
@@ -7,16 +8,21 @@ from .ber import Unreadable
 from .conversation import Conversation
 from .words import Bay
 
-TOGETHER, PATIENCE = 32, 10  # variables in one request, and seconds for an answer
+TOGETHER, PATIENCE, FIRST = 32, 10, 12  # variables of a request; seconds for an answer, the first
 
 
 class Refused(Exception):
-    """The server ended the connection, or answered with an error."""
+    """The server answered with an error, or what was asked makes no sense there."""
+
+
+class Lost(Exception):
+    """The connection has ended, or nothing is answered on it."""
 
 
 class Trace:
-    """What is sent, as the lines of a trace, at the moments at which it is sent. Before octets stands a scan: a server scans in every turn,
-    and without one no operate is released in a replay."""
+    """What is sent, as the lines of a trace, at the moments at which it is sent. Before octets
+    stands a scan: a server scans in every turn, and without one no operate is released in a
+    replay."""
 
     def __init__(self, path, place):
         self.file, self.place, self.last = open(path, 'a', encoding='utf-8'), place, 0
@@ -25,7 +31,8 @@ class Trace:
         self.last = max(self.last, time.time_ns() // 1_000_000)
         if verb == 'recv':
             print(self.last, 'scan', file=self.file)
-        print(self.last, verb, self.place, *([octets.hex()] if octets else []), file=self.file, flush=True)
+        more = [octets.hex()] if octets else []
+        print(self.last, verb, self.place, *more, file=self.file, flush=True)
 
 
 class Client:
@@ -35,12 +42,30 @@ class Client:
         self.bay, self.trace, self.on_report = bay or Bay(), trace, on_report
         self.conversation, self.answers = Conversation(self.bay), stream.Stream()
         self.waiting, self.invoke, self.size, self.cause = [], 0, 8192, None
-        self.socket = socket.create_connection((host, port), PATIENCE)
+        self.socket = socket.create_connection((host, port), FIRST)
+        try:
+            self.open()
+        except BaseException:
+            self.socket.close()
+            raise
+
+    def open(self):
+        """Opens the association."""
         self.note('open')
         self.send(stream.connection_request())
-        self.size = self.next('CC').size or 65_531
+        self.size = self.first_answer().size or 65_531
+        self.socket.settimeout(PATIENCE)
         self.send(stream.wrapped(stream.association_request(mms.initiate_request()), self.size))
         self.next('accept')
+
+    def first_answer(self):
+        """The answer to the connection request. A server with eight associations takes no other
+        connection, so the request waits where the system keeps it."""
+        try:
+            return self.next('CC')
+        except TimeoutError:
+            raise Lost('the server does not take the connection: all eight associations are '
+                       'taken') from None
 
     def note(self, verb, octets=b''):
         if self.trace:
@@ -56,18 +81,19 @@ class Client:
             self.receive()
         got = self.waiting.pop(0)
         if got.kind != kind:
-            raise Refused(f'the server sends {got.words or got.kind} in the place of {kind}')
+            raise Lost(f'the server sends {got.words or got.kind} in the place of {kind}')
         return got
 
     def receive(self):
         """Waits for octets, and keeps the messages that they complete."""
         piece = self.socket.recv(65536)
         if not piece:
-            raise Refused('the server closed the connection')
+            raise Lost('the server closed the connection')
         self.waiting += self.answers.feed(piece)
 
     def ask(self, request, *more):
-        """The response to a request, which is a function of its invoke id and of what else is given."""
+        """The response to a request, which is a function of its invoke id and of what else is
+        given."""
         self.invoke, self.cause = self.invoke + 1, None
         octets = request(self.invoke, *more)
         self.conversation.asks_mms(octets)
@@ -125,7 +151,8 @@ class Client:
         """The values of items, or their failures, each with its name."""
         found = []
         for at in range(0, len(items), TOGETHER):
-            found += self.ask(mms.read_request, [self.full(item) for item in items[at:at + TOGETHER]]).data
+            names = [self.full(item) for item in items[at:at + TOGETHER]]
+            found += self.ask(mms.read_request, names).data
         return list(zip(items, found))
 
     def write(self, item, value):
@@ -140,6 +167,6 @@ class Client:
         try:
             self.send(stream.wrapped(stream.release_request(), self.size))
             self.next('released')
-        except (OSError, Refused, Unreadable):
+        except (OSError, Refused, Lost, Unreadable):
             self.note('close')
         self.socket.close()

@@ -3,10 +3,10 @@ import pathlib
 import re
 import subprocess
 import sys
-import tomllib
 from dataclasses import dataclass, field
 
 from .conversation import Conversation, replies_to, report_in
+from .files import BadFile, tables_of
 from .words import Bay
 
 TOP = pathlib.Path(__file__).resolve().parent.parent.parent
@@ -154,11 +154,11 @@ def parts_of(octets):
 
 
 def bay_file(text):
-    """The tables of a bay file."""
+    """The tables of a bay file; a tool ends where it can't be read."""
     try:
-        return tomllib.loads(text)
-    except tomllib.TOMLDecodeError as error:
-        sys.exit(f'the bay file has TOML that Python can\'t read: {error}')
+        return tables_of(text)
+    except BadFile as error:
+        sys.exit(str(error))
 
 
 def not_run(error):
