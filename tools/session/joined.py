@@ -1,8 +1,17 @@
-"""A captured session joined with a trace, so that bayctl replays it, and what it then says
-otherwise."""
+"""Traces and captured sessions joined to one trace, so that bayctl replays it, and what it then
+says otherwise."""
+import re
+
+from .moments import is_clock
 from .stream import Stream
 
-PLACES, EPOCH = 8, 100_000_000_000  # associations, and a moment that is of this century
+PLACES = 8  # associations
+TALK = ('open', 'recv', 'close')
+ENDS = ('finish', 'release', 'abort', 'end', 'fault')  # what ends an association
+
+
+class BadTrace(Exception):
+    """Lines that are none of a trace, or too many associations."""
 
 
 def placed(events):
@@ -19,31 +28,70 @@ def placed(events):
 
 
 def lines_of(events):
-    """The lines of a trace that the session is: a scan stands before each piece of a client."""
+    """The lines of a trace that the session is: a scan stands before each piece of a client. An
+    association that its client has ended is not closed once more."""
+    streams = {}
     for event, place in placed(events):
         if event.kind == 'client':
             yield event.moment, 'scan'
             yield event.moment, f'recv {place} {event.octets.hex()}'
-        elif event.kind in ('open', 'close'):
-            yield event.moment, f'{event.kind} {place}'
+            stream = streams.get(place)
+            if stream and any(got.kind in ENDS for got in stream.feed(event.octets)):
+                del streams[place]
+        elif event.kind == 'open':
+            streams[place] = Stream()
+            yield event.moment, f'open {place}'
+        elif event.kind == 'close' and streams.pop(place, None):
+            yield event.moment, f'close {place}'
+
+
+def read_lines(text):
+    """The moments of a trace with what stands behind them."""
+    found = []
+    for number, line in enumerate(text.splitlines(), 1):
+        moment, _, rest = line.partition(' ')
+        if line and not (moment.isascii() and moment.isdigit() and rest):
+            raise BadTrace(f'line {number} is no line of a trace: {line[:40]}')
+        if line:
+            found.append((int(moment), rest))
+    return found
+
+
+def merged(parts):
+    """One trace of several, each a list of moments and lines, in the order of their moments. Where
+    some count from 1970, the lines of others come first, when the session begins."""
+    clocks = [moment for part in parts for moment, _ in part if is_clock(moment)]
+    first = min(clocks, default=0)
+    found = [(moment if is_clock(moment) else first if clocks else moment, rest)
+             for part in parts for moment, rest in part]
+    return '\n'.join(f'{moment} {rest}' for moment, rest in sorted(found, key=lambda it: it[0]))
 
 
 def trace_of(events, told):
-    """All lines in the order of their moments; those of a trace that does not count from 1970 come
-    first, at the moment at which the session begins."""
-    found = list(lines_of(events))
-    first = found[0][0] if found else 0
-    more = []
-    for line in told.splitlines():
-        moment, _, rest = line.partition(' ')
-        if rest:
-            more.append((int(moment) if int(moment) > EPOCH else first, rest))
-    moments = sorted(more + found, key=lambda line: line[0])
-    last, out = 0, []
-    for moment, rest in moments:
-        last = max(last, moment)
-        out.append(f'{last} {rest}')
-    return '\n'.join(out) + '\n'
+    """All lines of a session, joined with those of the process."""
+    return merged([read_lines(told), list(lines_of(events))]) + '\n'
+
+
+def renumbered(parts):
+    """The same lines, the associations of each part with numbers of their own."""
+    numbers, found = {}, []
+    for at, part in enumerate(parts):
+        lines = []
+        for moment, rest in part:
+            verb, *words = rest.split(' ')
+            if verb in TALK and words:
+                words[0] = str(numbers.setdefault((at, words[0]), len(numbers) + 1))
+            lines.append((moment, ' '.join([verb, *words])))
+        found.append(lines)
+    if len(numbers) > PLACES:
+        raise BadTrace(f'there are {len(numbers)} associations, and {PLACES} are the most')
+    return found
+
+
+def scenario_of(bay, logic, trace):
+    """The octets of a scenario, of the octets of its parts."""
+    return b''.join(part if part.endswith(b'\n') else part + b'\n'
+                    for part in (bay, b'%%', logic, b'%%', trace))
 
 
 def sent_of(events):
@@ -68,14 +116,18 @@ def replayed_of(printed):
     return sent, faults
 
 
-def messages(octets):
-    return list(Stream().feed(octets))
+def messages(octets, is_timed):
+    """The messages of a server, with or without their times."""
+    found = list(Stream().feed(octets))
+    for got in found if not is_timed else []:
+        got.octets = re.sub(rb'(?s)\x91\x08.{8}', b'\x91\x08' + bytes(8), got.octets)
+    return found
 
 
-def first_difference(captured, replayed):
+def first_difference(captured, replayed, is_timed=True):
     """The association and the message that is the first to be otherwise, with both, or None."""
     for place in sorted(captured | replayed):
-        one, other = messages(captured.get(place, b'')), messages(replayed.get(place, b''))
+        one, other = (messages(side.get(place, b''), is_timed) for side in (captured, replayed))
         for at in range(max(len(one), len(other))):
             left, right = (side[at] if at < len(side) else None for side in (one, other))
             if left != right:

@@ -1,8 +1,7 @@
 """What stands in MMS, in the words of those who switch: positions, qualities, causes, errors, names of a bay."""
-import datetime
 import tomllib
 
-from . import mms
+from . import mms, moments
 from .mms import Data, Failure
 
 ADD_CAUSES = {
@@ -124,9 +123,9 @@ def moment_told(moment):
     """A moment in milliseconds, and as a date where it is one of our days; octets of another length as they are."""
     if isinstance(moment, bytes):
         return octets_told(moment)
-    if moment < 100_000_000_000:
+    if not moments.is_clock(moment):
         return f'{moment} ms'
-    return datetime.datetime.fromtimestamp(moment / 1000, datetime.UTC).isoformat(' ', 'milliseconds').replace('+00:00', 'Z')
+    return f'{moments.date_of(moment):%Y-%m-%d} {moments.clock_told(moment)}Z'
 
 
 def octets_told(octets):

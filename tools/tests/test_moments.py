@@ -1,0 +1,92 @@
+"""Moments, joined traces, and what a captured session was over time."""
+import pathlib
+import subprocess
+import sys
+import tempfile
+import unittest
+
+TOOLS = pathlib.Path(__file__).resolve().parent.parent
+sys.path.insert(0, str(TOOLS))
+from session import moments, stream
+from session.capture import Event
+from session.history import History
+from session.joined import BadTrace, lines_of, merged, read_lines, renumbered
+from session.words import Bay
+
+DAY = 1_795_000_000_000
+REQUEST = stream.connection_request()
+RELEASE = stream.wrapped(stream.release_request())
+
+
+class Moments(unittest.TestCase):
+    def test_words(self):
+        self.assertEqual(moments.told(5000), '5000 ms')
+        self.assertEqual(moments.told(DAY + 7), '11:06:40.007')
+        self.assertEqual(moments.day_told(DAY), '2026-11-18 UTC')
+
+    def test_warnings(self):
+        self.assertEqual(moments.warnings([0, 5], 0), [])
+        self.assertEqual(moments.warnings([DAY, DAY + 1], 0), [])
+        told, = moments.warnings([0, DAY], 0)
+        self.assertIn('1 line has moments that do not count from 1970', told)
+        told, = moments.warnings([5], 2)
+        self.assertIn('2 lines are refused (110)', told)
+
+
+class Joined(unittest.TestCase):
+    def test_lines_of_a_trace_come_first(self):
+        found = merged([[(0, 'contact QA1 2'), (9, 'scan')], [(DAY, 'open 1')]])
+        self.assertEqual(found, f'{DAY} contact QA1 2\n{DAY} scan\n{DAY} open 1')
+
+    def test_moments_are_kept_where_none_is_of_our_days(self):
+        self.assertEqual(merged([[(5, 'scan')], [(3, 'contact QA1 1')]]),
+                         '3 contact QA1 1\n5 scan')
+
+    def test_clients_have_numbers_of_their_own(self):
+        found = renumbered([[(1, 'open 1'), (2, 'recv 1 03'), (3, 'scan')], [(1, 'open 1')]])
+        self.assertEqual(found, [[(1, 'open 1'), (2, 'recv 1 03'), (3, 'scan')], [(1, 'open 2')]])
+        with self.assertRaises(BadTrace):
+            renumbered([[(1, f'open {n}')] for n in range(9)])
+
+    def test_lines_that_are_none(self):
+        for text in ('scan', '5', 'x scan', '-1 scan'):
+            with self.assertRaises(BadTrace):
+                read_lines(text)
+
+    def test_a_session_that_its_client_ends(self):
+        events = [Event(DAY, 1, 'open'), Event(DAY, 1, 'client', REQUEST),
+                  Event(DAY, 1, 'client', RELEASE), Event(DAY, 1, 'close')]
+        verbs = [line.split(' ')[0] for _, line in lines_of(events)]
+        self.assertEqual(verbs, ['open', 'scan', 'recv', 'scan', 'recv'])
+        cut_off = [line.split(' ')[0] for _, line in lines_of(events[:2] + events[3:])]
+        self.assertEqual(cut_off, ['open', 'scan', 'recv', 'close'])
+
+    def test_the_tool(self):
+        with tempfile.TemporaryDirectory() as folder:
+            paths = [pathlib.Path(folder) / name for name in ('bay', 'logic', 'trace', 'sent')]
+            for path, text in zip(paths, ('[bay]', 'PROGRAM\r\n', '0 scan\n', f'{DAY} open 1')):
+                path.write_bytes(text.encode())
+            done = subprocess.run([TOOLS / 'join', *paths], capture_output=True)
+            self.assertEqual(done.stdout.decode(),
+                             f'[bay]\n%%\nPROGRAM\r\n%%\n{DAY} scan\n{DAY} open 1\n')
+            paths[2].write_text('no trace')
+            done = subprocess.run([TOOLS / 'join', *paths], capture_output=True, text=True)
+            self.assertEqual(done.returncode, 1)
+            self.assertIn('trace: line 1 is no line of a trace', done.stderr)
+
+
+class Histories(unittest.TestCase):
+    def test_a_capture(self):
+        file = {'bay': {'domain': 'E1'}, 'switch': [{'id': 'QA1', 'kind': 'breaker'}],
+                'input': [{'name': 'ES'}]}
+        events = [Event(DAY, 1, 'open'), Event(DAY + 5, 1, 'client', REQUEST),
+                  Event(DAY + 9, 1, 'close')]
+        history = History.of_capture(file, Bay(), events)
+        self.assertEqual((history.switches, history.inputs, history.warnings()), ({}, {}, []))
+        client = history.clients[1]
+        self.assertEqual(client.open.changes, [(DAY, True), (DAY + 9, False)])
+        self.assertIn('a transport connection', client.ticks[DAY + 5][0])
+
+
+if __name__ == '__main__':
+    unittest.main()
