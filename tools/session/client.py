@@ -36,12 +36,14 @@ class Trace:
 
 
 class Client:
-    """An open association. Each report that comes is handed to `on_report` in words."""
+    """An open association. Each report that comes is handed to `on_report` in words, and to
+    `on_said` as what was said."""
 
     def __init__(self, host, port, bay=None, trace=None, on_report=print):
         self.bay, self.trace, self.on_report = bay or Bay(), trace, on_report
         self.conversation, self.answers = Conversation(self.bay), stream.Stream()
         self.waiting, self.invoke, self.size, self.cause = [], 0, 8192, None
+        self.on_said = lambda said: None
         self.socket = socket.create_connection((host, port), FIRST)
         try:
             self.open()
@@ -110,6 +112,7 @@ class Client:
         if pdu.kind == 'report':
             self.cause = said.cause
             self.on_report('\n'.join(said.lines))
+            self.on_said(said)
         elif pdu.kind in ('error', 'reject'):
             raise Refused('\n'.join(said.lines))
         return pdu
@@ -127,10 +130,14 @@ class Client:
             self.socket.settimeout(PATIENCE)
         return self.pdu().kind == 'report'
 
+    def domains(self):
+        """The names of the logical devices."""
+        return self.ask(mms.names_request).names
+
     def domain(self):
         """The name of the logical device."""
         if not self.bay.domain:
-            domains = self.ask(mms.names_request).names
+            domains = self.domains()
             if not domains:
                 raise Refused('the server has no domain')
             self.bay.domain = domains[0]

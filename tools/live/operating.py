@@ -1,0 +1,129 @@
+"""What a panel operates: a switch is selected, the command is confirmed, and its end is told."""
+import time
+
+from session import words
+from session.ber import Unreadable
+from session.client import Lost, Refused
+from session.control import STATUS_ONLY, Control
+
+WAYS = {'open': False, 'close': True}
+ENDS = {'open': 'open', 'close': 'closed'}
+MARGIN = 1.0  # seconds beyond a switch's travel_ms, until its position is missed
+
+
+def answer(is_good, told):
+    return {'good': is_good, 'told': told}
+
+
+class Operator:
+    """One control at a time, over the association of a watcher. `state['control']` of the watcher
+    says how far it is: the switch, the way, and the stage, selected or moving."""
+
+    def __init__(self, watcher):
+        self.watcher, self.control, self.end, self.refusal = watcher, None, 0, ''
+        watcher.on_said.append(self.said)
+        watcher.on_read.append(self.read)
+
+    def act(self, verb, switch, way):
+        """Select, operate or cancel: what became of it."""
+        acts = {'select': self.select, 'operate': self.operate, 'cancel': self.cancel}
+        known = {it['id'] for it in self.watcher.file['switch']}
+        if verb not in acts or switch not in known or way not in WAYS:
+            return answer(False, 'there is no such control')
+        with self.watcher.lock:
+            if self.watcher.client is None:
+                return answer(False, 'there is no connection to the server')
+            self.refusal = ''
+            try:
+                found = acts[verb](switch, way)
+            except Refused as error:
+                self.set(None)
+                found = answer(False, str(error))
+            except (Lost, Unreadable, OSError) as error:
+                self.watcher.lose(error)
+                return answer(False, f'the connection is lost: {error}')
+            self.watcher.event(found['told'], 'control' if found['good'] else 'refused')
+        self.watcher.publish()
+        return found
+
+    def set(self, control, stage='', way=''):
+        self.control = control
+        self.watcher.state['control'] = control and {'switch': control.name, 'way': way,
+                                                     'stage': stage}
+
+    def finish(self, is_good, told):
+        """A control has ended."""
+        self.set(None)
+        last = self.watcher.state.get('last') or {'number': 0}
+        self.watcher.state['last'] = {**answer(is_good, told), 'number': last['number'] + 1}
+        self.watcher.event(told, 'control' if is_good else 'refused')
+
+    def outcome(self, outcome):
+        """The words of an outcome; of a refusal with a cause those of its report."""
+        return answer(outcome.is_good, outcome.words or self.refusal or 'refused')
+
+    def select(self, switch, way):
+        state = self.watcher.state['control']
+        if state:
+            return answer(False, f'{state["switch"]} is {state["stage"]} by this panel')
+        control = Control(self.watcher.client, switch, 'panel')
+        if control.model == STATUS_ONLY:
+            return answer(False, f'{switch} is not controlled: {words.CONTROL_MODELS[0]}')
+        if not control.is_selected_first():
+            self.set(control, 'selected', way)
+            return answer(True, f'{switch} needs no select')
+        found = self.outcome(control.select(WAYS[way]))
+        if found['good']:
+            self.set(control, 'selected', way)
+        return found
+
+    def operate(self, switch, way):
+        state = self.watcher.state['control']
+        if state != {'switch': switch, 'way': way, 'stage': 'selected'}:
+            return answer(False, f'{switch} is not selected by this panel')
+        control = self.control
+        found = self.outcome(control.operate(WAYS[way]))
+        if not found['good']:
+            self.set(None)
+            there = control.state(WAYS[way])
+            return answer(False, f'{found["told"]}. {there}' if there else found['told'])
+        entry = next(it for it in self.watcher.file['switch'] if it['id'] == switch)
+        self.end = time.monotonic() + entry.get('travel_ms', 0) / 1000 + MARGIN
+        self.set(control, 'moving', way)
+        return answer(True, f'{way} {switch}: the command is given')
+
+    def cancel(self, switch, way):
+        state = self.watcher.state['control']
+        if not state or state['switch'] != switch or state['stage'] != 'selected':
+            return answer(False, f'{switch} is not selected by this panel')
+        control = self.control
+        self.set(None)
+        if not control.is_selected_first():
+            return answer(True, f'{way} {switch}: given up')
+        return self.outcome(control.cancel(WAYS[way]))
+
+    def said(self, said):
+        """A report of the server, or None where the connection is lost."""
+        if said is None:
+            self.control = None
+        elif said.kind == 'refused':
+            self.refusal = '; '.join(said.lines)
+        elif said.kind == 'ended' and self.control and said.switch == self.control.name:
+            self.finish(said.good, '; '.join(said.lines))
+
+    def read(self, found):
+        """Looks whether a control has ended that the server tells no end of, and whether a
+        selection ran out."""
+        state = self.watcher.state['control']
+        if not state:
+            return
+        switch = next(it for it in found if it['id'] == state['switch'])
+        told, is_late = f'{state["way"]} {state["switch"]}', time.monotonic() > self.end
+        if state['stage'] == 'selected':
+            if self.control.is_selected_first() and not switch['selected']:
+                self.finish(False, f'{told}: the selection has run out')
+        elif switch['position'] == ENDS[state['way']] and (
+                is_late or not self.control.is_told_its_end()):
+            self.finish(True, f'{told} has ended: done')
+        elif is_late:
+            self.finish(False, f'{told}: it is {switch["position"]}, and its time is over')

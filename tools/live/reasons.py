@@ -1,0 +1,55 @@
+"""Why a switch may not be opened or closed: what is missing of the least condition under which the
+program releases it (tools/audit), as far as a client sees it."""
+from session.conditions import Condition
+
+POSITIONS = {'intermediate': 'between', 'off': 'open', 'on': 'closed', 'bad': 'bad'}
+STILL = 'the program does not release it'
+
+
+class Seen:
+    """What a client sees of a bay: positions in the words of rules and measured values, by names in
+    upper case. Inputs are shown to no client."""
+
+    def __init__(self, positions: dict[str, str], measures: dict[str, int]):
+        self.values = {**positions, **{name: str(value) for name, value in measures.items()}}
+
+    def missing(self, product: list) -> tuple[list[str], list[str]]:
+        """What of a product does not hold, and what of it nobody sees here, in words."""
+        broken, unseen = [], []
+        for variable, allowed in product:
+            value = self.values.get(variable.name.upper())
+            if value is None:
+                unseen.append(input_told(variable, allowed))
+            elif value not in allowed:
+                broken.append(fact_told(variable.name, value, allowed))
+        return broken, unseen
+
+
+def fact_told(name, value, allowed):
+    """A fact that is wanted, with what is so."""
+    wanted = ' or '.join(POSITIONS.get(word, word) for word in allowed)
+    return f'{name} is {POSITIONS.get(value, value)} and must be {wanted}'
+
+
+def input_told(variable, allowed):
+    """An input that is wanted."""
+    return f'input {variable.name} must be {" or ".join(allowed)}'
+
+
+def why_not(condition: Condition | None, seen: Seen) -> str:
+    """Why something is not released: of the products the one of which the least is missing, as far
+    as it is seen, and one of which only inputs can be missing, which clients do not see."""
+    if condition is None:
+        return STILL
+    if not condition.facts:
+        return 'the program never releases it'
+    found = [seen.missing(product) for product in condition.facts]
+    visible = [it for it in found if it[0]]
+    hidden = [it for it in found if not it[0] and it[1]]
+    told = []
+    if visible:
+        broken, unseen = min(visible, key=lambda it: (len(it[0]), len(it[1])))
+        told.append('; '.join([*broken, *(unseen if not hidden else [])]))
+    if hidden:
+        told.append('; '.join(min(hidden, key=lambda it: len(it[1]))[1]))
+    return ', or '.join(told) if told else f'{STILL} yet: a timer may still run'

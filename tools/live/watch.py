@@ -1,0 +1,202 @@
+"""One association with a server, by which the state of a bay is read again and again, and handed to
+all who look at it."""
+import collections
+import json
+import queue
+import threading
+import time
+
+from session import moments, words
+from session.ber import Unreadable
+from session.client import Client, Lost, Refused
+from session.mms import Failure
+
+from .reasons import Seen, why_not
+
+EVERY, AGAIN, KEPT = 0.25, 1.0, 200  # seconds between two reads, and two attempts; events kept
+FIELDS = {'TOTW': 'TotW', 'TOTVAR': 'TotVAr', 'HZ': 'Hz', 'AA': 'phsA', 'AB': 'phsB', 'AC': 'phsC'}
+RULE_WORDS = {'00': 'intermediate', '01': 'off', '10': 'on', '11': 'bad'}
+SHOWN = {'00': 'between', '01': 'open', '10': 'closed', '11': 'bad'}
+LOST = (Lost, Refused, Unreadable, OSError, ValueError, LookupError, TypeError, AttributeError)
+
+
+def now() -> int:
+    return time.time_ns() // 1_000_000
+
+
+class Watcher:
+    """Reads a bay. `lock` is held by whoever uses the association; `conditions` are those of the
+    audit by switch and way, once they are known."""
+
+    def __init__(self, file, text, host, port):
+        self.file, self.text, self.host, self.port = file, text, host, port
+        self.conditions, self.lock, self.client = None, threading.RLock(), None
+        self.events = collections.deque(maxlen=KEPT)
+        self.queues, self.queues_lock = set(), threading.Lock()
+        self.on_said, self.on_read = [], []
+        self.state = {'bay': file['bay']['domain'], 'connected': False, 'told': 'connecting',
+                      'switches': [], 'measures': [], 'control': None}
+        self.is_over = threading.Event()
+
+    # ---- those who look
+
+    def subscribe(self):
+        found = queue.Queue(8)
+        with self.queues_lock:
+            self.queues.add(found)
+        found.put(self.told())
+        return found
+
+    def unsubscribe(self, found):
+        with self.queues_lock:
+            self.queues.discard(found)
+
+    def told(self):
+        """The state and the events, as JSON."""
+        with self.lock:
+            return json.dumps({**self.state, 'events': list(self.events)})
+
+    def publish(self):
+        """Hands the state to all; who is slow misses what is older."""
+        told = self.told()
+        with self.queues_lock:
+            for found in self.queues:
+                while True:
+                    try:
+                        found.put_nowait(told)
+                        break
+                    except queue.Full:
+                        try:
+                            found.get_nowait()
+                        except queue.Empty:
+                            pass
+
+    def event(self, told, kind='quiet', moment=None):
+        """Notes what happened: kind is position, control, refused or quiet."""
+        moment = moment if moment and moments.is_clock(moment) else now()
+        self.events.append({'time': moments.clock_told(moment), 'told': told, 'kind': kind})
+
+    # ---- the association
+
+    def run(self):
+        """Reads until it is over, and connects again where the connection is lost."""
+        while not self.is_over.is_set():
+            try:
+                if self.client is None:
+                    self.connect()
+                if self.read_once():
+                    self.publish()
+                self.is_over.wait(EVERY)
+            except LOST as error:
+                self.lose(error)
+                self.is_over.wait(AGAIN)
+        with self.lock:
+            if self.client:
+                self.client.close()
+
+    def connect(self):
+        client = Client(self.host, self.port, words.Bay(self.text), on_report=lambda told: None)
+        client.on_said = self.said
+        if self.file['bay']['domain'] not in client.domains():
+            client.close()
+            raise Lost(f'the server has no domain {self.file["bay"]["domain"]}: is it another bay?')
+        with self.lock:
+            self.client = client
+            self.state.update(connected=True, told=f'connected to port {self.port}')
+            self.event(f'connected to port {self.port}')
+            self.publish()
+
+    def lose(self, error):
+        told = 'no server listens' if isinstance(error, ConnectionRefusedError) else str(error)
+        with self.lock:
+            if self.client:
+                self.client.socket.close()
+            if self.client or self.state['told'] != told:
+                self.event(f'not connected: {told}', 'refused')
+            self.client = None
+            self.state.update(connected=False, told=told, control=None)
+            for act in self.on_said:
+                act(None)
+        self.publish()
+
+    def said(self, said):
+        """A report of the server."""
+        for act in self.on_said:
+            act(said)
+
+    def read_once(self):
+        """Reads all, and tells whether something has changed."""
+        with self.lock:
+            before = json.dumps(self.state), len(self.events), self.events and self.events[-1]
+            switches, meters = self.file['switch'], self.file.get('meter', [])
+            names = [name for at in range(1, len(switches) + 1)
+                     for name in (f'CSWI{at}$ST$Pos', f'CILO{at}$ST$EnaOpn$stVal',
+                                  f'CILO{at}$ST$EnaCls$stVal')]
+            names += [f'MMXU{at}$MX' for at in range(1, len(meters) + 1)]
+            values = [value for _, value in self.client.read(names)]
+            if any(isinstance(value, Failure) for value in values):
+                raise Lost('the server has other names than the bay file')
+            measures = [it for meter, value in zip(meters, values[3 * len(switches):])
+                        for it in measures_of(meter, value)]
+            found = [switch_of(switch, *values[3 * at:3 * at + 3])
+                     for at, switch in enumerate(switches)]
+            self.explain(found, measures)
+            self.compare(found)
+            self.state.update(switches=found, measures=measures)
+            for act in self.on_read:
+                act(found)
+            last = self.events and self.events[-1]
+            return before != (json.dumps(self.state), len(self.events), last)
+
+    def explain(self, found, measures):
+        """Says why something may not be done."""
+        seen = Seen({it['id'].upper(): it['word'] for it in found},
+                    {it['name'].upper(): it['value'] for it in measures})
+        for it in found:
+            for way, name in enumerate(('open', 'close')):
+                if it[name]['free']:
+                    it[name]['why'] = ''
+                elif self.conditions is None:
+                    it[name]['why'] = 'the interlocking does not release it'
+                else:
+                    it[name]['why'] = why_not(self.conditions.get((it['id'], way)), seen)
+
+    def compare(self, found):
+        """Notes what has changed since the last read."""
+        for old, new in zip(self.state['switches'] or [{}] * len(found), found):
+            if (old.get('position'), old.get('quality')) != (new['position'], new['quality']):
+                quality = '' if new['quality'] == 'good' else f' ({new["quality"]})'
+                self.event(f'{new["id"]} is {new["position"]}{quality}', 'position', new['moment'])
+            if old and old['selected'] != new['selected']:
+                self.event(f'{new["id"]} is {"" if new["selected"] else "no longer "}selected')
+            if old and [old[way]['free'] for way in ('open', 'close')] != [
+                    new[way]['free'] for way in ('open', 'close')]:
+                self.event(f'{new["id"]} {may_told(new)}')
+
+
+def may_told(it):
+    ways = [told for way, told in (('open', 'opened'), ('close', 'closed')) if it[way]['free']]
+    return f'may be {" and ".join(ways)}' if ways else 'may not be moved'
+
+
+def switch_of(switch, position, opened, closed):
+    """A switch as it was read."""
+    value, quality, moment, *selected = (part.value for part in position.value)
+    validity = words.VALIDITIES[quality[:2]]
+    return {'id': switch['id'], 'kind': switch['kind'], 'control': switch['control'],
+            'word': RULE_WORDS[value], 'position': SHOWN[value], 'quality': validity,
+            'moment': moment if isinstance(moment, int) else 0,
+            'time': moments.told(moment) if isinstance(moment, int) and moment else '',
+            'selected': bool(selected and selected[0]),
+            'open': {'free': opened.value}, 'close': {'free': closed.value}}
+
+
+def measures_of(meter, value):
+    """The measured values of a meter."""
+    *plain, phases = value.value
+    found = [(part.value[0].value[0].value, part.value[1].value) for part in plain]
+    found += [(part.value[0].value[0].value[0].value, part.value[1].value)
+              for part in phases.value]
+    return [{'name': f'{meter["id"]}_{field}', 'value': number,
+             'quality': words.VALIDITIES[quality[:2]]}
+            for field, (number, quality) in zip(FIELDS, found)]

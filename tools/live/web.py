@@ -1,0 +1,117 @@
+"""The pages of a panel: one page, its events, and with --operate its controls."""
+import html
+import http.server
+import json
+import pathlib
+import queue
+import secrets
+
+FOLDER = pathlib.Path(__file__).resolve().parent
+BEAT, LARGEST = 10, 4096  # seconds between two signs of life, and octets of a request
+TYPES = {'page.css': 'text/css', 'page.js': 'text/javascript'}
+POLICY = "default-src 'self'; img-src data:; base-uri 'none'; frame-ancestors 'none'"
+
+
+class Pages(http.server.ThreadingHTTPServer):
+    """Serves on 127.0.0.1 alone. A request that names another host is refused, and one that
+    controls needs the token of a page, so no page of another site can operate a switch."""
+    daemon_threads = True
+
+    def __init__(self, port, watcher, picture, operator=None):
+        super().__init__(('127.0.0.1', port), Handler)
+        self.watcher, self.picture, self.operator = watcher, picture, operator
+        self.token = secrets.token_urlsafe(16)
+
+    def hosts(self):
+        return {f'{name}:{self.server_address[1]}' for name in ('127.0.0.1', 'localhost')}
+
+    def handle_error(self, request, client_address):
+        """A page that went away is no error."""
+
+    def page(self):
+        bay = self.watcher.file['bay']
+        parts = {'TITLE': bay['domain'], 'DEVICE': f'{bay["vendor"]} {bay["model"]}',
+                 'TOKEN': self.token, 'OPERATES': 'true' if self.operator else 'false'}
+        text = (FOLDER / 'page.html').read_text(encoding='utf-8')
+        for name, value in parts.items():
+            text = text.replace(f'@{name}@', html.escape(value, quote=True))
+        return text.replace('@PICTURE@', self.picture)
+
+
+class Handler(http.server.BaseHTTPRequestHandler):
+    """One request."""
+    protocol_version = 'HTTP/1.1'
+
+    def log_message(self, *words):
+        """Requests are not printed."""
+
+    def is_ours(self):
+        return self.headers.get('Host') in self.server.hosts()
+
+    def send(self, status, kind, octets):
+        self.send_response(status)
+        self.send_header('Content-Type', f'{kind}; charset=utf-8')
+        self.send_header('Content-Length', str(len(octets)))
+        self.send_header('Cache-Control', 'no-store')
+        self.send_header('Content-Security-Policy', POLICY)
+        self.send_header('X-Content-Type-Options', 'nosniff')
+        self.end_headers()
+        self.wfile.write(octets)
+
+    def refuse(self, status, told):
+        self.close_connection = True
+        self.send(status, 'text/plain', told.encode())
+
+    def do_GET(self):
+        name = self.path.partition('?')[0].lstrip('/')
+        if not self.is_ours():
+            self.refuse(403, 'this is the panel of another host')
+        elif name == '':
+            self.send(200, 'text/html', self.server.page().encode())
+        elif name in TYPES:
+            self.send(200, TYPES[name], (FOLDER / name).read_bytes())
+        elif name == 'state':
+            self.send(200, 'application/json', self.server.watcher.told().encode())
+        elif name == 'events':
+            self.stream()
+        else:
+            self.refuse(404, 'there is no such page')
+
+    def stream(self):
+        """Hands each state on as a server-sent event, until the page goes away."""
+        self.close_connection = True
+        self.send_response(200)
+        self.send_header('Content-Type', 'text/event-stream')
+        self.send_header('Cache-Control', 'no-store')
+        self.end_headers()
+        watcher = self.server.watcher
+        found = watcher.subscribe()
+        try:
+            while not watcher.is_over.is_set():
+                try:
+                    line = f'data: {found.get(timeout=BEAT)}\n\n'
+                except queue.Empty:
+                    line = ': still here\n\n'
+                self.wfile.write(line.encode())
+                self.wfile.flush()
+        except OSError:
+            pass
+        finally:
+            watcher.unsubscribe(found)
+
+    def do_POST(self):
+        size = self.headers.get('Content-Length', '')
+        if not size.isdigit() or int(size) > LARGEST:
+            return self.refuse(400, 'the request is too long')
+        body = self.rfile.read(int(size))
+        if not self.is_ours() or self.headers.get('X-Panel') != self.server.token:
+            return self.refuse(403, 'this panel did not send that')
+        if not self.server.operator:
+            return self.refuse(403, 'the panel was started without --operate')
+        try:
+            asked = json.loads(body)
+            switch, way = str(asked['switch']), str(asked['way'])
+        except (ValueError, LookupError, TypeError):
+            return self.refuse(400, 'the request can\'t be read')
+        found = self.server.operator.act(self.path.lstrip('/'), switch, way)
+        self.send(200, 'application/json', json.dumps(found).encode())

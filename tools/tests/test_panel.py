@@ -1,0 +1,189 @@
+"""The panel without a server: reasons, the picture, the pages and who may control."""
+import http.client
+import json
+import pathlib
+import queue
+import sys
+import threading
+import unittest
+import xml.etree.ElementTree as ET
+
+TOOLS = pathlib.Path(__file__).resolve().parent.parent
+sys.path.insert(0, str(TOOLS))
+from live.operating import Operator
+from live.picture import BadOrder, draw, order_of, usual_order
+from live.reasons import Seen, why_not
+from live.watch import Watcher, measures_of, switch_of
+from live.web import Pages
+from session.conditions import Condition, Variable
+from session.mms import BITS, BOOLEAN, INTEGER, STRUCTURE, TIME, Data
+from tests.test_audit import FILE
+
+QA1, QC1 = (Variable(name, ('intermediate', 'off', 'on', 'bad')) for name in ('QA1', 'QC1'))
+KEY = Variable('KEY', ('0', '1'), True)
+SWITCHES = [{'id': name, 'kind': kind, 'control': 'sbo'} for name, kind in (
+    ('QA1', 'breaker'), ('QB1', 'disconnector'), ('QB2', 'disconnector'), ('QB9', 'disconnector'),
+    ('QC1', 'earthing'), ('QC9', 'earthing'))]
+
+
+def reason(*products, **positions):
+    return why_not(Condition([[]], facts=list(products)), Seen(positions, {}))
+
+
+class Reasons(unittest.TestCase):
+    def test_what_is_missing(self):
+        both = [(QA1, ['off']), (QC1, ['off'])]
+        self.assertEqual(reason(both, QA1='on', QC1='off'), 'QA1 is closed and must be open')
+        self.assertEqual(reason(both, QA1='on', QC1='bad'),
+                         'QA1 is closed and must be open; QC1 is bad and must be open')
+
+    def test_the_product_of_which_the_least_is_missing(self):
+        found = reason([(QA1, ['off']), (QC1, ['off'])], [(QC1, ['off', 'on'])], QA1='on',
+                       QC1='intermediate')
+        self.assertEqual(found, 'QC1 is between and must be open or closed')
+
+    def test_inputs(self):
+        self.assertEqual(reason([(KEY, ['1'])], [(QA1, ['off'])], QA1='on'),
+                         'QA1 is closed and must be open, or input KEY must be 1')
+        self.assertEqual(reason([(QA1, ['off']), (KEY, ['0'])], QA1='off'),
+                         'input KEY must be 0')
+
+    def test_measures(self):
+        current = Variable('M1_AA', ('0', '5'))
+        found = why_not(Condition([[]], facts=[[(current, ['0'])]]), Seen({}, {'M1_AA': 212}))
+        self.assertEqual(found, 'M1_AA is 212 and must be 0')
+
+    def test_nothing_is_missing(self):
+        self.assertIn('a timer may still run', reason([(QA1, ['off'])], QA1='off'))
+        self.assertEqual(why_not(Condition([]), Seen({}, {})), 'the program never releases it')
+        self.assertEqual(why_not(None, Seen({}, {})), 'the program does not release it')
+
+
+class Pictures(unittest.TestCase):
+    def test_the_usual_order(self):
+        order = usual_order(SWITCHES)
+        self.assertEqual([it['id'] for it in order.busbars], ['QB1', 'QB2'])
+        self.assertEqual([it['id'] for it in order.column], ['QA1', 'QC1', 'QB9', 'QC9'])
+
+    def test_an_order_that_is_given(self):
+        order = order_of(SWITCHES, 'qb1|QB2,QC1,QA1, QB9,QC9')
+        self.assertEqual([it['id'] for it in order.column], ['QC1', 'QA1', 'QB9', 'QC9'])
+        for text in ('QB1', 'QB1|QB2,QA1|QC1,QB9,QC9', 'QB1|QB2,QA1,QC1,QB9,QX', '',
+                     'QB1|QB1,QA1,QC1,QB9,QC9'):
+            with self.assertRaises(BadOrder):
+                order_of(SWITCHES, text)
+
+    def test_each_switch_is_drawn_once(self):
+        for switches in (SWITCHES, SWITCHES[:1], SWITCHES[4:5], SWITCHES * 5):
+            root = ET.fromstring(draw(usual_order(switches)))
+            drawn = [it for it in root.iter() if it.get('data-switch')]
+            self.assertEqual(sorted(it.get('data-switch') for it in drawn),
+                             sorted(it['id'] for it in switches))
+            self.assertTrue(all(it.get('role') == 'button' and it.get('tabindex') == '0'
+                                and it.get('aria-label') for it in drawn))
+
+
+class Values(unittest.TestCase):
+    def test_a_switch(self):
+        position = Data(STRUCTURE, [Data(BITS, '10'), Data(BITS, '0100000000000'), Data(TIME, 5),
+                                    Data(BOOLEAN, True)])
+        found = switch_of(SWITCHES[0], position, Data(BOOLEAN, True), Data(BOOLEAN, False))
+        self.assertEqual((found['position'], found['quality'], found['selected'], found['time']),
+                         ('closed', 'invalid', True, '5 ms'))
+        self.assertEqual((found['open'], found['close']), ({'free': True}, {'free': False}))
+
+    def test_a_meter(self):
+        good = Data(BITS, '0' * 13)
+
+        def plain(number):
+            return Data(STRUCTURE, [Data(INTEGER, number)])
+
+        three = [Data(STRUCTURE, [plain(n), good, Data(TIME, 0)]) for n in (1, 2, 3)]
+        phases = [Data(STRUCTURE, [Data(STRUCTURE, [plain(n)]), good, Data(TIME, 0)])
+                  for n in (4, 5, 6)]
+        found = measures_of({'id': 'M1'}, Data(STRUCTURE, [*three, Data(STRUCTURE, phases)]))
+        self.assertEqual({it['name']: it['value'] for it in found},
+                         {'M1_TOTW': 1, 'M1_TOTVAR': 2, 'M1_HZ': 3, 'M1_AA': 4, 'M1_AB': 5,
+                          'M1_AC': 6})
+
+
+class Web(unittest.TestCase):
+    def serve(self, operates):
+        watcher = Watcher(FILE, '', '127.0.0.1', 1)
+        operator = Operator(watcher) if operates else None
+        pages = Pages(0, watcher, draw(usual_order(FILE['switch'])), operator)
+        serving = threading.Thread(target=pages.serve_forever, args=(0.02,))
+        serving.start()
+
+        def end():
+            watcher.is_over.set()
+            pages.shutdown()
+            serving.join()
+            pages.server_close()
+
+        self.addCleanup(end)
+        return pages
+
+    def ask(self, pages, verb, path, body=None, **heads):
+        port = pages.server_address[1]
+        connection = http.client.HTTPConnection('127.0.0.1', port, timeout=5)
+        self.addCleanup(connection.close)
+        found = {'Host': f'127.0.0.1:{port}', **{k.replace('_', '-'): v for k, v in heads.items()}}
+        connection.request(verb, path, body, found)
+        answer = connection.getresponse()
+        return answer.status, answer.read().decode()
+
+    def test_the_page(self):
+        pages = self.serve(False)
+        status, text = self.ask(pages, 'GET', '/')
+        self.assertEqual(status, 200)
+        for told in ('Bay E1', 'data-operates="false"', 'data-switch="QA1"', 'aria-live'):
+            self.assertIn(told, text)
+        self.assertNotIn('@', text)
+        for path in ('/page.js', '/page.css', '/state'):
+            self.assertEqual(self.ask(pages, 'GET', path)[0], 200)
+        self.assertEqual(self.ask(pages, 'GET', '/../panel')[0], 404)
+
+    def test_another_host(self):
+        pages = self.serve(True)
+        for verb, path in (('GET', '/'), ('GET', '/events'), ('POST', '/operate')):
+            self.assertEqual(self.ask(pages, verb, path, '', Host='evil:80')[0], 403)
+
+    def test_who_may_control(self):
+        body = json.dumps({'switch': 'QA1', 'way': 'open'})
+        pages = self.serve(True)
+        self.assertEqual(self.ask(pages, 'POST', '/select', body)[0], 403)
+        self.assertEqual(self.ask(pages, 'POST', '/select', body, X_Panel='other')[0], 403)
+        status, text = self.ask(pages, 'POST', '/select', body, X_Panel=pages.token)
+        self.assertEqual((status, json.loads(text)), (200, {
+            'good': False, 'told': 'there is no connection to the server'}))
+        for bad in ('', '{}', '[]', '{"switch": 1}'):
+            self.assertEqual(self.ask(pages, 'POST', '/select', bad, X_Panel=pages.token)[0], 400)
+        watched = self.serve(False)
+        status, text = self.ask(watched, 'POST', '/select', body, X_Panel=watched.token)
+        self.assertEqual((status, text), (403, 'the panel was started without --operate'))
+
+    def test_what_is_no_control(self):
+        pages = self.serve(True)
+        for path, switch, way in (('/write', 'QA1', 'open'), ('/select', 'QX', 'open'),
+                                  ('/select', 'QA1', 'up')):
+            body = json.dumps({'switch': switch, 'way': way})
+            _, text = self.ask(pages, 'POST', path, body, X_Panel=pages.token)
+            self.assertEqual(json.loads(text)['told'], 'there is no such control')
+
+    def test_the_events_of_a_page(self):
+        watcher = Watcher(FILE, '', '127.0.0.1', 1)
+        found = watcher.subscribe()
+        self.assertEqual(json.loads(found.get_nowait())['connected'], False)
+        for number in range(20):
+            watcher.event(f'{number}')
+            watcher.publish()
+        last = None
+        with self.assertRaises(queue.Empty):
+            while True:
+                last = json.loads(found.get_nowait())
+        self.assertEqual([it['told'] for it in last['events']], [str(n) for n in range(20)])
+
+
+if __name__ == '__main__':
+    unittest.main()
