@@ -1,0 +1,120 @@
+"""The panel, driven as a browser does it: its page, its events, and operates to their ends."""
+import http.client
+import json
+import pathlib
+import re
+import sys
+import time
+
+from session.served import PATIENCE, Running, Server, Simulator
+
+TOOLS = pathlib.Path(__file__).resolve().parent.parent
+SERVED = TOOLS.parent / 'examples' / 'served'
+
+
+class Page:
+    """A page of a panel: what it has, the states that it is sent, and what it asks."""
+
+    def __init__(self, port):
+        self.port = port
+        self.text = self.ask('GET', '/')
+        self.token = re.search(r'data-token="([^"]+)"', self.text)[1]
+        self.connection = http.client.HTTPConnection('127.0.0.1', port, timeout=PATIENCE)
+        self.connection.request('GET', '/events')
+        self.answer = self.connection.getresponse()
+
+    def __enter__(self):
+        return self
+
+    def __exit__(self, *error):
+        self.connection.close()
+
+    def ask(self, verb, path, body=None, heads=()):
+        connection = http.client.HTTPConnection('127.0.0.1', self.port, timeout=PATIENCE)
+        connection.request(verb, path, body, dict(heads))
+        text = connection.getresponse().read().decode()
+        connection.close()
+        return text
+
+    def asks(self, verb, switch, way):
+        """What a control is answered, in words."""
+        body = json.dumps({'switch': switch, 'way': way})
+        found = json.loads(self.ask('POST', f'/{verb}', body, {'X-Panel': self.token}))
+        return f'{"good" if found["good"] else "refused"}: {found["told"]}'
+
+    def until(self, test):
+        """The first state that it is sent from now on of which something is so."""
+        end = time.monotonic() + PATIENCE
+        while time.monotonic() < end:
+            line = self.answer.readline().decode()
+            if line.startswith('data: '):
+                state = json.loads(line.removeprefix('data: '))
+                if test(state):
+                    return state
+        raise TimeoutError('the panel does not tell it')
+
+
+def positions(state):
+    return {it['id']: it['position'] for it in state['switches']}
+
+
+def operated(page, switch, way):
+    """An operate to its end, in words."""
+    said = [page.asks('select', switch, way), page.asks('operate', switch, way)]
+    done = {'open': 'open', 'close': 'closed'}[way]
+    state = page.until(lambda it: it['control'] is None and positions(it).get(switch) == done)
+    return '\n'.join([*said, state['last']['told']])
+
+
+def gear(server):
+    return Simulator(SERVED / 'bay.toml', server, '--at', 'QA1=closed', '--at', 'QB1=closed',
+                     '--set', 'SPRING=1', '--travel', '300')
+
+
+def panel(checks):
+    """The panel of the example that is served."""
+    bay, logic = SERVED / 'bay.toml', SERVED / 'logic.il'
+    with Server(checks.bayctl, bay, logic, with_process=True) as server:
+        server.client().close()
+        words = [sys.executable, '-B', TOOLS / 'panel', '--bay', bay, server.port, '--http', '0',
+                 '--operate', '--logic', logic, '--bayctl', checks.bayctl]
+        with gear(server) as simulator, Running(*words) as running:
+            found = re.search(r'http://127\.0\.0\.1:(\d+)/', running.waits_for('/\n'))
+            with Page(int(found[1])) as page:
+                shown(checks, page)
+                simulator.kill()
+                gone(checks, page)
+            with gear(server), Page(int(found[1])) as page:
+                page.until(lambda it: positions(it).get('QC1') == 'open')
+                checks.wants('the panel, with the process again', operated(page, 'QA1', 'open'), 0,
+                             ['open QA1 has ended: done'], 0)
+                server.kill()
+                state = page.until(lambda it: not it['connected'])
+                checks.wants('the panel without a server', state['told'], 0, ['the server closed'],
+                             0)
+
+
+def shown(checks, page):
+    """What a page has and is told, and two operates."""
+    checks.wants('the page of the panel', page.text, 0,
+                 [f'data-switch="{it}"' for it in ('QA1', 'QB1', 'QC1')], 0)
+    state = page.until(lambda it: it['switches'] and all(
+        'must be' in it['switches'][1][way]['why'] for way in ('open', 'close')))
+    checks.wants('why not, on the panel', json.dumps(state['switches'][1]), 0,
+                 ['QA1 is closed and must be open', '"quality": "good"'], 0)
+    checks.wants('a select that is given up', page.asks('select', 'QA1', 'open')
+                 + page.asks('cancel', 'QA1', 'open'), 0, ['select QA1: done', 'cancel QA1: done'],
+                 0)
+    checks.wants('the breaker, by the panel', operated(page, 'QA1', 'open'), 0,
+                 ['good: select QA1: done', 'the command is given', 'open QA1 has ended: done'], 0)
+    checks.wants('the disconnector, by the panel', operated(page, 'QB1', 'open'), 0,
+                 ['good: select QB1: done', 'operate QB1 off has ended: done'], 0)
+
+
+def gone(checks, page):
+    """The process is gone: all is bad, and an operate is refused."""
+    page.until(lambda it: set(positions(it).values()) == {'bad'})
+    said = page.asks('select', 'QB1', 'close') + page.asks('operate', 'QB1', 'close')
+    checks.wants('an operate by the panel without a process', said, 0,
+                 ['refused: operate QB1 is refused: blocked by interlocking (10)', 'QB1 is bad'],
+                 0)

@@ -1,0 +1,109 @@
+"""Sessions of clients with a served bay: what they sent, joined and replayed, and as captures."""
+import pathlib
+import socket
+import struct
+import threading
+import time
+
+from session.served import Server, until, value
+from tests.test_capture import ACK, CLIENT, FIN, SERVER, SYN, segment
+
+SERVED = pathlib.Path(__file__).resolve().parent.parent.parent / 'examples' / 'served'
+BAY, LOGIC, TRACE = SERVED / 'bay.toml', SERVED / 'logic.il', SERVED / 'trace'
+
+
+class Tap:
+    """A port between a client and a server, which notes what goes through."""
+
+    def __init__(self, port):
+        self.port, self.seen = port, []
+        self.listener = socket.create_server(('127.0.0.1', 0))
+        self.own = self.listener.getsockname()[1]
+        threading.Thread(target=self.pass_on, daemon=True).start()
+
+    def pass_on(self):
+        client, _ = self.listener.accept()
+        server = socket.create_connection(('127.0.0.1', self.port))
+        self.note(0, SYN, b'')
+        self.note(1, SYN | ACK, b'')
+        ways = [threading.Thread(target=self.one_way, args=it)
+                for it in ((0, client, server), (1, server, client))]
+        for way in ways:
+            way.start()
+        for way in ways:
+            way.join()
+        self.note(0, FIN, b'')
+
+    def note(self, side, flags, octets):
+        self.seen.append((time.time(), side, flags, octets))
+
+    def one_way(self, side, source, target):
+        while piece := source.recv(65536):
+            self.note(side, ACK, piece)
+            target.sendall(piece)
+        target.shutdown(socket.SHUT_WR)
+
+    def packets(self, is_torn):
+        """The packets of what went through; where they are torn, each comes in two parts, the later
+        one first, and both once more."""
+        numbers = [1001, 5001]
+        for moment, side, flags, octets in self.seen:
+            ends = (CLIENT, SERVER) if side == 0 else (SERVER, CLIENT)
+            number, half = numbers[side] - (flags & SYN) // SYN, len(octets) // 2
+            numbers[side] += len(octets)
+            parts = [(number + half, octets[half:]), (number, octets[:half])] * 2
+            for at, part in parts if is_torn and octets else [(number, octets)]:
+                yield moment, segment(*ends, at, flags, part)
+
+    def capture(self, is_torn):
+        """What went through, as a capture of tcpdump."""
+        out = struct.pack('<IHHiIII', 0xA1B2C3D4, 2, 4, 0, 0, 65535, 101)
+        for moment, packet in self.packets(is_torn):
+            size = len(packet)
+            out += struct.pack('<IIII', int(moment), int(moment % 1 * 10**6), size, size) + packet
+        return out
+
+
+def sessions(checks):
+    """A session is told and drawn by what its client sent, and by a capture of it."""
+    with Server(checks.bayctl, BAY, LOGIC, '--trace', TRACE) as server:
+        watching = server.client()
+        until(lambda: value(watching, 'MMXU1$MX$A$phsA$cVal$mag$i') == 212, 'the trace is done')
+        sent, tap = checks.folder / 'sent', Tap(server.port)
+        words = ['--bay', BAY, '--trace', sent, str(tap.own), 'operate', 'QA1', 'open']
+        checks.wants('a client', *checks.run('client', *words), ['operate QA1: done'], 0)
+        watching.close()
+    joined = checks.file('joined', checks.run('join', BAY, LOGIC, TRACE, sent)[0])
+    asked = ['--bayctl', checks.bayctl]
+    checks.wants('what a client sent, joined and told', *checks.run('explain', joined, *asked),
+                 ['UTC', 'QA1 is closed', 'operate QA1: done', 'command: QA1 off'], 0)
+    checks.wants('what a client sent, drawn', *drawn(checks, joined, *asked),
+                 ['UTC', 'operate QA1 off', 'command QA1 off at'], 0)
+    until(lambda: tap.seen[-1][2] == FIN, 'the client is gone')
+    for is_torn in (False, True):
+        captured(checks, checks.file('session.pcap', tap.capture(is_torn)))
+
+
+def drawn(checks, *words):
+    """The picture that a timeline draws, or what it says where it draws none."""
+    out = checks.folder / 'drawn.svg'
+    said, status = checks.run('timeline', *words, '--out', out)
+    return said + (out.read_text() if status == 0 else ''), status
+
+
+def captured(checks, path):
+    """A capture is told, replayed and drawn."""
+    bay, more = ['--bay', BAY], ['--replay', LOGIC, '--trace', TRACE, '--bayctl', checks.bayctl]
+    checks.wants('a capture, told', *checks.run('explain', path, *bay),
+                 ['asks for a transport connection', 'select QA1: done', 'operate QA1: done'], 0)
+    checks.wants('a capture, replayed', *checks.run('explain', path, *bay, *more),
+                 ['the replay sends what the server sent'], 0)
+    changed = checks.file('changed.il', LOGIC.read_text().replace('LD TRUE', 'LD FALSE'))
+    more[1] = changed
+    checks.wants('a capture, replayed with another program',
+                 *checks.run('explain', path, *bay, *more), ['of the server is otherwise'], 1)
+    checks.wants('a capture, drawn', *drawn(checks, path, *bay),
+                 ['UTC', 'operate QA1 off', 'Client 1'], 0)
+    more[1] = LOGIC
+    checks.wants('a capture, drawn with its switches', *drawn(checks, path, *bay, *more),
+                 ['command QA1 off at', 'QB1 closed from'], 0)
