@@ -12,6 +12,7 @@ TOOLS = pathlib.Path(__file__).resolve().parent.parent
 sys.path.insert(0, str(TOOLS))
 from session import client as clients
 from session.files import BadFile, bay_at, tables_of, text_of
+from tests.loopback import needs_loopback
 
 
 def run(*words):
@@ -44,6 +45,7 @@ class Files(unittest.TestCase):
 
 
 class Statuses(unittest.TestCase):
+    @needs_loopback
     def test_no_server(self):
         with socket.socket() as one:
             one.bind(('127.0.0.1', 0))
@@ -55,6 +57,7 @@ class Statuses(unittest.TestCase):
         self.assertEqual(run('--bay', 'none.toml', 1, 'browse'),
                          ('none.toml: No such file or directory\n', 2))
 
+    @needs_loopback
     def test_a_server_that_ends(self):
         with socket.create_server(('127.0.0.1', 0)) as server:
             def close_one():
@@ -68,6 +71,7 @@ class Statuses(unittest.TestCase):
             closing.join()
         self.assertEqual((told, status), ('the server closed the connection\n', 3))
 
+    @needs_loopback
     def test_a_server_that_takes_nobody(self):
         with socket.create_server(('127.0.0.1', 0)) as server, \
                 mock.patch('session.client.FIRST', 0.1):

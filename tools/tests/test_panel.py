@@ -17,6 +17,7 @@ from live.watch import Watcher, measures_of, switch_of
 from live.web import Pages
 from session.conditions import Condition, Variable
 from session.mms import BITS, BOOLEAN, INTEGER, STRUCTURE, TIME, Data
+from tests.loopback import needs_loopback
 from tests.test_audit import FILE
 
 QA1, QC1 = (Variable(name, ('intermediate', 'off', 'on', 'bad')) for name in ('QA1', 'QC1'))
@@ -107,6 +108,7 @@ class Values(unittest.TestCase):
                           'M1_AC': 6})
 
 
+@needs_loopback
 class Web(unittest.TestCase):
     def serve(self, operates):
         watcher = Watcher(FILE, '', '127.0.0.1', 1)

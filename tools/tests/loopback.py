@@ -1,0 +1,15 @@
+"""Whether tests can open ports of this machine: where they can't, those that do are skipped."""
+import socket
+import unittest
+
+
+def has_loopback() -> bool:
+    try:
+        with socket.create_server(('127.0.0.1', 0)) as server:
+            socket.create_connection(server.getsockname(), 1).close()
+        return True
+    except OSError:
+        return False
+
+
+needs_loopback = unittest.skipUnless(has_loopback(), 'no port of this machine can be opened')
