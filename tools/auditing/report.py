@@ -105,8 +105,8 @@ class Report:
         if self.audit.is_passed():
             told, kind = f'PASSED: all {len(findings)} rules hold.', 'good'
         else:
-            why = [f'{broken} of {len(findings)} rules are broken'] if broken else []
-            why += [f'{idle} are asked of no combination'] if idle else []
+            why = [f'of {len(findings)} rules {broken} broken'] if broken else []
+            why += [f'of {len(findings)} rules {idle} asked of no combination'] if idle else []
             told, kind = f'NOT PASSED: {", ".join(why) or "there are no rules"}.', 'bad'
         return f'<p class="verdict {kind}">{told}</p>'
 

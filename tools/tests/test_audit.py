@@ -186,7 +186,7 @@ class Pictures(unittest.TestCase):
 
     def test_a_report_of_what_is_broken(self):
         page = Report(audited('never QA1 open\n'), {}, __file__, 0).page()
-        self.assertIn('NOT PASSED: 1 of 1 rules are broken.', page)
+        self.assertIn('NOT PASSED: of 1 rules 1 broken.', page)
         self.assertIn('first by QA1 intermediate', page)
 
 
