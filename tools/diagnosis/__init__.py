@@ -1,1 +1,2 @@
-"""What tools/diagnose is made of: the table of faults, and where a bay file or a program is refused."""
+"""What tools/diagnose is made of: the table of faults, and where a bay file, a program or a line of
+a trace is refused."""

@@ -1,4 +1,5 @@
-"""Where and why a bay file is refused: its first refusal, in the order in which the profile looks, with the line of the entry."""
+"""Where and why a bay file is refused: its first refusal, in the order in which the profile looks,
+with the line of the entry."""
 import re
 import tomllib
 
@@ -7,14 +8,20 @@ from .words import RESERVED
 
 IDENTIFIER, LENGTHS = r'[A-Za-z][A-Za-z0-9_]*', {'domain': 32, 'id': 16, 'name': 16}
 KINDS = ['breaker', 'disconnector', 'earthing']
-CONTROLS = {'status': [], 'direct': ['travel_ms'], 'sbo': ['sbo_timeout_ms', 'travel_ms'], 'sbo-enhanced': ['sbo_timeout_ms', 'travel_ms']}
+CONTROLS = {'status': [], 'direct': ['travel_ms'], 'sbo': ['sbo_timeout_ms', 'travel_ms'],
+            'sbo-enhanced': ['sbo_timeout_ms', 'travel_ms']}
 TIMES = ['sbo_timeout_ms', 'travel_ms']
 SECTIONS = {'bay': (1, 1), 'switch': (1, 32), 'input': (0, 64), 'meter': (0, 8)}
-ENTRIES = {'switch': ('switch', 'switches'), 'input': ('input', 'inputs'), 'meter': ('meter', 'meters')}
-NUMBERS = {'scan_max_age_ms': (0, 600_000), 'sbo_timeout_ms': (1, 600_000), 'travel_ms': (1, 600_000)}
+ENTRIES = {'switch': ('switch', 'switches'), 'input': ('input', 'inputs'),
+           'meter': ('meter', 'meters')}
+NUMBERS = {'scan_max_age_ms': (0, 600_000), 'sbo_timeout_ms': (1, 600_000),
+           'travel_ms': (1, 600_000)}
 LONGEST = 262_144
-TYPES = {str: 'a text', bool: 'a truth value', int: 'a number', float: 'a number with a fraction', list: 'a list', dict: 'a table'}
-POINTS = {'switch': {'_POS': 'INT', '_OPEN': 'BOOL', '_CLOSED': 'BOOL', '_ENA_OPN': 'BOOL', '_ENA_CLS': 'BOOL'}, 'input': {'': 'BOOL'},
+TYPES = {str: 'a text', bool: 'a truth value', int: 'a number',
+         float: 'a number with a fraction', list: 'a list', dict: 'a table'}
+POINTS = {'switch': {'_POS': 'INT', '_OPEN': 'BOOL', '_CLOSED': 'BOOL', '_ENA_OPN': 'BOOL',
+                     '_ENA_CLS': 'BOOL'},
+          'input': {'': 'BOOL'},
           'meter': dict.fromkeys(('_TOTW', '_TOTVAR', '_HZ', '_AA', '_AB', '_AC'), 'DINT')}
 
 
@@ -34,7 +41,8 @@ def text_of(octets):
         return octets.decode('utf-8').removeprefix('\ufeff')
     except UnicodeDecodeError as error:
         line = octets.count(b'\n', 0, error.start) + 1
-        raise Refused(50, Place(f'octet {octets[error.start]:02X} is no UTF-8', line=line)) from None
+        told = f'octet {octets[error.start]:02X} is no UTF-8'
+        raise Refused(50, Place(told, line=line)) from None
 
 
 def table_of(text):
@@ -44,12 +52,15 @@ def table_of(text):
     except tomllib.TOMLDecodeError as error:
         told, _, where = str(error).partition(' (at ')
         line = re.match(r'line (\d+), column (\d+)', where)
-        place = Place(told, line=int(line[1]), start=int(line[2]) - 1) if line else Place(told, line=text.rstrip('\n').count('\n') + 1)
+        place = Place(told, line=text.rstrip('\n').count('\n') + 1)
+        if line:
+            place = Place(told, line=int(line[1]), start=int(line[2]) - 1)
         raise Refused(50, place) from None
 
 
 class Lines:
-    """The lines on which sections and keys of a bay file stand. None is known where a section is not written as [section] or [[section]]."""
+    """The lines on which sections and keys of a bay file stand. None is known where a section is
+    not written as [section] or [[section]]."""
 
     def __init__(self, text):
         self.lines, self.heads, self.keys, self.top = text.split('\n'), {}, {}, {}
@@ -71,7 +82,8 @@ class Lines:
         if key and at is None:
             self.top.setdefault(key[1], number)
         elif key:
-            self.keys.setdefault((*at, key[1]), (number, key.start(1), len(line.partition('#')[0].rstrip())))
+            self.keys.setdefault((*at, key[1]),
+                                 (number, key.start(1), len(line.partition('#')[0].rstrip())))
         return at
 
     def entry(self, section, index, count):
@@ -97,7 +109,8 @@ class Judge:
     def all(self):
         for name in self.file:
             if name not in SECTIONS:
-                raise Refused(52, Place(f'there is no section {name}{near(name, SECTIONS)}', f'section {name}', self.lines.top.get(name)))
+                told = f'there is no section {name}{near(name, SECTIONS)}'
+                raise Refused(52, Place(told, f'section {name}', self.lines.top.get(name)))
         for section in SECTIONS:
             entries = self.entries(section)
             for index, entry in enumerate(entries):
@@ -115,19 +128,23 @@ class Judge:
             return []
         if section == 'bay':
             if not isinstance(held, dict):
-                raise Refused(53, Place('[bay] is wanted, one table' + told_as(held), 'section bay', line))
+                told = '[bay] is wanted, one table' + told_as(held)
+                raise Refused(53, Place(told, 'section bay', line))
             return [held]
         if not isinstance(held, list) or not all(isinstance(entry, dict) for entry in held):
-            raise Refused(53, Place(f'[[{section}]] is wanted, a list of tables{told_as(held)}', f'section {section}', line))
+            told = f'[[{section}]] is wanted, a list of tables{told_as(held)}'
+            raise Refused(53, Place(told, f'section {section}', line))
         if len(held) > most:
-            place = Place(f'there are {len(held)} {ENTRIES[section][1]}, and {most} are the most', f'section {section}')
+            place = Place(f'there are {len(held)} {ENTRIES[section][1]}, and {most} are the most',
+                          f'section {section}')
             place.line = self.lines.entry(section, most, len(held))
             raise Refused(55, place)
         return held
 
     def where(self, section, index, entry, key=None):
         name = entry.get('id', entry.get('name'))
-        it = '[bay]' if section == 'bay' else f'{ENTRIES[section][0]} {index + 1}' + (f' ({name})' if isinstance(name, str) else '')
+        named = f' ({name})' if isinstance(name, str) else ''
+        it = '[bay]' if section == 'bay' else f'{ENTRIES[section][0]} {index + 1}{named}'
         return it + (f', key {key}' if key else '')
 
     def entry(self, section, index, count, entry):
@@ -136,14 +153,18 @@ class Judge:
         for key in entry:
             if key not in wanted:
                 told = self.unknown(section, entry, key, wanted)
-                raise Refused(52, self.lines.place(told, self.where(section, index, entry, key), section, index, count, key))
+                where = self.where(section, index, entry, key)
+                raise Refused(52, self.lines.place(told, where, section, index, count, key))
         for key in wanted:
+            where = self.where(section, index, entry, key)
             if key not in entry:
-                told = f'the key {key} is missing' + (f', which control = "{entry["control"]}" wants' if key in TIMES else '')
-                raise Refused(51, self.lines.place(told, self.where(section, index, entry, key), section, index, count))
+                told = f'the key {key} is missing'
+                if key in TIMES:
+                    told += f', which control = "{entry["control"]}" wants'
+                raise Refused(51, self.lines.place(told, where, section, index, count))
             told = value_fault(key, entry[key])
             if told:
-                raise Refused(53, self.lines.place(told, self.where(section, index, entry, key), section, index, count, key))
+                raise Refused(53, self.lines.place(told, where, section, index, count, key))
 
     def unknown(self, section, entry, key, wanted):
         if section == 'switch' and key in TIMES:
@@ -156,7 +177,8 @@ class Judge:
         for name, _, section, index, count, entry in points:
             if name in first:
                 _, _, section_1, index_1, count_1, entry_1 = first[name]
-                place = self.lines.place(f'two points are called {name}', self.where(section, index, entry), section, index, count, key_of(section))
+                told, where = f'two points are called {name}', self.where(section, index, entry)
+                place = self.lines.place(told, where, section, index, count, key_of(section))
                 before = self.lines.place('', '', section_1, index_1, count_1, key_of(section_1))
                 place.others = [(before.line, f'and of {self.where(section_1, index_1, entry_1)}')]
                 raise Refused(54, place)
@@ -164,7 +186,9 @@ class Judge:
         for name, _, section, index, count, entry in points:
             if name in RESERVED:
                 told = f'the point {name} has the name of a word of Instruction List'
-                raise Refused(53, self.lines.place(told, self.where(section, index, entry), section, index, count, key_of(section)))
+                where = self.where(section, index, entry)
+                raise Refused(53, self.lines.place(told, where, section, index, count,
+                                                   key_of(section)))
 
     def points(self):
         """Each point with its type and the entry that it is of."""
@@ -172,7 +196,8 @@ class Judge:
             entries = self.file.get(section, [])
             for index, entry in enumerate(entries):
                 for ending, kind in endings.items():
-                    yield entry[key_of(section)].upper() + ending, kind, section, index, len(entries), entry
+                    name = entry[key_of(section)].upper() + ending
+                    yield name, kind, section, index, len(entries), entry
 
 
 def key_of(section):
@@ -193,7 +218,8 @@ def keys_of(section, entry):
     if section != 'switch':
         return [key_of(section)]
     control = entry.get('control')
-    return ['id', 'kind', 'control', *(CONTROLS.get(control, TIMES) if isinstance(control, str) else TIMES)]
+    times = CONTROLS.get(control, TIMES) if isinstance(control, str) else TIMES
+    return ['id', 'kind', 'control', *times]
 
 
 def value_fault(key, value):
@@ -225,11 +251,13 @@ def identifier_fault(value, most):
 
 
 def bay_points(octets):
-    """The points of a bay file that is accepted, by name: type, and whether it may be written. None where Python can't read the file."""
+    """The points of a bay file that is accepted, by name: type, and whether it may be written. None
+    where Python can't read the file."""
     try:
         text = text_of(octets)
         points = Judge(table_of(text), Lines(text)).points()
-        return {name: (kind, section == 'switch' and name.endswith(('_ENA_OPN', '_ENA_CLS'))) for name, kind, section, *_ in points}
+        return {name: (kind, section == 'switch' and name.endswith(('_ENA_OPN', '_ENA_CLS')))
+                for name, kind, section, *_ in points}
     except Refused:
         return None
 
@@ -243,9 +271,11 @@ def placed(octets, code):
         if refused.code == code:
             return refused.place
         if refused.code == 50:
-            return f'Python\'s reader, which knows TOML 1.0, stops at line {refused.place.line}: {refused.place.told}'
+            return ('Python\'s reader, which knows TOML 1.0, stops at line '
+                    f'{refused.place.line}: {refused.place.told}')
         if code != 50:
             return f'this tool would refuse it with {refused.code}: {refused.place.told}'
     if code == 50:
-        return 'Python reads this TOML, so it is past a limit of bayctl\'s reader, on depth or on numbers'
+        return ('Python reads this TOML, so it is past a limit of bayctl\'s reader, on depth or on '
+                'numbers')
     return 'this tool finds no fault in it'

@@ -19,7 +19,8 @@ class Declaration:
 
 @dataclass
 class Item:
-    """A label, an instruction, an operator with `(`, or a `)`. Operands are lists of tokens: a literal, a name, or a name with an output."""
+    """A label, an instruction, an operator with `(`, or a `)`. Operands are lists of tokens: a
+    literal, a name, or a name with an output."""
     verb: str
     line: int
     token: Token
@@ -57,7 +58,9 @@ class Reader:
             raise Misplaced(bad.told, bad)
         first = tokens[0]
         if self.state == 'done':
-            raise Misplaced(f'nothing but comments may stand behind END_PROGRAM, which is line {self.ended}', first)
+            raise Misplaced(
+                f'nothing but comments may stand behind END_PROGRAM, which is line {self.ended}',
+                first)
         if self.state == 'start':
             return self.heading(tokens)
         if first.means('END_PROGRAM'):
@@ -87,15 +90,20 @@ class Reader:
     def nothing(self, rest, what):
         if rest:
             told = f'nothing may stand behind {what} on its line'
-            told += ': no ; ends an instruction' if rest[0].text == ';' else ': each instruction has a line of its own' if is_operator(rest[0]) else ''
+            if rest[0].text == ';':
+                told += ': no ; ends an instruction'
+            elif is_operator(rest[0]):
+                told += ': each instruction has a line of its own'
             raise Misplaced(told, rest[0])
 
     def end(self, number, tokens):
         self.nothing(tokens[1:], 'END_PROGRAM')
         if self.open:
-            raise Misplaced('a parenthesis is still open', tokens[0], [(line, 'which was opened here') for line in self.open[-1:]])
+            raise Misplaced('a parenthesis is still open', tokens[0],
+                            [(line, 'which was opened here') for line in self.open[-1:]])
         if self.state == 'block':
-            raise Misplaced('END_VAR is missing', tokens[0], [(self.block[1], 'of the block that begins here')])
+            raise Misplaced('END_VAR is missing', tokens[0],
+                            [(self.block[1], 'of the block that begins here')])
         self.state, self.ended = 'done', number
 
     def frame(self, number, tokens):
@@ -107,9 +115,11 @@ class Reader:
             self.state = 'head'
             return
         if self.state == 'block':
-            raise Misplaced('END_VAR is missing before it', first, [(self.block[1], 'of the block that begins here')])
+            raise Misplaced('END_VAR is missing before it', first,
+                            [(self.block[1], 'of the block that begins here')])
         if self.state == 'body':
-            raise Misplaced('declarations stand before the first instruction', first, [(self.began, 'which is here')])
+            raise Misplaced('declarations stand before the first instruction', first,
+                            [(self.began, 'which is here')])
         self.state, self.block = 'block', (first.upper, number)
 
     def declare(self, number, tokens):
@@ -129,35 +139,41 @@ class Reader:
                 continue
             break
         kind, initial = self.tail(tokens[at:], names[-1])
-        self.declarations += [Declaration(name, number, self.block[0], kind, initial) for name in names]
+        self.declarations += [Declaration(name, number, self.block[0], kind, initial)
+                              for name in names]
 
     def no_name(self, tokens, at):
         """Why no name of a variable stands here."""
         if at >= len(tokens):
             return Misplaced('a name is wanted behind the comma', tokens[-1])
         if tokens[at].kind == 'word':
-            return Misplaced(f'{tokens[at].text} is a word of the language, so no variable can have '
-                             'that name', tokens[at])
+            return Misplaced(f'{tokens[at].text} is a word of the language, so no variable can '
+                             'have that name', tokens[at])
         return Misplaced('a name is wanted here', tokens[at])
 
     def tail(self, rest, before):
         if not rest or rest[0].text != ':':
-            told = 'the value of a variable stands behind its type' if rest and rest[0].text == ':=' else 'a : is wanted, and then a type'
+            told = 'a : is wanted, and then a type'
+            if rest and rest[0].text == ':=':
+                told = 'the value of a variable stands behind its type'
             raise Misplaced(told, rest[0] if rest else before)
         if len(rest) < 2 or not rest[1].means(*TYPES, *TIMERS):
             known = f'{rest[1].text} is no type here: ' if len(rest) > 1 else 'a type is wanted: '
-            raise Misplaced(known + 'BOOL, INT, DINT, LINT, TIME, TON and TOF are', rest[1] if len(rest) > 1 else rest[0])
+            raise Misplaced(known + 'BOOL, INT, DINT, LINT, TIME, TON and TOF are',
+                            rest[1] if len(rest) > 1 else rest[0])
         kind, initial, at = rest[1].upper, None, 2
         if len(rest) > 2 and rest[2].text == ':=':
             if kind in TIMERS:
                 raise Misplaced('a timer has no initial value', rest[2])
             if len(rest) < 4 or rest[3].kind != 'literal':
-                raise Misplaced('a literal is wanted behind :=', rest[3] if len(rest) > 3 else rest[2])
+                raise Misplaced('a literal is wanted behind :=',
+                                rest[3] if len(rest) > 3 else rest[2])
             initial, at = rest[3], 4
         if initial and self.block[0] == 'VAR_EXTERNAL':
             raise Misplaced('a point of the bay has no initial value', rest[2])
         if at >= len(rest) or rest[at].text != ';':
-            raise Misplaced('the ; is missing' if at >= len(rest) else 'a ; is wanted here', rest[min(at, len(rest) - 1)])
+            raise Misplaced('the ; is missing' if at >= len(rest) else 'a ; is wanted here',
+                            rest[min(at, len(rest) - 1)])
         if len(rest) > at + 1:
             raise Misplaced('each declaration has a line of its own', rest[at + 1])
         return kind, initial
@@ -166,7 +182,8 @@ class Reader:
         if self.state == 'head':
             self.state, self.began = 'body', number
         if tokens[0].kind == 'name':
-            if len(tokens) > 1 and tokens[1].text == ':' and (len(tokens) == 2 or is_operator(tokens[2]) or tokens[2].text == ')'):
+            is_label = len(tokens) > 1 and tokens[1].text == ':'
+            if is_label and (len(tokens) == 2 or is_operator(tokens[2]) or tokens[2].text == ')'):
                 tokens = self.label(number, tokens)
             else:
                 raise self.no_operator(tokens)
@@ -176,17 +193,20 @@ class Reader:
     def no_operator(self, tokens):
         first = tokens[0]
         if any(token.means(*TYPES, *TIMERS) for token in tokens[1:]):
-            return Misplaced('a declaration stands between VAR and END_VAR, before the first instruction', first)
+            return Misplaced('a declaration stands between VAR and END_VAR, before the first '
+                             'instruction', first)
         if len(tokens) > 1 and tokens[1].text == '(':
             return Misplaced(f'{first.text} is no operator: a timer is called by CAL, as '
                              f'CAL {first.text}(IN := a, PT := T#5s)', first)
         if len(tokens) > 1 and tokens[1].text == ':':
             return Misplaced('behind a label an instruction may stand, and nothing else', tokens[2])
-        return Misplaced(f'{first.text} is no operator{near(first.text, OPERATORS)} (behind a label a : is wanted)', first)
+        return Misplaced(f'{first.text} is no operator{near(first.text, OPERATORS)} (behind a '
+                         'label a : is wanted)', first)
 
     def label(self, number, tokens):
         if self.open:
-            raise Misplaced('no label may stand within a parenthesis', tokens[0], [(self.open[-1], 'which was opened here')])
+            raise Misplaced('no label may stand within a parenthesis', tokens[0],
+                            [(self.open[-1], 'which was opened here')])
         self.items.append(Item('label', number, tokens[0]))
         if len(tokens) > 2 and tokens[2].text == ')':
             raise Misplaced('a ) stands alone on its line', tokens[2])
@@ -195,11 +215,15 @@ class Reader:
     def instruction(self, number, tokens):
         first, rest = tokens[0], tokens[1:]
         if first.text != ')' and not is_operator(first):
-            raise Misplaced(f'a line begins with an operator or a label, and not with {first.text}', first)
+            raise Misplaced(f'a line begins with an operator or a label, and not with {first.text}',
+                            first)
         if self.open and first.means('CAL', *JUMPS, *RETURNS):
-            raise Misplaced(f'{first.text} can\'t stand within a parenthesis', first, [(self.open[-1], 'which was opened here')])
-        if self.open and self.items[-1].verb == '(' and not self.items[-1].operand and not first.means(*LOADS):
-            raise Misplaced('a parenthesis begins with LD or LDN, or with an operand behind its (', first, [(self.open[-1], 'it was opened here')])
+            raise Misplaced(f'{first.text} can\'t stand within a parenthesis', first,
+                            [(self.open[-1], 'which was opened here')])
+        last = self.items[-1] if self.open else None
+        if last and last.verb == '(' and not last.operand and not first.means(*LOADS):
+            raise Misplaced('a parenthesis begins with LD or LDN, or with an operand behind its (',
+                            first, [(self.open[-1], 'it was opened here')])
         if first.text == ')':
             self.nothing(rest, ')')
             if not self.open:
@@ -211,7 +235,8 @@ class Reader:
             self.open.append(number)
             self.items.append(Item('(', number, first, operand))
             if len(self.open) > DEEPEST:
-                raise Misplaced(f'this is the {len(self.open)}th open parenthesis', rest[0], [(line, 'open since here') for line in self.open[:-1]])
+                raise Misplaced(f'this is the {len(self.open)}th open parenthesis', rest[0],
+                                [(line, 'open since here') for line in self.open[:-1]])
         else:
             self.items.append(self.plain(number, first, rest))
         self.count += 1
@@ -245,7 +270,8 @@ class Reader:
             if tokens[0].kind == 'literal':
                 raise Misplaced('numbers have no fractions here', tokens[1])
             if len(tokens) < 3 or tokens[2].upper not in ('Q', 'ET'):
-                raise Misplaced('.Q or .ET is wanted, the outputs of a timer', tokens[min(2, len(tokens) - 1)])
+                raise Misplaced('.Q or .ET is wanted, the outputs of a timer',
+                                tokens[min(2, len(tokens) - 1)])
             size = 3
         self.nothing(tokens[size:], f'{before.text} and its operand')
         return tokens[:size]
@@ -255,7 +281,8 @@ class Reader:
         if not rest or rest[0].kind != 'name':
             raise Misplaced('CAL wants the name of a timer', rest[0] if rest else first)
         if len(rest) < 3 or rest[1].text != '(' or rest[-1].text != ')':
-            raise Misplaced('CAL wants its timer\'s inputs in parentheses on one line, as CAL t1(IN := a, PT := T#5s)', rest[-1])
+            raise Misplaced('CAL wants its timer\'s inputs in parentheses on one line, as '
+                            'CAL t1(IN := a, PT := T#5s)', rest[-1])
         item, inside, part = Item('CAL', number, first, rest[:1]), rest[2:-1], []
         for token in [*inside, Token('mark', ',', rest[-1].start)] if inside else []:
             if token.text == ',':
@@ -272,7 +299,8 @@ class Reader:
         if not part or part[0].upper not in ('IN', 'PT'):
             raise Misplaced('IN := or PT := is wanted', part[0] if part else behind)
         if len(part) < 2 or part[1].text != ':=':
-            raise Misplaced(':= is wanted behind ' + part[0].text, part[1] if len(part) > 1 else part[0])
+            raise Misplaced(':= is wanted behind ' + part[0].text,
+                            part[1] if len(part) > 1 else part[0])
         return part[0], self.operand(part[2:], part[1])
 
 
@@ -281,13 +309,18 @@ def reserved_told(token):
 
 
 def placed(text, line):
-    """Why the line of a program can't be read or can't stand there, or None where it is not found."""
+    """Why the line of a program can't be read or can't stand there, or None where it is not
+    found."""
     reader = Reader(text)
     try:
         reader.read(line)
     except Misplaced as found:
         token = found.token
-        return Place(found.told, line=line, start=token and token.start, end=token and token.end, others=found.others)
+        return Place(found.told,
+                     line=line,
+                     start=token and token.start,
+                     end=token and token.end,
+                     others=found.others)
     if line >= len(reader.lines) and reader.state != 'done':
         return Place(*ending_told(reader), line=line)
     return None
@@ -298,9 +331,11 @@ def ending_told(reader):
     if reader.state == 'start':
         return 'the text is empty: a program begins with PROGRAM and its name', ''
     if reader.open:
-        return f'the text ends here with a parenthesis open, which was opened at line {reader.open[-1]}', ''
+        return ('the text ends here with a parenthesis open, which was opened at line '
+                f'{reader.open[-1]}', '')
     if reader.state == 'block':
-        return f'the text ends here: END_VAR is missing, of the block at line {reader.block[1]}, and END_PROGRAM', ''
+        return ('the text ends here: END_VAR is missing, of the block at line '
+                f'{reader.block[1]}, and END_PROGRAM', '')
     return 'the text ends here: END_PROGRAM is missing', ''
 
 

@@ -5,8 +5,8 @@ from dataclasses import dataclass, field
 
 @dataclass
 class Place:
-    """What is wrong, in words, and where: a line from 1 with the columns of the offending text from 0, where they are known. `others` are
-    further lines to look at, each with what it is."""
+    """What is wrong, in words, and where: a line from 1 with the columns of the offending text from
+    0, where they are known. `others` are further lines to look at, each with what it is."""
     told: str
     where: str = ''
     line: int | None = None
@@ -16,7 +16,8 @@ class Place:
 
 
 def shown(text_line, number, start=None, end=None, width=88):
-    """A line with its number, and a mark under the offending part; of a long line the piece around it."""
+    """A line with its number, and a mark under the offending part; of a long line the piece around
+    it."""
     text_line = text_line.rstrip('\r\n').expandtabs(1)
     shift = max(start - width // 2, 0) if start is not None and len(text_line) > width else 0
     piece = text_line[shift:shift + width]
@@ -28,7 +29,8 @@ def shown(text_line, number, start=None, end=None, width=88):
 
 
 def near(name, names):
-    """A name that is like another, to ask whether it was meant: as it is written there, since the keys of a bay file are in lower case."""
+    """A name that is like another, to ask whether it was meant: as it is written there, since the
+    keys of a bay file are in lower case."""
     written = {other.upper(): other for other in names}
     found = difflib.get_close_matches(name.upper(), written, 1, 0.6)
     return f'; is {written[found[0]]} meant?' if found else ''

@@ -1,4 +1,5 @@
-"""What is wrong with a program that reads well: names, labels, types, what can be reached, and its size once it is compiled."""
+"""What is wrong with a program that reads well: names, labels, types, what can be reached, and its
+size once it is compiled."""
 from dataclasses import dataclass, field
 
 from .lines import read
@@ -21,7 +22,8 @@ class Named:
 
 @dataclass
 class Result:
-    """The current result: its type, or none with the reason; whether it can be reached, or from where not."""
+    """The current result: its type, or none with the reason; whether it can be reached, or from
+    where not."""
     kind: str | None
     since: str
     reached: bool = True
@@ -61,7 +63,8 @@ class Checker:
     def declare(self, it):
         name, line = it.name.upper, it.line
         if name in self.names:
-            self.note(71, line, f'{it.name.text} is declared already', it.name, [(self.names[name].line, 'the first time here')])
+            self.note(71, line, f'{it.name.text} is declared already', it.name,
+                      [(self.names[name].line, 'the first time here')])
         writable = self.external(it) if it.scope == 'VAR_EXTERNAL' else True
         if it.initial and not fits(it.kind, it.initial.literal):
             self.note(72, line, f'{it.initial.text} is no value of type {it.kind}', it.initial)
@@ -74,45 +77,59 @@ class Checker:
             return True
         kind, writable = self.points.get(it.name.upper, (None, False))
         if kind is None:
-            self.note(70, it.line, f'the bay has no point {it.name.text}{near(it.name.upper, self.points)}', it.name)
+            self.note(70, it.line,
+                      f'the bay has no point {it.name.text}{near(it.name.upper, self.points)}',
+                      it.name)
         elif kind != it.kind:
-            self.note(72, it.line, f'the point {it.name.text} is of type {kind}, and {it.kind} stands here', it.name)
+            self.note(72, it.line,
+                      f'the point {it.name.text} is of type {kind}, and {it.kind} stands here',
+                      it.name)
         return writable
 
     def count(self, it):
         kinds = [named.kind in TIMERS for named in self.names.values()]
         slots, timers = kinds.count(False), kinds.count(True)
         if slots > SLOTS or timers > MOST_TIMERS:
-            told = f'{slots} externals and variables, {SLOTS} are the most' if slots > SLOTS else f'{timers} timers, {MOST_TIMERS} are the most'
+            told = f'{timers} timers, {MOST_TIMERS} are the most'
+            if slots > SLOTS:
+                told = f'{slots} externals and variables, {SLOTS} are the most'
             self.note(79, it.line, f'with {it.name.text} there are {told}', it.name)
 
     def name_label(self, item):
         name = item.token.upper
         if name in self.labels:
-            self.note(71, item.line, f'the label {item.token.text} stands twice', item.token, [(self.labels[name], 'the first time here')])
+            self.note(71, item.line, f'the label {item.token.text} stands twice', item.token,
+                      [(self.labels[name], 'the first time here')])
         self.labels.setdefault(name, item.line)
-        count = sum(other.verb == 'label' and other.line <= item.line for other in self.program.items)
+        count = sum(other.verb == 'label' and other.line <= item.line
+                    for other in self.program.items)
         if count > LABELS:
-            self.note(79, item.line, f'this is the {count}th label, and {LABELS} are the most', item.token)
+            self.note(79, item.line, f'this is the {count}th label, and {LABELS} are the most',
+                      item.token)
 
     def item(self, item):
         if item.verb == 'label':
             return self.at_label(item)
         if not self.result.reached:
-            self.note(76, item.line, 'no way leads here', item.token, [(self.result.gone, 'which goes elsewhere always')])
+            self.note(76, item.line, 'no way leads here', item.token,
+                      [(self.result.gone, 'which goes elsewhere always')])
         if item.verb == '(':
             return self.open(item)
         if item.verb == ')':
             return self.close(item)
         verb = item.verb
-        acts = [(LOADS, self.load), (STORES, self.store), (COMBINES, self.combine), (JUMPS, self.jump), (RETURNS, self.leave)]
-        act = next((act for verbs, act in acts if verb in verbs), None) or {'NOT': self.invert, 'CAL': self.call}.get(verb, self.convert)
+        acts = [(LOADS, self.load), (STORES, self.store), (COMBINES, self.combine),
+                (JUMPS, self.jump), (RETURNS, self.leave)]
+        act = next((act for verbs, act in acts if verb in verbs),
+                   None) or {'NOT': self.invert, 'CAL': self.call}.get(verb, self.convert)
         act(item)
 
     def unset(self, item):
         """Notes the use of a result that is not set."""
         if self.result.kind is None and self.result.reached:
-            self.note(73, item.line, f'{item.token.text} uses the result, which is not set: {self.result.since}', item.token)
+            self.note(73, item.line,
+                      f'{item.token.text} uses the result, which is not set: {self.result.since}',
+                      item.token)
         return self.result.kind is None
 
     def wrong(self, item, told, token=None):
@@ -120,19 +137,23 @@ class Checker:
             self.note(72, item.line, told, token or item.token)
 
     def operand(self, item, tokens):
-        """The type of an operand, or the literal of a number without a type; None where it is no operand."""
+        """The type of an operand, or the literal of a number without a type; None where it is no
+        operand."""
         first = tokens[0]
         if first.kind == 'literal':
             return first.literal.kind or first.literal
         named = self.names.get(first.upper)
         if named is None:
-            self.note(70, item.line, f'{first.text} is not declared{near(first.upper, self.names)}', first)
+            self.note(70, item.line, f'{first.text} is not declared{near(first.upper, self.names)}',
+                      first)
             return None
         timer = named.kind in TIMERS
         if timer and len(tokens) == 1:
-            self.wrong(item, f'{first.text} is a timer: {first.text}.Q is a BOOL and {first.text}.ET a TIME', first)
+            self.wrong(item, f'{first.text} is a timer: {first.text}.Q is a BOOL and '
+                       f'{first.text}.ET a TIME', first)
         if not timer and len(tokens) == 3:
-            self.wrong(item, f'{first.text} is {named.kind} and no timer (declared at line {named.line})', first)
+            self.wrong(item, f'{first.text} is {named.kind} and no timer (declared at line '
+                       f'{named.line})', first)
         if timer != (len(tokens) == 3):
             return None
         return {'Q': 'BOOL', 'ET': 'TIME'}[tokens[2].upper] if timer else named.kind
@@ -142,38 +163,51 @@ class Checker:
         if isinstance(kind, Literal):
             kind = own_type(kind)
         if item.verb == 'LDN' and kind not in (None, 'BOOL'):
-            self.wrong(item, f'only a BOOL is negated, and {text_of(item.operand)} is {kind}', item.operand[0])
-        self.result = Result(kind, f'{item.token.text} at line {item.line} loads nothing that is known', self.result.reached, self.result.gone)
+            self.wrong(item, f'only a BOOL is negated, and {text_of(item.operand)} is {kind}',
+                       item.operand[0])
+        since = f'{item.token.text} at line {item.line} loads nothing that is known'
+        self.result = Result(kind, since, self.result.reached, self.result.gone)
 
     def store(self, item):
         target, named = item.operand[0], self.names.get(item.operand[0].upper)
         kind = self.operand(item, item.operand)
-        if len(item.operand) == 3 and kind or named and not named.writable and named.kind not in TIMERS:
-            what = 'an output of a timer' if len(item.operand) == 3 else 'a point of the bay that may only be read'
+        is_output = len(item.operand) == 3
+        is_read = named and not named.writable and named.kind not in TIMERS
+        if is_output and kind or is_read:
+            what = 'an output of a timer' if is_output else (
+                'a point of the bay that may only be read')
             self.note(77, item.line, f'{text_of(item.operand)} is {what}', target)
         if kind is None:
             return
         if item.verb != 'ST' and kind != 'BOOL':
-            self.wrong(item, f'{item.verb} wants a BOOL, and {text_of(item.operand)} is {kind}', target)
+            self.wrong(item, f'{item.verb} wants a BOOL, and {text_of(item.operand)} is {kind}',
+                       target)
         elif not self.unset(item) and self.result.kind != kind:
-            self.wrong(item, f'the result is {self.result.kind}, and {text_of(item.operand)} is {kind}', target)
+            told = f'the result is {self.result.kind}, and {text_of(item.operand)} is {kind}'
+            self.wrong(item, told, target)
 
     def combine(self, item):
         kind = self.operand(item, item.operand)
         first = item.operand[0]
         if item.verb in ('DIV', 'MOD') and (first.kind != 'literal' or first.literal.value == 0):
-            self.note(78, item.line, 'zero can\'t be a divisor' if first.kind == 'literal' else f'{text_of(item.operand)} is no literal', first)
+            told = f'{text_of(item.operand)} is no literal'
+            told = 'zero can\'t be a divisor' if first.kind == 'literal' else told
+            self.note(78, item.line, told, first)
         self.join(item, item.verb, kind, text_of(item.operand), first)
 
     def join(self, item, verb, kind, told, token):
-        """An operator on the result and an operand of a type, a number without one, or nothing that is known."""
-        wanted = 'BOOL' if verb in BOOLEAN else 'INT, DINT or LINT' if verb in ARITHMETIC else 'any type' if verb in ('EQ', 'NE') else 'INT, DINT, LINT or TIME'
+        """An operator on the result and an operand of a type, a number without one, or nothing that
+        is known."""
+        wanted = wanted_by(verb)
         if self.result.kind and not takes(verb, self.result.kind):
-            self.wrong(item, f'{item.token.text} wants a result of {wanted}, and the result is {self.result.kind}')
+            self.wrong(item, f'{item.token.text} wants a result of {wanted}, and the result is '
+                       f'{self.result.kind}')
         elif isinstance(kind, Literal):
             if self.result.kind and not fits(self.result.kind, kind):
-                self.wrong(item, f'{told} is no value of type {self.result.kind}, which the result has', token)
-            elif not self.result.kind and not any(takes(verb, other) and fits(other, kind) for other in TYPES):
+                self.wrong(item, f'{told} is no value of type {self.result.kind}, which the '
+                           'result has', token)
+            elif not self.result.kind and not any(takes(verb, other) and fits(other, kind)
+                                                  for other in TYPES):
                 self.wrong(item, f'{item.token.text} wants {wanted}, and {told} is none', token)
         elif kind and not takes(verb, kind):
             self.wrong(item, f'{item.token.text} wants {wanted}, and {told} is {kind}', token)
@@ -196,7 +230,8 @@ class Checker:
     def jump(self, item):
         name, label = item.operand[0], self.labels.get(item.operand[0].upper)
         if label is None:
-            self.note(75, item.line, f'there is no label {name.text}{near(name.upper, self.labels)}', name)
+            self.note(75, item.line,
+                      f'there is no label {name.text}{near(name.upper, self.labels)}', name)
         elif label <= item.line:
             self.note(74, item.line, f'the label {name.text} stands above', name, [(label, 'here')])
         elif self.result.reached:
@@ -209,7 +244,8 @@ class Checker:
     def go(self, item):
         """What a jump or a return wants of the result, and whether what follows can be reached."""
         if item.verb in ('JMP', 'RET'):
-            self.result = Result(self.result.kind, self.result.since, False, item.line if self.result.reached else self.result.gone)
+            self.result = Result(self.result.kind, self.result.since, False,
+                                 item.line if self.result.reached else self.result.gone)
         elif not self.unset(item) and self.result.kind != 'BOOL':
             self.wrong(item, f'{item.verb} wants a BOOL, and the result is {self.result.kind}')
 
@@ -217,15 +253,19 @@ class Checker:
         name = item.operand[0]
         named = self.names.get(name.upper)
         if named is None:
-            self.note(70, item.line, f'{name.text} is not declared{near(name.upper, self.names)}', name)
+            self.note(70, item.line, f'{name.text} is not declared{near(name.upper, self.names)}',
+                      name)
         elif named.kind not in TIMERS:
-            self.wrong(item, f'{name.text} is {named.kind} and no timer (declared at line {named.line})', name)
+            self.wrong(item, f'{name.text} is {named.kind} and no timer (declared at line '
+                       f'{named.line})', name)
         for word, operand in item.arguments:
             kind, wanted = self.operand(item, operand), {'IN': 'BOOL', 'PT': 'TIME'}[word.upper]
             if kind and not (fits(wanted, kind) if isinstance(kind, Literal) else kind == wanted):
                 told = 'a number' if isinstance(kind, Literal) else kind
-                self.wrong(item, f'{word.text} wants {wanted}, and {text_of(operand)} is {told}', operand[0])
-        self.result = Result(None, f'CAL at line {item.line} leaves it so', self.result.reached, self.result.gone)
+                self.wrong(item, f'{word.text} wants {wanted}, and {text_of(operand)} is {told}',
+                           operand[0])
+        self.result = Result(None, f'CAL at line {item.line} leaves it so', self.result.reached,
+                             self.result.gone)
 
     def open(self, item):
         if item.token.means('DIV', 'MOD'):
@@ -241,24 +281,37 @@ class Checker:
         inner, (outer, opened) = self.result, self.outer.pop()
         self.result = outer
         if inner.kind is None and inner.reached:
-            self.note(73, item.line, f'what the parenthesis of line {opened.line} gives is not set: {inner.since}', item.token)
+            self.note(73, item.line, f'what the parenthesis of line {opened.line} gives is not '
+                      f'set: {inner.since}', item.token)
         began = type(item)(')', item.line, opened.token)
         at = len(self.faults)
-        self.join(began, opened.token.upper, inner.kind, f'what the parenthesis of line {opened.line} gives', item.token)
+        self.join(began, opened.token.upper, inner.kind,
+                  f'what the parenthesis of line {opened.line} gives', item.token)
         for fault in self.faults[at:]:
             fault.token = item.token
 
     def at_label(self, item):
         """What falls in and what jumps bring meet."""
         name = item.token.upper
-        ways = [(line, kind) for line, kind in self.arrivals.get(name, [])] if self.labels[name] == item.line else []
-        kinds = [(f'from line {line}', kind) for line, kind in ways] + ([('from above', self.result.kind)] if self.result.reached else [])
+        ways = self.arrivals.get(name, []) if self.labels[name] == item.line else []
+        kinds = [(f'from line {line}', kind) for line, kind in ways]
+        kinds += [('from above', self.result.kind)] if self.result.reached else []
         if not kinds:
             return
         told = ', '.join(f'{kind or "nothing"} {way}' for way, kind in kinds)
         one = {kind for _, kind in kinds}
         kind = one.pop() if len(one) == 1 else None
-        self.result = Result(kind, f'at the label {item.token.text} of line {item.line} ways with different results meet, {told}')
+        self.result = Result(kind, f'at the label {item.token.text} of line {item.line} ways with '
+                             f'different results meet, {told}')
+
+
+def wanted_by(verb):
+    """The types on which an operator works, in words."""
+    if verb in BOOLEAN:
+        return 'BOOL'
+    if verb in ARITHMETIC:
+        return 'INT, DINT or LINT'
+    return 'any type' if verb in ('EQ', 'NE') else 'INT, DINT, LINT or TIME'
 
 
 def takes(verb, kind):
@@ -292,32 +345,43 @@ def placed(text, code, line, points):
     for fault in Checker(read(text), points).all():
         if (fault.code, fault.line) == (code, line):
             token = fault.token
-            return Place(fault.told, line=line, start=token and token.start, end=token and token.end, others=fault.others)
+            return Place(fault.told, line=line, start=token and token.start,
+                         end=token and token.end, others=fault.others)
     return None
 
 
 def size_told(text):
     """What makes a compiled program long: octets of its code by what they are for, roughly."""
     program = read(text)
-    sizes = {'parentheses': 0, 'calls of timers': 0, 'jumps and returns': 0, 'other instructions': 0}
+    sizes = {'parentheses': 0, 'calls of timers': 0, 'jumps and returns': 0,
+             'other instructions': 0}
     for item in program.items:
         kind = {'(': 'parentheses', ')': 'parentheses', 'CAL': 'calls of timers'}.get(item.verb)
-        kind = kind or ('jumps and returns' if item.verb in JUMPS | RETURNS else 'other instructions')
+        other = 'jumps and returns' if item.verb in JUMPS | RETURNS else 'other instructions'
+        kind = kind or other
         sizes[kind] += octets_of(item)
     names = {declaration.name.upper: declaration for declaration in program.declarations}
-    held = sum(len(name) + 3 if it.scope == 'VAR_EXTERNAL' else 9 for name, it in names.items() if it.kind not in TIMERS)
-    parts = [f'{count:,} for {what}' for what, count in sizes.items() if count] + [f'{held:,} for what is declared']
-    return f'some {sum(sizes.values()) + held:,} octets, and {LARGEST:,} are the most: {", ".join(parts)}'
+    held = sum(len(name) + 3 if it.scope == 'VAR_EXTERNAL' else 9 for name, it in names.items()
+               if it.kind not in TIMERS)
+    parts = [f'{count:,} for {what}' for what, count in sizes.items() if count]
+    told = ', '.join([*parts, f'{held:,} for what is declared'])
+    return f'some {sum(sizes.values()) + held:,} octets, and {LARGEST:,} are the most: {told}'
 
 
 def octets_of(item):
-    """The octets of an instruction, but for its operators' widths: those of its operands, and of what is done with them."""
-    loads = [operand for _, operand in item.arguments] or ([item.operand] if item.operand and item.verb not in JUMPS else [])
-    size = sum(operand_size(operand) for operand in loads if operand[0].kind == 'literal' or item.verb not in STORES)
+    """The octets of an instruction, but for its operators' widths: those of its operands, and of
+    what is done with them."""
+    loads = [operand for _, operand in item.arguments]
+    if not loads and item.operand and item.verb not in JUMPS:
+        loads = [item.operand]
+    size = sum(operand_size(operand) for operand in loads
+               if operand[0].kind == 'literal' or item.verb not in STORES)
     if item.verb == 'CAL':
         return size + 3 * len(item.arguments) + 3
-    extra = {'label': 0, '(': 2 + (1 if item.operand else 0), ')': 1, 'LD': 1, 'LDN': 2, 'ST': 3, 'STN': 5, 'S': 3, 'R': 3}
-    return size + extra.get(item.verb, 3 if item.verb in JUMPS | RETURNS else 2 if item.verb.endswith('N') or item.verb in ARITHMETIC else 1)
+    extra = {'label': 0, '(': 2 + (1 if item.operand else 0), ')': 1, 'LD': 1, 'LDN': 2, 'ST': 3,
+             'STN': 5, 'S': 3, 'R': 3, **dict.fromkeys(JUMPS | RETURNS, 3)}
+    wide = item.verb.endswith('N') or item.verb in ARITHMETIC
+    return size + extra.get(item.verb, 2 if wide else 1)
 
 
 def operand_size(tokens):

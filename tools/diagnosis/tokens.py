@@ -4,8 +4,10 @@ from dataclasses import dataclass
 
 from .words import NUMBERS, OPERATORS, RESERVED
 
-TOKEN = re.compile(r'[ \t]+|(?P<word>[A-Za-z0-9_](?:[A-Za-z0-9_#]|(?<=#)[+-])*|[+-][0-9](?:[A-Za-z0-9_#]|(?<=#)[+-])*|#[\w#]*)'
-                   r'|(?P<mark>:=|&N(?![A-Za-z0-9_])|[:,;.()&])|(?P<odd>.)', re.IGNORECASE | re.DOTALL | re.ASCII)
+TOKEN = re.compile(
+    r'[ \t]+|(?P<word>[A-Za-z0-9_](?:[A-Za-z0-9_#]|(?<=#)[+-])*'
+    r'|[+-][0-9](?:[A-Za-z0-9_#]|(?<=#)[+-])*|#[\w#]*)'
+    r'|(?P<mark>:=|&N(?![A-Za-z0-9_])|[:,;.()&])|(?P<odd>.)', re.IGNORECASE | re.DOTALL | re.ASCII)
 DIGITS = {2: '01', 8: '01234567', 10: '0123456789', 16: '0123456789ABCDEF'}
 UNITS = [('D', 86_400_000), ('H', 3_600_000), ('M', 60_000), ('S', 1000), ('MS', 1)]
 LONGEST = 2_147_483_647
@@ -20,7 +22,8 @@ class Literal:
 
 @dataclass
 class Token:
-    """A token of a line with its column. `kind` is name, word, mark, literal, bad (60) or far (63); `told` is what is wrong with it."""
+    """A token of a line with its column. `kind` is name, word, mark, literal, bad (60) or far (63);
+    `told` is what is wrong with it."""
     kind: str
     text: str
     start: int
@@ -83,7 +86,8 @@ def odd_told(character):
     if character == '\r':
         return 'a carriage return stands here without a line feed behind it'
     if ord(character) > 126 or ord(character) < 32:
-        return f'the character {character!r} (U+{ord(character):04X}) is not of ASCII, and no comment is round it'
+        return (f'the character {character!r} (U+{ord(character):04X}) is not of ASCII, and no '
+                'comment is round it')
     if character in '+-':
         return 'a sign stands directly before the first digit of a number'
     return f'no token begins with {character!r}'
@@ -96,10 +100,13 @@ def word_token(text, start):
             return Token('literal', text, start, literal=Literal('BOOL', int(upper == 'TRUE')))
         if upper in RESERVED:
             return Token('word', text, start)
-        told = '' if len(text) <= 64 else f'this name has {len(text)} characters, and 64 are the most'
+        told = f'this name has {len(text)} characters, and 64 are the most'
+        told = told if len(text) > 64 else ''
         return Token('bad' if told else 'name', text, start, told)
     kind, held = literal_of(upper)
-    return Token(kind, text, start, held) if isinstance(held, str) else Token(kind, text, start, literal=held)
+    if isinstance(held, str):
+        return Token(kind, text, start, held)
+    return Token(kind, text, start, literal=held)
 
 
 def literal_of(text):
@@ -109,7 +116,9 @@ def literal_of(text):
         return duration_of(after)
     if hash_mark and before in ('BOOL', *NUMBERS):
         if after in ('TRUE', 'FALSE'):
-            return ('literal', Literal('BOOL', int(after == 'TRUE'))) if before == 'BOOL' else ('far', f'{after} is no {before}')
+            if before != 'BOOL':
+                return 'far', f'{after} is no {before}'
+            return 'literal', Literal('BOOL', int(after == 'TRUE'))
         return in_range(before, number_of(after))
     return in_range(None, number_of(text))
 
@@ -121,7 +130,8 @@ def in_range(kind, value):
     bits = NUMBERS.get(kind or 'LINT')
     least, most = (0, 1) if kind == 'BOOL' else (-2 ** (bits - 1), 2 ** (bits - 1) - 1)
     if not least <= value <= most:
-        return 'far', f'{value:,} is not from {least:,} to {most:,}' + (f', the values of {kind}' if kind else '')
+        told = f'{value:,} is not from {least:,} to {most:,}'
+        return 'far', told + (f', the values of {kind}' if kind else '')
     return 'literal', Literal(kind, value)
 
 
@@ -129,7 +139,8 @@ def number_of(text):
     """The value of a number with a base or a sign, or what is wrong with it."""
     before, hash_mark, digits = text.partition('#')
     if hash_mark and before not in ('2', '8', '16'):
-        return f'{before or "nothing"} is no base and no type: 2, 8, 16, BOOL, INT, DINT, LINT, T and TIME may stand before #'
+        return (f'{before or "nothing"} is no base and no type: 2, 8, 16, BOOL, INT, DINT, LINT, T '
+                'and TIME may stand before #')
     base = int(before) if hash_mark else 10
     sign = '' if hash_mark else text[:1] if text[:1] in '+-' else ''
     digits = digits if hash_mark else text.removeprefix(sign) if sign else text
@@ -139,7 +150,8 @@ def number_of(text):
     if odd is not None:
         return f'{odd} is no digit of a number of base {base}'
     if not digits or digits[0] == '_' or digits[-1] == '_' or '__' in digits:
-        return 'a single _ may stand between two digits, and nowhere else' if digits else 'there is no digit'
+        told = 'a single _ may stand between two digits, and nowhere else'
+        return told if digits else 'there is no digit'
     return int(digits.replace('_', ''), base) * (-1 if sign == '-' else 1)
 
 
@@ -152,11 +164,15 @@ def duration_of(text):
         if place is None:
             return 'bad', f'{rest} is no number with a unit: d, h, m, s or ms'
         if part[1] and not parts or place <= last:
-            return 'bad', 'the units of a duration fall, and none comes twice: d, h, m, s, ms' if parts else 'a duration begins with a digit'
-        total, last, rest, parts = total + int(part[2].replace('_', '')) * UNITS[place][1], place, rest[part.end():], parts + 1
+            told = 'the units of a duration fall, and none comes twice: d, h, m, s, ms'
+            return 'bad', told if parts else 'a duration begins with a digit'
+        total += int(part[2].replace('_', '')) * UNITS[place][1]
+        last, rest, parts = place, rest[part.end():], parts + 1
     if not parts:
         return 'bad', 'a duration has a number with a unit, as T#500ms'
-    return ('literal', Literal('TIME', total)) if total <= LONGEST else ('far', f'{total:,} ms are more than {LONGEST:,}, some 24 days')
+    if total > LONGEST:
+        return 'far', f'{total:,} ms are more than {LONGEST:,}, some 24 days'
+    return 'literal', Literal('TIME', total)
 
 
 def is_operator(token):

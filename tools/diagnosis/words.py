@@ -1,6 +1,7 @@
 """The words of Instruction List, as the profile has them."""
 LOADS, STORES = {'LD', 'LDN'}, {'ST', 'STN', 'S', 'R'}
-COMBINES = {'AND', 'OR', 'XOR', 'ANDN', 'ORN', 'XORN', 'ADD', 'SUB', 'MUL', 'DIV', 'MOD', 'GT', 'GE', 'EQ', 'NE', 'LE', 'LT', '&', '&N'}
+COMBINES = {'AND', 'OR', 'XOR', 'ANDN', 'ORN', 'XORN', 'ADD', 'SUB', 'MUL', 'DIV', 'MOD', 'GT',
+            'GE', 'EQ', 'NE', 'LE', 'LT', '&', '&N'}
 JUMPS, RETURNS = {'JMP', 'JMPC', 'JMPCN'}, {'RET', 'RETC', 'RETCN'}
 CONVERTS = {'INT_TO_DINT': ('INT', 'DINT'), 'DINT_TO_LINT': ('DINT', 'LINT')}
 ALONE = {'NOT', *CONVERTS, *RETURNS}

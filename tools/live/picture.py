@@ -3,7 +3,8 @@ import html
 import re
 from dataclasses import dataclass
 
-APART, TOP, BUS, COLUMN = 104, 46, 34, 190  # between switches, above the first busbar, between these
+APART, TOP = 104, 46  # between two switches of the column, and above the first busbar
+BUS, COLUMN = 34, 190  # between two busbars, and between two switches side by side
 
 
 class BadOrder(Exception):

@@ -1,1 +1,2 @@
-"""What the tools share: BER, the layers below MMS, MMS itself, its words, and a replay step by step."""
+"""What the tools share: BER, the layers below MMS, MMS itself, its words, and a replay step by
+step."""

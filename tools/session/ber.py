@@ -1,4 +1,5 @@
-"""BER (X.690): elements of octets, and octets of elements. A tag is its identifier octets as one number."""
+"""BER (X.690): elements of octets, and octets of elements. A tag is its identifier octets as one
+number."""
 
 
 class Unreadable(Exception):
@@ -77,4 +78,6 @@ def element(tag, *contents):
 
 def number(tag, value):
     """The octets of an integer."""
-    return element(tag, value.to_bytes(((value if value >= 0 else ~value).bit_length() + 8) // 8, signed=True))
+    return element(tag,
+                   value.to_bytes(((value if value >= 0 else ~value).bit_length() + 8) // 8,
+                                  signed=True))

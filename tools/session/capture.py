@@ -1,10 +1,11 @@
-"""Connections of TCP out of a capture file (pcap or pcapng), put together: segments in order, once."""
+"""Connections of TCP out of a capture file (pcap or pcapng), put together: segments in order,
+once."""
 import struct
 from dataclasses import dataclass, field
 
 SYN, FIN, RST = 0x02, 0x01, 0x04
 HALF, WHOLE = 1 << 31, 1 << 32
-# Link types, and how many octets stand before the packet with its type: the file of tcpdump and tshark.
+# Link types, of the files of tcpdump and tshark.
 NULL, ETHERNET, RAW, LOOP, COOKED, IPV4, IPV6, COOKED2 = 0, 1, 101, 108, 113, 228, 229, 276
 MPLS, VLANS = 0x8847, (0x8100, 0x88A8, 0x9100)
 TPKT_PORT = 102

@@ -12,8 +12,9 @@ REFUSED_READ = mms.Data(mms.TEXT, '')
 
 @dataclass
 class Said:
-    """One thing that was said. `kind` is connect, identify, names, attributes, read, write, select, operate, cancel, refused (a LastApplError),
-    ended (the end of an operate) or end; `lead` and `lines` are the words for it, `switch` and `way` (on, off or nothing) are those of a control,
+    """One thing that was said. `kind` is connect, identify, names, attributes, read, write, select,
+    operate, cancel, refused (a LastApplError), ended (the end of an operate) or end; `lead` and
+    `lines` are the words for it, `switch` and `way` (on, off or nothing) are those of a control,
     `good` is whether it was answered as asked, `cause` an AddCause."""
     kind: str
     lead: str
@@ -72,8 +73,10 @@ class Conversation:
             return Said('connect', 'asks for', ['an association' + proposed(got.octets)])
         if got.kind == 'mms':
             return self.asks_mms(got.octets)
-        told = {'finish': ('ends', 'its association (FINISH)'), 'release': ('asks for', 'the release of its association'),
-                'abort': ('aborts', 'its association'), 'end': ('ends', f'its connection ({got.words})'),
+        told = {'finish': ('ends', 'its association (FINISH)'),
+                'release': ('asks for', 'the release of its association'),
+                'abort': ('aborts', 'its association'),
+                'end': ('ends', f'its connection ({got.words})'),
                 'fault': ('sends', f'what can\'t be read: {got.words}')}
         lead, line = told.get(got.kind, ('sends', got.kind))
         return Said('end', lead, [line], good=got.kind != 'fault')
@@ -96,13 +99,17 @@ class Conversation:
             return Said('read', f'asks{numbered(pdu)}', [pdu.service or pdu.kind], pdu.invoke)
         switch, kind = self.controlled(pdu)
         if switch:
-            return Said(kind, f'asks{numbered(pdu)}', [self.control_told(kind, switch, pdu)], pdu.invoke, switch, way_of(pdu))
-        tell = {'names': self.asked_names, 'read': self.asked_read, 'write': self.asked_write, 'attributes': self.asked_type}.get(pdu.service)
-        lines = tell(pdu) if tell else ['who the server is' if pdu.service == 'identify' else pdu.service]
+            return Said(kind, f'asks{numbered(pdu)}', [self.control_told(kind, switch, pdu)],
+                        pdu.invoke, switch, way_of(pdu))
+        tell = {'names': self.asked_names, 'read': self.asked_read, 'write': self.asked_write,
+                'attributes': self.asked_type}.get(pdu.service)
+        lines = tell(pdu) if tell else ['who the server is' if pdu.service == 'identify'
+                                        else pdu.service]
         return Said(pdu.service, f'asks{numbered(pdu)}', lines, pdu.invoke)
 
     def controlled(self, pdu):
-        """The switch and the kind of a request that selects, operates or cancels, and asks nothing else."""
+        """The switch and the kind of a request that selects, operates or cancels, and asks nothing
+        else."""
         path = pdu.names[0].split('$') if len(pdu.names) == 1 else []
         if path[1:3] != ['CO', 'Pos'] or len(path) != 4 or path[3] not in ASKED:
             return '', ''
@@ -120,10 +127,13 @@ class Conversation:
             return f'{kind} {switch} with {words.told(self.bay.item(pdu.names[0]), value)}'
         on, origin, count, _, test, *check = (part.value for part in value.value)
         category, ident = (part.value for part in origin)
-        by = words.ORIGINATORS[category] if 0 <= category < len(words.ORIGINATORS) else f'originator {category}'
+        by = f'originator {category}'
+        if 0 <= category < len(words.ORIGINATORS):
+            by = words.ORIGINATORS[category]
         more = [by + (f' {words.octets_told(ident)}' if ident else ''), f'number {count}']
         more += ['a test'] if test else []
-        more += [f'checks: {words.CHECKS.get(check[0], check[0])}'] if check and check[0] != '00' else []
+        if check and check[0] != '00':
+            more.append(f'checks: {words.CHECKS.get(check[0], check[0])}')
         return f'{kind} {switch} {"on" if on else "off"} ({", ".join(more)})'
 
     def asked_names(self, pdu):
@@ -135,7 +145,9 @@ class Conversation:
         return listed('read', [self.bay.titled(name) for name in pdu.names])
 
     def asked_write(self, pdu):
-        return listed('write', [f'{self.bay.titled(name)} := {words.told(self.bay.item(name), value)}' for name, value in zip(pdu.names, pdu.data)])
+        return listed('write',
+                      [f'{self.bay.titled(name)} := {words.told(self.bay.item(name), value)}'
+                       for name, value in zip(pdu.names, pdu.data)])
 
     def asked_type(self, pdu):
         return [f'the type of {self.bay.titled(pdu.names[0])}']
@@ -164,9 +176,12 @@ class Conversation:
         if pdu.kind == 'concluded':
             return Said('end', 'is answered:', ['concluded'])
         request, asked = self.asked.pop(pdu.invoke, (None, None))
-        kind, *control = (asked.kind, asked.switch, asked.way) if asked else (pdu.service or 'read', '', '')
+        kind, *control = pdu.service or 'read', '', ''
+        if asked:
+            kind, *control = asked.kind, asked.switch, asked.way
         if pdu.kind in ('error', 'reject'):
-            return Said(kind, f'is answered{numbered(pdu)}', [words.error_told(pdu.kind, pdu.code)], pdu.invoke, *control, False)
+            return Said(kind, f'is answered{numbered(pdu)}', [words.error_told(pdu.kind, pdu.code)],
+                        pdu.invoke, *control, False)
         lines, good = self.response_told(pdu, request, asked)
         return Said(kind, f'is answered{numbered(pdu)}', lines, pdu.invoke, *control, good)
 
@@ -181,32 +196,43 @@ class Conversation:
             return [', '.join(f'{word} {words.quoted(name)}' for word, name in named)], True
         if pdu.service == 'attributes':
             return [type_told(pdu.shape)], True
-        names = request.names if request and len(request.names) == len(pdu.data) else [''] * len(pdu.data)
+        names = [''] * len(pdu.data)
+        if request and len(request.names) == len(pdu.data):
+            names = request.names
         good = not any(isinstance(value, Failure) for value in pdu.data)
         if pdu.service == 'write':
             told = ['done' if value is None else words.told('', value) for value in pdu.data]
         else:
             told = [words.told(self.bay.item(name), value) for name, value in zip(names, pdu.data)]
-        return listed('', [f'{self.bay.titled(name)} = {value}' if name else value for name, value in zip(names, told)]), good
+        return listed('',
+                      [f'{self.bay.titled(name)} = {value}' if name else value
+                       for name, value in zip(names, told)]), good
 
     def reported(self, pdu):
         """A LastApplError, or the end of an operate."""
         control = next((name for name in pdu.names if name.endswith('$Oper')), None)
-        cause = next((cause_in(value) for name, value in zip(pdu.names, pdu.data) if name == 'LastApplError'), None)
+        cause = next((cause_in(value) for name, value in zip(pdu.names, pdu.data)
+                      if name == 'LastApplError'), None)
         if control and words.fits(words.OPER, pdu.data[-1]):
-            switch, on = self.bay.switch(control), words.told(self.bay.item(control) + '$ctlVal', pdu.data[-1].value[0])
+            switch, asked = self.bay.switch(control), self.bay.item(control) + '$ctlVal'
+            on = words.told(asked, pdu.data[-1].value[0])
             told = 'done' if cause is None else words.cause_told(cause[1])
-            return Said('ended', 'is told:', [f'operate {switch} {on} has ended: {told}'], None, switch, on, cause is None, cause and cause[1])
+            return Said('ended', 'is told:', [f'operate {switch} {on} has ended: {told}'], None,
+                        switch, on, cause is None, cause and cause[1])
         if cause is None:
             return Said('refused', 'is told:', [', '.join(pdu.names)])
         verb = ASKED.get(cause[0].rpartition('$')[2], 'control')
         switch = self.bay.switch(cause[0])
-        return Said('refused', 'is told:', [f'{verb} {switch} is refused: {words.cause_told(cause[1])}'], None, switch, '', False, cause[1])
+        return Said('refused', 'is told:',
+                    [f'{verb} {switch} is refused: {words.cause_told(cause[1])}'], None, switch, '',
+                    False, cause[1])
 
 
 def way_of(pdu):
     """Whether a control asks for on or off, where it says so."""
-    on = pdu.data[0].value[0].value if pdu.data and pdu.data[0].tag == mms.STRUCTURE and pdu.data[0].value else None
+    if not pdu.data or pdu.data[0].tag != mms.STRUCTURE or not pdu.data[0].value:
+        return ''
+    on = pdu.data[0].value[0].value
     return {True: 'on', False: 'off'}.get(on, '') if isinstance(on, bool) else ''
 
 
@@ -240,7 +266,8 @@ def proposed(initiate):
 def names_told(pdu):
     if not pdu.names:
         return 'no names'
-    span = pdu.names[0] if len(pdu.names) == 1 else f'{len(pdu.names)} names, {pdu.names[0]} to {pdu.names[-1]}'
+    span = f'{len(pdu.names)} names, {pdu.names[0]} to {pdu.names[-1]}'
+    span = pdu.names[0] if len(pdu.names) == 1 else span
     return span + (', and there are more' if pdu.more else '')
 
 

@@ -12,7 +12,8 @@ POSITIONS = ['on its way', 'open', 'closed', 'bad']
 
 
 class Track:
-    """What one thing was over time: changes are (moment, value), in the order in which they came."""
+    """What one thing was over time: changes are (moment, value), in the order in which they
+    came."""
 
     def __init__(self, label, note=''):
         self.label, self.note, self.changes = label, note, []
@@ -22,7 +23,8 @@ class Track:
             self.changes.append((moment, value))
 
     def spells(self, start, end, first=None):
-        """(from, to, value) one after the other, from start to end; first is the value before any change."""
+        """(from, to, value) one after the other, from start to end; first is the value before any
+        change."""
         points = [(start, first), *self.changes, (end, None)]
         return [(a, b, value) for (a, value), (b, _) in zip(points, points[1:])
                 if b > a and value is not None]
@@ -61,7 +63,8 @@ class History:
         self.opens = {key: Track('may be opened') for key in self.switches}
         self.closes = {key: Track('may be closed') for key in self.switches}
         self.commands = {key: [] for key in self.switches}
-        self.measures, self.scans, self.moments, self.clients, self.conversations = {}, [], [], {}, {}
+        self.measures, self.scans, self.moments = {}, [], []
+        self.clients, self.conversations = {}, {}
         self.refusals, self.events = [], []
 
     @classmethod
@@ -149,7 +152,8 @@ class History:
         self.conversations[place] = Conversation(bay)
 
     def printed(self, step):
-        """What was printed for an event: answers, a command, a scan, an association that was closed."""
+        """What was printed for an event: answers, a command, a scan, an association that was
+        closed."""
         causes = {}
         for place, octets in step.sent:
             said = self.conversations[place].answers(got_of(octets))
@@ -170,7 +174,8 @@ class History:
                 self.clients[place].marks.append(Mark(step.moment, 'closed', number))
 
     def control(self, moment, place, said, causes):
-        """A mark for a control that was answered or has ended; the cause of a refusal was told before it."""
+        """A mark for a control that was answered or has ended; the cause of a refusal was told
+        before it."""
         if said.kind == 'refused':
             causes[place] = said.cause
         elif said.kind == 'ended':

@@ -4,16 +4,20 @@ from dataclasses import dataclass, field
 from . import ber
 from .ber import Unreadable, element, number
 
-STRUCTURE, BOOLEAN, BITS, INTEGER, UNSIGNED, OCTETS, TEXT, TIME = 0xA2, 0x83, 0x84, 0x85, 0x86, 0x89, 0x8A, 0x91
-KINDS = {STRUCTURE: 'structure', BOOLEAN: 'boolean', BITS: 'bit-string', INTEGER: 'integer', UNSIGNED: 'unsigned', OCTETS: 'octet-string',
+STRUCTURE, BOOLEAN, BITS, INTEGER = 0xA2, 0x83, 0x84, 0x85
+UNSIGNED, OCTETS, TEXT, TIME = 0x86, 0x89, 0x8A, 0x91
+KINDS = {STRUCTURE: 'structure', BOOLEAN: 'boolean', BITS: 'bit-string', INTEGER: 'integer',
+         UNSIGNED: 'unsigned', OCTETS: 'octet-string',
          TEXT: 'visible-string', TIME: 'utc-time'}
-SERVICES = {0xA0: 'status', 0xA1: 'names', 0x82: 'identify', 0xA3: 'rename', 0xA4: 'read', 0xA5: 'write', 0xA6: 'attributes'}
+SERVICES = {0xA0: 'status', 0xA1: 'names', 0x82: 'identify', 0xA3: 'rename', 0xA4: 'read',
+            0xA5: 'write', 0xA6: 'attributes'}
 DEEPEST = 10
 
 
 @dataclass
 class Data:
-    """A value. A structure holds Data, bits are a text of 0 and 1, a time is in milliseconds since 1970, or its octets where these aren't 8."""
+    """A value. A structure holds Data, bits are a text of 0 and 1, a time is in milliseconds since
+    1970, or its octets where these aren't 8."""
     tag: int
     value: object
 
@@ -26,7 +30,8 @@ class Failure:
 
 @dataclass
 class Pdu:
-    """A PDU: request, response, error, reject, report, initiate, initiated, conclude, concluded or other; which fields are set goes by it."""
+    """A PDU: request, response, error, reject, report, initiate, initiated, conclude, concluded or
+    other; which fields are set goes by it."""
     kind: str
     invoke: int | None = None
     service: str = ''
@@ -51,7 +56,8 @@ def several(octets, count):
 
 
 def name_of(octets):
-    """The name of a variable: domain/item, item alone for one of the VMD, @/item for one of the association."""
+    """The name of a variable: domain/item, item alone for one of the VMD, @/item for one of the
+    association."""
     tag, content, _ = ber.read(octets)
     if tag == 0xA1:
         (_, domain), (_, item) = several(content, 2)
@@ -98,7 +104,8 @@ def octets_of(data):
         return element(tag, b'\xff' if value else b'\x00')
     if tag == BITS:
         unused = -len(value) % 8
-        return element(tag, bytes([unused]), int(value + '0' * unused or '0', 2).to_bytes((len(value) + unused) // 8))
+        return element(tag, bytes([unused]),
+                       int(value + '0' * unused or '0', 2).to_bytes((len(value) + unused) // 8))
     if tag == TIME and not isinstance(value, bytes):
         seconds, rest = divmod(value, 1000)
         return element(tag, seconds.to_bytes(4), ((rest << 24) // 1000).to_bytes(3), b'\x2a')
@@ -106,12 +113,15 @@ def octets_of(data):
 
 
 def read_pdu(octets):
-    """What a PDU says; a request that can't be read is of the kind `other`, with what is wrong as its service."""
+    """What a PDU says; a request that can't be read is of the kind `other`, with what is wrong as
+    its service."""
     tag, content, end = ber.read(octets)
     if end != len(octets):
         raise Unreadable('octets behind a PDU')
-    readers = {0xA0: request_of, 0xA1: response_of, 0xA2: error_of, 0xA3: report_of, 0xA4: reject_of,
-               0xA8: lambda c: initiate_of('initiate', c), 0xA9: lambda c: initiate_of('initiated', c),
+    readers = {0xA0: request_of, 0xA1: response_of, 0xA2: error_of, 0xA3: report_of,
+               0xA4: reject_of,
+               0xA8: lambda c: initiate_of('initiate', c),
+               0xA9: lambda c: initiate_of('initiated', c),
                0x8B: lambda c: Pdu('conclude'), 0x8C: lambda c: Pdu('concluded')}
     if tag not in readers:
         raise Unreadable(f'a PDU {tag:02X}')
@@ -130,7 +140,8 @@ def request_of(content):
     tag = asked
     service = SERVICES.get(tag, f'service {tag & 0x1f}')
     pdu = Pdu('request', ber.integer(invoke), service)
-    fill = {'names': fill_names, 'read': fill_read, 'write': fill_write, 'attributes': fill_attributes}.get(service)
+    fill = {'names': fill_names, 'read': fill_read, 'write': fill_write,
+            'attributes': fill_attributes}.get(service)
     try:
         if fill:
             fill(pdu, content)
@@ -167,11 +178,13 @@ def result_of(tag, content):
 
 def response_of(content):
     (_, invoke), (tag, content) = several(content, 2)
-    pdu = Pdu('response', ber.integer(invoke), SERVICES.get(tag if tag != 0xA2 else 0x82, f'service {tag & 0x1f}'))
+    pdu = Pdu('response', ber.integer(invoke),
+              SERVICES.get(tag if tag != 0xA2 else 0x82, f'service {tag & 0x1f}'))
     if pdu.service == 'read':
         pdu.data = [result_of(*result) for result in ber.elements(ber.needed(content, 0xA1))]
     elif pdu.service == 'write':
-        pdu.data = [None if t == 0x81 else Failure(ber.integer(c)) for t, c in ber.elements(content)]
+        pdu.data = [None if t == 0x81 else Failure(ber.integer(c))
+                    for t, c in ber.elements(content)]
     elif pdu.service == 'names':
         pdu.names = [text(name) for _, name in ber.elements(ber.needed(content, 0xA0))]
         pdu.more = any(ber.field(content, 0x81, b'\xff'))
@@ -186,7 +199,8 @@ def type_of(tag, content):
     """A type: the name of its kind with its size, or a list of names and types."""
     if tag == STRUCTURE:
         parts = (part for _, part in ber.elements(ber.needed(content, 0xA1)))
-        return [(text(ber.needed(part, 0x80)), type_of(*several(ber.needed(part, 0xA1), 1)[0])) for part in parts]
+        return [(text(ber.needed(part, 0x80)), type_of(*several(ber.needed(part, 0xA1), 1)[0]))
+                for part in parts]
     size = ber.integer(content) if content else None
     return KINDS.get(tag, f'{tag:02X}') + (f' {size}' if size is not None else '')
 
@@ -200,24 +214,29 @@ def error_of(content):
 def reject_of(content):
     invoke = ber.field(content, 0x80)
     tag, code = ber.elements(content)[-1] if content else (0, b'\0')
-    return Pdu('reject', None if invoke is None else ber.integer(invoke), code=(tag & 0x1f, ber.integer(code)))
+    return Pdu('reject', None if invoke is None else ber.integer(invoke),
+               code=(tag & 0x1f, ber.integer(code)))
 
 
 def report_of(content):
     (_, variables), (_, values) = several(ber.needed(content, 0xA0), 2)
-    return Pdu('report', names=names_of(variables), data=[result_of(*value) for value in ber.elements(values)])
+    return Pdu('report', names=names_of(variables),
+               data=[result_of(*value) for value in ber.elements(values)])
 
 
 def initiate_request(size=65000):
     services = bytes.fromhex('03 EE1C00000408000079EF18')
-    offered = element(0xA4, number(0x80, 1), element(0x81, bytes.fromhex('05F100')), element(0x82, services))
-    return element(0xA8, number(0x80, size), number(0x81, 5), number(0x82, 5), number(0x83, 10), offered)
+    offered = element(0xA4, number(0x80, 1), element(0x81, bytes.fromhex('05F100')),
+                      element(0x82, services))
+    return element(0xA8, number(0x80, size), number(0x81, 5), number(0x82, 5), number(0x83, 10),
+                   offered)
 
 
 def name_octets(name):
     """The octets of a name domain/item."""
     domain, _, item = name.partition('/')
-    return element(0xA0, element(0xA1, element(0x1A, domain.encode()), element(0x1A, item.encode())))
+    return element(0xA0,
+                   element(0xA1, element(0x1A, domain.encode()), element(0x1A, item.encode())))
 
 
 def request_octets(invoke, *service):
@@ -232,7 +251,8 @@ def names_request(invoke, domain=None, after=None):
     """The names of a domain, or the domains, behind a name if there is one."""
     scope = element(0x81, domain.encode()) if domain else element(0x80)
     behind = [element(0x82, after.encode())] if after else []
-    return request_octets(invoke, 0xA1, element(0xA0, number(0x80, 0 if domain else 9)), element(0xA1, scope), *behind)
+    return request_octets(invoke, 0xA1, element(0xA0, number(0x80, 0 if domain else 9)),
+                          element(0xA1, scope), *behind)
 
 
 def read_request(invoke, names):
@@ -250,5 +270,6 @@ def attributes_request(invoke, name):
 def control(on, category=2, ident=b'', count=0, moment=0, test=False, check='00'):
     """The value of an Oper or an SBOw, and without a check that of a Cancel."""
     origin = Data(STRUCTURE, [Data(INTEGER, category), Data(OCTETS, ident)])
-    parts = [Data(BOOLEAN, on), origin, Data(UNSIGNED, count), Data(TIME, moment), Data(BOOLEAN, test)]
+    parts = [Data(BOOLEAN, on), origin, Data(UNSIGNED, count), Data(TIME, moment),
+             Data(BOOLEAN, test)]
     return Data(STRUCTURE, parts + ([Data(BITS, check)] if check is not None else []))

@@ -1,7 +1,8 @@
 """Pictures in SVG, that grow downward."""
 import html
 
-INK, FAINT, GRID, WARN, FREE, COMMAND = '#1a1a1a', '#6a6a6a', '#e3e3e3', '#b3261e', '#2e7d32', '#8a4b00'
+INK, FAINT, GRID = '#1a1a1a', '#6a6a6a', '#e3e3e3'
+WARN, FREE, COMMAND = '#b3261e', '#2e7d32', '#8a4b00'
 FONTS = 'DejaVu Sans, Verdana, Helvetica, Arial, sans-serif'
 
 
@@ -21,26 +22,33 @@ class Picture:
         self.parts, self.y = [], 0
 
     def text(self, x, y, text, size=12, anchor='start', fill=INK, weight='normal'):
-        self.parts.append(f'<text x="{x:.1f}" y="{y:.1f}" font-size="{size}" text-anchor="{anchor}" fill="{fill}" '
+        self.parts.append(f'<text x="{x:.1f}" y="{y:.1f}" font-size="{size}" '
+                          f'text-anchor="{anchor}" fill="{fill}" '
                           f'font-weight="{weight}">{html.escape(text)}</text>')
 
     def upward(self, x, y, text):
         """A text that reads from below to above."""
-        self.parts.append(f'<text transform="translate({x:.1f} {y:.1f}) rotate(-90)" font-size="11" fill="{INK}">{html.escape(text)}</text>')
+        self.parts.append(f'<text transform="translate({x:.1f} {y:.1f}) rotate(-90)" '
+                          f'font-size="11" fill="{INK}">{html.escape(text)}</text>')
 
     def box(self, x, y, width, height, fill, stroke='none', tip='', dash=''):
         dashes = f' stroke-dasharray="{dash}"' if dash else ''
-        self.parts.append(f'<rect x="{x:.1f}" y="{y:.1f}" width="{max(width, 0.8):.1f}" height="{height}" fill="{fill}" '
+        self.parts.append(f'<rect x="{x:.1f}" y="{y:.1f}" width="{max(width, 0.8):.1f}" '
+                          f'height="{height}" fill="{fill}" '
                           f'stroke="{stroke}"{dashes}>{title_of(tip)}</rect>')
 
     def path(self, points, stroke, width=1.5, fill='none', tip='', dash=''):
         way = ' L '.join(f'{x:.1f} {y:.1f}' for x, y in points)
         dashes = f' stroke-dasharray="{dash}"' if dash else ''
-        self.parts.append(f'<path d="M {way}" fill="{fill}" stroke="{stroke}" stroke-width="{width}"{dashes}>{title_of(tip)}</path>')
+        self.parts.append(f'<path d="M {way}" fill="{fill}" stroke="{stroke}" '
+                          f'stroke-width="{width}"{dashes}>{title_of(tip)}</path>')
 
     def page(self, width, height, heading, told, front=''):
         """The octets of the file, with a heading and a description for readers."""
-        return (f'<svg xmlns="http://www.w3.org/2000/svg" viewBox="0 0 {width} {height:.0f}" width="{width}" height="{height:.0f}" '
-                f'role="img" aria-labelledby="heading told" font-family="{FONTS}">\n<title id="heading">{html.escape(heading)}</title>\n'
-                f'<desc id="told">{html.escape(told)}</desc>\n{front}<rect width="100%" height="100%" fill="#ffffff"/>\n'
+        return (f'<svg xmlns="http://www.w3.org/2000/svg" viewBox="0 0 {width} {height:.0f}" '
+                f'width="{width}" height="{height:.0f}" role="img" '
+                f'aria-labelledby="heading told" font-family="{FONTS}">\n'
+                f'<title id="heading">{html.escape(heading)}</title>\n'
+                f'<desc id="told">{html.escape(told)}</desc>\n{front}'
+                '<rect width="100%" height="100%" fill="#ffffff"/>\n'
                 + '\n'.join(self.parts) + '\n</svg>\n')

@@ -12,19 +12,24 @@ from .words import Bay
 TOP = pathlib.Path(__file__).resolve().parent.parent.parent
 BAYCTL = TOP / 'crates' / 'bayctl' / 'out' / 'bayctl'
 LATEST = 4_294_967_295_999
-REASONS = {110: 'before the last event', 111: 'no such association', 112: 'already open', 113: 'no such switch, input or meter',
+REASONS = {110: 'before the last event', 111: 'no such association', 112: 'already open',
+           113: 'no such switch, input or meter',
            114: 'the moment is too large'}
-CODES = {0: 'ended', 10: 'no TPKT', 11: 'no TPDU that may come now', 12: 'another transport class', 13: 'a TSDU that is too long',
-         20: 'no SPDU', 21: 'no value of the presentation', 22: 'a context that is not served', 23: 'no value of ACSE', 24: 'it can\'t come now',
-         25: 'too small a PDU size', 130: 'it did not read, and its queue is full', 131: 'its connection failed'}
+CODES = {0: 'ended', 10: 'no TPKT', 11: 'no TPDU that may come now', 12: 'another transport class',
+         13: 'a TSDU that is too long',
+         20: 'no SPDU', 21: 'no value of the presentation', 22: 'a context that is not served',
+         23: 'no value of ACSE', 24: 'it can\'t come now',
+         25: 'too small a PDU size', 130: 'it did not read, and its queue is full',
+         131: 'its connection failed'}
 
 ENDINGS = ('end', 'abort', 'fault', 'finish', 'release')
 
 
 @dataclass
 class Step:
-    """A line of the trace with what was printed for it: the number of its refusal, what was sent (association, octets), a command, the line
-    of a scan, and an association that was closed with its code. `heard` is what the octets of a recv complete."""
+    """A line of the trace with what was printed for it: the number of its refusal, what was sent
+    (association, octets), a command, the line of a scan, and an association that was closed with
+    its code. `heard` is what the octets of a recv complete."""
     number: int
     line: str
     moment: int
@@ -48,7 +53,8 @@ class Replay:
         self.lines = [line.split(' ') for line in reversed(lines)]
         self.trace, self.last, self.ending = trace, 0, ''
         self.conversations = {}
-        self.known = {'contact': {s['id'].upper() for s in self.file['switch']}, 'input': {i['name'].upper() for i in self.file.get('input', [])},
+        self.known = {'contact': {s['id'].upper() for s in self.file['switch']},
+                      'input': {i['name'].upper() for i in self.file.get('input', [])},
                       'measure': {m['id'].upper() for m in self.file.get('meter', [])}}
 
     def steps(self):
@@ -71,7 +77,8 @@ class Replay:
         try:
             return self.step(number, line)
         except (ValueError, LookupError):
-            sys.exit(f'line {number} of the trace can\'t be read, or the report is not that of this scenario')
+            sys.exit(f'line {number} of the trace can\'t be read, or the report is not that of '
+                     'this scenario')
 
     def step(self, number, line):
         first, *words = line.split(' ')
@@ -120,9 +127,11 @@ class Replay:
         return bool(self.lines) and self.lines[-1][:len(words) + 1] == [str(step.moment), *words]
 
     def take_ending(self, step, verb):
-        """The report of an operate that ends with this event: by a contact, or since its time is over."""
+        """The report of an operate that ends with this event: by a contact, or since its time is
+        over."""
         report = report_in(bytes.fromhex(self.lines[-1][3])) if self.is_next(step, 'send') else None
-        if report and report.names[-1].endswith('$Oper') and (verb == 'contact' or len(report.names) == 2):
+        if report and report.names[-1].endswith('$Oper') and (verb == 'contact'
+                                                              or len(report.names) == 2):
             self.take_sent(step)
 
     def take_sent(self, step):
@@ -163,7 +172,8 @@ def bay_file(text):
 
 def not_run(error):
     """Why a program was not run, and where bayctl comes from."""
-    return f'{error.filename}: {error.strerror}; `rt run` in crates/bayctl builds bayctl, and --bayctl names another'
+    return (f'{error.filename}: {error.strerror}; `rt run` in crates/bayctl builds bayctl, and '
+            '--bayctl names another')
 
 
 def not_loaded(printed, status=0):
@@ -176,8 +186,9 @@ def replayed(octets, bayctl, report=None):
     """What bayctl prints for a scenario: the report in a file, or a run of the program."""
     try:
         if report:
-            printed = sys.stdin.read() if str(report) == '-' else pathlib.Path(report).read_text(encoding='utf-8')
-            return printed, 0
+            if str(report) == '-':
+                return sys.stdin.read(), 0
+            return pathlib.Path(report).read_text(encoding='utf-8'), 0
         run = subprocess.run([bayctl, 'replay'], input=octets, stdout=subprocess.PIPE)
     except OSError as error:
         sys.exit(str(error) if report else not_run(error))

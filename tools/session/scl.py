@@ -244,7 +244,8 @@ class Reader:
         return element
 
     def template(self, kind, name):
-        return next(found for found in self.children(self.templates, kind) if found.get('id') == name)
+        return next(found for found in self.children(self.templates, kind)
+                    if found.get('id') == name)
 
     def domain(self):
         ied = self.child(self.root, 'IED')
@@ -252,7 +253,8 @@ class Reader:
         return logical.get('ldName') or ied.get('name') + logical.get('inst')
 
     def nodes(self):
-        """The shape of each logical node by its name: lists of names and types, as MMS tells them."""
+        """The shape of each logical node by its name: lists of names and types, as MMS tells
+        them."""
         logical = self.child(self.root, 'IED', 'AccessPoint', 'Server', 'LDevice')
         return {node.get('lnClass') + node.get('inst'): self.node(node.get('lnType'))
                 for node in self.children(logical, 'LN0', 'LN')}
@@ -279,4 +281,5 @@ class Reader:
         if part.get('bType') != 'Struct':
             return MMS_TYPES[part.get('bType')]
         structure = self.template('DAType', part.get('type'))
-        return {found.get('name'): self.attribute(found) for found in self.children(structure, 'BDA')}
+        return {found.get('name'): self.attribute(found)
+                for found in self.children(structure, 'BDA')}

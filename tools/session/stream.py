@@ -1,4 +1,5 @@
-"""The layers below MMS: TPKT (RFC 1006), COTP of class 0 (X.224), session (X.225), presentation (ISO 8823-1) and ACSE."""
+"""The layers below MMS: TPKT (RFC 1006), COTP of class 0 (X.224), session (X.225), presentation
+(ISO 8823-1) and ACSE."""
 from dataclasses import dataclass
 
 from . import ber
@@ -7,13 +8,15 @@ from .ber import Unreadable, element, number
 CR, CC, DT, DR, ER = 0xE0, 0xD0, 0xF0, 0x80, 0x70
 TPDU_SIZE = 0xC0
 CONNECT, ACCEPT, FINISH, DISCONNECT, ABORT = 0x0D, 0x0E, 0x09, 0x0A, 0x19
-ACSE_SYNTAX, MMS_SYNTAX, BER_SYNTAX, MMS_CONTEXT = (bytes.fromhex(x) for x in ('52010001', '28CA220201', '5101', '28CA220203'))
+ACSE_SYNTAX, MMS_SYNTAX = bytes.fromhex('52010001'), bytes.fromhex('28CA220201')
+BER_SYNTAX, MMS_CONTEXT = bytes.fromhex('5101'), bytes.fromhex('28CA220203')
 
 
 @dataclass
 class Got:
-    """What octets came to. `kind` is CR, CC or end (a TPDU), associate, accept, finish, disconnect, release, released or abort, mms, or
-    fault (`words` says why); `octets` is a PDU of MMS, `size` that of a TPDU which was asked for."""
+    """What octets came to. `kind` is CR, CC or end (a TPDU), associate, accept, finish, disconnect,
+    release, released or abort, mms, or fault (`words` says why); `octets` is a PDU of MMS, `size`
+    that of a TPDU which was asked for."""
     kind: str
     octets: bytes = b''
     size: int | None = None
@@ -148,7 +151,8 @@ def association(code, content):
     tag, acse, _ = ber.read(value)
     if tag != (0x60 if code == CONNECT else 0x61):
         raise Unreadable(f'ACSE value {tag:02X}')
-    return Got('associate' if code == CONNECT else 'accept', ber.needed(ber.needed(ber.needed(acse, 0xBE), 0x28), 0xA0))
+    return Got('associate' if code == CONNECT else 'accept',
+               ber.needed(ber.needed(ber.needed(acse, 0xBE), 0x28), 0xA0))
 
 
 def presented(content):
@@ -168,7 +172,8 @@ def user_data(octets):
 
 def connection_request(size=13):
     """The octets of a CR that asks for TPDUs of 2^size octets."""
-    body = bytes.fromhex('E000000001 00') + bytes([TPDU_SIZE, 1, size]) + bytes.fromhex('C2020001 C1020001')
+    body = bytes.fromhex('E000000001 00') + bytes([TPDU_SIZE, 1, size])
+    body += bytes.fromhex('C2020001 C1020001')
     return framed(bytes([len(body)]) + body)
 
 
@@ -186,7 +191,8 @@ def wrapped(tsdu, size=8192):
 
 def data_tsdu(pdu, context=3):
     """The TSDU of a PDU of MMS."""
-    return b'\x01\x00\x01\x00' + element(0x61, element(0x30, number(0x02, context), element(0xA0, pdu)))
+    value = element(0x30, number(0x02, context), element(0xA0, pdu))
+    return b'\x01\x00\x01\x00' + element(0x61, value)
 
 
 def item(code, *contents):
@@ -199,7 +205,8 @@ def item(code, *contents):
 def association_request(initiate):
     """The TSDU that asks for an association, with an initiate of MMS."""
     def context(number_of_it, syntax):
-        return element(0x30, number(0x02, number_of_it), element(0x06, syntax), element(0x30, element(0x06, BER_SYNTAX)))
+        return element(0x30, number(0x02, number_of_it), element(0x06, syntax),
+                       element(0x30, element(0x06, BER_SYNTAX)))
 
     acse = element(0x60, element(0xA1, element(0x06, MMS_CONTEXT)),
                    element(0xBE, element(0x28, number(0x02, 3), element(0xA0, initiate))))
@@ -208,9 +215,11 @@ def association_request(initiate):
     data = element(0x61, element(0x30, number(0x02, 1), element(0xA0, acse)))
     value = element(0x31, element(0xA0, number(0x80, 1)), element(0xA2, *selectors, contexts, data))
     agreed = item(0x05, item(0x13, b'\x00'), item(0x16, b'\x02')), item(0x14, b'\x00\x02')
-    return item(CONNECT, *agreed, item(0x33, b'\x00\x01'), item(0x34, b'\x00\x01'), item(0xC1, value))
+    return item(CONNECT, *agreed, item(0x33, b'\x00\x01'), item(0x34, b'\x00\x01'),
+                item(0xC1, value))
 
 
 def release_request():
     """The TSDU that ends an association."""
-    return item(FINISH, item(0xC1, element(0x61, element(0x30, number(0x02, 1), element(0xA0, element(0x62, number(0x80, 0)))))))
+    asked = element(0xA0, element(0x62, number(0x80, 0)))
+    return item(FINISH, item(0xC1, element(0x61, element(0x30, number(0x02, 1), asked))))

@@ -14,7 +14,8 @@ SYN, ACK, FIN = 0x02, 0x10, 0x01
 
 
 def segment(source, target, number, flags, octets=b''):
-    head = struct.pack('>HHIIBBHHH', source[1], target[1], number % 2**32, 0, 0x50, flags, 1000, 0, 0)
+    head = struct.pack('>HHIIBBHHH', source[1], target[1], number % 2**32, 0, 0x50, flags, 1000, 0,
+                       0)
     whole = 20 + len(head) + len(octets)
     ip = struct.pack('>BBHHHBBH', 0x45, 0, whole, 0, 0, 64, 6, 0) + source[0] + target[0]
     return ip + head + octets
