@@ -17,6 +17,13 @@ pub enum CellKind {
     NotZero(Width),
 }
 
+/// Nothing is known.
+impl Default for CellKind {
+    fn default() -> CellKind {
+        CellKind::Any
+    }
+}
+
 /// Whether each value of the kind `lower` is one of the kind `upper`.
 pub fn is_within(lower: CellKind, upper: CellKind) -> bool
     ensures { result ≡ spec.is_within lower upper }

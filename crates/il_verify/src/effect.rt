@@ -1,6 +1,6 @@
 // The transfer function of each instruction: what it makes of the kinds on the stack, and the
 // faults that it has by itself. The top is the last element.
-ghost use Rattle.std.specs.Prelude.{◌≡◌, ◌≢◌, Some, None, reverse, length, OnOk, OnErr, IfErr, IfSome, IfNone, IsTrue, MatchResult, [], ◌∷◌, ◌⊎◌, ℕ, List};
+ghost use Rattle.std.specs.Prelude.{◌≡◌, ◌≤◌, Some, None, reverse, length, OnOk, OnErr, IfErr, IfSome, IfNone, IsTrue, MatchResult, [], ◌∷◌, ◌⊎◌, ℕ, List};
 ghost use Rattle.il_image.specs.Machine as spec_machine;
 ghost use Rattle.il_image.specs.Effects.{below, compares, effect, looks_at, second_kind, two, type_of_kind, widens, with_truth};
 ghost use Rattle.il_image.specs.Effects as spec;
@@ -11,6 +11,7 @@ ghost use Rattle.il_verify.specs.Judging as spec_judging;
 ghost use Rattle.il_verify.specs.Slots.{types_of};
 
 use crate::fault::VerifyFault;
+use crate::frame::Stack;
 use crate::slots::SlotType;
 use bay_base::types::ElementaryType;
 use il_image::arithmetic::{Comparison, Operation, Width};
@@ -20,20 +21,20 @@ use il_image::opcode::{SlotUse, TimerUse, When, Widening};
 use il_image::value::Value;
 
 // Puts a kind on the stack.
-fn put(kinds: &mut Vec<CellKind>, kind: CellKind) -> Result<(), VerifyFault>
-    ensures ok { OnOk result (reverse kinds.new.items ≡ kind ∷ reverse kinds.old.items) }
-    ensures err { IfErr result (λ f. f ≡ VerifyFault.OutOfMemory) }
+fn put(kinds: &mut Stack, kind: CellKind)
+    requires { length kinds.old.items ≤ 32 }
+    ensures { reverse kinds.new.items ≡ kind ∷ reverse kinds.old.items }
 {
-    kinds.push(kind)?;
-    Ok(())
+    kinds.push(kind);
 }
 
 // Takes the top, where it is within the wanted kind.
-fn take(kinds: &mut Vec<CellKind>, wanted: CellKind) -> Result<(), VerifyFault>
+fn take(kinds: &mut Stack, wanted: CellKind) -> Result<(), VerifyFault>
     ensures ok { OnOk result
         (below wanted (reverse kinds.old.items) ≡ Some (reverse kinds.new.items)) }
     ensures err { IfErr result
         (λ f. (f ≡ VerifyFault.WrongKind) × (below wanted (reverse kinds.old.items) ≡ None)) }
+    ensures few { length kinds.new.items ≤ length kinds.old.items }
 {
     match kinds.pop() {
         Some(top) if is_within(top, wanted) => Ok(()),
@@ -66,11 +67,12 @@ fn kind_of(value: Value) -> CellKind
 }
 
 // The two values on top, the first of them the topmost.
-fn take_two(kinds: &mut Vec<CellKind>) -> Option<(CellKind, CellKind)>
+fn take_two(kinds: &mut Stack) -> Option<(CellKind, CellKind)>
     ensures some { IfSome result
         (λ r. reverse kinds.old.items ≡ r.0 ∷ r.1 ∷ reverse kinds.new.items) }
     ensures none { IfNone result
         ((reverse kinds.old.items ≡ []) ⊎ ((k : CellKind) × (reverse kinds.old.items ≡ k ∷ []))) }
+    ensures few { length kinds.new.items ≤ length kinds.old.items }
 {
     let top = kinds.pop()?;
     let second = kinds.pop()?;
@@ -88,11 +90,11 @@ fn divides(operation: Operation) -> bool
 }
 
 // Two numbers of a width become one. A divisor has to be not zero.
-fn compute(kinds: &mut Vec<CellKind>, operation: Operation, width: Width) -> Result<(), VerifyFault>
+fn compute(kinds: &mut Stack, operation: Operation, width: Width) -> Result<(), VerifyFault>
+    requires room { length kinds.old.items ≤ 32 }
     ensures ok { OnOk result
         (computes operation width (reverse kinds.old.items) ≡ Some (reverse kinds.new.items)) }
-    ensures err { IfErr result (λ f. f ≢ VerifyFault.OutOfMemory →
-        unfit (computes Operation.Add width (reverse kinds.old.items))
+    ensures err { IfErr result (λ f. unfit (computes Operation.Add width (reverse kinds.old.items))
         (computes operation width (reverse kinds.old.items)) ≡ Some f) }
 {
     let number = CellKind::Plain(width.elementary());
@@ -101,24 +103,27 @@ fn compute(kinds: &mut Vec<CellKind>, operation: Operation, width: Width) -> Res
             if divides(operation) && !is_within(top, CellKind::NotZero(width)) {
                 return Err(VerifyFault::ZeroDivisor);
             }
-            put(kinds, number)
+            put(kinds, number);
+            Ok(())
         }
         _ => Err(VerifyFault::WrongKind),
     }
 }
 
 // Two BOOLs become one.
-fn combine(kinds: &mut Vec<CellKind>) -> Result<(), VerifyFault>
+fn combine(kinds: &mut Stack) -> Result<(), VerifyFault>
+    requires room { length kinds.old.items ≤ 32 }
     ensures ok { OnOk result
         (two truth truth truth (reverse kinds.old.items) ≡ Some (reverse kinds.new.items)) }
     ensures err { IfErr result
-        (λ f. f ≢ VerifyFault.OutOfMemory
-        → (f ≡ VerifyFault.WrongKind) × (two truth truth truth (reverse kinds.old.items) ≡ None)) }
+        (λ f. (f ≡ VerifyFault.WrongKind)
+        × (two truth truth truth (reverse kinds.old.items) ≡ None)) }
 {
     let truth = CellKind::Plain(ElementaryType::Bool);
     match take_two(kinds) {
         Some((top, second)) if is_within(top, truth) && is_within(second, truth) => {
-            put(kinds, truth)
+            put(kinds, truth);
+            Ok(())
         }
         _ => Err(VerifyFault::WrongKind),
     }
@@ -147,36 +152,41 @@ fn are_compared(comparison: Comparison, first: ElementaryType, second: Elementar
 }
 
 // Two values that show one type become a BOOL.
-fn compare(kinds: &mut Vec<CellKind>, comparison: Comparison) -> Result<(), VerifyFault>
+fn compare(kinds: &mut Stack, comparison: Comparison) -> Result<(), VerifyFault>
+    requires room { length kinds.old.items ≤ 32 }
     ensures ok { OnOk result
         (compares comparison (reverse kinds.old.items) ≡ Some (reverse kinds.new.items)) }
     ensures err { IfErr result
-        (λ f. f ≢ VerifyFault.OutOfMemory
-        → (f ≡ VerifyFault.WrongKind) × (compares comparison (reverse kinds.old.items) ≡ None)) }
+        (λ f. (f ≡ VerifyFault.WrongKind) × (compares comparison (reverse kinds.old.items) ≡ None)) }
 {
     let Some((top, second)) = take_two(kinds) else {
         return Err(VerifyFault::WrongKind);
     };
     match (type_of(top), type_of(second)) {
         (Some(last), Some(first)) if are_compared(comparison, first, last) => {
-            put(kinds, CellKind::Plain(ElementaryType::Bool))
+            put(kinds, CellKind::Plain(ElementaryType::Bool));
+            Ok(())
         }
         _ => Err(VerifyFault::WrongKind),
     }
 }
 
 // The top becomes one of a wider type, and stays not zero.
-fn widen(kinds: &mut Vec<CellKind>, from: Width, to: Width) -> Result<(), VerifyFault>
+fn widen(kinds: &mut Stack, from: Width, to: Width) -> Result<(), VerifyFault>
+    requires room { length kinds.old.items ≤ 32 }
     ensures ok { OnOk result
         (widens from to (reverse kinds.old.items) ≡ Some (reverse kinds.new.items)) }
     ensures err { IfErr result
-        (λ f. f ≢ VerifyFault.OutOfMemory
-        → (f ≡ VerifyFault.WrongKind) × (widens from to (reverse kinds.old.items) ≡ None)) }
+        (λ f. (f ≡ VerifyFault.WrongKind) × (widens from to (reverse kinds.old.items) ≡ None)) }
 {
     match kinds.pop() {
-        Some(top) if is_within(top, CellKind::NotZero(from)) => put(kinds, CellKind::NotZero(to)),
+        Some(top) if is_within(top, CellKind::NotZero(from)) => {
+            put(kinds, CellKind::NotZero(to));
+            Ok(())
+        }
         Some(top) if is_within(top, CellKind::Plain(from.elementary())) => {
-            put(kinds, CellKind::Plain(to.elementary()))
+            put(kinds, CellKind::Plain(to.elementary()));
+            Ok(())
         }
         _ => Err(VerifyFault::WrongKind),
     }
@@ -203,19 +213,22 @@ fn use_slot(
     slots: &[SlotType],
     slot_use: SlotUse,
     number: u16,
-    kinds: &mut Vec<CellKind>,
+    kinds: &mut Stack,
 ) -> Result<(), VerifyFault>
+    requires room { length kinds.old.items ≤ 32 }
     ensures ok { OnOk result
         (effect (types_of slots.now) 0 (Instr.Slot slot_use number) (reverse kinds.old.items)
         ≡ Some (reverse kinds.new.items)) }
-    ensures err { IfErr result (λ f. f ≢ VerifyFault.OutOfMemory →
-        (f ≡ VerifyFault.WrongKind)
+    ensures err { IfErr result (λ f. (f ≡ VerifyFault.WrongKind)
         × (effect (types_of slots.now) 0 (Instr.Slot slot_use number) (reverse kinds.old.items)
         ≡ None)) }
 {
     match slot_use {
         SlotUse::Load => match slots.get(usize::from(number)) {
-            Some(slot) => put(kinds, CellKind::Plain(slot.elementary)),
+            Some(slot) => {
+                put(kinds, CellKind::Plain(slot.elementary));
+                Ok(())
+            }
             None => Err(VerifyFault::WrongKind),
         },
         SlotUse::Store => match slots.get(usize::from(number)) {
@@ -227,20 +240,26 @@ fn use_slot(
 }
 
 // What an instruction does with a timer that is there.
-fn use_timer(timer_use: TimerUse, kinds: &mut Vec<CellKind>) -> Result<(), VerifyFault>
+fn use_timer(timer_use: TimerUse, kinds: &mut Stack) -> Result<(), VerifyFault>
+    requires room { length kinds.old.items ≤ 32 }
     ensures ok { OnOk result
         (effect [] 1 (Instr.Timer timer_use 0) (reverse kinds.old.items)
         ≡ Some (reverse kinds.new.items)) }
-    ensures err { IfErr result (λ f. f ≢ VerifyFault.OutOfMemory →
-        (f ≡ VerifyFault.WrongKind)
+    ensures err { IfErr result (λ f. (f ≡ VerifyFault.WrongKind)
         × (effect [] 1 (Instr.Timer timer_use 0) (reverse kinds.old.items) ≡ None)) }
 {
     match timer_use {
         TimerUse::SetInput => take(kinds, CellKind::Plain(ElementaryType::Bool)),
         TimerUse::SetPreset => take(kinds, CellKind::Plain(ElementaryType::Time)),
         TimerUse::Run => Ok(()),
-        TimerUse::LoadOutput => put(kinds, CellKind::Plain(ElementaryType::Bool)),
-        TimerUse::LoadElapsed => put(kinds, CellKind::Plain(ElementaryType::Time)),
+        TimerUse::LoadOutput => {
+            put(kinds, CellKind::Plain(ElementaryType::Bool));
+            Ok(())
+        }
+        TimerUse::LoadElapsed => {
+            put(kinds, CellKind::Plain(ElementaryType::Time));
+            Ok(())
+        }
     }
 }
 
@@ -249,24 +268,28 @@ fn apply(
     slots: &[SlotType],
     timers: usize,
     instr: Instr,
-    kinds: &mut Vec<CellKind>,
+    kinds: &mut Stack,
 ) -> Result<(), VerifyFault>
-    requires { missing (length slots.now) timers instr ≡ None }
+    requires named { missing (length slots.now) timers instr ≡ None }
+    requires room { length kinds.old.items ≤ 32 }
     ensures ok { OnOk result
         (effect (types_of slots.now) timers instr (reverse kinds.old.items)
         ≡ Some (reverse kinds.new.items)) }
     ensures err { IfErr result
-        (λ f. f ≢ VerifyFault.OutOfMemory
-        → misfit slots.now timers instr (reverse kinds.old.items) ≡ Some f) }
+        (λ f. misfit slots.now timers instr (reverse kinds.old.items) ≡ Some f) }
 {
     match instr {
         Instr::Halt | Instr::Jump(When::Always, _) => Ok(()),
-        Instr::Push(value) => put(kinds, kind_of(value)),
+        Instr::Push(value) => {
+            put(kinds, kind_of(value));
+            Ok(())
+        }
         Instr::Drop => take(kinds, CellKind::Any),
         Instr::Slot(slot_use, number) => use_slot(slots, slot_use, number, kinds),
         Instr::Not => {
             take(kinds, CellKind::Plain(ElementaryType::Bool))?;
-            put(kinds, CellKind::Plain(ElementaryType::Bool))
+            put(kinds, CellKind::Plain(ElementaryType::Bool));
+            Ok(())
         }
         Instr::Combine(_) => combine(kinds),
         Instr::Compute(operation, width) => compute(kinds, operation, width),
@@ -327,16 +350,17 @@ pub(crate) fn transfer(
     slots: &[SlotType],
     timers: usize,
     instr: Instr,
-    kinds: &mut Vec<CellKind>,
+    kinds: &mut Stack,
 ) -> Result<(), VerifyFault>
+    requires room { length kinds.old.items ≤ 32 }
     ensures ok { OnOk result
         (effect (types_of slots.now) timers instr (reverse kinds.old.items)
         ≡ Some (reverse kinds.new.items)) }
     ensures faultless { OnOk result
         (fault_of slots.now timers instr (reverse kinds.old.items) ≡ None) }
+    ensures few { OnOk result (length kinds.new.items ≤ 32) }
     ensures err { IfErr result
-        (λ f. f ≢ VerifyFault.OutOfMemory
-        → fault_of slots.now timers instr (reverse kinds.old.items) ≡ Some f) }
+        (λ f. fault_of slots.now timers instr (reverse kinds.old.items) ≡ Some f) }
 {
     find_named(slots.len(), timers, instr)?;
     if kinds.len() < operands(instr) {

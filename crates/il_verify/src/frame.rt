@@ -1,35 +1,44 @@
 // The frames of the places that are still to come, and how frames are joined.
-ghost use Rattle.std.specs.Prelude.{ℕ, ◌-◌, ◌≡◌, ◌≢◌, ◌+◌, ◌<◌, ◌^◌, Some, None, length, reverse, OnOk, IfOk, IfErr, IfSome, IsSome, option_map, true};
+ghost use Rattle.std.specs.Prelude.{ℕ, ◌-◌, ◌≡◌, ◌≢◌, ◌+◌, ◌<◌, ◌≤◌, ◌^◌, [], Some, None, length, reverse, OnOk, IfOk, IfErr, IfSome, IsSome, option_map, true};
 ghost use Rattle.il_verify.specs.declared.frame.Frame.{Frame};
 ghost use Rattle.il_verify.specs.Frames.{Clashing, Falls, Grows, JumpClash, Jumps, PlainFrame, Pends, beside, frame_at, join_all, plain_frame, plain_frames};
 ghost use Rattle.il_verify.specs.Frames as spec;
+ghost use Rattle.il_verify.specs.Refusals.{JumpsTo};
 
 use crate::fault::VerifyFault;
+use arrayvec::ArrayVec;
 use il_image::instr::Instr;
 use il_image::kind::{CellKind, join};
 use il_image::opcode::When;
 use std::alloc::{AllocError, Global};
 
+/// The kinds on a stack, the top last. There is room for one more than may lie there.
+pub(crate) type Stack = ArrayVec<CellKind, 33>;
+
 /// What is known of the stack before an instruction, and the longest path to it.
 #[derive(Drop)]
 pub(crate) struct Frame {
-    /// The kinds on the stack, the top last.
-    pub kinds: Vec<CellKind>,
+    /// The kinds on the stack.
+    pub kinds: Stack,
     /// The number of places on a longest path from the first place to this one.
     pub longest: u32,
 }
 
 // A copy of the kinds on a stack.
-fn copy_of(alloc: Global, kinds: &[CellKind]) -> Result<Vec<CellKind>, AllocError>
-    ensures { IfOk result (λ v. v.items ≡ kinds.now) }
+fn copy_of(kinds: &[CellKind]) -> Stack
+    requires { length kinds.now ≤ 32 }
+    ensures { result.items ≡ kinds.now }
 {
-    let mut copy = Vec::new(alloc);
-    copy.extend_from_slice(kinds)?;
-    Ok(copy)
+    let mut copy = ArrayVec::new();
+    match copy.try_extend_from_slice(kinds) {
+        Ok(()) => {}
+        Err(_) => unreachable!(),
+    }
+    copy
 }
 
 // Joins each kind with the other at its place: the least kind above both.
-fn join_all(kinds: &mut Vec<CellKind>, others: &[CellKind])
+fn join_all(kinds: &mut Stack, others: &[CellKind])
     requires { length kinds.old.items ≡ length others.now }
     ensures { kinds.new.items ≡ join_all kinds.old.items others.now }
 {
@@ -55,8 +64,8 @@ fn join_frame(frame: &mut Frame, kinds: &[CellKind], longest: u32) -> Result<(),
     Ok(())
 }
 
-// Makes room up to a place, where nothing is pending so far.
-fn grow(pending: &mut Vec<Option<Frame>>, place: usize) -> Result<(), AllocError>
+/// Makes room up to a place, where nothing is pending so far.
+pub(crate) fn grow(pending: &mut Vec<Option<Frame>>, place: usize) -> Result<(), AllocError>
     requires { place < 2 ^ 64 - 1 }
     ensures room { OnOk result (place < length pending.new.items) }
     ensures same { OnOk result
@@ -69,72 +78,67 @@ fn grow(pending: &mut Vec<Option<Frame>>, place: usize) -> Result<(), AllocError
 }
 
 // A path comes to a place where a frame may be pending.
-fn arrive(
-    alloc: Global,
-    slot: &mut Option<Frame>,
-    kinds: &[CellKind],
-    longest: u32,
-) -> Result<(), VerifyFault>
+fn arrive(slot: &mut Option<Frame>, kinds: &[CellKind], longest: u32) -> Result<(), VerifyFault>
+    requires { length kinds.now ≤ 32 }
     ensures ok { OnOk result
         ((frame : Frame) × (slot.new ≡ Some frame)
         × Grows (record { kinds = reverse kinds.now; longest = longest })
         (option_map plain_frame slot.old) (plain_frame frame)) }
     ensures err { IfErr result
-        (λ f. f ≢ VerifyFault.OutOfMemory
-        → (f ≡ VerifyFault.DepthClash)
+        (λ f. (f ≡ VerifyFault.DepthClash)
         × Clashing (option_map plain_frame slot.old) (reverse kinds.now)) }
 {
     if let Some(frame) = slot {
         return join_frame(frame, kinds, longest);
     }
-    let kinds = copy_of(alloc, kinds)?;
-    *slot = Some(Frame { kinds, longest });
+    *slot = Some(Frame {
+        kinds: copy_of(kinds),
+        longest,
+    });
     Ok(())
 }
 
 // A path comes to a place by a jump.
 fn pend(
-    alloc: Global,
     pending: &mut Vec<Option<Frame>>,
     place: usize,
     kinds: &[CellKind],
     longest: u32,
 ) -> Result<(), VerifyFault>
-    requires { place < 2 ^ 64 - 1 }
+    requires few { length kinds.now ≤ 32 }
+    requires room { place < length pending.old.items }
+    ensures size { length pending.new.items ≡ length pending.old.items }
     ensures ok { OnOk result
         (Pends (plain_frames pending.old.items) (plain_frames pending.new.items) place
         (record { kinds = reverse kinds.now; longest = longest })) }
     ensures err { IfErr result
-        (λ f. f ≢ VerifyFault.OutOfMemory
-        → (f ≡ VerifyFault.DepthClash)
+        (λ f. (f ≡ VerifyFault.DepthClash)
         × Clashing (plain_frames pending.old.items place) (reverse kinds.now)) }
 {
-    grow(pending, place)?;
-    arrive(alloc, &mut pending[place], kinds, longest)
+    arrive(&mut pending[place], kinds, longest)
 }
 
 /// A path comes to where an instruction jumps, if it does.
 pub(crate) fn jump(
-    alloc: Global,
     instr: Instr,
     next: usize,
     kinds: &[CellKind],
     longest: u32,
     pending: &mut Vec<Option<Frame>>,
 ) -> Result<(), VerifyFault>
-    requires { next < 2 ^ 63 }
+    requires fits { next < 2 ^ 63 }
+    requires few { length kinds.now ≤ 32 }
+    requires room { (to : ℕ) → JumpsTo instr next to → to < length pending.old.items }
+    ensures size { length pending.new.items ≡ length pending.old.items }
     ensures ok { OnOk result
         (Jumps instr next (record { kinds = reverse kinds.now; longest = longest })
         (plain_frames pending.old.items) (plain_frames pending.new.items)) }
     ensures err { IfErr result
-        (λ f. f ≢ VerifyFault.OutOfMemory
-        → (f ≡ VerifyFault.DepthClash)
+        (λ f. (f ≡ VerifyFault.DepthClash)
         × JumpClash instr next (plain_frames pending.old.items) (reverse kinds.now)) }
 {
     match instr {
-        Instr::Jump(_, distance) => {
-            pend(alloc, pending, next + usize::from(distance), kinds, longest)
-        }
+        Instr::Jump(_, distance) => { pend(pending, next + usize::from(distance), kinds, longest) }
         _ => Ok(()),
     }
 }
@@ -152,6 +156,7 @@ pub(crate) fn goes_on(instr: Instr) -> bool
 // What is pending at a place, which no longer is.
 fn taken(pending: &mut Vec<Option<Frame>>, place: usize) -> Option<Frame>
     ensures value { result ≡ frame_at pending.old.items place }
+    ensures size { length pending.new.items ≡ length pending.old.items }
     ensures others { (q : ℕ) → (q ≡ place → ⊥)
         → plain_frames pending.new.items q ≡ plain_frames pending.old.items q }
 {
@@ -169,6 +174,7 @@ pub(crate) fn fall(
     frame: Frame,
     pending: &mut Vec<Option<Frame>>,
 ) -> Result<Option<Frame>, VerifyFault>
+    ensures size { length pending.new.items ≡ length pending.old.items }
     ensures ok { IfOk result
         (λ behind. Falls instr next (plain_frame frame) (plain_frames pending.old.items)
         (beside next (option_map plain_frame behind) (plain_frames pending.new.items))) }

@@ -1,7 +1,7 @@
 // The pass over the places of the code, in their order.
-ghost use Rattle.std.specs.Prelude.{◌≡◌, ◌≢◌, ◌<◌, ◌↔◌, IfErr, IfOk, IsTrue, length, max};
+ghost use Rattle.std.specs.Prelude.{◌≡◌, ◌<◌, ◌≤◌, ◌↔◌, ℕ, None, IfErr, IfOk, IsTrue, length, max};
 ghost use Rattle.il_image.specs.Images.{IsImage};
-ghost use Rattle.il_verify.specs.Frames.{IsPlan};
+ghost use Rattle.il_verify.specs.Frames.{IsPlan, plain_frames};
 ghost use Rattle.il_verify.specs.Passing as spec;
 ghost use Rattle.il_verify.specs.Refusals.{FailsAt};
 ghost use Rattle.il_verify.specs.Verdicts.{IsMeasured};
@@ -10,10 +10,10 @@ use crate::fault::VerifyFault;
 use crate::frame::Frame;
 use crate::plan::Plan;
 use crate::visit::visit;
+use arrayvec::ArrayVec;
 use il_image::image::Image;
 use il_image::instr::Instr;
 use il_image::read::instr_at;
-use std::alloc::Global;
 
 /// What is measured of code in which no fault was found.
 #[derive(Drop)]
@@ -29,18 +29,6 @@ pub(crate) struct Measures {
 pub(crate) struct Stop {
     pub fault: VerifyFault,
     pub place: usize,
-}
-
-// The fault of a place. Want of memory has none.
-fn stop_at(fault: VerifyFault, place: usize) -> Stop
-    ensures fault { result.fault ≡ fault }
-    ensures memory { fault ≡ VerifyFault.OutOfMemory → result.place ≡ 0 }
-    ensures place { fault ≢ VerifyFault.OutOfMemory → result.place ≡ place }
-{
-    match fault {
-        VerifyFault::OutOfMemory => Stop { fault, place: 0 },
-        _ => Stop { fault, place },
-    }
 }
 
 // Whether a scan ends here.
@@ -60,21 +48,25 @@ fn raised(halts: bool, longest: u32, budget: u32) -> u32
     if halts { longest.max(budget) } else { budget }
 }
 
-/// Goes over the places in their order. A frame moves to the next place; one is copied only for a
-/// jump.
-pub(crate) fn pass(alloc: Global, image: &Image, plan: &Plan) -> Result<Measures, Stop>
+/// Goes over the places in their order, where there is room for a frame of each. A frame moves to
+/// the next place; one is copied only for a jump.
+pub(crate) fn pass(
+    image: &Image,
+    plan: &Plan,
+    pending: Vec<Option<Frame>>,
+) -> Result<Measures, Stop>
     requires plan { IsPlan image.now plan.now }
     requires some { 0 < length image.now.code }
     requires format { IsImage image.now }
+    requires room { length image.now.code ≤ length pending.items }
+    requires none { (q : ℕ) → plain_frames pending.items q ≡ None }
     ensures ok { IfOk result (λ m. IsMeasured image.now m.budget m.depth) }
-    ensures err { IfErr result
-        (λ s. s.fault ≢ VerifyFault.OutOfMemory → FailsAt image.now s.fault s.place) }
-    ensures memory { IfErr result (λ s. s.fault ≡ VerifyFault.OutOfMemory → s.place ≡ 0) }
+    ensures err { IfErr result (λ s. FailsAt image.now s.fault s.place) }
 {
     let code = image.code();
-    let mut pending = Vec::new(alloc);
+    let mut pending = pending;
     let mut frame = Some(Frame {
-        kinds: Vec::new(alloc),
+        kinds: ArrayVec::new(),
         longest: 1,
     });
     let mut place = 0;
@@ -82,16 +74,19 @@ pub(crate) fn pass(alloc: Global, image: &Image, plan: &Plan) -> Result<Measures
     let mut depth = 0;
     while place < code.len() {
         let Some(here) = frame else {
-            return Err(stop_at(VerifyFault::Unreachable, place));
+            return Err(Stop {
+                fault: VerifyFault::Unreachable,
+                place,
+            });
         };
         let Some((instr, next)) = instr_at(code, place) else {
             unreachable!();
         };
         depth = (here.kinds.len() as u32).max(depth);
         budget = raised(is_halt(instr), here.longest, budget);
-        frame = match visit(alloc, image, plan, instr, next, here, &mut pending) {
+        frame = match visit(image, plan, instr, next, here, &mut pending) {
             Ok(behind) => behind,
-            Err(fault) => return Err(stop_at(fault, place)),
+            Err(fault) => return Err(Stop { fault, place }),
         };
         place = next;
     }

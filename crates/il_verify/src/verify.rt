@@ -5,6 +5,7 @@ ghost use Rattle.il_verify.specs.Refusals.{IsRefusal, TakesMemory};
 ghost use Rattle.il_verify.specs.Verdicts.{IsMeasured, IsSafe, IsVerified};
 
 use crate::fault::VerifyFault;
+use crate::frame::grow;
 use crate::pass::{Measures, Stop, pass};
 use crate::plan::plan_of;
 use crate::points::fits;
@@ -101,7 +102,17 @@ fn check(alloc: Global, image: &Image, points: &[Point]) -> Result<Measures, Sto
             });
         }
     };
-    match pass(alloc, image, &plan) {
+    let mut pending = Vec::new(alloc);
+    match grow(&mut pending, image.code().len()) {
+        Ok(()) => {}
+        Err(_) => {
+            return Err(Stop {
+                fault: VerifyFault::OutOfMemory,
+                place: 0,
+            });
+        }
+    }
+    match pass(image, &plan, pending) {
         Ok(measures) => Ok(measures),
         Err(stop) => return Err(stop),
     }
@@ -111,9 +122,9 @@ fn check(alloc: Global, image: &Image, points: &[Point]) -> Result<Measures, Sto
 /// its code, and no instruction writes a point that may only be read; want of memory aside. Another
 /// is refused with its first fault in the format's order: what does not fit the bay, or else that
 /// there is no code, or else the first fault of the first place that has one. A refused image comes
-/// back as it was. Memory can be wanting only where the image fits the bay and has code. It takes
-/// time in proportion to the code, and room for an empty frame for each octet up to the furthest
-/// place that a jump names.
+/// back as it was. Memory can be wanting only where the image fits the bay and has code, and is
+/// taken before a place is judged: room for a frame for each octet of the code. It takes time in
+/// proportion to the code.
 pub fn verify(alloc: Global, image: Image, points: &[Point]) -> Result<Verified, Refused>
     ensures same { IfOk result (λ v. v ≡ image) }
     ensures accepted { IfOk result (λ v. IsVerified points.now image) }

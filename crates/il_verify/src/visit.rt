@@ -1,6 +1,6 @@
 // One instruction at its place: what it does there, and what comes of it at the places to which it
 // leads.
-ghost use Rattle.std.specs.Prelude.{◌≡◌, ◌≢◌, ◌<◌, ◌-◌, ◌^◌, ℕ, IfErr, IfOk, OnOk, option_map};
+ghost use Rattle.std.specs.Prelude.{◌≡◌, ◌<◌, ◌≤◌, ◌-◌, ◌^◌, ℕ, length, IfErr, IfOk, OnOk, option_map};
 ghost use Rattle.std.specs.Bool.{OnFalse, OnTrue};
 ghost use Rattle.il_image.specs.Tables.{IsPlace};
 ghost use Rattle.il_verify.specs.Frames.{FailsVisit, IsPlan, JumpsWrong, LeadsRight, LeadsWrong, MarksPlaces, Visits, beside, plain_frame, plain_frames};
@@ -12,7 +12,6 @@ use crate::frame::{Frame, fall, goes_on, jump};
 use crate::plan::{Plan, is_place};
 use il_image::image::Image;
 use il_image::instr::Instr;
-use std::alloc::Global;
 
 // Whether an instruction jumps to a place, if it jumps.
 fn jumps_right(code: &[u8], starts: &[bool], instr: Instr, next: usize) -> bool
@@ -45,7 +44,6 @@ fn check_targets(code: &[u8], starts: &[bool], instr: Instr, next: usize) -> Res
 
 /// Does the instruction of a place, and gives the frame of the next place, if a path leads there.
 pub(crate) fn visit(
-    alloc: Global,
     image: &Image,
     plan: &Plan,
     instr: Instr,
@@ -56,12 +54,15 @@ pub(crate) fn visit(
     requires plan { IsPlan image.now plan.now }
     requires fits { next < 2 ^ 63 }
     requires short { frame.longest < 2 ^ 32 - 1 }
+    requires few { length frame.kinds.items ≤ 32 }
+    requires room { length image.now.code ≤ length pending.old.items }
+    ensures size { length pending.new.items ≡ length pending.old.items }
     ensures ok { IfOk result
         (λ behind. Visits image.now instr next (plain_frame frame) (plain_frames pending.old.items)
         (beside next (option_map plain_frame behind) (plain_frames pending.new.items))) }
     ensures err { IfErr result
-        (λ f. f ≢ VerifyFault.OutOfMemory
-        → FailsVisit image.now instr next (plain_frame frame) (plain_frames pending.old.items) f) }
+        (λ f. FailsVisit image.now instr next (plain_frame frame) (plain_frames pending.old.items)
+        f) }
 {
     let Frame { kinds, longest } = frame;
     let mut kinds = kinds;
@@ -74,7 +75,7 @@ pub(crate) fn visit(
         Err(fault) => return Err(fault),
     }
     let longest = longest + 1;
-    match jump(alloc, instr, next, kinds.as_slice(), longest, pending) {
+    match jump(instr, next, kinds.as_slice(), longest, pending) {
         Ok(()) => {}
         Err(fault) => return Err(fault),
     }

@@ -20,13 +20,13 @@ returns-in-Some-clause-ok c =
 pub returns-in-Some-clause-err : goal.returns-in-Some-clause-err
 returns-in-Some-clause-err c =
     if_err_weaker c.join_frame.result _ _
-    (λ f h ne. (h.0, clash_of c.args.slot.now c.in-Some.frame c.args.kinds.now c.in-Some.is h.1))
+    (λ f h. (h.0, clash_of c.args.slot.now c.in-Some.frame c.args.kinds.now c.in-Some.is h.1))
     c.join_frame.ensures.err
 
 pub returns-clause-ok : goal.returns-clause-ok
 returns-clause-ok c = (
-  record { kinds = c.in_ok-kinds.kinds; longest = c.args.longest },
+  record { kinds = c.copy_of.result; longest = c.args.longest },
   refl,
-  begun_grows c.args.slot.now c.args.kinds.now c.in_ok-kinds.kinds.items c.args.longest
-      c.in_default.is c.in_ok-kinds.ensures,
+  begun_grows c.args.slot.now c.args.kinds.now c.copy_of.result.items c.args.longest
+      c.in_default.is c.copy_of.ensures,
 )

@@ -1,27 +1,26 @@
-use Rattle.std.proofs.Common.{◌≡◌, ◌≢◌, ℕ, ◌+◌, ◌<◌, ◌≤◌, max, List, length, reverse, refl, sym, ap, subst, ◌∙◌, arith, Option, Some, None}
+use Rattle.std.proofs.Common.{◌≡◌, ℕ, ◌+◌, ◌<◌, ◌≤◌, max, List, length, reverse, refl, sym, ap, subst, ◌∙◌, arith, Option, Some, None}
 use Rattle.std.specs.Prelude.{option_map}
 use Rattle.std.proofs.lemmas.List.{length-reverse}
 use Rattle.il_image.specs.Reading.{instr_at}
-use Rattle.il_verify.specs.declared.fault.VerifyFault.{VerifyFault}
-use Rattle.il_verify.specs.declared.fault.VerifyFault.TheVariants.{OutOfMemory, Unreachable}
 use Rattle.il_verify.specs.declared.frame.Frame.{Frame}
 use Rattle.il_verify.specs.Frames.{beside, plain_frame, plain_frames}
 use Rattle.il_verify.specs.Passing.{raised}
-use Rattle.il_verify.specs.Refusals.{FailsAt}
-use Rattle.il_verify.proofs.MapLemmas.{beside_here, no_frames}
+use Rattle.il_verify.proofs.MapLemmas.{beside_here}
 use Rattle.il_verify.proofs.OrderLemmas.{always_there}
 use Rattle.il_verify.proofs.PassLemmas.{Passing, begins, fails_over, fails_unreached, goes_over, here_short, measured}
 use Rattle.il_verify.proofs.pass.pass.Goals as goal
 
 pub loop-place-init : goal.loop-place-init
-loop-place-init c =
-    begins c.args.image.now (plain_frame (record { kinds = c.new.result; longest = 1 }))
-    (plain_frames c.new-pending.result.items) c.requires.some (ap reverse c.new.ensures.items)
-    refl
-    (λ q. no_frames c.new-pending.result.items q c.new-pending.ensures.items)
+loop-place-init c = record {
+  passing =
+      begins c.args.image.now (plain_frame (record { kinds = c.new.result; longest = 1 }))
+      (plain_frames c.args.pending.items) c.requires.some (ap reverse c.new.ensures) refl
+      c.requires.none;
+  room = c.requires.room;
+}
 
 pub returns-in_default-clause-err : goal.returns-in_default-clause-err
-returns-in_default-clause-err c = λ ne.
+returns-in_default-clause-err c =
     let image = c.args.image.now in
     let place = c.loop-place.place in
     let frames =
@@ -34,17 +33,13 @@ returns-in_default-clause-err c = λ ne.
     beside_here place place (option_map plain_frame c.loop-place.frame)
     (plain_frames c.loop-place.pending.items) refl
     ∙ ap (option_map plain_frame) c.in_default.is in
-    let fails =
     fails_unreached image place c.loop-place.budget c.loop-place.depth frames
-    c.loop-place.invariant less none in
-    let there : c.stop_at.result.place ≡ place = c.stop_at.ensures.place (λ e. cc) in
-    subst (λ (f : VerifyFault). FailsAt image f c.stop_at.result.place)
-    (sym c.stop_at.ensures.fault) (subst (FailsAt image Unreachable) (sym there) fails)
+    c.loop-place.invariant.passing less none
 
 pub unreachable-requires : goal.unreachable-requires
 unreachable-requires c =
     let image = c.args.image.now in
-    let i = c.loop-place.invariant in
+    let i = c.loop-place.invariant.passing in
     let place = c.loop-place.place in
     let less : place < length image.code =
     subst (λ (code : List ℕ). place < length code) c.code-code.ensures.value
@@ -67,10 +62,28 @@ overflow_cast-len c =
     (plain_frames c.loop-place.pending.items) refl ∙ ap (option_map plain_frame) c.in-Some.is in
     let short : length come.kinds ≤ 32 =
     (here_short image place c.loop-place.budget c.loop-place.depth frames come
-    c.loop-place.invariant is).1 in
+    c.loop-place.invariant.passing is).1 in
     let size : length come.kinds ≡ length c.in-Some.here.kinds.items =
     length-reverse c.in-Some.here.kinds.items in
     let its = c.len.ensures in
+    omega arith
+
+pub visit-requires-clause-few : goal.visit-requires-clause-few
+visit-requires-clause-few c =
+    let image = c.args.image.now in
+    let place = c.loop-place.place in
+    let come = plain_frame c.in-Some.here in
+    let frames =
+    beside place (option_map plain_frame c.loop-place.frame)
+    (plain_frames c.loop-place.pending.items) in
+    let is : frames place ≡ Some come =
+    beside_here place place (option_map plain_frame c.loop-place.frame)
+    (plain_frames c.loop-place.pending.items) refl ∙ ap (option_map plain_frame) c.in-Some.is in
+    let short : length come.kinds ≤ 32 =
+    (here_short image place c.loop-place.budget c.loop-place.depth frames come
+    c.loop-place.invariant.passing is).1 in
+    let size : length come.kinds ≡ length c.in-Some.here.kinds.items =
+    length-reverse c.in-Some.here.kinds.items in
     omega arith
 
 pub visit-requires-clause-short : goal.visit-requires-clause-short
@@ -86,7 +99,7 @@ visit-requires-clause-short c =
     (plain_frames c.loop-place.pending.items) refl ∙ ap (option_map plain_frame) c.in-Some.is in
     let short : come.longest ≤ place + 1 =
     (here_short image place c.loop-place.budget c.loop-place.depth frames come
-    c.loop-place.invariant is).0 in
+    c.loop-place.invariant.passing is).0 in
     let less : place < length image.code =
     subst (λ (code : List ℕ). place < length code) c.code-code.ensures.value
     c.loop-place-test.true in
@@ -94,7 +107,7 @@ visit-requires-clause-short c =
     omega arith
 
 pub returns-in-Err-clause-err : goal.returns-in-Err-clause-err
-returns-in-Err-clause-err c = λ ne.
+returns-in-Err-clause-err c =
     let image = c.args.image.now in
     let place = c.loop-place.place in
     let come = plain_frame c.in-Some.here in
@@ -107,16 +120,9 @@ returns-in-Err-clause-err c = λ ne.
     ≡ Some (c.in-Some-instr_at.instr, c.in-Some-instr_at.next)) c.code-code.ensures.value
     (sym c.in-Some-instr_at.ensures.value) in
     let p = subst (λ (o : Option Frame). Passing image place c.loop-place.budget c.loop-place.depth
-    (beside place (option_map plain_frame o) old)) c.in-Some.is c.loop-place.invariant in
-    let same : c.stop_at-in-Err.result.fault ≡ c.in-Err.fault = c.stop_at-in-Err.ensures.fault in
-    let other : c.in-Err.fault ≢ OutOfMemory = λ e. ne (same ∙ e) in
-    let there : c.stop_at-in-Err.result.place ≡ place = c.stop_at-in-Err.ensures.place other in
-    let fails =
+    (beside place (option_map plain_frame o) old)) c.in-Some.is c.loop-place.invariant.passing in
     fails_over image place c.in-Some-instr_at.instr c.in-Some-instr_at.next come old
-    c.loop-place.budget c.loop-place.depth c.in-Err.fault here less (c.in-Err.ensures.err other)
-    p in
-    subst (λ (f : VerifyFault). FailsAt image f c.stop_at-in-Err.result.place) (sym same)
-    (subst (FailsAt image c.in-Err.fault) (sym there) fails)
+    c.loop-place.budget c.loop-place.depth c.in-Err.fault here less c.in-Err.ensures.err p
 
 pub loop-place-preserved : goal.loop-place-preserved
 loop-place-preserved c =
@@ -131,7 +137,7 @@ loop-place-preserved c =
     subst (λ (code : List ℕ). instr_at code place ≡ Some (c.in-Some-instr_at.instr, next))
     c.code-code.ensures.value (sym c.in-Some-instr_at.ensures.value) in
     let p = subst (λ (o : Option Frame). Passing image place c.loop-place.budget c.loop-place.depth
-    (beside place (option_map plain_frame o) old)) c.in-Some.is c.loop-place.invariant in
+    (beside place (option_map plain_frame o) old)) c.in-Some.is c.loop-place.invariant.passing in
     let goes =
     goes_over image place c.in-Some-instr_at.instr next come behind old new c.loop-place.budget
     c.loop-place.depth c.is_halt.result here c.is_halt.ensures c.in-Ok.ensures.ok p in
@@ -141,10 +147,15 @@ loop-place-preserved c =
     let count : c.len.result ≡ length come.kinds = omega arith in
     let depth : c.max-depth.result ≡ max (length come.kinds) c.loop-place.depth =
     c.max-depth.ensures ∙ ap (λ (n : ℕ). max n c.loop-place.depth) count in
-    subst (λ (n : ℕ). Passing image next n c.max-depth.result (beside next behind new))
-    (sym c.raised-budget.ensures)
-    (subst (λ (n : ℕ). Passing image next (raised c.is_halt.result come.longest c.loop-place.budget)
-    n (beside next behind new)) (sym depth) goes)
+    record {
+      passing =
+          subst (λ (n : ℕ). Passing image next n c.max-depth.result (beside next behind new))
+          (sym c.raised-budget.ensures)
+          (subst (λ (n : ℕ). Passing image next
+          (raised c.is_halt.result come.longest c.loop-place.budget)
+          n (beside next behind new)) (sym depth) goes);
+      room = omega (arith, c.loop-place.invariant.room, c.in-Ok.ensures.size);
+    }
 
 pub returns-clause-ok : goal.returns-clause-ok
 returns-clause-ok c =
@@ -156,4 +167,4 @@ returns-clause-ok c =
     subst (λ (code : List ℕ). length code ≤ c.loop-place.place) c.code-code.ensures.value
     c.loop-place-test.false in
     measured image c.loop-place.place c.loop-place.budget c.loop-place.depth frames
-    c.loop-place.invariant past c.requires.some
+    c.loop-place.invariant.passing past c.requires.some

@@ -5,7 +5,7 @@ use Rattle.il_verify.proofs.VisitLemmas.{clash_before, effect_so, fault_there}
 use Rattle.il_verify.proofs.visit.visit.Goals as goal
 
 pub returns-in-Err-fall-clause-err : goal.returns-in-Err-fall-clause-err
-returns-in-Err-fall-clause-err c = λ ne.
+returns-in-Err-fall-clause-err c =
     let image = c.args.image.now in
     let slots = c.as_slice.ensures.value ∙ c.requires.plan.slots in
     let kinds = reverse c.args.frame.kinds.items in
