@@ -6,8 +6,8 @@ from dataclasses import dataclass
 from session.conditions import TooLarge, Variable, condition
 
 from .bay import WAYS
-from .replaying import (LARGEST, failed, octets_of, scans_of, timed_scenarios, timed_trace_of,
-                        trace_of, whole_scenario)
+from .replaying import (LARGEST, LATEST, failed, octets_of, scans_of, timed_scenarios,
+                        timed_trace_of, trace_of, whole_scenario)
 
 
 @dataclass
@@ -68,7 +68,7 @@ def audit(bay, rules, bayctl, pause=None):
     offsets = offsets_of(bay.program, rules, pause)
     findings, table = [Finding(rule) for rule in rules], []
     octets = whole_scenario(bay, offsets)
-    tell_size(bay, octets)
+    tell_size(bay, octets, offsets)
     scans = scans_of(bayctl, octets)
     for place, combination in enumerate(bay.combinations()):
         seen = list(itertools.islice(scans, len(offsets)))
@@ -85,11 +85,14 @@ def audit(bay, rules, bayctl, pause=None):
     return found
 
 
-def tell_size(bay, octets):
+def tell_size(bay, octets, offsets):
     """Tells what it takes, and ends where that is too much."""
     switches = sum(thing.verb == 'contact' for thing in bay.things)
     told = f'{switches} switches, {len(bay.things) - switches} others: '
     told += f'{bay.count():,} combinations'
+    if bay.count() * offsets[-1] > LATEST:
+        failed(f'{told} of {offsets[-1]:,} ms each, more than a trace has moments for: hold some '
+               'with --switches or --inputs, or give a shorter --pause')
     if not octets:
         failed(f'{told}, more than one scenario of {LARGEST:,} octets has room for: hold some '
                'with --switches or --inputs')

@@ -8,6 +8,7 @@ import tempfile
 from session.replay import not_loaded, not_run
 
 LARGEST, SHORTEST = 16_777_216, 30  # octets of a scenario, and of the lines of a combination
+LATEST = 4_294_967_295_999  # the last moment that a trace can have
 
 
 def changes(bay, moment, last, combination):
@@ -48,7 +49,7 @@ def octets_of(bay, lines):
 
 def whole_scenario(bay, offsets):
     """The octets that go through all combinations, or none where there is no room for them."""
-    if bay.count() * SHORTEST > LARGEST:
+    if bay.count() * SHORTEST > LARGEST or bay.count() * offsets[-1] > LATEST:
         return b''
     octets = octets_of(bay, trace_of(bay, bay.combinations(), offsets))
     return octets if len(octets) <= LARGEST else b''
@@ -56,7 +57,8 @@ def whole_scenario(bay, offsets):
 
 def timed_scenarios(bay, pairs, offsets):
     """The octets that go through pairs of combinations, in as many scenarios as that takes."""
-    size = max(LARGEST // (2 * SHORTEST * (len(bay.things) + len(offsets) + 2)), 1)
+    size = LARGEST // (2 * SHORTEST * (len(bay.things) + len(offsets) + 2))
+    size = max(min(size, LATEST // (2 * offsets[-1])), 1)
     for at in range(0, len(pairs), size):
         part = pairs[at:at + size]
         yield part, octets_of(bay, timed_trace_of(bay, part, offsets))

@@ -7,7 +7,7 @@ const ENDS = {open: 'open', close: 'closed'};
 let state = {switches: [], measures: [], events: [], control: null};
 let shown = null;     // the id of the switch of the dialog
 let asked = null;     // {way, stage: 'asking' | 'selected' | 'moving', last} of the dialog
-let lastTold = 0;     // the events that were shown
+let lastTold = '';    // the events that were shown
 
 function element(name, kind, text) {
   const found = document.createElement(name);
@@ -91,7 +91,7 @@ function showMeasures() {
 
 function showEvents() {
   const list = document.querySelector('#events ol');
-  const key = JSON.stringify(state.events.slice(-1)) + state.events.length;
+  const key = JSON.stringify(state.events);
   if (key === lastTold) return;
   lastTold = key;
   list.replaceChildren(...state.events.slice().reverse().map((it) => {

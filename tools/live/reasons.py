@@ -36,6 +36,11 @@ def input_told(variable, allowed):
     return f'input {variable.name} must be {" or ".join(allowed)}'
 
 
+def unseen_told(unseen):
+    """Inputs that are wanted too."""
+    return f' (not seen here: {", ".join(unseen)})' if unseen else ''
+
+
 def why_not(condition: Condition | None, seen: Seen) -> str:
     """Why something is not released: of the products the one of which the least is missing, as far
     as it is seen, and one of which only inputs can be missing, which clients do not see."""
@@ -49,7 +54,8 @@ def why_not(condition: Condition | None, seen: Seen) -> str:
     told = []
     if visible:
         broken, unseen = min(visible, key=lambda it: (len(it[0]), len(it[1])))
-        told.append('; '.join([*broken, *(unseen if not hidden else [])]))
+        told.append('; '.join(broken) + ('' if hidden else unseen_told(unseen)))
     if hidden:
-        told.append('; '.join(min(hidden, key=lambda it: len(it[1]))[1]))
+        unseen = min(hidden, key=lambda it: len(it[1]))[1]
+        told.append('; '.join(unseen) + ' (not seen here)')
     return ', or '.join(told) if told else f'{STILL} yet: a timer may still run'

@@ -54,7 +54,8 @@ class Watcher:
     def told(self):
         """The state and the events, as JSON."""
         with self.lock:
-            return json.dumps({**self.state, 'events': list(self.events)})
+            events = sorted(self.events, key=lambda it: it['moment'])
+            return json.dumps({**self.state, 'events': events})
 
     def publish(self):
         """Hands the state to all; who is slow misses what is older."""
@@ -74,7 +75,8 @@ class Watcher:
     def event(self, told, kind='quiet', moment=None):
         """Notes what happened: kind is position, control, refused or quiet."""
         moment = moment if moment and moments.is_clock(moment) else now()
-        self.events.append({'time': moments.clock_told(moment), 'told': told, 'kind': kind})
+        self.events.append({'moment': moment, 'time': moments.clock_told(moment), 'told': told,
+                            'kind': kind})
 
     # ---- the association
 

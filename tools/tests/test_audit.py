@@ -140,6 +140,12 @@ class Audits(unittest.TestCase):
         for time in (5001, 6000, 60_000):
             self.assertEqual(verdicts(UNTIL + AFTER, time), ['holds', 'BROKEN'], time)
 
+    def test_times_that_are_too_long(self):
+        rule = 'never QC1 close until VT_DEAD for 24d\n'
+        with mock.patch('auditing.replaying.print') as told, self.assertRaises(SystemExit):
+            audited('look M1_AA ' + '|'.join(map(str, range(600))) + '\n' + rule)
+        self.assertIn('more than a trace has moments for', told.call_args[0][0])
+
     def test_a_condition_that_never_begins(self):
         self.assertEqual(verdicts('always QC1 close after VT_DEAD or not VT_DEAD for 5s\n'),
                          ['not asked'])

@@ -45,9 +45,11 @@ class Reasons(unittest.TestCase):
 
     def test_inputs(self):
         self.assertEqual(reason([(KEY, ['1'])], [(QA1, ['off'])], QA1='on'),
-                         'QA1 is closed and must be open, or input KEY must be 1')
+                         'QA1 is closed and must be open, or input KEY must be 1 (not seen here)')
         self.assertEqual(reason([(QA1, ['off']), (KEY, ['0'])], QA1='off'),
-                         'input KEY must be 0')
+                         'input KEY must be 0 (not seen here)')
+        self.assertEqual(reason([(QA1, ['off']), (KEY, ['0'])], QA1='on'),
+                         'QA1 is closed and must be open (not seen here: input KEY must be 0)')
 
     def test_measures(self):
         current = Variable('M1_AA', ('0', '5'))
