@@ -70,7 +70,7 @@ class Bay:
         return f'{self.bay}{ends[0]}%%\n{self.logic}{ends[1]}%%\n{trace}'
 
 
-def all_things(file):
+def all_things(file: dict) -> list[Thing]:
     """Each switch, input and field of a meter, with all values that it goes through by itself."""
     things = [Thing(switch['id'], 'contact', [0, 1, 2, 3]) for switch in file['switch']]
     things += [Thing(one['name'], 'input', [0, 1]) for one in file.get('input', [])]
@@ -78,7 +78,7 @@ def all_things(file):
                      for meter in file.get('meter', []) for field in FIELDS]
 
 
-def bay_of(file, texts, program, looks, named):
+def bay_of(file: dict, texts: tuple, program: Program, looks: dict, named: set) -> Bay:
     """What is looked at: what the program reads, what rules name and what is to be looked at.
     `looks` has the values of things that are not the usual ones."""
     bay, things = Bay(file, *texts, program), all_things(file)

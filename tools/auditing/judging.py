@@ -47,7 +47,7 @@ class Audit:
         return any(it.rule.since for it in self.findings)
 
 
-def offsets_of(program, rules, pause):
+def offsets_of(program, rules: list, pause: int | None) -> list[int]:
     """The moments after a combination is reached at which it is scanned."""
     times = [rule.since.time for rule in rules if rule.since]
     last = pause if pause is not None else max(60_000, 2 * sum([program.longest(), *times]))
@@ -63,7 +63,7 @@ def bar(done, count):
         print(f'\r[{filled:40}] {100 * done // count} %', end=end, file=sys.stderr, flush=True)
 
 
-def audit(bay, rules, bayctl, pause=None):
+def audit(bay, rules: list, bayctl, pause: int | None = None) -> Audit:
     """Goes through all combinations, and through those of rules with a time once more for each."""
     offsets = offsets_of(bay.program, rules, pause)
     findings, table = [Finding(rule) for rule in rules], []
@@ -116,7 +116,7 @@ def judge(finding, bay, place, combination, offsets, seen):
         finding.breaks(combination, after, lines)
 
 
-def pairs_of(bay, rule):
+def pairs_of(bay, rule) -> list[tuple]:
     """Each combination in which a rule's condition begins to hold, behind the one in which it does
     not that differs in the fewest things."""
     places = [at for at, it in enumerate(bay.things) if it.name.upper() in rule.since.names]
@@ -158,7 +158,7 @@ def judge_times(finding, bay, bayctl, offsets):
     return count
 
 
-def shortest(audit, finding, bayctl):
+def shortest(audit: Audit, finding: Finding, bayctl):
     """The lines of one combination that breaks a rule; where it does so only after others, the
     lines up to it."""
     bay, rule = audit.bay, finding.rule
@@ -173,7 +173,7 @@ def variables_of(bay):
     return [Variable(thing.name, tuple(thing.words()), thing.is_truth()) for thing in bay.things]
 
 
-def conditions(bay, table, holds):
+def conditions(bay, table: list, holds) -> dict:
     """The least condition of something, by each switch and way: of `holds` of the switch's name,
     the way, the state and what is released. None where it is too large."""
     found = {}
@@ -190,12 +190,12 @@ def conditions(bay, table, holds):
     return found
 
 
-def released(audit):
+def released(audit: Audit) -> dict:
     """The least condition of each release."""
     return conditions(audit.bay, audit.table, lambda name, way, _, seen: seen[name][way])
 
 
-def uncovered(audit):
+def uncovered(audit: Audit) -> dict:
     """The least condition under which something is released that no rule asks for; and how often,
     by each switch and way."""
     rules, counts = [it.rule for it in audit.findings if it.rule.wanted], {}

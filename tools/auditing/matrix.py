@@ -12,7 +12,7 @@ SOME, NONE, IDLE = '#cfe6d0', '#ffffff', '#f1f1f1'
 LEFT, CELL, ROW, APART = 130, 46, 24, 14
 
 
-def write_table(bay, table, path):
+def write_table(bay, table: list, path) -> None:
     """What is released in each combination."""
     with open(path, 'w', newline='', encoding='utf-8') as file:
         writer = csv.writer(file, lineterminator='\n')
@@ -49,7 +49,7 @@ def masks_of(bay, table):
             for _, releases in table]
 
 
-def blocks_of(bay, table):
+def blocks_of(bay, table: list) -> list[Block]:
     """A block for each thing on which a release depends."""
     masks, count = masks_of(bay, table), len(WAYS) * len(bay.switches())
     blocks = [block_of(thing, place, table, masks, count) for place, thing in enumerate(bay.things)]
@@ -89,7 +89,7 @@ def notes_of(bay, blocks):
     return notes + ([f'Not read by the program: {", ".join(bay.unread)}.'] if bay.unread else [])
 
 
-def bands_of(blocks, width):
+def bands_of(blocks: list[Block], width: float) -> list[list[Block]]:
     """The blocks in bands, none of which is wider than that where a block alone is not."""
     bands, x = [[]], LEFT
     for block in blocks:
@@ -102,7 +102,7 @@ def bands_of(blocks, width):
     return bands
 
 
-def draw(bay, table, heading='', width=math.inf):
+def draw(bay, table: list, heading: str = '', width: float = math.inf) -> str:
     """The picture: a row for each release, a column for each group of values; where these are too
     wide, they stand in bands one below the other."""
     picture, blocks = Picture(), blocks_of(bay, table)

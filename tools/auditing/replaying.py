@@ -47,7 +47,7 @@ def octets_of(bay, lines):
     return bay.scenario('\n'.join(lines) + '\n').encode()
 
 
-def whole_scenario(bay, offsets):
+def whole_scenario(bay, offsets: list[int]) -> bytes:
     """The octets that go through all combinations, or none where there is no room for them."""
     if bay.count() * SHORTEST > LARGEST or bay.count() * offsets[-1] > LATEST:
         return b''
@@ -87,6 +87,6 @@ def scans_of(bayctl, octets):
     run.wait()
 
 
-def failed(told):
+def failed(told: str):
     print(told)
     sys.exit(3)

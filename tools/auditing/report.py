@@ -50,7 +50,7 @@ def sum_of(octets):
     return hashlib.sha256(octets).hexdigest()
 
 
-def version():
+def version() -> str:
     """The tool's version: the newest day of CHANGELOG.md, and a sum of its files."""
     day = re.search(r'^## (\S+)', CHANGES.read_text(encoding='utf-8'), re.M)
     paths = [TOOLS / 'audit', *sorted(path for name in ('auditing', 'session', 'diagnosis')
@@ -86,7 +86,7 @@ class Report:
         self.moment = datetime.datetime.fromtimestamp(moment, datetime.UTC)
         self.bare = uncovered(audit)
 
-    def page(self):
+    def page(self) -> str:
         bay = self.bay.file['bay']
         title = f'Audit of the interlocking of bay {bay["domain"]}'
         style = STYLE % f'Bay {bay["domain"]}, {self.moment:%Y-%m-%d %H:%M} UTC'

@@ -74,7 +74,7 @@ def shown(word):
     return f'{word[:20]!r}' if word else 'nothing'
 
 
-def troubles(octets, bay):
+def troubles(octets: bytes, bay: dict):
     """Each line of a trace that a server won't take."""
     known, lines = Known(bay), octets.split(b'\n')
     for number, line in enumerate(lines, 1):

@@ -24,7 +24,7 @@ class Operator:
         watcher.on_said.append(self.said)
         watcher.on_read.append(self.read)
 
-    def act(self, verb, switch, way):
+    def act(self, verb: str, switch: str, way: str) -> dict:
         """Select, operate or cancel: what became of it."""
         acts = {'select': self.select, 'operate': self.operate, 'cancel': self.cancel}
         known = {it['id'] for it in self.watcher.file['switch']}

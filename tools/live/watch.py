@@ -40,7 +40,7 @@ class Watcher:
 
     # ---- those who look
 
-    def subscribe(self):
+    def subscribe(self) -> queue.Queue:
         found = queue.Queue(8)
         with self.queues_lock:
             self.queues.add(found)
@@ -51,7 +51,7 @@ class Watcher:
         with self.queues_lock:
             self.queues.discard(found)
 
-    def told(self):
+    def told(self) -> str:
         """The state and the events, as JSON."""
         with self.lock:
             events = sorted(self.events, key=lambda it: it['moment'])
@@ -72,7 +72,7 @@ class Watcher:
                         except queue.Empty:
                             pass
 
-    def event(self, told, kind='quiet', moment=None):
+    def event(self, told: str, kind: str = 'quiet', moment: int | None = None) -> None:
         """Notes what happened: kind is position, control, refused or quiet."""
         moment = moment if moment and moments.is_clock(moment) else now()
         self.events.append({'moment': moment, 'time': moments.clock_told(moment), 'told': told,

@@ -21,7 +21,7 @@ class Control:
     """The control of a switch, which is named by its logical node, or by its id where the client
     knows the bay file."""
 
-    def __init__(self, client, switch, originator='', test=False):
+    def __init__(self, client, switch: str, originator: str = '', test: bool = False):
         self.client, self.originator, self.test = client, originator.encode(), test
         self.node = client.bay.node(switch)
         if self.node is None:
@@ -55,7 +55,7 @@ class Control:
         told = words.told('', answer) if isinstance(answer, Failure) else 'refused'
         return Outcome(False, f'{verb} {self.name}: {told}')
 
-    def select(self, on=True):
+    def select(self, on: bool = True) -> Outcome:
         if self.model == ENHANCED:
             answer = self.client.write(self.item('SBOw'), self.value(on))
             return self.outcome('select', not isinstance(answer, Failure), answer)
@@ -66,20 +66,20 @@ class Control:
         is_good = not isinstance(answer, Failure) and bool(answer.value)
         return self.outcome('select', is_good, answer)
 
-    def operate(self, on):
+    def operate(self, on: bool) -> Outcome:
         answer = self.client.write(self.item('Oper'), self.value(on))
         return self.outcome('operate', answer is None, answer)
 
-    def cancel(self, on=True):
+    def cancel(self, on: bool = True) -> Outcome:
         answer = self.client.write(self.item('Cancel'), self.value(on, check=None))
         return self.outcome('cancel', answer is None, answer)
 
-    def position(self):
+    def position(self) -> str:
         """Where the switch is, in words."""
         (_, found), = self.client.read([f'{self.node}$ST$Pos$stVal'])
         return words.told('', found) if isinstance(found, Failure) else words.POSITIONS[found.value]
 
-    def state(self, on):
+    def state(self, on: bool) -> str:
         """What can be known of a refusal to switch on or off: where the switch is, and what its
         interlocking allows. Nothing where the server doesn't tell."""
         cilo = 'CILO' + self.node.removeprefix('CSWI')

@@ -45,7 +45,7 @@ def lines_of(events):
             yield event.moment, f'close {place}'
 
 
-def read_lines(text):
+def read_lines(text: str) -> list[tuple[int, str]]:
     """The moments of a trace with what stands behind them."""
     found = []
     for number, line in enumerate(text.splitlines(), 1):
@@ -57,7 +57,7 @@ def read_lines(text):
     return found
 
 
-def merged(parts):
+def merged(parts: list) -> str:
     """One trace of several, each a list of moments and lines, in the order of their moments. Where
     some count from 1970, the lines of others come first, when the session begins."""
     clocks = [moment for part in parts for moment, _ in part if is_clock(moment)]
@@ -67,12 +67,12 @@ def merged(parts):
     return '\n'.join(f'{moment} {rest}' for moment, rest in sorted(found, key=lambda it: it[0]))
 
 
-def trace_of(events, told):
+def trace_of(events: list, told: str) -> str:
     """All lines of a session, joined with those of the process."""
     return merged([read_lines(told), list(lines_of(events))]) + '\n'
 
 
-def renumbered(parts):
+def renumbered(parts: list) -> list:
     """The same lines, the associations of each part with numbers of their own."""
     numbers, found = {}, []
     for at, part in enumerate(parts):
@@ -88,7 +88,7 @@ def renumbered(parts):
     return found
 
 
-def scenario_of(bay, logic, trace):
+def scenario_of(bay: bytes, logic: bytes, trace: bytes) -> bytes:
     """The octets of a scenario, of the octets of its parts."""
     return b''.join(part if part.endswith(b'\n') else part + b'\n'
                     for part in (bay, b'%%', logic, b'%%', trace))

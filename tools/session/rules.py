@@ -157,7 +157,7 @@ class Reader:
         return int(word)
 
 
-def time_of(word):
+def time_of(word: str) -> int:
     """The milliseconds of a time."""
     if not re.fullmatch(r'(\d+(MS|[DHMS]))+', word):
         raise BadRule(f'{word.lower()} is no time: 5s, 1m30s or 500ms is wanted')
@@ -184,7 +184,7 @@ def lines_of(text):
             yield number, rule
 
 
-def read_looks(text):
+def read_looks(text: str) -> dict:
     """The values of names that a text tells to look at."""
     looks = {}
     for number, line in lines_of(text):
@@ -197,7 +197,7 @@ def read_looks(text):
     return looks
 
 
-def held(option):
+def held(option: str | None) -> dict:
     """The values of names that an option holds: NAME=VALUE|VALUE, parted by commas."""
     found = {}
     for part in filter(None, (option or '').split(',')):
@@ -208,7 +208,7 @@ def held(option):
     return found
 
 
-def read_rules(text, switches, others):
+def read_rules(text: str, switches: list, others: list) -> list[Rule]:
     """The rules of a text, for the names of switches and of what else a bay has, in upper case."""
     rules = []
     for number, line in lines_of(text):
