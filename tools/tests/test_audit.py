@@ -58,12 +58,21 @@ class Interlocking:
         return {'QA1': (True, False), 'QC1': (False, ended and self.values['QA1'] == 1)}
 
 
-def audited(rules, time=5000, logic=LOGIC):
+class Pulse(Interlocking):
+    """QC1 may be closed for a tenth of a second behind VT_DEAD, and never again."""
+
+    def scan(self, moment):
+        found = super().scan(moment)
+        is_new = self.since is not None and moment - self.since < 100
+        return {**found, 'QC1': (False, is_new)}
+
+
+def audited(rules, time=5000, logic=LOGIC, kind=Interlocking):
     found = program.read(logic)
     read = read_rules(rules, ['QA1', 'QC1'], ['VT_DEAD', 'SPARE', 'M1_AA'])
     named = {name for rule in read for name in rule.names}
     bay = bay_of(FILE, ('bay', logic), found, read_looks(rules), named)
-    with mock.patch('auditing.judging.scans_of', Interlocking(time).scans), \
+    with mock.patch('auditing.judging.scans_of', kind(time).scans), \
             mock.patch('sys.stderr'):
         return judging.audit(bay, read, None)
 
@@ -126,8 +135,21 @@ class Audits(unittest.TestCase):
         self.assertEqual(verdicts('never QA1 open\nalways QC1 close\n'), ['BROKEN'] * 2)
         self.assertEqual(verdicts('never QA1 open when M1_AA 7\n'), ['not asked'])
 
-    def test_no_rules_are_not_passed(self):
-        self.assertFalse(audited('# nothing\n').is_passed())
+    def test_what_is_not_passed(self):
+        self.assertTrue(audited('always QA1 open\n').is_passed())
+        for rules in ('# nothing\n', 'always QA1 open\nnever QA1 open when M1_AA 7\n'):
+            self.assertFalse(audited(rules).is_passed())
+
+    def test_never_is_to_hold_at_each_scan(self):
+        found, = audited('never QC1 close when VT_DEAD\n', kind=Pulse).findings
+        self.assertEqual((found.verdict(), found.after), ('BROKEN', 0))
+
+    def test_the_times_of_rules_are_looked_at(self):
+        plain = LOGIC.replace('    CAL t1(IN := VT_DEAD, PT := T#5s)\n', '')
+        for time, verdict in ((4999, 'BROKEN'), (5000, 'holds')):
+            found = audited(UNTIL, time, plain)
+            self.assertEqual((found.offsets[1:3], found.findings[0].verdict()),
+                             ([4999, 5000], verdict))
 
     def test_a_time_that_is_kept(self):
         self.assertEqual(verdicts(UNTIL + AFTER), ['holds', 'holds'])

@@ -7,6 +7,7 @@ import sys
 import threading
 import unittest
 import xml.etree.ElementTree as ET
+from unittest import mock
 
 TOOLS = pathlib.Path(__file__).resolve().parent.parent
 sys.path.insert(0, str(TOOLS))
@@ -16,6 +17,8 @@ from live.reasons import Seen, why_not
 from live.watch import Watcher, measures_of, switch_of
 from live.web import Pages
 from session.conditions import Condition, Variable
+from session.control import Outcome
+from session.conversation import Said
 from session.mms import BITS, BOOLEAN, INTEGER, STRUCTURE, TIME, Data
 from tests.loopback import needs_loopback
 from tests.test_audit import FILE
@@ -108,6 +111,126 @@ class Values(unittest.TestCase):
         self.assertEqual({it['name']: it['value'] for it in found},
                          {'M1_TOTW': 1, 'M1_TOTVAR': 2, 'M1_HZ': 3, 'M1_AA': 4, 'M1_AB': 5,
                           'M1_AC': 6})
+
+
+class Switch:
+    """A control as an operator has it, whose answers a test gives."""
+    model, enhanced, refused = 2, False, ()
+
+    def __init__(self, client, switch, originator):
+        self.name = switch
+
+    def is_selected_first(self):
+        return self.model == 2
+
+    def is_told_its_end(self):
+        return self.enhanced
+
+    def answer(self, verb):
+        return Outcome(verb not in self.refused, f'{verb} {self.name}: said')
+
+    def select(self, on):
+        return self.answer('select')
+
+    def operate(self, on):
+        return self.answer('operate')
+
+    def cancel(self, on):
+        return self.answer('cancel')
+
+    def state(self, on):
+        return f'{self.name} is there'
+
+
+class Operating(unittest.TestCase):
+    def setUp(self):
+        kind = type('Kind', (Switch,), {})
+        patched = mock.patch('live.operating.Control', kind)
+        patched.start()
+        self.addCleanup(patched.stop)
+        self.kind, self.watcher = kind, Watcher(FILE, '', '127.0.0.1', 1)
+        self.watcher.client, self.operator = object(), Operator(self.watcher)
+
+    def act(self, verb, switch='QA1', way='open'):
+        found = self.operator.act(verb, switch, way)
+        return found['good'], found['told']
+
+    def reads(self, position, selected=True):
+        for act in self.watcher.on_read:
+            act([{'id': 'QA1', 'position': position, 'selected': selected},
+                 {'id': 'QC1', 'position': 'open', 'selected': False}])
+
+    def test_to_the_end(self):
+        self.assertEqual(self.act('select'), (True, 'select QA1: said'))
+        self.assertEqual(self.watcher.state['control']['stage'], 'selected')
+        self.assertEqual(self.act('operate'), (True, 'open QA1: the command is given'))
+        self.reads('between', False)
+        self.assertEqual(self.watcher.state['control']['stage'], 'moving')
+        self.reads('open', False)
+        self.assertIsNone(self.watcher.state['control'])
+        self.assertEqual(self.watcher.state['last'],
+                         {'good': True, 'told': 'open QA1 has ended: done', 'number': 1})
+
+    def test_nothing_is_operated_without_its_select(self):
+        self.assertFalse(self.act('operate')[0])
+        self.act('select')
+        for switch, way in (('QC1', 'open'), ('QA1', 'close')):
+            self.assertEqual(self.act('operate', switch, way),
+                             (False, f'{switch} is not selected by this panel'))
+        self.act('operate')
+        self.assertFalse(self.act('operate')[0])
+
+    def test_one_at_a_time(self):
+        self.act('select')
+        self.assertEqual(self.act('select', 'QC1'), (False, 'QA1 is selected by this panel'))
+
+    def test_refusals(self):
+        self.kind.refused = ('select',)
+        self.assertEqual(self.act('select'), (False, 'select QA1: said'))
+        self.assertIsNone(self.watcher.state['control'])
+        self.kind.refused = ('operate',)
+        self.act('select')
+        self.assertEqual(self.act('operate'), (False, 'operate QA1: said. QA1 is there'))
+        self.assertIsNone(self.watcher.state['control'])
+
+    def test_giving_up(self):
+        self.assertFalse(self.act('cancel')[0])
+        self.act('select')
+        self.assertEqual(self.act('cancel'), (True, 'cancel QA1: said'))
+        self.assertIsNone(self.watcher.state['control'])
+
+    def test_a_select_that_runs_out(self):
+        self.act('select')
+        self.reads('closed')
+        self.assertIsNotNone(self.watcher.state['control'])
+        self.reads('closed', False)
+        self.assertEqual(self.watcher.state['last']['told'],
+                         'open QA1: the selection has run out')
+
+    def test_an_end_that_is_told(self):
+        self.kind.enhanced = True
+        self.act('select')
+        self.act('operate')
+        self.reads('open', False)
+        self.assertIsNotNone(self.watcher.state['control'])
+        self.watcher.said(Said('ended', '', ['it has ended'], None, 'QA1', 'off', False))
+        self.assertEqual(self.watcher.state['last'],
+                         {'good': False, 'told': 'it has ended', 'number': 1})
+
+    def test_a_switch_that_does_not_come(self):
+        self.act('select')
+        self.act('operate')
+        self.operator.end = 0
+        self.reads('between', False)
+        self.assertEqual(self.watcher.state['last']['told'],
+                         'open QA1: it is between, and its time is over')
+
+    def test_a_connection_that_is_lost(self):
+        self.act('select')
+        self.watcher.client = mock.Mock()
+        self.watcher.lose(OSError('gone'))
+        self.assertIsNone(self.watcher.state['control'])
+        self.assertEqual(self.act('operate'), (False, 'there is no connection to the server'))
 
 
 @needs_loopback
