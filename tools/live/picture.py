@@ -5,6 +5,7 @@ from dataclasses import dataclass
 
 APART, TOP = 104, 46  # between two switches of the column, and above the first busbar
 BUS, COLUMN = 34, 190  # between two busbars, and between two switches side by side
+BUSBARS, LONG = 3, 1100  # busbars of the usual order, and the height of a long picture
 
 
 class BadOrder(Exception):
@@ -24,15 +25,15 @@ def is_last(switch):
 
 
 def usual_order(switches) -> Order:
-    """The order where none is given: disconnectors at busbars, breakers, earthing switches, and
-    what has a 9 at the end of its id at the feeder (IEC 81346)."""
+    """The order where none is given: up to three disconnectors at busbars, breakers, what else
+    there is, and what has a 9 at the end of its id at the feeder (IEC 81346)."""
     def of(kind, last):
         return [it for it in switches if it['kind'] == kind and is_last(it) == last]
 
     busbars = of('disconnector', False)
-    column = [*of('breaker', False), *of('breaker', True), *of('earthing', False),
-              *of('disconnector', True), *of('earthing', True)]
-    return Order(busbars, column)
+    column = [*of('breaker', False), *of('breaker', True), *busbars[BUSBARS:],
+              *of('earthing', False), *of('disconnector', True), *of('earthing', True)]
+    return Order(busbars[:BUSBARS], column)
 
 
 def order_of(switches, text) -> Order:
@@ -125,7 +126,8 @@ def draw(order: Order) -> str:
     parts += [line(center, y, center, y + 22), f'<path class="arrow" d="M {center - 8} {y + 18} '
               f'L {center + 8} {y + 18} L {center} {y + 34} Z"/>',
               text(center + 18, y + 34, 'feeder', 'note')]
-    return (f'<svg viewBox="0 0 {width:.0f} {y + 48:.0f}" role="group" '
+    kind = ' class="long"' if y > LONG else ''
+    return (f'<svg{kind} viewBox="0 0 {width:.0f} {y + 48:.0f}" role="group" '
             f'aria-label="Single-line picture">{"".join(parts)}</svg>')
 
 

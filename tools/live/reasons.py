@@ -21,14 +21,17 @@ class Seen:
             if value is None:
                 unseen.append(input_told(variable, allowed))
             elif value not in allowed:
-                broken.append(fact_told(variable.name, value, allowed))
+                broken.append(fact_told(variable, value, allowed))
         return broken, unseen
 
 
-def fact_told(name, value, allowed):
+def fact_told(variable, value, allowed):
     """A fact that is wanted, with what is so."""
-    wanted = ' or '.join(POSITIONS.get(word, word) for word in allowed)
-    return f'{name} is {POSITIONS.get(value, value)} and must be {wanted}'
+    lead, named = 'be', allowed
+    if 2 * len(allowed) > len(variable.values):
+        lead, named = 'not be', [word for word in variable.values if word not in allowed]
+    wanted = f'{lead} {" or ".join(POSITIONS.get(word, word) for word in named)}'
+    return f'{variable.name} is {POSITIONS.get(value, value)} and must {wanted}'
 
 
 def input_told(variable, allowed):

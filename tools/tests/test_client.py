@@ -74,7 +74,7 @@ class Statuses(unittest.TestCase):
     @needs_loopback
     def test_a_server_that_takes_nobody(self):
         with socket.create_server(('127.0.0.1', 0)) as server, \
-                mock.patch('session.client.FIRST', 0.1):
+                mock.patch('session.client.FIRST', 0.5):
             with self.assertRaisesRegex(clients.Lost, 'all eight associations are taken'):
                 clients.Client('127.0.0.1', server.getsockname()[1])
 

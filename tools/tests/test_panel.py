@@ -46,6 +46,10 @@ class Reasons(unittest.TestCase):
                        QC1='intermediate')
         self.assertEqual(found, 'QC1 is between and must be open or closed')
 
+    def test_what_must_not_be(self):
+        self.assertEqual(reason([(QA1, ['intermediate', 'on', 'bad'])], QA1='off'),
+                         'QA1 is open and must not be open')
+
     def test_inputs(self):
         self.assertEqual(reason([(KEY, ['1'])], [(QA1, ['off'])], QA1='on'),
                          'QA1 is closed and must be open, or input KEY must be 1 (not seen here)')
