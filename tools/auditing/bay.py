@@ -3,11 +3,11 @@ import itertools
 import math
 from dataclasses import dataclass, field
 
+from diagnosis.words import FIELDS
 from session.rules import POSITIONS, BadRule
 
 from .program import Program
 
-FIELDS = ('TOTW', 'TOTVAR', 'HZ', 'AA', 'AB', 'AC')
 NAMES = [name.lower() for name in POSITIONS]
 WAYS = ('open', 'close')
 RANGES = {'contact': range(4), 'input': range(2), 'measure': range(-2 ** 31, 2 ** 31)}

@@ -8,7 +8,7 @@ from session.picture import FAINT, FREE, GRID, INK, Picture, room
 
 from .bay import WAYS
 
-SOME, NONE, IDLE = '#cfe6d0', '#ffffff', '#f1f1f1'
+SOME, NONE = '#cfe6d0', '#ffffff'
 LEFT, CELL, ROW, APART = 130, 46, 24, 14
 
 

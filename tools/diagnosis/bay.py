@@ -4,7 +4,7 @@ import re
 import tomllib
 
 from .place import Place, near
-from .words import RESERVED
+from .words import FIELDS, RESERVED
 
 IDENTIFIER, LENGTHS = r'[A-Za-z][A-Za-z0-9_]*', {'domain': 32, 'id': 16, 'name': 16}
 KINDS = ['breaker', 'disconnector', 'earthing']
@@ -22,7 +22,7 @@ TYPES = {str: 'a text', bool: 'a truth value', int: 'a number',
 POINTS = {'switch': {'_POS': 'INT', '_OPEN': 'BOOL', '_CLOSED': 'BOOL', '_ENA_OPN': 'BOOL',
                      '_ENA_CLS': 'BOOL'},
           'input': {'': 'BOOL'},
-          'meter': dict.fromkeys(('_TOTW', '_TOTVAR', '_HZ', '_AA', '_AB', '_AC'), 'DINT')}
+          'meter': {f'_{field}': 'DINT' for field in FIELDS}}
 
 
 class Refused(Exception):

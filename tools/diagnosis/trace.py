@@ -4,10 +4,10 @@ import re
 from dataclasses import dataclass
 
 from .place import near
+from .words import FIELDS
 
 VALUES = {'contact': r'[0-3]', 'input': r'[01]', 'measure': r'-?[0-9]+'}
 WHAT = {'contact': 'a position from 0 to 3', 'input': '0 or 1', 'measure': 'a whole number'}
-FIELDS = ('TOTW', 'TOTVAR', 'HZ', 'AA', 'AB', 'AC')
 FORMS = {'contact': 'MS contact ID 0..3', 'input': 'MS input NAME 0|1',
          'measure': 'MS measure ID FIELD VALUE'}
 REPLAYED = {'scan': 'a server scans by itself in each turn', 'open': 'clients come over the port',

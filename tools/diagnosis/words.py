@@ -1,4 +1,4 @@
-"""The words of Instruction List, as the profile has them."""
+"""The words of Instruction List and the fields of a meter, as the profile has them."""
 LOADS, STORES = {'LD', 'LDN'}, {'ST', 'STN', 'S', 'R'}
 COMBINES = {'AND', 'OR', 'XOR', 'ANDN', 'ORN', 'XORN', 'ADD', 'SUB', 'MUL', 'DIV', 'MOD', 'GT',
             'GE', 'EQ', 'NE', 'LE', 'LT', '&', '&N'}
@@ -10,3 +10,4 @@ FRAME = {'PROGRAM', 'END_PROGRAM', 'VAR', 'VAR_EXTERNAL', 'END_VAR'}
 NUMBERS = {'INT': 16, 'DINT': 32, 'LINT': 64}
 TYPES, TIMERS = {'BOOL', 'TIME', *NUMBERS}, {'TON', 'TOF'}
 RESERVED = (OPERATORS - {'&', '&N'}) | FRAME | TYPES | TIMERS | {'TRUE', 'FALSE'}
+FIELDS = ('TOTW', 'TOTVAR', 'HZ', 'AA', 'AB', 'AC')

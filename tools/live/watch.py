@@ -6,6 +6,7 @@ import queue
 import threading
 import time
 
+from diagnosis.words import FIELDS
 from session import moments, words
 from session.ber import Unreadable
 from session.client import Client, Lost, Refused
@@ -14,7 +15,6 @@ from session.mms import Failure
 from .reasons import Seen, why_not
 
 EVERY, AGAIN, KEPT = 0.25, 1.0, 200  # seconds between two reads, and two attempts; events kept
-FIELDS = {'TOTW': 'TotW', 'TOTVAR': 'TotVAr', 'HZ': 'Hz', 'AA': 'phsA', 'AB': 'phsB', 'AC': 'phsC'}
 RULE_WORDS = {'00': 'intermediate', '01': 'off', '10': 'on', '11': 'bad'}
 SHOWN = {'00': 'between', '01': 'open', '10': 'closed', '11': 'bad'}
 LOST = (Lost, Refused, Unreadable, OSError, ValueError, LookupError, TypeError, AttributeError)

@@ -7,7 +7,7 @@ SYN, FIN, RST = 0x02, 0x01, 0x04
 HALF, WHOLE = 1 << 31, 1 << 32
 # Link types, of the files of tcpdump and tshark.
 NULL, ETHERNET, RAW, LOOP, COOKED, IPV4, IPV6, COOKED2 = 0, 1, 101, 108, 113, 228, 229, 276
-MPLS, VLANS = 0x8847, (0x8100, 0x88A8, 0x9100)
+VLANS = 0x8100, 0x88A8, 0x9100
 TPKT_PORT = 102
 
 
