@@ -14,10 +14,10 @@ use Rattle.bay_trace.specs.Trace.{NamedData}
 use Rattle.bay_serve.specs.Calls.{Call, Reads, Closes, Heard, Octets, Silence, Over, Broken}
 use Rattle.bay_serve.specs.Offers.{Offer, offered}
 use Rattle.bay_serve.specs.Standings.{is_leaving, is_told}
-use Rattle.bay_serve.specs.Turns.{Held, Reading, Script, Turning, accept_calls, accept_calls_at, after_accept, after_each, after_line, after_offer, after_reads, after_scan, begun, calls_of_each, cut_off, first_full, free_place, heard_calls, hung_up, is_up, leaves, left_by, line_calls, offer_calls, offer_end, offer_of, offer_one, on_heard, opened, parted, put_answer, queue_at, queue_of, read_calls, read_one, scan_calls, settled, settling, settling_in, settling_next, standing_of, stepped, taken_in, told_of, turned, with_device, with_noted, with_queue}
+use Rattle.bay_serve.specs.Turns.{Held, Reading, Script, Turning, turn_calls, accept_calls, accept_calls_at, after_accept, after_each, after_line, after_offer, after_reads, after_scan, begun, calls_of_each, cut_off, first_full, free_place, heard_calls, hung_up, is_up, leaves, left_by, line_calls, offer_calls, offer_end, offer_of, offer_one, on_heard, opened, parted, put_answer, queue_at, queue_of, read_calls, read_one, scan_calls, settled, settling, settling_in, settling_next, standing_of, stepped, taken_in, told_of, turned, with_device, with_noted, with_queue}
 use Rattle.bay_serve.specs.declared.told.Closing.TheVariants as closing
 use Rattle.bay_serve_laws.specs.Causes.{HasItsCause, closes_for, ends_for, fails_for, has_some, is_named}
-use Rattle.bay_serve_laws.specs.Events.{ChosenEvent, HasNoOctets, accept_events, done_at, events_of_each, failed_events, heard_events, line_events, offer_events, read_events, scan_events, settled_events}
+use Rattle.bay_serve_laws.specs.Events.{ChosenEvent, HasNoOctets, turn_events, accept_events, done_at, events_of_each, failed_events, heard_events, line_events, offer_events, read_events, scan_events, settled_events}
 use Rattle.bay_serve_laws.specs.Flows.{IsInTime, IsOfProcess, IsTidy}
 use Rattle.bay_serve_laws.specs.Telling.{closed_in}
 use Rattle.bay_serve_laws.proofs.CauseLemmas.{Knows, Ready, Still, Still-refl, and_no, ended-knows, failed-knows, knows-as, left-knows, nothing-known, parted-knows, ready-filled, still-knows, still-kept}
@@ -540,10 +540,18 @@ module _ (now p : ℕ) (low : p < 8) (held : List ℕ) (past : now ≤ last_mome
         kept = later.kept;
       }
 
-pub has-its-cause : (now : ℕ) (line : Option NamedData) (script : Script) (h : Held) → IsTidy h
+-- what is known after a turn
+abbrev pub KnowsTurn : ℕ → Option NamedData → Script → Held → ℕ → Type 0
+KnowsTurn now line script h p =
+    Knows p (has_some (fails_for (p + 1)) (turn_calls now line script h))
+    (has_some (ends_for (p + 1)) (turn_calls now line script h))
+    (has_some (closes_for (p + 1)) (done_at now (turn_events now line script h) h.device).answers)
+    (turned now line script h).noted
+
+pub knows-turn : (now : ℕ) (line : Option NamedData) (script : Script) (h : Held) → IsTidy h
     → IsInTime now h → IsOfProcess line → length script.readings ≡ 8 → length script.offers ≡ 8
-    → (p : ℕ) → p < 8 → HasItsCause now line script h (p + 1)
-has-its-cause now line script h tidy time process readings offers p low =
+    → (p : ℕ) → p < 8 → KnowsTurn now line script h p
+knows-turn now line script h tidy time process readings offers p low =
     let held = queue_at p h in
     let past = time.not_past in
     let s0 : Turning = begun h in
@@ -604,4 +612,10 @@ has-its-cause now line script h tidy time process readings offers p low =
     let to03 = Learns-trans now p low s0 s2 s3 _ _ _ _ to02 to3 in
     let to04 = Learns-trans now p low s0 s3 s4 _ _ _ _ to03 to4 in
     let whole = Learns-trans now p low s0 s4 s5 _ _ _ _ to04 to5.learns in
-    (whole.learns false false false (nothing-known p low)).caused
+    whole.learns false false false (nothing-known p low)
+
+pub has-its-cause : (now : ℕ) (line : Option NamedData) (script : Script) (h : Held) → IsTidy h
+    → IsInTime now h → IsOfProcess line → length script.readings ≡ 8 → length script.offers ≡ 8
+    → (p : ℕ) → p < 8 → HasItsCause now line script h (p + 1)
+has-its-cause now line script h tidy time process readings offers p low =
+    (knows-turn now line script h tidy time process readings offers p low).caused

@@ -16,7 +16,7 @@ use Rattle.bay_serve_laws.specs.Faults.{is_link_failed}
 use Rattle.bay_serve_laws.proofs.ClosingLemmas.{IsOwn}
 use Rattle.bay_serve_laws.proofs.KeepLemmas.{IsFilled, IsNoted}
 use Rattle.bay_serve_laws.proofs.StandingLemmas.{all-steady}
-use Rattle.bay_serve_laws.proofs.TellingLemmas.{filled_told, same_number, set_length}
+use Rattle.bay_serve_laws.proofs.TellingLemmas.{filled_told, leaving_told, same_number, set_length}
 use Rattle.bay_serve_laws.proofs.TellsLemmas.{or_none, or_true, tells-not, tells-now, tells-other}
 
 -- ---- tests
@@ -25,8 +25,13 @@ pub and_no : (b : Bool) → (b && false) ≡ false
 and_no true = refl
 and_no false = refl
 
+neither : (b c : Bool) → b ≡ false → c ≡ false → (b || c) ≡ true → ⊥
+neither true c e f g = cc
+neither false true e f g = cc
+neither false false e f g = cc
+
 -- what is true where another is true
-rises : (b c : Bool) → (c ≡ false → b ≡ false) → b ≡ true → c ≡ true
+pub rises : (b c : Bool) → (c ≡ false → b ≡ false) → b ≡ true → c ≡ true
 rises b true h e = refl
 rises b false h e = absurd (let f : true ≡ false = sym e ∙ h refl in cc)
 
@@ -45,6 +50,9 @@ pub record Knows (p : ℕ) (failed over closed : Bool) (n : Noted) : Type 0 wher
   pub caused : IsCaused failed over closed (p + 1) n.closed
   untold : is_told (standing_in p n) ≡ false → IsOpen failed over closed (p + 1) n
   leaving : is_leaving (standing_in p n) ≡ true → (over || closed) ≡ true
+  -- what was told of and nothing else closed had no room
+  pub told : is_told (standing_in p n) ≡ true → failed ≡ false → over ≡ false → closed ≡ false
+      → tells is_queue_full (p + 1) n.closed ≡ true
 
 pub knows-as : (p : ℕ) (a b c d e f : Bool) (n : Noted) → a ≡ d → b ≡ e → c ≡ f → Knows p a b c n
     → Knows p d e f n
@@ -56,13 +64,16 @@ knows-as p a b c d e f n x y z k =
 
 pub record Still (p : ℕ) (n m : Noted) : Type 0 where
   pub sized : length m.standings ≡ 8
-  told : is_told (standing_in p m) ≡ false → is_told (standing_in p n) ≡ false
+  pub told : is_told (standing_in p m) ≡ false → is_told (standing_in p n) ≡ false
   leaving : is_leaving (standing_in p m) ≡ true → is_leaving (standing_in p n) ≡ true
   same : (is : Closing → Bool) → is closing.QueueFull ≡ false
       → tells is (p + 1) m.closed ≡ tells is (p + 1) n.closed
   full : tells is_queue_full (p + 1) m.closed ≡ true
       → (tells is_queue_full (p + 1) n.closed ≡ true)
       ⊎ ((is_told (standing_in p n) ≡ false) × (is_told (standing_in p m) ≡ true))
+  closes : is_told (standing_in p m) ≡ true
+      → (is_told (standing_in p n) ≡ true) ⊎ (tells is_queue_full (p + 1) m.closed ≡ true)
+  more : tells is_queue_full (p + 1) n.closed ≡ true → tells is_queue_full (p + 1) m.closed ≡ true
 
 pub Still-refl : (p : ℕ) (n : Noted) → length n.standings ≡ 8 → Still p n n
 Still-refl p n sized = record {
@@ -71,6 +82,8 @@ Still-refl p n sized = record {
   leaving = λ e. e;
   same = λ is e. refl;
   full = λ e. inl e;
+  closes = λ e. inl e;
+  more = λ e. e;
 }
 
 still_open : (p : ℕ) (a b c : Bool) (n m : Noted) → Still p n m
@@ -103,6 +116,7 @@ still-knows p a b c n m s k = record {
   };
   untold = λ e. still_open p a b c n m s e (k.untold (s.told e));
   leaving = λ e. k.leaving (s.leaving e);
+  told = λ e f g i. elim (s.closes e) [ inl t ↦ s.more (k.told t f g i) | inr t ↦ t ];
 }
 
 module _ (p : ℕ) (low : p < 8) where
@@ -118,9 +132,10 @@ module _ (p : ℕ) (low : p < 8) where
     -- it stands otherwise, and not more open
     stands_own : (x : Standing) (m : Noted)
         → (is_told x ≡ false → is_told (standing_in p m) ≡ false)
-        → (is_leaving x ≡ true → is_leaving (standing_in p m) ≡ true) → Still p n m
+        → (is_leaving x ≡ true → is_leaving (standing_in p m) ≡ true)
+        → (is_told x ≡ true → is_told (standing_in p m) ≡ true) → Still p n m
         → Still p n (stands p x m)
-    stands_own x m untold leaving s =
+    stands_own x m untold leaving told s =
         let here = at_own m.standings x s.sized in
         let back : is_told (standing_in p (stands p x m)) ≡ false
         → is_told (standing_in p m) ≡ false = λ e. untold (sym (ap is_told here) ∙ e) in
@@ -133,6 +148,8 @@ module _ (p : ℕ) (low : p < 8) where
             | inl t ↦ inl t
             | inr u ↦ inr (u.0, rises _ _ back u.1)
           ];
+          closes = λ e. s.closes (told (sym (ap is_told here) ∙ e));
+          more = s.more;
         }
 
     -- another stands otherwise, and what is told of it
@@ -151,6 +168,11 @@ module _ (p : ℕ) (low : p < 8) where
             | inl t ↦ inl t
             | inr u ↦ inr (u.0, ap is_told there ∙ u.1)
           ];
+          closes = λ e. elim (s.closes (sym (ap is_told there) ∙ e)) [
+            | inl t ↦ inl t
+            | inr t ↦ inr (told is_queue_full ∙ t)
+          ];
+          more = λ e. told is_queue_full ∙ s.more e;
         }
 
     told_other : (b : Bool) (x : Standing) (place : ℕ) (why : Closing) (m : Noted) → place ≢ p
@@ -183,7 +205,8 @@ module _ (p : ℕ) (low : p < 8) where
     overflows_own : (b : Bool) (m : Noted) → is_told (standing_in p m) ≡ b → Still p n m
         → Still p n (stands p Gone
         (cond b m (record m { closed = m.closed ++ (p + 1, closing.QueueFull) ∷ [] })))
-    overflows_own true m e s = stands_own Gone m (λ f. absurd (cc)) (λ f. absurd (cc)) s
+    overflows_own true m e s =
+        stands_own Gone m (λ f. absurd (cc)) (λ f. absurd (cc)) (λ f. e) s
     overflows_own false m e s =
         let here = at_own m.standings Gone s.sized in
         record {
@@ -192,6 +215,8 @@ module _ (p : ℕ) (low : p < 8) where
           leaving = λ f. absurd (let g : false ≡ true = sym (ap is_leaving here) ∙ f in cc);
           same = λ is f. tells-not is p closing.QueueFull m.closed f ∙ s.same is f;
           full = λ f. inr (s.told e, ap is_told here);
+          closes = λ f. inr (tells-now is_queue_full p closing.QueueFull m.closed refl);
+          more = λ f. tells-now is_queue_full p closing.QueueFull m.closed refl;
         }
 
     overflows_at : (place : ℕ) (m : Noted) → Still p n m
@@ -208,7 +233,8 @@ module _ (p : ℕ) (low : p < 8) where
       | inl e ↦ subst (λ q. Still p n (stands q (filled (standing_in q m)) m)) (sym e)
           (stands_own (filled (standing_in p m)) m
           (λ f. sym (filled_told (standing_in p m)) ∙ f)
-          (λ f. sym (filled_leaving (standing_in p m)) ∙ f) s)
+          (λ f. sym (filled_leaving (standing_in p m)) ∙ f)
+          (λ f. sym (filled_told (standing_in p m)) ∙ f) s)
       | inr ne ↦ stands_other (filled (standing_in place m)) place m.closed m.memory m ne
           (λ is. refl) s
     ]
@@ -224,7 +250,9 @@ module _ (p : ℕ) (low : p < 8) where
         → Still p n (stands place Gone m)
     parts_at place m is s = elim (cases_eq place p) [
       | inl e ↦ subst (λ q. Still p n (stands q Gone m)) (sym e)
-          (stands_own Gone m (λ f. absurd (cc)) (λ f. absurd (cc)) s)
+          (stands_own Gone m (λ f. absurd (cc)) (λ f. absurd (cc))
+          (λ f. leaving_told (standing_in p m)
+          (ap (λ q. is_leaving (standing_in q m)) (sym e) ∙ is)) s)
       | inr ne ↦ stands_other Gone place m.closed m.memory m ne (λ is. refl) s
     ]
 
@@ -246,6 +274,8 @@ module _ (p : ℕ) (low : p < 8) where
         leaving = s.leaving;
         same = s.same;
         full = s.full;
+        closes = s.closes;
+        more = s.more;
       };
       refuses = λ code m s. record {
         sized = s.sized;
@@ -253,6 +283,8 @@ module _ (p : ℕ) (low : p < 8) where
         leaving = s.leaving;
         same = s.same;
         full = s.full;
+        closes = s.closes;
+        more = s.more;
       };
     }
 
@@ -283,6 +315,7 @@ module _ (p : ℕ) (low : p < 8) where
         };
         untold = λ f. absurd (let g : true ≡ false = sym now_told ∙ f in cc);
         leaving = λ f. some;
+        told = λ f g i j. absurd (neither over closed i j some);
       }
 
   told_as : (b x y z over closed : Bool) (why : Closing) (n : Noted)
@@ -363,6 +396,7 @@ module _ (p : ℕ) (low : p < 8) where
         };
         untold = λ f. absurd (let g : true ≡ false = sym (ap is_told here) ∙ f in cc);
         leaving = λ f. absurd (let g : false ≡ true = sym (ap is_leaving here) ∙ f in cc);
+        told = λ f g i j. absurd (let no : true ≡ false = sym (or_true x) ∙ g in cc);
       }
 
   pub failed-knows : (x y z : Bool) (n : Noted)
@@ -389,6 +423,7 @@ module _ (p : ℕ) (low : p < 8) where
         };
         untold = λ f. absurd (let g : true ≡ false = sym (ap is_told here) ∙ f in cc);
         leaving = λ f. absurd (let g : false ≡ true = sym (ap is_leaving here) ∙ f in cc);
+        told = λ f g i j. absurd (neither y z i j some);
       }
 
   -- it was not told of, and this is known of it
@@ -417,4 +452,5 @@ nothing-known p low = record {
   caused = record { link = refl; client = λ e. absurd (cc); queue = λ e. absurd (cc) };
   untold = λ e. record { failed = refl; over = refl; closed = refl; full = refl };
   leaving = λ e. absurd (let f : false ≡ true = sym (ap is_leaving (all-steady p)) ∙ e in cc);
+  told = λ e f g i. absurd (let no : false ≡ true = sym (ap is_told (all-steady p)) ∙ e in cc);
 }

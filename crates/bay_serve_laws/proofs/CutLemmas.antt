@@ -28,7 +28,7 @@ use Rattle.bay_serve_laws.proofs.UpLemmas.{close-outcome-far, close-outcome-here
 -- ---- how associations stand
 
 -- the standings behind the closing of one
-gone-standings : (now place : ℕ) (why : Closing) (s : Turning)
+pub gone-standings : (now place : ℕ) (why : Closing) (s : Turning)
     → (cut_off now why place s).noted.standings
     ≡ set (stepped now (Close (place + 1)) s).noted.standings place Gone
 unfolding cut_off

@@ -20,3 +20,5 @@ pub mod ClosingLemmas
 pub mod RoomLemmas
 pub mod CauseLemmas
 pub mod CauseFlows
+pub mod OpenFlows
+pub mod FullFlows

@@ -18,7 +18,7 @@ use Rattle.bay_trace.specs.Trace.{NamedData}
 use Rattle.bay_serve.specs.Calls.{Heard, Octets, Silence, Over, Broken}
 use Rattle.bay_serve.specs.Offers.{Offer, Offered, offered}
 use Rattle.bay_serve.specs.Standings.{filled, is_leaving, takes_replies}
-use Rattle.bay_serve.specs.Turns.{Held, Reading, Script, Turning, after_accept, after_each, after_line, after_offer, after_reads, after_scan, begun, cut_off, first_full, free_place, has_room, hung_up, is_up, leaves, left_by, lined, offer_of, offer_one, on_accept, on_heard, opened, parted, put_all, put_answer, put_at, put_ended, put_quiet, put_sent, put_told, put_whole, queue_of, read_one, scanned, settled, settled_in, settled_next, standing_of, stands, stepped, taken_in, told_of, turned, with_device, with_noted, with_queue}
+use Rattle.bay_serve.specs.Turns.{Held, Reading, Script, Turning, after_accept, after_each, after_line, after_offer, after_reads, after_scan, begun, cut_off, first_full, free_place, has_room, hung_up, is_up, leaves, left_by, lined, offer_of, offer_one, on_accept, on_heard, opened, parted, put_all, put_answer, put_at, put_ended, put_quiet, put_sent, put_told, put_whole, queue_at, queue_of, read_one, scanned, settled, settled_in, settled_next, standing_of, stands, stepped, taken_in, told_of, turned, with_device, with_noted, with_queue}
 use Rattle.bay_serve.specs.declared.told.Closing.{Closing}
 use Rattle.bay_serve.specs.declared.told.Closing.TheVariants as closing
 use Rattle.bay_serve_laws.specs.Flows.{IsTidy}
@@ -89,6 +89,9 @@ fits-at : (queues : List (List ℕ)) (place : ℕ)
     → All Fits queues → Fits (get_or queues place [])
 fits-at queues place (inl x) p = subst Fits (sym (get_or-eq_default queues [] x.1)) (omega arith)
 fits-at queues place (inr x) p = All-get_or Fits queues place [] x.1 p
+
+pub in-room : (h : Held) (place : ℕ) → AreInRoom h → length (queue_at place h) ≤ 262144
+in-room h place p = fits-at h.queues place (leb_tells (length h.queues) place) p
 
 left-of : (place : ℕ) (o : Offer) (s : Turning) → Holds s
     → (let left : Offered = offer_of place o s in Fits left.left)

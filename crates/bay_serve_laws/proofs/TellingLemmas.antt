@@ -49,7 +49,7 @@ filled_told Leaving = refl
 filled_told LeavingFull = refl
 filled_told Gone = refl
 
-leaving_told : (x : Standing) → is_leaving x ≡ true → is_told x ≡ true
+pub leaving_told : (x : Standing) → is_leaving x ≡ true → is_told x ≡ true
 leaving_told Steady e = absurd (cc)
 leaving_told Full e = absurd (cc)
 leaving_told Leaving e = refl

@@ -10,5 +10,6 @@ pub mod Causes
 pub mod Events
 pub mod Faults
 pub mod Flows
+pub mod Fullness
 pub mod Room
 pub mod Telling

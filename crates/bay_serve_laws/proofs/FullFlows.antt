@@ -1,0 +1,51 @@
+-- Where it is told that a queue was full.
+use Rattle.std.proofs.Common.{◌≡◌, ℕ, ◌+◌, ◌<◌, ◌≤◌, Bool, true, false, length, Option, refl, ap, sym, ◌∙◌, arith, length-append, inl, inr}
+use Rattle.bay_trace.specs.Trace.{NamedData}
+use Rattle.bay_serve.specs.Standings.{is_told}
+use Rattle.bay_serve.specs.Turns.{Held, Script, Turning, is_up_in, queue_at, standing_of, turn_calls, turned}
+use Rattle.bay_serve_laws.specs.Events.{done_at, turn_events}
+use Rattle.bay_serve_laws.specs.Flows.{IsInTime, IsOfProcess, IsTidy, sent_to, taken_of}
+use Rattle.bay_serve_laws.specs.Fullness.{IsToldWhereFull}
+use Rattle.bay_serve_laws.specs.Room.{AreInRoom}
+use Rattle.bay_serve_laws.proofs.CauseFlows.{knows-turn}
+use Rattle.bay_serve_laws.proofs.OpenFlows.{turned-open}
+use Rattle.bay_serve_laws.proofs.RoomLemmas.{holds-turn, in-room}
+use Rattle.bay_serve_laws.proofs.TurnFlows.{loses-nothing}
+
+told_by : (b u : Bool) → u ≡ false → (b ≡ false → u ≡ true) → b ≡ true
+told_by true u e f = refl
+told_by false u e f = absurd (let no : false ≡ true = sym e ∙ f refl in cc)
+
+pub told-where-full : (now : ℕ) (line : Option NamedData) (script : Script) (h : Held) → IsTidy h
+    → IsInTime now h → IsOfProcess line → AreInRoom h → length script.readings ≡ 8
+    → length script.offers ≡ 8 → (p : ℕ) → p < 8 → is_up_in p h ≡ true
+    → IsToldWhereFull now line script h p
+told-where-full now line script h tidy time process room readings offers p low up =
+    let t : Turning = turned now line script h in
+    let taken = taken_of (p + 1) (turn_calls now line script h) in
+    let held = queue_at p h in
+    let sent = sent_to (p + 1) (done_at now (turn_events now line script h) h.device).answers in
+    let flows = loses-nothing now line script h tidy time process offers in
+    let f = flows.flows p low in
+    let knows = knows-turn now line script h tidy time process readings offers p low in
+    let sizes : length taken + length f.rest ≡ length held + length sent =
+    sym (length-append taken f.rest) ∙ ap length f.is ∙ length-append held sent in
+    let inside : length (queue_at p t.server) ≤ 262144 =
+    in-room t.server p (holds-turn now line script h room) in (
+      (λ told. (
+          let more = flows.full p low told in
+          let none = knows.caused.queue told in
+          record {
+            over_full = omega (arith, more, sizes);
+            failed_not = none.0;
+            over_not = none.1;
+            closed_not = none.2;
+          })),
+      (λ n. elim f.kept [
+        | inl e ↦ absurd (omega (arith, n.over_full, sizes, inside, ap length e))
+        | inr down ↦ knows.told
+            (told_by (is_told (standing_of p t)) (is_up_in p t.server) down.1
+            (turned-open now p low line script h process readings offers up).up)
+            n.failed_not n.over_not n.closed_not
+      ]),
+    )

@@ -1,0 +1,304 @@
+-- An association that was open is open after a part of a turn, or it was told of.
+use Rattle.std.proofs.Common.{◌≡◌, ◌≢◌, ℕ, zero, suc, ◌+◌, ◌<◌, ◌≤◌, Bool, true, false, cond, List, [], ◌∷◌, length, set, Option, Some, None, Result, Ok, Err, refl, ap, sym, subst, ◌∙◌, arith, inl, inr}
+use Rattle.std.proofs.lemmas.Bool.{cases_eq}
+use Rattle.std.proofs.lemmas.List.{get_or-set_same}
+use Rattle.bay_device.specs.Outcomes.{outcome}
+use Rattle.bay_device.specs.declared.event.Event.{Event}
+use Rattle.bay_device.specs.declared.event.Event.TheVariants.{Open, Recv, Close, Scan}
+use Rattle.bay_device.specs.declared.event.Step.{Step}
+use Rattle.bay_device.specs.declared.event.Why.{Why}
+use Rattle.bay_device.specs.declared.event.Why.TheVariants.{Ended}
+use Rattle.bay_device.specs.declared.fault.StepFault.{StepFault}
+use Rattle.bay_trace.specs.Placing.{lying, placed_event}
+use Rattle.bay_trace.specs.Trace.{NamedData, connects, receives, disconnects, contact, input, measure, scan, process_event}
+use Rattle.bay_serve.specs.Calls.{Heard, Octets, Silence, Over, Broken}
+use Rattle.bay_serve.specs.Offers.{Offer}
+use Rattle.bay_serve.specs.Standings.{is_leaving, is_told}
+use Rattle.bay_serve.specs.Turns.{Held, Reading, Script, Turning, after_accept, after_each, after_line, after_offer, after_reads, after_scan, begun, cut_off, first_full, free_place, hung_up, is_up, is_up_in, leaves, left_by, lined, offer_of, offer_one, on_accept, on_heard, opened, parted, put_answer, put_told, read_one, settled, settled_in, settled_next, standing_in, standing_of, stepped, taken_in, told_of, turned, with_device, with_noted}
+use Rattle.bay_serve.specs.declared.standing.Standing.{Standing}
+use Rattle.bay_serve.specs.declared.standing.Standing.TheVariants.{Steady, Gone, Leaving}
+use Rattle.bay_serve.specs.declared.told.Closing.{Closing}
+use Rattle.bay_serve.specs.declared.told.Closing.TheVariants as closing
+use Rattle.bay_serve_laws.specs.Flows.{IsOfProcess}
+use Rattle.bay_serve_laws.proofs.CauseLemmas.{Still, Still-refl, rises, still-kept}
+use Rattle.bay_serve_laws.proofs.CutLemmas.{cut-device, gone-standings}
+use Rattle.bay_serve_laws.proofs.KeepLemmas.{keep_cut, keep_rest, keep_stepped, keep_taken, keep_hung, keep_told}
+use Rattle.bay_serve_laws.proofs.PutLemmas.{told_why-standings}
+use Rattle.bay_serve_laws.proofs.SameLemmas.{Commands, Same, put_answer-commands, put_quiet-same, put_told-same}
+use Rattle.bay_serve_laws.proofs.TellingLemmas.{set_length}
+use Rattle.bay_serve_laws.proofs.UpLemmas.{HeardOpen, LeftOpen, close-outcome-far, contact-outcome-up, input-outcome-up, measure-outcome-up, open-outcome-up, recv-outcome-far, recv-outcome-here, scan-outcome-up, up_at}
+
+module _ (now p : ℕ) (low : p < 8) where
+  abbrev Others : ℕ → Type 0
+  Others place = place ≢ p
+
+  pub record Opened (s : Turning) : Type 0 where
+    pub sized : length s.noted.standings ≡ 8
+    pub up : is_told (standing_of p s) ≡ false → is_up p s ≡ true
+
+  -- what it was told of is not told less, and it is as open
+  as_open : (s t : Turning) → Still p s.noted t.noted → (is_up p s ≡ true → is_up p t ≡ true)
+      → Opened s → Opened t
+  as_open s t still keep o =
+      record { sized = still.sized; up = λ e. keep (o.up (still.told e)) }
+
+  still_self : (s : Turning) → Opened s → Still p s.noted s.noted
+  still_self s o = Still-refl p s.noted o.sized
+
+  no_told : (s : Turning) (x : Standing) → length s.noted.standings ≡ 8 → standing_of p s ≡ x
+      → is_told x ≡ true → Opened s
+  no_told s x sized is told = record {
+    sized = sized;
+    up = λ e. absurd (let no : true ≡ false = sym told ∙ sym (ap is_told is) ∙ e in cc);
+  }
+
+  stepped_open : (event : Event) (s : Turning)
+      → (is_up p s ≡ true → up_at p (outcome None now event s.server.device).after ≡ true)
+      → Opened s → Opened (stepped now event s)
+  stepped_open event s up o =
+      let a = outcome None now event s.server.device in
+      let same : Same (with_device a.after s) (stepped now event s) =
+      put_quiet-same a.answer (with_device a.after s) in
+      as_open s (stepped now event s)
+      (keep_stepped (Still p s.noted) (still-kept p low s.noted).fills now event s (still_self s o))
+      (λ u. ap (up_at p) same.device ∙ up u) o
+
+  cut_own : (why : Closing) (s : Turning) → Opened s → Opened (cut_off now why p s)
+  cut_own why s o =
+      let t : Turning = stepped now (Close (p + 1)) s in
+      let still =
+      keep_stepped (Still p s.noted) (still-kept p low s.noted).fills now (Close (p + 1)) s
+      (still_self s o) in
+      let is = gone-standings now p why s in
+      let sized = ap length is ∙ set_length t.noted.standings p Gone ∙ still.sized in
+      no_told (cut_off now why p s) Gone sized
+      (ap (λ l. standing_in p (record (cut_off now why p s).noted { standings = l })) is
+      ∙ get_or-set_same t.noted.standings p Gone Steady
+      (subst (λ (k : ℕ). p < k) (sym still.sized) low)) refl
+
+  cut_open : (place : ℕ) (why : Closing) (s : Turning) → place < 8 → Opened s
+      → Opened (cut_off now why place s)
+  cut_open place why s small o = elim (cases_eq place p) [
+    | inl e ↦ subst (λ q. Opened (cut_off now why q s)) (sym e) (cut_own why s o)
+    | inr ne ↦ as_open s (cut_off now why place s)
+        (keep_cut Others (Still p s.noted) (still-kept p low s.noted) now why place s
+        (λ n q. (still-kept p low s.noted).going place why n small ne q) (still_self s o))
+        (λ u. ap (up_at p) (cut-device now place why s)
+        ∙ close-outcome-far None now place p s.server.device ne ∙ u) o
+  ]
+
+  settled_open_next : (count : ℕ) (found : Option ℕ) (s : Turning) → first_full s.noted ≡ found
+      → ((t : Turning) → Opened t → Opened (settled_in now count t)) → Opened s
+      → Opened (settled_next now found s (settled_in now count))
+  settled_open_next count None s is more o = o
+  settled_open_next count (Some place) s is more o =
+      more (cut_off now closing.QueueFull place s)
+      (cut_open place closing.QueueFull s
+      ((still-kept p low s.noted).found s.noted place (still_self s o) is) o)
+
+  settled_open_in : (count : ℕ) (s : Turning) → Opened s → Opened (settled_in now count s)
+  settled_open_in zero s o = o
+  settled_open_in (suc count) s o =
+      settled_open_next count (first_full s.noted) s refl (settled_open_in count) o
+
+  settled_open : (s : Turning) → Opened s → Opened (settled now s)
+  unfolding settled
+  settled_open s o = settled_open_in 8 s o
+
+  accept_open : (place : Option ℕ) (taken : Option Bool) (s : Turning) → Opened s
+      → Opened (on_accept now place taken s)
+  accept_open None taken s o = o
+  accept_open (Some place) None s o = o
+  accept_open (Some place) (Some false) s o = o
+  accept_open (Some place) (Some true) s o =
+      settled_open (opened now place s)
+      (stepped_open (Open (place + 1)) s
+      (rises (is_up p s) _ (open-outcome-up None now (place + 1) p s.server.device)) o)
+
+  -- it left: what comes then does not bring it back
+  left_told : (why : Why) (s : Turning) → length s.noted.standings ≡ 8
+      → is_told (standing_in p (leaves p why s.noted)) ≡ true
+  left_told why s sized =
+      ap is_told (get_or-set_same _ p Leaving Steady
+      (subst (λ (k : ℕ). p < k) (sym (ap length (told_why-standings p why s.noted) ∙ sized)) low))
+
+  left_sized : (why : Why) (s : Turning) → length s.noted.standings ≡ 8
+      → length (leaves p why s.noted).standings ≡ 8
+  left_sized why s sized =
+      set_length _ p Leaving ∙ ap length (told_why-standings p why s.noted) ∙ sized
+
+  gone_for_good : (s t : Turning) → Still p s.noted t.noted → is_told (standing_of p s) ≡ true
+      → Opened t
+  gone_for_good s t still told = record {
+    sized = still.sized;
+    up = λ e. absurd (let no : true ≡ false = sym told ∙ still.told e in cc);
+  }
+
+  rest_open : (step : Step) (s : Turning) (closed : Option (ℕ × Why)) → step.closed ≡ closed
+      → LeftOpen p closed s.server.device → length s.noted.standings ≡ 8
+      → Opened (put_answer p (Ok step) s)
+  rest_open step s None is left sized =
+      let t : Turning = put_answer p (Ok step) s in
+      let here : Turning = left_by p step.closed s in
+      let same : Commands _ s t = put_answer-commands p (Ok step) s in
+      let still =
+      keep_rest Others (Still p s.noted) (still-kept p low s.noted) now p step s
+      (subst (λ c. Still p s.noted (left_by p c s).noted) (sym is) (Still-refl p s.noted sized)) in
+      record { sized = still.sized; up = λ e. ap (up_at p) same.device ∙ left }
+  rest_open step s (Some c) is left sized =
+      let here : Turning = with_noted (leaves p c.1 s.noted) s in
+      gone_for_good here (put_answer p (Ok step) s)
+      (keep_rest Others (Still p here.noted) (still-kept p low here.noted) now p step s
+      (subst (λ o. Still p here.noted (left_by p o s).noted) (sym is)
+      (Still-refl p here.noted (left_sized c.1 s sized)))) (left_told c.1 s sized)
+
+  answer_open : (answer : Result Step StepFault) (s : Turning)
+      → HeardOpen p answer s.server.device → length s.noted.standings ≡ 8
+      → Opened (put_answer p answer s)
+  answer_open (Err fault) s left sized = record { sized = sized; up = λ e. left }
+  answer_open (Ok step) s left sized = rest_open step s step.closed refl left sized
+
+  taken_open : (place : ℕ) (choice : Option ℕ) (octets : List ℕ) (s : Turning) → place < 8
+      → is_up place s ≡ true → Opened s → Opened (taken_in now place choice octets s)
+  taken_open place choice octets s small up o = elim (cases_eq place p) [
+    | inl e ↦ subst (λ q. Opened (taken_in now q choice octets s)) (sym e)
+        (let a = outcome choice now (Recv (p + 1) (lying octets)) s.server.device in
+        answer_open a.answer (with_device a.after s)
+        (recv-outcome-here choice now p octets s.server.device low
+        (ap (λ q. is_up q s) (sym e) ∙ up)) o.sized)
+    | inr ne ↦ (
+        let a = outcome choice now (Recv (place + 1) (lying octets)) s.server.device in
+        let same : Commands _ (with_device a.after s) (taken_in now place choice octets s) =
+        put_answer-commands place a.answer (with_device a.after s) in
+        as_open s (taken_in now place choice octets s)
+        (keep_taken Others (Still p s.noted) (still-kept p low s.noted) now place choice octets s
+        small ne (still_self s o))
+        (λ u. ap (up_at p) same.device
+        ∙ recv-outcome-far choice now place p octets s.server.device ne ∙ u) o)
+  ]
+
+  hung_open : (place : ℕ) (s : Turning) → place < 8 → Opened s → Opened (hung_up now place s)
+  hung_open place s small o = elim (cases_eq place p) [
+    | inl e ↦ subst (λ q. Opened (hung_up now q s)) (sym e)
+        (let left : Turning = with_noted (leaves p Ended s.noted) s in
+        gone_for_good left (hung_up now p s)
+        (keep_stepped (Still p left.noted) (still-kept p low left.noted).fills now (Close (p + 1))
+        left (Still-refl p left.noted (left_sized Ended s o.sized))) (left_told Ended s o.sized))
+    | inr ne ↦ (
+        let left : Turning = with_noted (leaves place Ended s.noted) s in
+        let a = outcome None now (Close (place + 1)) s.server.device in
+        let same : Same (with_device a.after left) (hung_up now place s) =
+        put_quiet-same a.answer (with_device a.after left) in
+        as_open s (hung_up now place s)
+        (keep_hung Others (Still p s.noted) (still-kept p low s.noted) now place s small ne
+        (still_self s o))
+        (λ u. ap (up_at p) same.device
+        ∙ close-outcome-far None now place p s.server.device ne ∙ u) o)
+  ]
+
+  heard_open : (place : ℕ) (choice : Option ℕ) (heard : Heard) (s : Turning) → place < 8
+      → is_up place s ≡ true → Opened s → Opened (on_heard now place choice heard s)
+  heard_open place choice (Octets octets) s small up o =
+      settled_open (taken_in now place choice octets s)
+      (taken_open place choice octets s small up o)
+  heard_open place choice Silence s small up o = o
+  heard_open place choice Over s small up o =
+      settled_open (hung_up now place s) (hung_open place s small o)
+  heard_open place choice Broken s small up o =
+      settled_open (cut_off now closing.LinkFailed place s)
+      (cut_open place closing.LinkFailed s small o)
+
+  read_if_open : (b : Bool) (place : ℕ) (r : Reading) (s : Turning) → is_up place s ≡ b
+      → place < 8 → Opened s → Opened (cond b (on_heard now place r.choice r.heard s) s)
+  read_if_open true place r s is small o = heard_open place r.choice r.heard s small is o
+  read_if_open false place r s is small o = o
+
+  told_open : (event : Event) (s : Turning)
+      → up_at p (outcome None now event s.server.device).after ≡ is_up p s → Opened s
+      → Opened (put_told (outcome None now event s.server.device).answer
+      (with_device (outcome None now event s.server.device).after s))
+  told_open event s up o =
+      let a = outcome None now event s.server.device in
+      let t : Turning = put_told a.answer (with_device a.after s) in
+      let same : Same (with_device a.after s) t = put_told-same a.answer (with_device a.after s) in
+      as_open s t
+      (keep_told Others (Still p s.noted) (still-kept p low s.noted) now a.answer
+      (with_device a.after s) (still_self s o))
+      (λ u. ap (up_at p) same.device ∙ up ∙ u) o
+
+  line_of_open : (named : NamedData) (s : Turning) → process_event named ≡ Some named → Opened s
+      → Opened (told_of now named s)
+  line_of_open (connects a) s e o = absurd (cc)
+  line_of_open (receives a octets) s e o = absurd (cc)
+  line_of_open (disconnects a) s e o = absurd (cc)
+  line_of_open (contact id position) s e o =
+      told_open (placed_event s.server.device (contact id position)) s
+      (contact-outcome-up None now p _ position s.server.device) o
+  line_of_open (input name value) s e o =
+      told_open (placed_event s.server.device (input name value)) s
+      (input-outcome-up None now p _ value s.server.device) o
+  line_of_open (measure id field value) s e o =
+      told_open (placed_event s.server.device (measure id field value)) s
+      (measure-outcome-up None now p _ field value s.server.device) o
+  line_of_open scan s e o = absurd (cc)
+
+  line_open : (line : Option NamedData) (s : Turning) → IsOfProcess line → Opened s
+      → Opened (lined now line s)
+  line_open None s e o = o
+  line_open (Some named) s e o =
+      settled_open (told_of now named s) (line_of_open named s e o)
+
+  failed_open : (failed : Bool) (place : ℕ) (q : List ℕ) (s : Turning) → place < 8 → Opened s
+      → Opened (cond failed (settled now (cut_off now closing.LinkFailed place s))
+      (record {
+        server = record { device = s.server.device; queues = set s.server.queues place q };
+        noted = s.noted;
+      }))
+  failed_open true place q s small o =
+      settled_open (cut_off now closing.LinkFailed place s)
+      (cut_open place closing.LinkFailed s small o)
+  failed_open false place q s small o = record { sized = o.sized; up = o.up }
+
+  offer_if_open : (leaving up : Bool) (place : ℕ) (a : Offer) (s : Turning)
+      → is_leaving (standing_of place s) ≡ leaving → place < 8 → Opened s
+      → Opened (cond leaving (parted place s)
+      (cond up (after_offer now place (offer_of place a s) s) s))
+  offer_if_open true up place a s is small o =
+      as_open s (parted place s)
+      ((still-kept p low s.noted).parts place s.noted is (still_self s o)) (λ u. u) o
+  offer_if_open false true place a s is small o =
+      failed_open (offer_of place a s).failed place (offer_of place a s).left s small o
+  offer_if_open false false place a s is small o = o
+
+  each_open : {C : Type 0} (f : ℕ → C → Turning → Turning)
+      → ((place : ℕ) (c : C) (s : Turning) → place < 8 → Opened s → Opened (f place c s))
+      → (place : ℕ) (cs : List C) (s : Turning) → place + length cs ≤ 8 → Opened s
+      → Opened (after_each f place cs s)
+  each_open f step place [] s few o = o
+  each_open f step place (c ∷ cs) s few o =
+      each_open f step (place + 1) cs (f place c s) (omega arith)
+      (step place c s (omega arith) o)
+
+  pub turned-open : (line : Option NamedData) (script : Script) (h : Held) → IsOfProcess line
+      → length script.readings ≡ 8 → length script.offers ≡ 8 → is_up_in p h ≡ true
+      → Opened (turned now line script h)
+  turned-open line script h process readings offers up =
+      let s1 : Turning = after_accept now script h in
+      let s2 : Turning = after_reads now script h in
+      let s3 : Turning = after_line now line script h in
+      let s4 : Turning = after_scan now line script h in
+      let o1 =
+      accept_open (free_place h) script.accepted (begun h)
+      (record { sized = refl; up = λ e. up }) in
+      let o2 =
+      each_open (read_one now)
+      (λ place r s small o. read_if_open (is_up place s) place r s refl small
+      o) 0 script.readings s1 (omega (arith, readings)) o1 in
+      let o3 = line_open line s2 process o2 in
+      let o4 =
+      settled_open (stepped now Scan s3)
+      (stepped_open Scan s3 (λ u. scan-outcome-up None now p s3.server.device ∙ u) o3) in
+      each_open (offer_one now)
+      (λ place a s small o. offer_if_open (is_leaving (standing_of place s)) (is_up place s) place a
+      s
+      refl small o) 0 script.offers s4 (omega (arith, offers)) o4
