@@ -5,7 +5,7 @@ use Rattle.bay_serve.specs.Standings.{is_told}
 use Rattle.bay_serve.specs.Turns.{Held, Script, Turning, is_up_in, queue_at, standing_of, turn_calls, turned}
 use Rattle.bay_serve_laws.specs.Events.{done_at, turn_events}
 use Rattle.bay_serve_laws.specs.Flows.{IsInTime, IsOfProcess, IsTidy, sent_to, taken_of}
-use Rattle.bay_serve_laws.specs.Fullness.{IsToldWhereFull}
+use Rattle.bay_serve_laws.specs.Fullness.{IsOpenIn, IsToldWhereFull}
 use Rattle.bay_serve_laws.specs.Room.{AreInRoom}
 use Rattle.bay_serve_laws.proofs.CauseFlows.{knows-turn}
 use Rattle.bay_serve_laws.proofs.OpenFlows.{turned-open}
@@ -18,7 +18,7 @@ told_by false u e f = absurd (let no : false ≡ true = sym e ∙ f refl in cc)
 
 pub told-where-full : (now : ℕ) (line : Option NamedData) (script : Script) (h : Held) → IsTidy h
     → IsInTime now h → IsOfProcess line → AreInRoom h → length script.readings ≡ 8
-    → length script.offers ≡ 8 → (p : ℕ) → p < 8 → is_up_in p h ≡ true
+    → length script.offers ≡ 8 → (p : ℕ) → p < 8 → IsOpenIn p script h
     → IsToldWhereFull now line script h p
 told-where-full now line script h tidy time process room readings offers p low up =
     let t : Turning = turned now line script h in
@@ -45,7 +45,7 @@ told-where-full now line script h tidy time process room readings offers p low u
         | inl e ↦ absurd (omega (arith, n.over_full, sizes, inside, ap length e))
         | inr down ↦ knows.told
             (told_by (is_told (standing_of p t)) (is_up_in p t.server) down.1
-            (turned-open now p low line script h process readings offers up).up)
+            (turned-open now p low line script h time process readings offers up).up)
             n.failed_not n.over_not n.closed_not
       ]),
     )

@@ -1,8 +1,10 @@
--- An association that was open is open after a part of a turn, or it was told of.
-use Rattle.std.proofs.Common.{◌≡◌, ◌≢◌, ℕ, zero, suc, ◌+◌, ◌<◌, ◌≤◌, Bool, true, false, cond, List, [], ◌∷◌, length, set, Option, Some, None, Result, Ok, Err, refl, ap, sym, subst, ◌∙◌, arith, inl, inr}
+-- An association that was open, or was opened, is open after a part of a turn, or it was told of.
+use Rattle.std.proofs.Common.{◌≡◌, ◌≢◌, ℕ, zero, suc, ◌+◌, ◌<◌, ◌≤◌, Bool, true, false, cond, List, [], ◌∷◌, length, set, get_or, slice_get, unwrap_or, is_none, Option, Some, None, Result, Ok, Err, refl, ap, sym, subst, ◌∙◌, arith, inl, inr}
 use Rattle.std.proofs.lemmas.Bool.{cases_eq}
 use Rattle.std.proofs.lemmas.List.{get_or-set_same}
-use Rattle.bay_device.specs.Outcomes.{outcome}
+use Rattle.std.proofs.lemmas.List.Quantifiers.{position-Some}
+use Rattle.bay_connection.specs.Talk.{Talk}
+use Rattle.bay_device.specs.Outcomes.{last_moment, outcome}
 use Rattle.bay_device.specs.declared.event.Event.{Event}
 use Rattle.bay_device.specs.declared.event.Event.TheVariants.{Open, Recv, Close, Scan}
 use Rattle.bay_device.specs.declared.event.Step.{Step}
@@ -14,19 +16,30 @@ use Rattle.bay_trace.specs.Trace.{NamedData, connects, receives, disconnects, co
 use Rattle.bay_serve.specs.Calls.{Heard, Octets, Silence, Over, Broken}
 use Rattle.bay_serve.specs.Offers.{Offer}
 use Rattle.bay_serve.specs.Standings.{is_leaving, is_told}
-use Rattle.bay_serve.specs.Turns.{Held, Reading, Script, Turning, after_accept, after_each, after_line, after_offer, after_reads, after_scan, begun, cut_off, first_full, free_place, hung_up, is_up, is_up_in, leaves, left_by, lined, offer_of, offer_one, on_accept, on_heard, opened, parted, put_answer, put_told, read_one, settled, settled_in, settled_next, standing_in, standing_of, stepped, taken_in, told_of, turned, with_device, with_noted}
+use Rattle.bay_serve.specs.Turns.{Held, Reading, Script, Turning, after_accept, after_each, after_line, after_offer, after_reads, after_scan, begun, cut_off, first_full, free_place, hung_up, is_up, leaves, left_by, lined, offer_of, offer_one, on_accept, on_heard, opened, parted, put_answer, put_told, read_one, settled, settled_in, settled_next, standing_in, standing_of, stepped, taken_in, told_of, turned, with_device, with_noted}
 use Rattle.bay_serve.specs.declared.standing.Standing.{Standing}
 use Rattle.bay_serve.specs.declared.standing.Standing.TheVariants.{Steady, Gone, Leaving}
 use Rattle.bay_serve.specs.declared.told.Closing.{Closing}
 use Rattle.bay_serve.specs.declared.told.Closing.TheVariants as closing
-use Rattle.bay_serve_laws.specs.Flows.{IsOfProcess}
+use Rattle.bay_serve_laws.specs.Flows.{IsInTime, IsOfProcess}
+use Rattle.bay_serve_laws.specs.Fullness.{IsOpenIn}
 use Rattle.bay_serve_laws.proofs.CauseLemmas.{Still, Still-refl, rises, still-kept}
 use Rattle.bay_serve_laws.proofs.CutLemmas.{cut-device, gone-standings}
 use Rattle.bay_serve_laws.proofs.KeepLemmas.{keep_cut, keep_rest, keep_stepped, keep_taken, keep_hung, keep_told}
 use Rattle.bay_serve_laws.proofs.PutLemmas.{told_why-standings}
 use Rattle.bay_serve_laws.proofs.SameLemmas.{Commands, Same, put_answer-commands, put_quiet-same, put_told-same}
 use Rattle.bay_serve_laws.proofs.TellingLemmas.{set_length}
-use Rattle.bay_serve_laws.proofs.UpLemmas.{HeardOpen, LeftOpen, close-outcome-far, contact-outcome-up, input-outcome-up, measure-outcome-up, open-outcome-up, recv-outcome-far, recv-outcome-here, scan-outcome-up, up_at}
+use Rattle.bay_serve_laws.proofs.UpLemmas.{HeardOpen, LeftOpen, close-outcome-far, contact-outcome-up, input-outcome-up, measure-outcome-up, open-outcome-here, open-outcome-up, recv-outcome-far, recv-outcome-here, scan-outcome-up, up_at}
+
+get_is : (ts : List (Option Talk)) (i : ℕ)
+    → unwrap_or (slice_get ts i) None ≡ get_or ts i None
+get_is [] i = refl
+get_is (t ∷ ts) zero = refl
+get_is (t ∷ ts) (suc i) = get_is ts i
+
+none_is : (t : Option Talk) → is_none t ≡ true → t ≡ None
+none_is None e = refl
+none_is (Some t) e = absurd (cc)
 
 module _ (now p : ℕ) (low : p < 8) where
   abbrev Others : ℕ → Type 0
@@ -114,6 +127,22 @@ module _ (now p : ℕ) (low : p < 8) where
       settled_open (opened now place s)
       (stepped_open (Open (place + 1)) s
       (rises (is_up p s) _ (open-outcome-up None now (place + 1) p s.server.device)) o)
+
+  -- one that was taken is open
+  opened_here : (s : Turning) → length s.noted.standings ≡ 8 → s.server.device.moment ≤ now
+      → now ≤ last_moment → free_place s.server ≡ Some p → Opened (opened now p s)
+  opened_here s sized before past free =
+      let found = position-Some is_none s.server.device.connections p None free in
+      let a = outcome None now (Open (p + 1)) s.server.device in
+      let same : Same (with_device a.after s) (opened now p s) =
+      put_quiet-same a.answer (with_device a.after s) in
+      record {
+        sized = (keep_stepped (Still p s.noted) (still-kept p low s.noted).fills now (Open (p + 1)) s
+            (Still-refl p s.noted sized)).sized;
+        up = λ e. ap (up_at p) same.device
+            ∙ open-outcome-here None now p s.server.device low past before found.0
+            (get_is s.server.device.connections p ∙ none_is _ found.1);
+      }
 
   -- it left: what comes then does not bring it back
   left_told : (why : Why) (s : Turning) → length s.noted.standings ≡ 8
@@ -279,17 +308,27 @@ module _ (now p : ℕ) (low : p < 8) where
       each_open f step (place + 1) cs (f place c s) (omega arith)
       (step place c s (omega arith) o)
 
-  pub turned-open : (line : Option NamedData) (script : Script) (h : Held) → IsOfProcess line
-      → length script.readings ≡ 8 → length script.offers ≡ 8 → is_up_in p h ≡ true
-      → Opened (turned now line script h)
-  turned-open line script h process readings offers up =
+  -- behind the accept
+  accepted_open : (script : Script) (h : Held) → IsInTime now h → IsOpenIn p script h
+      → Opened (after_accept now script h)
+  accepted_open script h time (inl up) =
+      accept_open (free_place h) script.accepted (begun h)
+      (record { sized = refl; up = λ e. up })
+  accepted_open script h time (inr taken) =
+      subst (λ (o : Option ℕ). Opened (on_accept now o script.accepted (begun h))) (sym taken.0)
+      (subst (λ (b : Option Bool). Opened (on_accept now (Some p) b (begun h))) (sym taken.1)
+      (settled_open (opened now p (begun h))
+      (opened_here (begun h) refl time.not_before time.not_past taken.0)))
+
+  pub turned-open : (line : Option NamedData) (script : Script) (h : Held) → IsInTime now h
+      → IsOfProcess line → length script.readings ≡ 8 → length script.offers ≡ 8
+      → IsOpenIn p script h → Opened (turned now line script h)
+  turned-open line script h time process readings offers up =
       let s1 : Turning = after_accept now script h in
       let s2 : Turning = after_reads now script h in
       let s3 : Turning = after_line now line script h in
       let s4 : Turning = after_scan now line script h in
-      let o1 =
-      accept_open (free_place h) script.accepted (begun h)
-      (record { sized = refl; up = λ e. up }) in
+      let o1 = accepted_open script h time up in
       let o2 =
       each_open (read_one now)
       (λ place r s small o. read_if_open (is_up place s) place r s refl small

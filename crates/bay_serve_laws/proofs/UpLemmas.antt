@@ -1,5 +1,5 @@
 -- Which associations are open after an event, and its moment.
-use Rattle.std.proofs.Common.{◌≡◌, ◌≢◌, ℕ, ℤ, zero, suc, ◌+◌, ◌-◌, ◌<◌, ◌≤◌, ◌&&◌, nat_lt, Bool, true, false, if◌then◌else◌, List, [], ◌∷◌, Option, Some, None, is_some, unwrap_or, slice_get, set, Result, Ok, Err, refl, ap, sym, ◌∙◌, subst, arith}
+use Rattle.std.proofs.Common.{◌≡◌, ◌≢◌, ℕ, ℤ, zero, suc, ◌+◌, ◌-◌, ◌<◌, ◌≤◌, ◌&&◌, nat_lt, Bool, true, false, if◌then◌else◌, List, [], ◌∷◌, Option, Some, None, is_some, unwrap_or, slice_get, set, length, Result, Ok, Err, refl, ap, sym, ◌∙◌, subst, arith}
 use Rattle.std.proofs.lemmas.Bool.{lt-ltb, le-ltb}
 use Rattle.bay_nodes.specs.declared.switch.Switch.{Switch}
 use Rattle.bay_tree.specs.declared.leaf.Dbpos.{Dbpos}
@@ -261,6 +261,35 @@ open-outcome-up choice now a p s =
     at_any_moment (λ o. NotClosed p s o.after) choice now (Open a) s (λ f. λ e. e)
     (open-up now a p s (place_of a) (connection_at (place_of a) s))
 
+in_time : (choice : Option ℕ) (now : ℕ) (event : Event) (s : State) → now ≤ last_moment
+    → s.moment ≤ now
+    → outcome choice now event s ≡ event_outcome choice now event s
+in_time choice now event s h g =
+    ap (λ b. if b then refused MomentTooLarge s else if nat_lt now s.moment
+    then refused TimeWentBack s else event_outcome choice now event s)
+    (le-ltb last_moment now h)
+    ∙ ap (λ b. if b then refused TimeWentBack s else event_outcome choice now event s)
+    (le-ltb now s.moment g)
+
+up-set : (ts : List (Option Talk)) (i : ℕ) (t : Talk) → i < length ts
+    → up_in i (set ts i (Some t)) ≡ true
+up-set [] i t h = absurd (omega arith)
+up-set (x ∷ ts) zero t h = refl
+up-set (x ∷ ts) (suc i) t h = up-set ts i t (omega arith)
+
+-- one that is free is opened, at a moment that is not refused
+pub open-outcome-here : (choice : Option ℕ) (now p : ℕ) (s : State) → p < 8 → now ≤ last_moment
+    → s.moment ≤ now → p < length s.connections → connection_at (Some p) s ≡ None
+    → up_at p (outcome choice now (Open (p + 1)) s).after ≡ true
+open-outcome-here choice now p s h past before long free =
+    ap (λ (o : Outcome). up_at p o.after) (in_time choice now (Open (p + 1)) s past before)
+    ∙ ap (λ (o : Option ℕ).
+    up_at p (open_outcome now (p + 1) s o (connection_at o s)).after) (place-of p h)
+    ∙ ap (λ (t : Option Talk). up_at p (open_outcome now (p + 1) s (Some p) t).after) free
+    ∙ ap (λ (o : Option ℕ).
+    up_at p (with_connection o (Some (first_talk (p + 1))) (advanced now s))) (place-of p h)
+    ∙ up-set s.connections p (first_talk (p + 1)) long
+
 -- ---- an association is closed
 
 other_place : (i p : ℕ) → i ≢ p → place_of (i + 1) ≡ Some p → ⊥
@@ -277,16 +306,6 @@ pub close-outcome-far : (choice : Option ℕ) (now i p : ℕ) (s : State) → i 
 close-outcome-far choice now i p s n =
     at_any_moment (λ o. up_at p o.after ≡ up_at p s) choice now (Close (i + 1)) s (λ f. refl)
     (close-far now i p s (connection_at (place_of (i + 1)) s) n)
-
-in_time : (choice : Option ℕ) (now : ℕ) (event : Event) (s : State) → now ≤ last_moment
-    → s.moment ≤ now
-    → outcome choice now event s ≡ event_outcome choice now event s
-in_time choice now event s h g =
-    ap (λ b. if b then refused MomentTooLarge s else if nat_lt now s.moment
-    then refused TimeWentBack s else event_outcome choice now event s)
-    (le-ltb last_moment now h)
-    ∙ ap (λ b. if b then refused TimeWentBack s else event_outcome choice now event s)
-    (le-ltb now s.moment g)
 
 closed-here : (p : ℕ) (s : State) → p < 8 → up_at p (closed (p + 1) s) ≡ false
 closed-here p s h =

@@ -1,7 +1,7 @@
 -- Where a turn tells that the queue of an association was full, by octets alone.
-use Rattle.std.specs.Prelude.{◌≡◌, ℕ, ◌+◌, ◌<◌, ◌↔◌, Bool, true, false, List, length, Option}
+use Rattle.std.specs.Prelude.{◌≡◌, ℕ, ◌+◌, ◌<◌, ◌↔◌, ◌⊎◌, Bool, true, false, List, length, Option, Some}
 use Rattle.bay_trace.specs.Trace.{NamedData}
-use Rattle.bay_serve.specs.Turns.{Held, Script, queue_at, turn_calls, turned}
+use Rattle.bay_serve.specs.Turns.{Held, Script, free_place, is_up_in, queue_at, turn_calls, turned}
 use Rattle.bay_serve_laws.specs.Causes.{closes_for, ends_for, fails_for, has_some, is_queue_full, tells}
 use Rattle.bay_serve_laws.specs.Events.{done_at, turn_events}
 use Rattle.bay_serve_laws.specs.Flows.{sent_to, taken_of}
@@ -13,6 +13,11 @@ pub record HasNoRoom (taken held sent : List ℕ) (failed over closed : Bool) : 
   pub failed_not : failed ≡ false
   pub over_not : over ≡ false
   pub closed_not : closed ≡ false
+
+-- an association is open as the turn begins, or the turn opens it
+abbrev pub IsOpenIn : ℕ → Script → Held → Type 0
+IsOpenIn place script h =
+    (is_up_in place h ≡ true) ⊎ ((free_place h ≡ Some place) × (script.accepted ≡ Some true))
 
 -- So it is of one of the associations in a turn, exactly where that is told.
 abbrev pub IsToldWhereFull : ℕ → Option NamedData → Script → Held → ℕ → Type 0

@@ -4,13 +4,13 @@ ghost use Rattle.bay_device.specs.Device.{State};
 ghost use Rattle.bay_trace.specs.Trace.{NamedData};
 ghost use Rattle.bay_serve.specs.Calls.{Called};
 ghost use Rattle.bay_serve.specs.Served.{Serves, line_in};
-ghost use Rattle.bay_serve.specs.Turns.{Held, Script, is_up_in, turned};
+ghost use Rattle.bay_serve.specs.Turns.{Held, Script, turned};
 ghost use Rattle.bay_serve.specs.declared.told.Turn.{Turn};
 ghost use Rattle.bay_serve_laws.specs.Causes.{HasItsCause};
 ghost use Rattle.bay_serve_laws.specs.Events.{HasNoOctets, IsItsEvents};
 ghost use Rattle.bay_serve_laws.specs.Faults.{tells_failure};
 ghost use Rattle.bay_serve_laws.specs.Flows.{IsInTime, IsOfProcess, IsTidy, LosesNothing};
-ghost use Rattle.bay_serve_laws.specs.Fullness.{IsToldWhereFull};
+ghost use Rattle.bay_serve_laws.specs.Fullness.{IsOpenIn, IsToldWhereFull};
 ghost use Rattle.bay_serve_laws.specs.Room.{AreInRoom};
 ghost use Rattle.bay_serve_laws.specs.Telling.{TellsClosings, times_told};
 
@@ -92,12 +92,13 @@ pub fn queues_stay_in_their_room()
 {}
 
 /// Where a reply had no room, read off the calls on the link and the device's answers: of an
-/// association that is open as a turn begins it is told that its queue was full exactly where the
-/// link left, of what its queue held and what was sent to it, more than 262,144 octets, and no call
-/// of it failed, its client did not end, and the device did not close it.
+/// association that is open as a turn begins, or that the turn opens, it is told that its queue was
+/// full exactly where the link left, of what its queue held and what was sent to it, more than
+/// 262,144 octets, and no call of it failed, its client did not end, and the device did not close
+/// it.
 pub fn a_full_queue_is_told()
     ensures { (now : ℕ) (line : Option NamedData) (script : Script) (h : Held) → IsTidy h
         → IsInTime now h → IsOfProcess line → AreInRoom h → length script.readings ≡ 8
-        → length script.offers ≡ 8 → (place : ℕ) → place < 8 → is_up_in place h ≡ true
+        → length script.offers ≡ 8 → (place : ℕ) → place < 8 → IsOpenIn place script h
         → IsToldWhereFull now line script h place }
 {}
