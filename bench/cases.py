@@ -1,27 +1,27 @@
 """The stored cases of crates/bayctl_cases: its sections, and the scenarios and sessions in them."""
-import pathlib
 import re
 from collections.abc import Iterator
 
-TOP = pathlib.Path(__file__).resolve().parent.parent
+from common import CRATES, text_of
+
 TEXTS = ('bay', 'frame', 'logic', 'trace')
 
 
 def sections(crate: str = 'bayctl_cases') -> Iterator[tuple[str, str]]:
     """The head and the body of each section of a program of cases."""
-    text = (TOP / 'crates' / crate / 'stdin').read_text(encoding='utf-8')
+    text = text_of(CRATES / crate / 'stdin')
     for section in text.removeprefix('== ').rstrip('\n').split('\n== '):
         head, _, body = section.partition('\n')
         yield head, body
 
 
 def expanded(trace: str) -> str:
-    """A trace in which `{OCTETS*TIMES}` was written for octets so many times."""
+    """A trace in which `{OCTETS*TIMES}` stands for octets that are repeated so many times."""
     return re.sub(r'\{(\w+)\*(\d+)\}', lambda part: part[1] * int(part[2]), trace)
 
 
 def scenarios() -> Iterator[tuple[str, dict[str, str]]]:
-    """The name of each report that has a name or none, and the texts of its scenario."""
+    """The name of each report (empty where it has none), and the texts of its scenario."""
     texts = dict.fromkeys(TEXTS, '')
     for head, body in sections():
         if head in texts:
@@ -31,7 +31,7 @@ def scenarios() -> Iterator[tuple[str, dict[str, str]]]:
 
 
 def sessions() -> Iterator[list[tuple[bytes, list[str]]]]:
-    """The messages of each session of one client, with what each comes to, in words."""
+    """The messages of each session of one client, with the words that each one comes to."""
     for head, body in sections():
         if head == 'fronts':
             lines = (line.partition(' -> ') for line in body.split('\n'))

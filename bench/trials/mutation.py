@@ -1,22 +1,42 @@
-"""Scenarios changed at random: their octets with the layers around them put right again, single octets, lines and whole texts."""
-import copy, os, re, sys
+"""Changes scenarios at random: octets within their layers, whose lengths it then puts right, single
+octets, lines and whole texts."""
+import copy
+import random
+import re
+from collections.abc import Iterator
 
-TOP = os.path.dirname(os.path.dirname(os.path.abspath(__file__)))
-sys.path.insert(0, os.path.join(TOP, 'tools'))
+import common  # (it lets this import from tools/)
 from session import ber, stream
 
-ODD = (0x00, 0x01, 0x02, 0x03, 0x0A, 0x0D, 0x30, 0x31, 0x61, 0x7E, 0x7F, 0x80, 0x81, 0x82, 0x84, 0x8B, 0xA0, 0xA1, 0xA2, 0xA4, 0xA5, 0xA6, 0xBE, 0xBF, 0xC1, 0xF0, 0xFE, 0xFF)
-TAGS = (0x02, 0x06, 0x1A, 0x30, 0x80, 0x81, 0x82, 0x83, 0x84, 0x85, 0x86, 0x87, 0x89, 0x8A, 0x8B, 0x91, 0xA0, 0xA1, 0xA2, 0xA3, 0xA4, 0xA5, 0xA6, 0xA8, 0x60, 0x61, 0x62, 0xBF04)
-CONTENTS = tuple(bytes.fromhex(x) for x in (
-    '', '00', '01', 'FF', '7F', '80', '0080', 'FF7F', '7FFFFFFF', '80000000', '00FFFFFFFF', '0100000000', '7FFFFFFFFFFFFFFF', '8000000000000000', '010000000000000000',
-    '0600', '0640', '0680', '08', '5101', '52010001', '28CA220201', '28CA220203', '0000000000000000')) + (
-    b'BAY1', b'LLN0', b'XCBR1$ST$Pos$stVal', b'CSWI1$CO$Pos$SBO', b'CSWI1$CO$Pos$SBOw', b'CSWI1$CO$Pos$Oper', b'CSWI2$CO$Pos$Oper', b'CSWI1$CO$Pos$Cancel', b'CSWI1', b'CILO1$ST',
+Random = random.Random
+Seed = tuple[str, str, list[str]]  # a bay file, a program, the lines of a trace
+
+ODD = (
+    0x00, 0x01, 0x02, 0x03, 0x0A, 0x0D, 0x30, 0x31, 0x61, 0x7E, 0x7F, 0x80, 0x81, 0x82, 0x84, 0x8B,
+    0xA0, 0xA1, 0xA2, 0xA4, 0xA5, 0xA6, 0xBE, 0xBF, 0xC1, 0xF0, 0xFE, 0xFF)
+TAGS = (
+    0x02, 0x06, 0x1A, 0x30, 0x80, 0x81, 0x82, 0x83, 0x84, 0x85, 0x86, 0x87, 0x89, 0x8A, 0x8B, 0x91,
+    0xA0, 0xA1, 0xA2, 0xA3, 0xA4, 0xA5, 0xA6, 0xA8, 0x60, 0x61, 0x62, 0xBF04)
+HEX_CONTENTS = (
+    '', '00', '01', 'FF', '7F', '80', '0080', 'FF7F', '7FFFFFFF', '80000000', '00FFFFFFFF',
+    '0100000000', '7FFFFFFFFFFFFFFF', '8000000000000000', '010000000000000000', '0600', '0640',
+    '0680', '08', '5101', '52010001', '28CA220201', '28CA220203', '0000000000000000')
+CONTENTS = (
+    *map(bytes.fromhex, HEX_CONTENTS),
+    b'BAY1', b'LLN0', b'XCBR1$ST$Pos$stVal', b'CSWI1$CO$Pos$SBO', b'CSWI1$CO$Pos$SBOw',
+    b'CSWI1$CO$Pos$Oper', b'CSWI2$CO$Pos$Oper', b'CSWI1$CO$Pos$Cancel', b'CSWI1', b'CILO1$ST',
     b'\xff\xfe', b'A' * 65, b'A' * 300)
-TOKENS = ('LD', 'LDN', 'ST', 'STN', 'S', 'R', 'AND', 'AND(', 'OR', 'OR(', 'XORN(', '&N', 'ADD', 'SUB', 'MUL', 'DIV', 'MOD', 'GT', 'EQ(', ')', 'JMP L', 'JMPC L', 'RETCN', 'CAL t(IN := TRUE, PT := T#5ms)',
-          'L:', 'NOT', 'INT_TO_DINT', 'DINT_TO_LINT', 'LINT#9223372036854775807', '-32768', '16#FFFF', '2#1', 'T#24d20h31m23s647ms', 'TRUE', 'QA1_OPEN', 'QA1_POS', 'QA1_ENA_OPN', 'VAR', 'END_VAR',
-          'VAR_EXTERNAL', 'END_PROGRAM', 'x : INT := 5;', 't : TOF;', 'y : LINT;', '(*', '*)', 'T#1d', 't.Q', 't.ET', '"', '[[switch]]', '[bay]', 'id = "Q"', 'control = "sbo-enhanced"',
-          'kind = "earthing"', 'travel_ms = 1', 'sbo_timeout_ms = 600000', '[[input]]', 'name = "ES"', '[[meter]]', "'''", '\\u0041', '%%', '\r', '\xff', '0', '1', '2147483647', '4294967295999',
-          '18446744073709551616', '-1', 'contact', 'scan', 'open', 'recv', 'close', 'measure M TOTW 5', 'input ES 1')
+TOKENS = (
+    'LD', 'LDN', 'ST', 'STN', 'S', 'R', 'AND', 'AND(', 'OR', 'OR(', 'XORN(', '&N', 'ADD', 'SUB',
+    'MUL', 'DIV', 'MOD', 'GT', 'EQ(', ')', 'JMP L', 'JMPC L', 'RETCN',
+    'CAL t(IN := TRUE, PT := T#5ms)', 'L:', 'NOT', 'INT_TO_DINT', 'DINT_TO_LINT',
+    'LINT#9223372036854775807', '-32768', '16#FFFF', '2#1', 'T#24d20h31m23s647ms', 'TRUE',
+    'QA1_OPEN', 'QA1_POS', 'QA1_ENA_OPN', 'VAR', 'END_VAR', 'VAR_EXTERNAL', 'END_PROGRAM',
+    'x : INT := 5;', 't : TOF;', 'y : LINT;', '(*', '*)', 'T#1d', 't.Q', 't.ET', '"', '[[switch]]',
+    '[bay]', 'id = "Q"', 'control = "sbo-enhanced"', 'kind = "earthing"', 'travel_ms = 1',
+    'sbo_timeout_ms = 600000', '[[input]]', 'name = "ES"', '[[meter]]', "'''", '\\u0041', '%%',
+    '\r', '\xff', '0', '1', '2147483647', '4294967295999', '18446744073709551616', '-1', 'contact',
+    'scan', 'open', 'recv', 'close', 'measure M TOTW 5', 'input ES 1')
 
 HEX = re.compile(r'(?:[0-9a-fA-F]{2})+')
 
@@ -24,18 +44,21 @@ HEX = re.compile(r'(?:[0-9a-fA-F]{2})+')
 class Value:
     """An element: a tag with the elements in it, or with its content."""
 
-    def __init__(self, tag, parts, content=b''):
+    def __init__(self, tag: int, parts: 'list[Value] | None', content: bytes = b'') -> None:
         self.tag, self.parts, self.content = tag, parts, content
 
-    def octets(self, rng):
-        content = self.content if self.parts is None else b''.join(part.octets(rng) for part in self.parts)
+    def octets(self, rng: Random) -> bytes:
+        """Its octets; now and then its length is longer than it must be."""
+        content = self.content
+        if self.parts is not None:
+            content = b''.join(part.octets(rng) for part in self.parts)
         if rng.random() < 0.002:
             size = len(content).to_bytes(4)
             return ber.element(self.tag)[:-1] + b'\x84' + size + content
         return ber.element(self.tag, content)
 
 
-def values(octets):
+def values(octets: bytes) -> list[Value]:
     """The elements that fill some octets, as deep as they can be read."""
     found = []
     for tag, content in ber.elements(octets):
@@ -47,7 +70,7 @@ def values(octets):
     return found
 
 
-def below(parts):
+def below(parts: list[Value]) -> Iterator[list[Value]]:
     """All lists of elements at and below one."""
     yield parts
     for part in parts:
@@ -55,17 +78,19 @@ def below(parts):
             yield from below(part.parts)
 
 
-def content_of(rng, old):
+def content_of(rng: Random, old: bytes) -> bytes:
     """Another content."""
     kind = rng.randrange(4)
     if kind == 0 or not old:
         return rng.choice(CONTENTS)
     if kind == 1:
         return odd_octets(rng, old)
-    return bytes(rng.randrange(256) for _ in range(rng.choice((1, 1, 2, 3, 4, 8, 9, 13)))) if kind == 2 else old * rng.choice((0, 2, 3))
+    if kind == 2:
+        return bytes(rng.randrange(256) for _ in range(rng.choice((1, 1, 2, 3, 4, 8, 9, 13))))
+    return old * rng.choice((0, 2, 3))
 
 
-def change_values(rng, roots, others):
+def change_values(rng: Random, roots: list[Value], others: list[list[Value]]) -> None:
     """Changes one element, or the list that it stands in."""
     lists = [parts for parts in below(roots) if parts]
     if not lists:
@@ -87,7 +112,8 @@ def change_values(rng, roots, others):
             chosen = Value(0xA2, [chosen])
         parts[at] = chosen
     elif kind == 5 and others:
-        donor = rng.choice([part for part in below(rng.choice(others)) if part] or [[Value(0x80, None)]])
+        lists = [part for part in below(rng.choice(others)) if part]
+        donor = rng.choice(lists or [[Value(0x80, None)]])
         parts[at:at + rng.randrange(2)] = [copy.deepcopy(rng.choice(donor))]
     elif kind == 6:
         parts.insert(at, Value(rng.choice(TAGS), None, rng.choice(CONTENTS)))
@@ -97,7 +123,7 @@ def change_values(rng, roots, others):
         chosen.content, chosen.parts = rng.choice(CONTENTS), None
 
 
-def odd_octets(rng, octets):
+def odd_octets(rng: Random, octets: bytes) -> bytes:
     """One octet changed, put in or left out, or a piece said twice or cut off."""
     octets = bytearray(octets)
     at = rng.randrange(len(octets) + 1)
@@ -115,7 +141,7 @@ def odd_octets(rng, octets):
     return bytes(octets)
 
 
-def inner(tsdu):
+def inner(tsdu: bytes) -> tuple[bytes | int, list | None, list[Value]]:
     """What stands around the elements of a TSDU, and the elements."""
     if tsdu[:4] == b'\x01\x00\x01\x00':
         return tsdu[:4], None, values(tsdu[4:])
@@ -127,16 +153,18 @@ def inner(tsdu):
     return code, items, values(dict(items)[0xC1])
 
 
-def outer(rng, front, items, roots):
+def outer(rng: Random, front: bytes | int, items: list | None, roots: list[Value]) -> bytes:
     """The TSDU of elements."""
     octets = b''.join(root.octets(rng) for root in roots)
     if items is None:
         return front + octets
-    return stream.item(front, *(stream.item(name, octets if name == 0xC1 else value) for name, value in items))
+    return stream.item(front, *(stream.item(name, octets if name == 0xC1 else value)
+                                for name, value in items))
 
 
-def joined(octets):
-    """The TPDUs before data, the TSDU, and the octets behind it, if octets begin so."""
+def joined(octets: bytes) -> tuple[bytes | None, bytes]:
+    """The TSDU at the front of octets, and the octets behind it; None and all octets where there is
+    none."""
     at, tsdu = 0, b''
     while octets[at:at + 2] == b'\x03\x00' and octets[at + 5:at + 6] == b'\xf0':
         size = int.from_bytes(octets[at + 2:at + 4])
@@ -148,7 +176,7 @@ def joined(octets):
     return None, octets
 
 
-def elements_of(octets):
+def elements_of(octets: bytes) -> list[Value] | None:
     """The elements of the first TSDU in octets, or None."""
     tsdu, _ = joined(octets)
     try:
@@ -157,7 +185,7 @@ def elements_of(octets):
         return None
 
 
-def change_octets(rng, octets, others):
+def change_octets(rng: Random, octets: bytes, others: list[list[Value]]) -> bytes:
     """The octets of a line of the trace, changed."""
     tsdu, rest = joined(octets)
     if not tsdu or rng.random() < 0.25:
@@ -177,7 +205,7 @@ def change_octets(rng, octets, others):
     return stream.wrapped(tsdu, rng.choice((8192, 8192, 8192, 128, 4, 65_000))) + rest
 
 
-def change_line(rng, line, donors):
+def change_line(rng: Random, line: str, donors: list[list[Value]]) -> str:
     """A line of the trace, changed."""
     words = line.split(' ')
     if len(words) == 4 and words[1] == 'recv' and HEX.fullmatch(words[3]) and rng.random() < 0.9:
@@ -193,8 +221,9 @@ def change_line(rng, line, donors):
     return ' '.join(words)
 
 
-def change_lines(rng, lines, seeds, donors):
-    """The lines of a trace, with some changed, doubled, left out, moved, or taken from elsewhere."""
+def change_lines(rng: Random, lines: list[str], seeds: list[Seed],
+                 donors: list[list[Value]]) -> list[str]:
+    """The lines of a trace, some changed, doubled, left out, moved, or taken from elsewhere."""
     received = [k for k, line in enumerate(lines) if ' recv ' in line]
     for _ in range(rng.choice((1, 1, 2, 3, 6))):
         kind, at = rng.randrange(12), rng.randrange(len(lines) + 1)
@@ -217,7 +246,7 @@ def change_lines(rng, lines, seeds, donors):
     return lines
 
 
-def change_text(rng, text):
+def change_text(rng: Random, text: str) -> str:
     """A text with a token put in, a line left out or doubled, or an octet changed."""
     lines = text.split('\n')
     for _ in range(rng.choice((1, 1, 2, 4))):
@@ -237,7 +266,7 @@ def change_text(rng, text):
     return '\n'.join(lines)
 
 
-def changed(rng, seeds, donors):
+def changed(rng: Random, seeds: list[Seed], donors: list[list[Value]]) -> bytes:
     """The octets of a scenario like one of those given."""
     bay, logic, trace = rng.choice(seeds)
     lines, kind = list(trace), rng.randrange(20)
@@ -251,6 +280,7 @@ def changed(rng, seeds, donors):
     return odd_octets(rng, octets) if kind == 19 else octets
 
 
-def whole(bay, logic, lines):
+def whole(bay: str, logic: str, lines: list[str]) -> bytes:
     """The octets of a scenario."""
-    return f'{bay}%%\n{logic}%%\n'.encode('latin-1', 'replace') + ''.join(line + '\n' for line in lines).encode('latin-1', 'replace')
+    trace = ''.join(line + '\n' for line in lines)
+    return f'{bay}%%\n{logic}%%\n{trace}'.encode('latin-1', 'replace')
