@@ -1,24 +1,44 @@
-/* A plain C program that does what `bayctl replay` does with clients, for bench/replay: it reads a scenario from standard input, passes over the
-   bay file and the program, takes the octets of each `recv` of up to eight associations through TPKT, COTP, session and presentation to a
-   request to read or to write variables, finds each variable's name among the rows by halving, and prints the same lines. Contacts and scans change the
-   rows, and a write selects or operates a switch with enhanced security. How a client opens its association is passed over. What it can't
-   read, and what bayctl refuses, ends it; the image and the rows it trusts.  usage: clients ROWS IMAGE DOMAIN SCAN_AGE TRAVEL SWITCH..
-   The rows: lines of a name, and of a value's octets in BER in digits where it has one; stVal, q and t stand in this order. */
+/* A plain C program that does what `bayctl replay` does with clients, for bench/speed/replay. It
+   reads a scenario from standard input, passes over the bay file and the program, takes the octets
+   of each `recv` of up to eight associations through TPKT, COTP, session and presentation to a
+   request to read or to write variables, finds each variable's name among the rows by halving, and
+   prints the same lines. Contacts and scans change the rows, and a write selects or operates a
+   switch with enhanced security. It passes over how a client opens its association. What it can't
+   read, and what bayctl refuses, ends it; it trusts the image and the rows.
+   usage: clients ROWS IMAGE DOMAIN SCAN_AGE TRAVEL SWITCH..
+   The rows are lines of a name, and of a value's octets in BER in digits where it has one; stVal, q
+   and t stand in this order. */
 #include "plain.h"
 
-enum { CLIENTS = 8, ROWS = 4096, VARIABLES = 32, GROUP = 70000, TPDU = 8192, AGREED = 65000, OUT = 1 << 18, ID = 64 };
+enum { CLIENTS = 8, ROWS = 4096, VARIABLES = 32, ID = 64 };
+enum { GROUP = 70000, TPDU = 8192, AGREED = 65000, OUT = 1 << 18 };
 enum { NO_OBJECT = 10 };
 enum part { NO_CONTROL, SELECT, OPERATE };
 struct slice { const octet *at; size_t length; };
 struct name { struct slice domain, item; };
-struct row { struct slice name; int below, beside; enum part part; octet place, length, value[64]; };
+struct row {
+    struct slice name;
+    int below, beside;
+    enum part part;
+    octet place, length, value[64];
+};
 struct client { int open; size_t kept, grouped; octet frame[1 << 17], group[GROUP]; };
 /* what a write to SBOw or Oper asks for */
-struct choice { octet on, category, test, check; uint32_t count; octet time[8]; size_t id_length; octet id[ID]; };
-/* a selection or an execution: its association (0: none), its switch, when it runs out, and what was asked for */
+struct choice {
+    octet on, category, test, check;
+    uint32_t count;
+    octet time[8];
+    size_t id_length;
+    octet id[ID];
+};
+/* a selection or an execution: its association (0: none), its switch, when it runs out, and what
+   was asked for */
 struct held { int who, place; uint64_t until; struct choice choice; };
 /* where the rows of a switch stand */
-struct places { int position[2], count, selected, may_open, may_close, select, operate; uint64_t timeout; };
+struct places {
+    int position[2], count, selected, may_open, may_close, select, operate;
+    uint64_t timeout;
+};
 
 static struct row rows[ROWS];
 static int order[ROWS], row_count;
@@ -34,7 +54,10 @@ static octet digit_of[256];
 static void fail(const char *why) { fprintf(stderr, "%s\n", why), exit(1); }
 
 static void put_digits(const octet *at, size_t length) {
-    for (size_t i = 0; i < length; i++) *end++ = "0123456789abcdef"[at[i] >> 4], *end++ = "0123456789abcdef"[at[i] & 15];
+    for (size_t i = 0; i < length; i++) {
+        *end++ = "0123456789abcdef"[at[i] >> 4];
+        *end++ = "0123456789abcdef"[at[i] & 15];
+    }
 }
 
 /* BER: the value at the front, and what is left */
@@ -64,7 +87,9 @@ static int next(struct slice *rest, unsigned wanted, struct slice *content) {
     return value(rest, &tag, content) || tag != wanted;
 }
 
-static int only(struct slice octets, unsigned wanted, struct slice *content) { return next(&octets, wanted, content) || octets.length; }
+static int only(struct slice octets, unsigned wanted, struct slice *content) {
+    return next(&octets, wanted, content) || octets.length;
+}
 
 static int integer(struct slice c, int64_t *n) {
     if (c.length == 0 || c.length > 8) return 1;
@@ -84,21 +109,25 @@ static int variable(struct slice c, struct name *name) {
 static int variables(struct slice list, struct name *names, int *count) {
     struct slice one;
     for (*count = 0; list.length; ++*count)
-        if (*count == VARIABLES || next(&list, 0x30, &one) || variable(one, names + *count)) return 1;
+        if (*count == VARIABLES || next(&list, 0x30, &one) || variable(one, names + *count))
+            return 1;
     return 0;
 }
 
 static int request(struct slice pdu, int64_t *id, unsigned *service, struct slice *content) {
     struct slice body, number;
-    if (only(pdu, 0xA0, &body) || next(&body, 0x02, &number) || integer(number, id) || *id < 0 || *id > UINT32_MAX) return 1;
+    if (only(pdu, 0xA0, &body) || next(&body, 0x02, &number) || integer(number, id)) return 1;
+    if (*id < 0 || *id > UINT32_MAX) return 1;
     return value(&body, service, content) || body.length;
 }
 
-/* a control's value: on or off, who asks, a count, a moment, whether it is a test, what is to be checked */
+/* a control's value: on or off, who asks, a count, a moment, whether it is a test, what is to be
+   checked */
 static int originator(struct slice origin, struct choice *c) {
     struct slice category, id;
     int64_t n;
-    if (next(&origin, 0x85, &category) || next(&origin, 0x89, &id) || origin.length || integer(category, &n) || n < 0 || n > 8 || id.length > ID) return 1;
+    if (next(&origin, 0x85, &category) || next(&origin, 0x89, &id) || origin.length) return 1;
+    if (integer(category, &n) || n < 0 || n > 8 || id.length > ID) return 1;
     c->category = (octet)n, c->id_length = id.length;
     memcpy(c->id, id.at, id.length);
     return 0;
@@ -107,11 +136,15 @@ static int originator(struct slice origin, struct choice *c) {
 static int choice_of(struct slice *values, struct choice *c) {
     struct slice parts, on, origin, count, time, test, check;
     int64_t n;
-    if (next(values, 0xA2, &parts) || next(&parts, 0x83, &on) || next(&parts, 0xA2, &origin) || next(&parts, 0x86, &count)) return 1;
-    if (next(&parts, 0x91, &time) || next(&parts, 0x83, &test) || next(&parts, 0x84, &check) || parts.length) return 1;
-    if (on.length != 1 || time.length != 8 || test.length != 1 || check.length != 2 || check.at[0] != 6) return 1;
+    if (next(values, 0xA2, &parts) || next(&parts, 0x83, &on)) return 1;
+    if (next(&parts, 0xA2, &origin) || next(&parts, 0x86, &count)) return 1;
+    if (next(&parts, 0x91, &time) || next(&parts, 0x83, &test)) return 1;
+    if (next(&parts, 0x84, &check) || parts.length) return 1;
+    if (on.length != 1 || time.length != 8 || test.length != 1) return 1;
+    if (check.length != 2 || check.at[0] != 6) return 1;
     if (integer(count, &n) || n < 0 || n > 255 || originator(origin, c)) return 1;
-    c->on = on.at[0] != 0, c->test = test.at[0] != 0, c->check = check.at[1] & 0xC0, c->count = (uint32_t)n;
+    c->on = on.at[0] != 0, c->test = test.at[0] != 0;
+    c->check = check.at[1] & 0xC0, c->count = (uint32_t)n;
     memcpy(c->time, time.at, 8);
     return 0;
 }
@@ -121,7 +154,8 @@ static int unwrap(struct slice tsdu, struct slice *pdu) {
     struct slice user, list, id;
     int64_t context;
     if (tsdu.length < 4 || memcmp(tsdu.at, "\1\0\1\0", 4)) return 1;
-    if (only((struct slice){tsdu.at + 4, tsdu.length - 4}, 0x61, &user) || only(user, 0x30, &list)) return 1;
+    if (only((struct slice){tsdu.at + 4, tsdu.length - 4}, 0x61, &user)) return 1;
+    if (only(user, 0x30, &list)) return 1;
     return next(&list, 0x02, &id) || integer(id, &context) || context != 3 || only(list, 0xA0, pdu);
 }
 
@@ -137,7 +171,9 @@ static octet *header(octet *at, octet tag, size_t length) {
     return at;
 }
 
-static octet *around(octet *stop, octet *at, octet tag) { return header(at, tag, (size_t)(stop - at)); }
+static octet *around(octet *stop, octet *at, octet tag) {
+    return header(at, tag, (size_t)(stop - at));
+}
 
 static octet *put_text(octet *at, octet tag, const void *text, size_t length) {
     at -= length;
@@ -152,7 +188,9 @@ static octet *put_integer(octet *at, octet tag, uint32_t n) {
     return put_text(at, tag, whole + start, 5 - start);
 }
 
-static octet *put_truth(octet *at, octet truth) { return put_text(at, 0x83, (octet[]){truth ? 0xFF : 0}, 1); }
+static octet *put_truth(octet *at, octet truth) {
+    return put_text(at, 0x83, (octet[]){truth ? 0xFF : 0}, 1);
+}
 
 static octet *put_choice(octet *stop, const struct choice *c) {
     octet *at = put_text(stop, 0x84, (octet[]){6, c->check}, 2);
@@ -178,7 +216,9 @@ static int compare(struct slice a, struct slice b) {
     return c ? c : (a.length > b.length) - (a.length < b.length);
 }
 
-static int by_name(const void *a, const void *b) { return compare(rows[*(const int *)a].name, rows[*(const int *)b].name); }
+static int by_name(const void *a, const void *b) {
+    return compare(rows[*(const int *)a].name, rows[*(const int *)b].name);
+}
 
 static int find(struct slice name) {
     int low = 0, high = row_count;
@@ -206,7 +246,8 @@ static octet *put_value(octet *at, int i) {
 
 /* which row a variable is */
 static int row_of(const struct name *name) {
-    return name->domain.length == domain.length && !memcmp(name->domain.at, domain.at, domain.length) ? find(name->item) : -1;
+    if (name->domain.length != domain.length) return -1;
+    return memcmp(name->domain.at, domain.at, domain.length) ? -1 : find(name->item);
 }
 
 static octet *put_read(octet *at, const struct name *names, int count) {
@@ -232,7 +273,8 @@ static void send(uint64_t now, int who, const octet *at) {
         size_t part = left < TPDU - 3 ? left : TPDU - 3, length = part + 7;
         left -= part;
         if (end - pending > 1 << 15) flush();
-        put_digits((octet[]){3, 0, length >> 8, length, 2, 0xF0, left ? 0 : 0x80}, 7), put_digits(at, part);
+        put_digits((octet[]){3, 0, length >> 8, length, 2, 0xF0, left ? 0 : 0x80}, 7);
+        put_digits(at, part);
         at += part;
     }
     put("\n", 1);
@@ -240,13 +282,16 @@ static void send(uint64_t now, int who, const octet *at) {
 
 /* what a select and an operate are decided by, and what they leave */
 static int may_select(int who, int k, const struct choice *c) {
-    return !(operating.who && operating.place == k) && (!selected.who || (selected.who == who && selected.place == k)) && !c->test;
+    int is_free = !selected.who || (selected.who == who && selected.place == k);
+    return !(operating.who && operating.place == k) && is_free && !c->test;
 }
 
 static int may_operate(uint64_t now, int who, int k, const struct choice *c) {
     const struct choice *asked = &selected.choice;
-    if (selected.who != who || selected.place != k || asked->on != c->on || asked->category != c->category) return 0;
-    if (asked->id_length != c->id_length || memcmp(asked->id, c->id, c->id_length) || c->test || operating.who) return 0;
+    if (selected.who != who || selected.place != k) return 0;
+    if (asked->on != c->on || asked->category != c->category) return 0;
+    if (asked->id_length != c->id_length || memcmp(asked->id, c->id, c->id_length)) return 0;
+    if (c->test || operating.who) return 0;
     if (positions[k] == 1 + c->on || stale || now - scanned > scan_age) return 0;
     return rows[c->on ? places[k].may_close : places[k].may_open].value[2];
 }
@@ -270,14 +315,15 @@ static int take_write(uint64_t now, int who, int i, const struct choice *c) {
 }
 
 static void put_command(uint64_t now, int k, int on) {
-    put_number(now), put(" command ", 9), put(ids[k], id_lengths[k]), put(on ? " on\n" : " off\n", on ? 4 : 5);
+    put_number(now), put(" command ", 9);
+    put(ids[k], id_lengths[k]), put(on ? " on\n" : " off\n", on ? 4 : 5);
 }
 
 /* the association of an execution is told that it has reached its position */
 static void tell_end(uint64_t now) {
     struct slice name = rows[places[operating.place].operate].name;
-    octet *stop = out + OUT, *at = around(stop, put_choice(stop, &operating.choice), 0xA0), *list = at;
-    at = put_text(at, 0x1A, name.at, name.length);
+    octet *stop = out + OUT, *list = around(stop, put_choice(stop, &operating.choice), 0xA0);
+    octet *at = put_text(list, 0x1A, name.at, name.length);
     at = around(list, put_text(at, 0x1A, domain.at, domain.length), 0xA1);
     at = around(list, around(list, around(list, at, 0xA0), 0x30), 0xA0);
     at = around(stop, around(stop, at, 0xA0), 0xA3);
@@ -294,13 +340,19 @@ static void answer(uint64_t now, int who, struct slice tsdu) {
     int64_t id;
     octet *stop = out + OUT, *at;
     if (tsdu.length && tsdu.at[0] == 13) return;
-    if (unwrap(tsdu, &pdu) || request(pdu, &id, &service, &content)) fail("a TSDU that is no request");
+    if (unwrap(tsdu, &pdu) || request(pdu, &id, &service, &content))
+        fail("a TSDU that is no request");
     if (service == 0xA4) {
-        if (only(content, 0xA1, &list) || only(list, 0xA0, &list) || variables(list, names, &count)) fail("no read");
+        if (only(content, 0xA1, &list) || only(list, 0xA0, &list)
+                || variables(list, names, &count))
+            fail("no read");
         at = put_read(stop, names, count);
     } else {
-        if (service != 0xA5 || next(&content, 0xA0, &list) || only(content, 0xA0, &values) || variables(list, names, &count)) fail("no write");
-        if (count != 1 || choice_of(&values, &choice) || values.length) fail("no write of one control");
+        if (service != 0xA5 || next(&content, 0xA0, &list) || only(content, 0xA0, &values)
+                || variables(list, names, &count))
+            fail("no write");
+        if (count != 1 || choice_of(&values, &choice) || values.length)
+            fail("no write of one control");
         commanded = take_write(now, who, row_of(names), &choice);
         at = put_written(stop, count);
     }
@@ -381,7 +433,8 @@ static void contact(uint64_t now, const char *id, size_t length, octet position)
     int k = 0;
     while (k < switch_count && (id_lengths[k] != length || memcmp(ids[k], id, length))) k++;
     if (k == switch_count) fail("a switch");
-    octet bits = (octet)(position << 6), quality = position == 3 ? 0x40 : 0, *old = rows[places[k].position[0]].value;
+    octet bits = (octet)(position << 6), quality = position == 3 ? 0x40 : 0;
+    octet *old = rows[places[k].position[0]].value;
     int moved = old[3] != bits;
     if (!moved && rows[places[k].position[0] + 1].value[3] == quality) return;
     for (int j = 0; j < 2; j++) {
@@ -402,7 +455,10 @@ static void show(int i, octet truth, uint64_t now) {
 
 static void scan_bay(const octet *code, uint64_t now) {
     scan_at(code, now);
-    for (int k = 0; k < switch_count; k++) show(places[k].may_open, may_open[k], now), show(places[k].may_close, may_close[k], now);
+    for (int k = 0; k < switch_count; k++) {
+        show(places[k].may_open, may_open[k], now);
+        show(places[k].may_close, may_close[k], now);
+    }
     scanned = now, stale = 0;
 }
 
@@ -419,7 +475,8 @@ static void line(const octet *code, const char *p, const char *last) {
     if (now < before) fail("a moment that goes back");
     before = now;
     advance(now);
-    if (!strncmp(p, " contact ", 9)) return contact(now, p + 9, (size_t)(last - 2 - (p + 9)), (octet)(last[-1] - '0'));
+    if (!strncmp(p, " contact ", 9))
+        return contact(now, p + 9, (size_t)(last - 2 - (p + 9)), (octet)(last[-1] - '0'));
     if (!strncmp(p, " scan\n", 6)) return scan_bay(code, now);
     int opens = !strncmp(p, " open ", 6);
     if (!opens && strncmp(p, " recv ", 6)) fail("a verb");
@@ -432,7 +489,10 @@ static void line(const octet *code, const char *p, const char *last) {
 
 static void digits_of(void) {
     memset(digit_of, 0xFF, sizeof digit_of);
-    for (octet i = 0; i < 16; i++) digit_of[(octet)"0123456789abcdef"[i]] = digit_of[(octet)"0123456789ABCDEF"[i]] = i;
+    for (octet i = 0; i < 16; i++) {
+        digit_of[(octet)"0123456789abcdef"[i]] = i;
+        digit_of[(octet)"0123456789ABCDEF"[i]] = i;
+    }
 }
 
 static char *text_of(FILE *file, size_t *length) {
@@ -484,9 +544,11 @@ static void place_rows(int k) {
     int64_t n;
     const struct row *timeout = rows + place("CSWI%d$CF$Pos$sboTimeout", k);
     struct places *p = places + k;
-    p->position[0] = place("XCBR%d$ST$Pos$stVal", k), p->position[1] = place("CSWI%d$ST$Pos$stVal", k);
+    p->position[0] = place("XCBR%d$ST$Pos$stVal", k);
+    p->position[1] = place("CSWI%d$ST$Pos$stVal", k);
     p->count = place("XCBR%d$ST$OpCnt$stVal", k), p->selected = place("CSWI%d$ST$Pos$stSeld", k);
-    p->may_open = place("CILO%d$ST$EnaOpn$stVal", k), p->may_close = place("CILO%d$ST$EnaCls$stVal", k);
+    p->may_open = place("CILO%d$ST$EnaOpn$stVal", k);
+    p->may_close = place("CILO%d$ST$EnaCls$stVal", k);
     p->select = place("CSWI%d$CO$Pos$SBOw", k), p->operate = place("CSWI%d$CO$Pos$Oper", k);
     rows[p->select].part = SELECT, rows[p->operate].part = OPERATE;
     rows[p->select].place = rows[p->operate].place = (octet)k;
@@ -501,7 +563,7 @@ int main(int argc, char **argv) {
     read_rows(argv[1]);
     domain = (struct slice){(octet *)argv[3], strlen(argv[3])};
     number(argv[4], &scan_age), number(argv[5], &travel);
-    for (int k = 6; k < argc; k++) ids[switch_count] = argv[k], id_lengths[switch_count++] = strlen(argv[k]);
+    name_switches(argv + 6);
     for (int k = 0; k < switch_count; k++) place_rows(k);
     const octet *code = read_image(argv[2]);
     char *text = text_of(stdin, &length);

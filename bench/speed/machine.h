@@ -1,5 +1,6 @@
-/* A plain C interpreter of an image's code, without any check: a switch over the opcodes. bench/scan and bench/replay run it
-   beside the proved machine. It runs only code that bayctl has verified. */
+/* A plain C interpreter of an image's code, without any check: a switch over the opcodes.
+   bench/speed/replay runs it beside the proved machine. It runs only code that bayctl has
+   verified. */
 #include <stdint.h>
 
 typedef unsigned char octet;
@@ -7,7 +8,13 @@ enum phase { IDLE, HELD, SINCE };
 struct timer { octet off_delay, input, output, phase; uint32_t preset, elapsed; uint64_t start; };
 
 static unsigned two(const octet *p) { return p[0] * 256 + p[1]; }
-static int64_t wrap(octet width, int64_t z) { return width == 2 ? (int16_t)z : width == 3 ? (int32_t)z : z; }
+static uint32_t four(const octet *p) { return (uint32_t)two(p) << 16 | two(p + 2); }
+static int64_t eight(const octet *p) { return (int64_t)((uint64_t)four(p) << 32 | four(p + 4)); }
+
+/* a number of a width, of 2, 4 or 8 octets */
+static int64_t wrap(octet width, uint64_t z) {
+    return width == 2 ? (int16_t)z : width == 3 ? (int32_t)z : (int64_t)z;
+}
 
 static void call(struct timer *t, uint64_t now) {
     if (t->off_delay) {
@@ -32,8 +39,8 @@ static uint32_t scan(const octet *code, int64_t *slots, struct timer *timers, ui
         case 0x01: return steps;
         case 0x02: *++top = p[1]; p += 2; break;
         case 0x03: *++top = (int16_t)two(p + 1); p += 3; break;
-        case 0x04: case 0x05: *++top = (int32_t)((uint32_t)two(p + 1) << 16 | two(p + 3)); p += 5; break;
-        case 0x23: *++top = (int64_t)((uint64_t)two(p + 1) << 48 | (uint64_t)two(p + 3) << 32 | (uint64_t)two(p + 5) << 16 | two(p + 7)); p += 9; break;
+        case 0x04: case 0x05: *++top = (int32_t)four(p + 1); p += 5; break;
+        case 0x23: *++top = eight(p + 1); p += 9; break;
         case 0x06: top--; p++; break;
         case 0x07: *++top = slots[two(p + 1)]; p += 3; break;
         case 0x08: slots[two(p + 1)] = *top; p += 3; break;
@@ -43,10 +50,14 @@ static uint32_t scan(const octet *code, int64_t *slots, struct timer *timers, ui
         case 0x0C: a = *top--; *top &= a; p++; break;
         case 0x0D: a = *top--; *top |= a; p++; break;
         case 0x0E: a = *top--; *top ^= a; p++; break;
-        case 0x0F: a = *top--; *top = wrap(p[1], (int64_t)((uint64_t)*top + (uint64_t)a)); p += 2; break;
-        case 0x10: a = *top--; *top = wrap(p[1], (int64_t)((uint64_t)*top - (uint64_t)a)); p += 2; break;
-        case 0x11: a = *top--; *top = wrap(p[1], (int64_t)((uint64_t)*top * (uint64_t)a)); p += 2; break;
-        case 0x12: a = *top--; *top = wrap(p[1], a == -1 ? (int64_t)(0 - (uint64_t)*top) : *top / a); p += 2; break;
+        case 0x0F: a = *top--; *top = wrap(p[1], (uint64_t)*top + (uint64_t)a); p += 2; break;
+        case 0x10: a = *top--; *top = wrap(p[1], (uint64_t)*top - (uint64_t)a); p += 2; break;
+        case 0x11: a = *top--; *top = wrap(p[1], (uint64_t)*top * (uint64_t)a); p += 2; break;
+        case 0x12:
+            a = *top--;
+            *top = wrap(p[1], a == -1 ? 0 - (uint64_t)*top : (uint64_t)(*top / a));
+            p += 2;
+            break;
         case 0x13: a = *top--; *top = a == -1 ? 0 : *top % a; p += 2; break;
         case 0x14: a = *top--; *top = *top > a; p++; break;
         case 0x15: a = *top--; *top = *top >= a; p++; break;

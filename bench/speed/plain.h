@@ -1,11 +1,13 @@
-/* What bench/replay.c and bench/clients.c share: what is printed, an image's points, and a scan by the machine of machine.h with its line. */
+/* What replay.c and clients.c share: what is printed, an image's points, and a scan by the machine
+   of machine.h with its line. */
 #include <stdio.h>
 #include <stdlib.h>
 #include <string.h>
 #include "machine.h"
 
 enum { SWITCHES = 32, SLOTS = 512, TIMERS = 64 };
-/* where a slot's value comes from or goes to: the switch's position, that it is open or closed, that it may be opened or closed, or an input */
+/* where a slot's value comes from or goes to: the switch's position, that it is open or closed,
+   that it may be opened or closed, or an input */
 enum source { POSITION, OPEN, CLOSED, MAY_OPEN, MAY_CLOSE, INPUT };
 struct point { enum source source; int place; char name[80]; };
 
@@ -29,12 +31,21 @@ static void put_number(uint64_t n) {
     put(digits + i, (size_t)(20 - i));
 }
 
+/* the switches' ids, of which there are as many as words */
+static void name_switches(char **words) {
+    for (; *words; words++, switch_count++) {
+        ids[switch_count] = *words;
+        id_lengths[switch_count] = strlen(*words);
+    }
+}
+
 static struct point bind(const char *name) {
     static const char *const endings[] = {"_POS", "_OPEN", "_CLOSED", "_ENA_OPN", "_ENA_CLS"};
     struct point p = {INPUT, 0, ""};
     for (int k = 0; k < switch_count; k++)
         for (int e = 0; e < 5; e++)
-            if (!strncmp(name, ids[k], id_lengths[k]) && !strcmp(name + id_lengths[k], endings[e])) p.source = (enum source)e, p.place = k;
+            if (!strncmp(name, ids[k], id_lengths[k]) && !strcmp(name + id_lengths[k], endings[e]))
+                p.source = (enum source)e, p.place = k;
     strcpy(p.name, name);
     return p;
 }
@@ -52,8 +63,7 @@ static const octet *read_image(const char *path) {
     }
     int count = (int)two(p);
     p += 2;
-    for (int i = 0; i < count; i++, p += 9)
-        for (int k = 1; k < 9; k++) slots[point_count + i] = (int64_t)((uint64_t)slots[point_count + i] << 8 | p[k]);
+    for (int i = 0; i < count; i++, p += 9) slots[point_count + i] = eight(p + 1);
     count = (int)two(p), p += 2;
     for (int i = 0; i < count; i++) timers[i].off_delay = *p++ == 2;
     return p + 2;

@@ -1,6 +1,8 @@
-/* A plain C program that does what `bayctl replay` does, for bench/replay: it reads a scenario from standard input, passes over the bay file
-   and the program, and replays the trace (contacts, inputs and scans) over an image that bayctl compiled, printing the same octets. It trusts
-   the image, the bay and the trace.  usage: replay REPORT IMAGE SWITCH.. */
+/* A plain C program that does what `bayctl replay` does, for bench/speed/replay. It reads a
+   scenario from standard input, passes over the bay file and the program, and replays the trace
+   (contacts, inputs and scans) over an image that bayctl compiled, printing the same octets. It
+   trusts the image, the bay and the trace.
+   usage: replay REPORT IMAGE SWITCH.. */
 #include "plain.h"
 
 static void contact(const char *id, size_t length, octet position) {
@@ -10,7 +12,9 @@ static void contact(const char *id, size_t length, octet position) {
 
 static void input(const char *name, size_t length, octet value) {
     for (int i = 0; i < point_count; i++)
-        if (points[i].source == INPUT && strlen(points[i].name) == length && !memcmp(points[i].name, name, length)) slots[i] = value;
+        if (points[i].source == INPUT && strlen(points[i].name) == length
+                && !memcmp(points[i].name, name, length))
+            slots[i] = value;
 }
 
 static void line(const octet *code, const char *p, const char *last) {
@@ -29,7 +33,8 @@ int main(int argc, char **argv) {
     char *text = malloc(room + 1);
     while ((got = fread(text + length, 1, room - length, stdin)) > 0) length += got;
     text[length] = 0;
-    for (int k = 3; k < argc; k++) ids[switch_count] = argv[k], id_lengths[switch_count++] = strlen(argv[k]);
+    if (argc < 3) return 2;
+    name_switches(argv + 3);
     const octet *code = read_image(argv[2]);
     char *p = strstr(strstr(text, "\n%%\n") + 4, "\n%%\n") + 4;
     put(argv[1], strlen(argv[1])), put("\n", 1);

@@ -1,4 +1,4 @@
-/* Clients and a plain server for bench/serve, in C.
+/* Clients and a plain server for bench/speed/serve, in C.
    serve plain PORT SECONDS: serves up to eight clients on 127.0.0.1, with sockets that do not
    block and a poll of 10 ms at most: a connection that waits is taken, each client that is ready
    is read once up to 4,096 octets, and each answer is written at once. To each TPKT it answers
@@ -55,7 +55,10 @@ static struct sockaddr_in address(int port) {
     return at;
 }
 
-static void drop(struct peer *p) { close(p->socket), p->socket = -1, p->kept = p->done = p->queued = 0; }
+static void drop(struct peer *p) {
+    close(p->socket);
+    p->socket = -1, p->kept = p->done = p->queued = 0;
+}
 
 /* Answers each whole TPKT of what came. */
 static void answer(struct peer *p) {
@@ -135,7 +138,8 @@ static void expect(int s, const struct text *t) {
     if (memcmp(room, t->at, t->length)) fprintf(stderr, "another answer came\n"), exit(1);
 }
 
-/* The answer to a request for a transport connection has the association's number: only its length is looked at. */
+/* The answer to a request for a transport connection has the association's number: only its length
+   is looked at. */
 static void connect_all(struct pollfd *polls, int port, int count) {
     for (int i = 0; i < count; i++) {
         int one = 1, s = socket(AF_INET, SOCK_STREAM, 0);
@@ -174,8 +178,11 @@ static void load(int port, int count, double lasts) {
 
 int main(int count, char **words) {
     read_texts();
-    if (count == 4 && !strcmp(words[1], "plain")) plain(atoi(words[2]), atof(words[3]));
-    else if (count == 5 && !strcmp(words[1], "load")) load(atoi(words[2]), atoi(words[3]), atof(words[4]));
-    else return 2;
+    if (count == 4 && !strcmp(words[1], "plain"))
+        plain(atoi(words[2]), atof(words[3]));
+    else if (count == 5 && !strcmp(words[1], "load"))
+        load(atoi(words[2]), atoi(words[3]), atof(words[4]));
+    else
+        return 2;
     return 0;
 }

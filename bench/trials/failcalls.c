@@ -1,5 +1,7 @@
-/* Has reads of standard input and writes of standard output go wrong: the one whose number is in FAIL_READ or FAIL_WRITE fails, or takes nothing where FAIL_HOW is `nothing`, or is
-   interrupted where it is `interrupted`; with SHORT_BY each moves at most so many octets. FAIL_SHOW prints how many of each there were.
+/* Has reads of standard input and writes of standard output go wrong: the one whose number is in
+   FAIL_READ or FAIL_WRITE fails, or takes nothing where FAIL_HOW is `nothing`, or is interrupted
+   where it is `interrupted`. With SHORT_BY each moves at most so many octets. FAIL_SHOW prints how
+   many of each there were.
    cc -shared -fPIC -O2 -o failcalls.so failcalls.c -ldl */
 #define _GNU_SOURCE
 #include <dlfcn.h>

@@ -1,6 +1,7 @@
-/* Starts a program once and runs it many times: for each octet that comes on descriptor 198 a child goes on to the program's main, with standard input from its front
-   and standard output and standard error emptied (all three are files), and its wait status goes to descriptor 199. A child that runs longer than
-   FORK_SECONDS ends by a signal. It is preloaded.
+/* Starts a program once and runs it many times. For each octet that comes on descriptor 198 a
+   child goes on to the program's main, with standard input from its front and standard output and
+   standard error emptied (all three are files), and its wait status goes to descriptor 199. A child
+   that runs longer than FORK_SECONDS ends by a signal. It is preloaded.
    cc -shared -fPIC -O2 -o forkserver.so forkserver.c */
 #include <stdlib.h>
 #include <sys/wait.h>
@@ -30,7 +31,9 @@ __attribute__((constructor)) static void serve(void)
             close(ASKED), close(TOLD), alarm((unsigned)atoi(seconds));
             return;
         }
-        if (child < 0 || waitpid(child, &status, 0) != child || write(TOLD, &status, sizeof status) != sizeof status)
+        if (child < 0 || waitpid(child, &status, 0) != child)
+            break;
+        if (write(TOLD, &status, sizeof status) != sizeof status)
             break;
     }
     _exit(0);
