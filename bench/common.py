@@ -31,9 +31,9 @@ def need(*programs: str | os.PathLike) -> None:
     """Ends the script where a program is not there."""
     for program in programs:
         if shutil.which(program) is None:
-            crate = pathlib.Path(program).parent.parent.name if os.sep in str(program) else ''
-            sys.exit(f'{program} is not there'
-                     + (f': `rt run` or `rt test` in crates/{crate} builds it' if crate else ''))
+            folder = pathlib.Path(program).parent.parent
+            built = f': `rt run` or `rt test` in crates/{folder.name} builds it'
+            sys.exit(f'{program} is not there' + (built if folder.parent == CRATES else ''))
 
 
 def text_of(path: str | os.PathLike) -> str:
