@@ -84,7 +84,7 @@ def need_allocations(count: int) -> None:
         sys.exit('no allocation was counted: the program takes its memory elsewhere')
 
 
-def least(run: Callable, times: int = 3):
+def least(run: Callable[[], tuple], times: int = 3) -> tuple:
     """The least of several runs' results."""
     return min(run() for _ in range(times))
 

@@ -5,7 +5,7 @@ import random
 import re
 from collections.abc import Iterator
 
-import common  # (it lets this import from tools/)
+import common  # (it lets a script import from tools/)
 from session import ber, stream
 
 Random = random.Random
