@@ -5,7 +5,7 @@ use Rattle.std.proofs.lemmas.List.{drop_more, length-drop}
 use Rattle.std.proofs.Math.Seq.{take-length}
 use Rattle.bay_base.specs.Options.{◌>>=◌}
 use Rattle.bay_ber.specs.Values.{Part, onto, values_in}
-use Rattle.bay_ber.proofs.ListingLemmas.{Passed, passed_first, passed_more, passed_end, passed_bad, passed_stop}
+use Rattle.bay_ber.proofs.ListingLemmas.{Passed, passed-first, passed-more, passed-end, passed-bad, passed-stop}
 use Rattle.bay_assoc.specs.declared.presentation.Context.{Context}
 use Rattle.bay_assoc.specs.Presentation.{is_ber, offers_ber, has_id, are_distinct}
 
@@ -18,45 +18,45 @@ pub record Flags (whole rest : List ℕ) (found : Bool) : Type 0 where
   pub passed : Passed is_ber whole rest done
   pub is : found ≡ list_any (λ b. b) done
 
-pub flags_first : (whole : List ℕ) → Flags whole whole false
-flags_first whole = record { done = []; passed = passed_first is_ber whole; is = refl }
+pub flags-first : (whole : List ℕ) → Flags whole whole false
+flags-first whole = record { done = []; passed = passed-first is_ber whole; is = refl }
 
-any_more : (done : List Bool) (one : Bool)
+any-more : (done : List Bool) (one : Bool)
     → list_any (λ b. b) (done ++ one ∷ []) ≡ (list_any (λ b. b) done || one)
-any_more [] true = refl
-any_more [] false = refl
-any_more (true ∷ done) one = refl
-any_more (false ∷ done) one = any_more done one
+any-more [] true = refl
+any-more [] false = refl
+any-more (true ∷ done) one = refl
+any-more (false ∷ done) one = any-more done one
 
-pub flags_more : (whole rest new : List ℕ) (found one more : Bool) (part : Part)
+pub flags-more : (whole rest new : List ℕ) (found one more : Bool) (part : Part)
     → Flags whole rest found → values_in rest ≡ onto (part ∷ []) (values_in new)
     → is_ber part ≡ Some one → more ≡ (found || one) → Flags whole new more
-flags_more whole rest new found one more part f step here is = record {
+flags-more whole rest new found one more part f step here is = record {
   done = f.done ++ one ∷ [];
-  passed = passed_more is_ber whole rest new f.done part one f.passed step here;
-  is = is ∙ ap (λ (b : Bool). b || one) f.is ∙ sym (any_more f.done one);
+  passed = passed-more is_ber whole rest new f.done part one f.passed step here;
+  is = is ∙ ap (λ (b : Bool). b || one) f.is ∙ sym (any-more f.done one);
 }
 
 abbrev any_of : Option (List Bool) → Option Bool
 any_of o = o >>= λ each. Some (list_any (λ b. b) each)
 
-pub flags_end : (whole rest : List ℕ) (found : Bool) → Flags whole rest found
+pub flags-end : (whole rest : List ℕ) (found : Bool) → Flags whole rest found
     → values_in rest ≡ Some [] → offers_ber whole ≡ Some found
 unfolding offers_ber
-flags_end whole rest found f last =
-    ap any_of (passed_end is_ber whole rest f.done f.passed last) ∙ ap Some (sym f.is)
+flags-end whole rest found f last =
+    ap any_of (passed-end is_ber whole rest f.done f.passed last) ∙ ap Some (sym f.is)
 
-pub flags_bad : (whole rest new : List ℕ) (found : Bool) (part : Part) → Flags whole rest found
+pub flags-bad : (whole rest new : List ℕ) (found : Bool) (part : Part) → Flags whole rest found
     → values_in rest ≡ onto (part ∷ []) (values_in new) → is_ber part ≡ None
     → offers_ber whole ≡ None
 unfolding offers_ber
-flags_bad whole rest new found part f step bad =
-    ap any_of (passed_bad is_ber whole rest new f.done part f.passed step bad)
+flags-bad whole rest new found part f step bad =
+    ap any_of (passed-bad is_ber whole rest new f.done part f.passed step bad)
 
-pub flags_stop : (whole rest : List ℕ) (found : Bool) → Flags whole rest found
+pub flags-stop : (whole rest : List ℕ) (found : Bool) → Flags whole rest found
     → values_in rest ≡ None → offers_ber whole ≡ None
 unfolding offers_ber
-flags_stop whole rest found f stop = ap any_of (passed_stop is_ber whole rest f.done f.passed stop)
+flags-stop whole rest found f stop = ap any_of (passed-stop is_ber whole rest f.done f.passed stop)
 
 -- ---- identifiers
 
@@ -75,19 +75,19 @@ step contexts at d b within is =
     ∙ ap (λ (x : Bool). not x && are_distinct (drop (at + 1) contexts))
     (ap (has_id (get_or contexts at d).id) (sym (rest contexts at)) ∙ sym is)
 
-pub distinct_more : (contexts : List Context) (at : ℕ) (d : Context) (b whole : Bool)
+pub distinct-more : (contexts : List Context) (at : ℕ) (d : Context) (b whole : Bool)
     → at < length contexts → whole ≡ are_distinct (drop at contexts)
     → b ≡ has_id (get_or contexts at d).id
     (take (length contexts - (at + 1)) (drop (at + 1) contexts)) → b ≡ false
     → whole ≡ are_distinct (drop (at + 1) contexts)
-distinct_more contexts at d b whole within so is none =
+distinct-more contexts at d b whole within so is none =
     so ∙ step contexts at d b within is
     ∙ ap (λ (x : Bool). not x && are_distinct (drop (at + 1) contexts)) none
 
-pub distinct_not : (contexts : List Context) (at : ℕ) (d : Context) (b whole : Bool)
+pub distinct-not : (contexts : List Context) (at : ℕ) (d : Context) (b whole : Bool)
     → at < length contexts → whole ≡ are_distinct (drop at contexts)
     → b ≡ has_id (get_or contexts at d).id
     (take (length contexts - (at + 1)) (drop (at + 1) contexts)) → b ≡ true → whole ≡ false
-distinct_not contexts at d b whole within so is some =
+distinct-not contexts at d b whole within so is some =
     so ∙ step contexts at d b within is
     ∙ ap (λ (x : Bool). not x && are_distinct (drop (at + 1) contexts)) some

@@ -6,7 +6,7 @@ use Rattle.bay_mms.specs.declared.request.Proposal.{Proposal}
 use Rattle.bay_mms.specs.declared.response.Agreed.{Agreed}
 use Rattle.bay_mms.specs.Grammar.{initiate_in}
 use Rattle.bay_mms.specs.SpelledInitiate.{IsInitiate}
-use Rattle.bay_mms.proofs.InitiateLemmas.{initiate_read, initiate_back}
+use Rattle.bay_mms.proofs.InitiateLemmas.{initiate-read, initiate-back}
 use Rattle.bay_base.specs.Results.{◌>>=◌ as ◌>>◌}
 use Rattle.bay_assoc.specs.declared.fault.AssocFault.{AssocFault}
 use Rattle.bay_assoc.specs.declared.fault.AssocFault.TheVariants as fault
@@ -15,18 +15,18 @@ use Rattle.bay_assoc.specs.declared.hearing.AssociationTerms.{AssociationTerms}
 use Rattle.bay_assoc.specs.declared.hearing.Phase.{Phase}
 use Rattle.bay_assoc.specs.declared.hearing.Phase.TheVariants.{Idle, Open, Over, Failed}
 use Rattle.bay_assoc.specs.declared.presentation.Context.{Context}
-use Rattle.bay_assoc.specs.Results.{wanted}
+use Rattle.bay_assoc.specs.Results.{or_fault}
 use Rattle.bay_assoc.specs.Session.{Spdu, connect, accept, finish, disconnect, abort, transfer, spdu_in}
 use Rattle.bay_assoc.specs.Presentation.{Carried, Connect, user_in, request_in}
 use Rattle.bay_assoc.specs.Acse.{associate_in, release_in}
-use Rattle.bay_assoc.specs.Hearing.{Hearing, is_id, accepted_of, acse_value, mms_value, agreed_of, agreement, connected, finished, transferred, heard_idle, heard_open, hearing}
+use Rattle.bay_assoc.specs.Hearing.{Hearing, is_id, accepted_of, acse_value, mms_value, agreed_of, agreement, connection_request, release_request, data_transfer, heard_idle, heard_open, hearing}
 use Rattle.bay_assoc.specs.SpelledSession.{IsSpdu}
 use Rattle.bay_assoc.specs.SpelledValues.{IsUser, IsRequest, IsAssociate, IsRelease}
 use Rattle.bay_assoc.specs.SpelledRefusals.{IsIn, IsElsewhere, Disagrees, lacks_contexts, user_elsewhere, user_in_mms, no_associate, pdu_elsewhere, pdu_in_acse, no_initiate, too_small, IsEarly, IsLate, IsRefusedFirst, no_spdu, early, no_request, disagrees, IsRefusedOpen, no_spdu_later, late, no_release_user, release_elsewhere, release_in_mms, no_release, no_data_user, data_elsewhere, data_in_acse, IsRefused}
-use Rattle.bay_assoc.proofs.HearingBackLemmas.{UserBytes, spdu_back, id_is}
-use Rattle.bay_assoc.proofs.SpduLemmas.{spdu_again}
-use Rattle.bay_assoc.proofs.ValueLemmas.{user_read, request_read, associate_read, release_read}
-use Rattle.bay_assoc.proofs.ValueBackLemmas.{user_back, request_back, associate_back, release_back}
+use Rattle.bay_assoc.proofs.HearingBackLemmas.{UserBytes, spdu-back, id-is}
+use Rattle.bay_assoc.proofs.SpduLemmas.{spdu-again}
+use Rattle.bay_assoc.proofs.ValueLemmas.{user-read, request-read, associate-read, release-read}
+use Rattle.bay_assoc.proofs.ValueBackLemmas.{user-back, request-back, associate-back, release-back}
 
 -- ---- what is read and what is spelled
 
@@ -44,19 +44,19 @@ unspelled P (Some x) back lack = absurd (lack x (back x refl))
 is_there : (z : ℤ) (n : ℕ) → z ≡ pos n → is_id z n ≡ true
 is_there z n e = ap (λ (y : ℤ). is_id y n) e ∙ eq-eqb n n refl
 
-not_there : (z : ℤ) (n : ℕ) → z ≢ pos n → is_id z n ≡ false
-not_there z n ne = by_test (is_id z n) refl
+not-there : (z : ℤ) (n : ℕ) → z ≢ pos n → is_id z n ≡ false
+not-there z n ne = by_test (is_id z n) refl
   where
     by_test : (b : Bool) → is_id z n ≡ b → b ≡ false
-    by_test true e = absurd (ne (id_is z n e))
+    by_test true e = absurd (ne (id-is z n e))
     by_test false e = refl
 
-other_id : (z : ℤ) (n : ℕ) → is_id z n ≡ false → z ≢ pos n
-other_id z n e same = absurd (let k : true ≡ false = sym (is_there z n same) ∙ e in cc)
+other-id : (z : ℤ) (n : ℕ) → is_id z n ≡ false → z ≢ pos n
+other-id z n e same = absurd (let k : true ≡ false = sym (is_there z n same) ∙ e in cc)
 
-same_fault : {A : Type 0} (e f : AssocFault) → (let r : Result A AssocFault = Err e in r) ≡ Err f
+same-fault : {A : Type 0} (e f : AssocFault) → (let r : Result A AssocFault = Err e in r) ≡ Err f
     → f ≡ e
-same_fault e f is = cc
+same-fault e f is = cc
 
 no_answer : {A P : Type 0} (x : A) (f : AssocFault)
     → (let r : Result A AssocFault = Ok x in r) ≡ Err f → P
@@ -76,13 +76,13 @@ value_of one two c =
     (cond (is_id c.id two) (Err fault.BadAcse) (Err fault.NoContext))
 
 found : (one two : ℕ) (c : Carried) → Found one two c (value_of one two c)
-found one two c = by_tests (is_id c.id one) (is_id c.id two) refl refl
+found one two c = by-tests (is_id c.id one) (is_id c.id two) refl refl
   where
-    by_tests : (a b : Bool) → is_id c.id one ≡ a → is_id c.id two ≡ b
+    by-tests : (a b : Bool) → is_id c.id one ≡ a → is_id c.id two ≡ b
         → Found one two c (cond a (Ok c.value) (cond b (Err fault.BadAcse) (Err fault.NoContext)))
-    by_tests true b e f = here (id_is c.id one e) refl
-    by_tests false true e f = there (other_id c.id one e) (id_is c.id two f) refl
-    by_tests false false e f = nowhere (other_id c.id one e) (other_id c.id two f) refl
+    by-tests true b e f = here (id-is c.id one e) refl
+    by-tests false true e f = there (other-id c.id one e) (id-is c.id two f) refl
+    by-tests false false e f = nowhere (other-id c.id one e) (other-id c.id two f) refl
 
 elsewhere : (a : Accepted) (c : Carried) → c.id ≢ pos a.acse → c.id ≢ pos a.mms → IsElsewhere a c
 elsewhere a c p q = record { not_acse = p; not_mms = q }
@@ -96,245 +96,245 @@ abbrev met : Accepted → Agreed → Agreement
 met a agreed = Ok (a, agreed)
 
 abbrev agreed_on : Accepted → Proposal → Agreement
-agreed_on a p = wanted fault.PduSizeTooSmall (agreed_of p) >> met a
+agreed_on a p = or_fault fault.PduSizeTooSmall (agreed_of p) >> met a
 
 abbrev proposed : Accepted → List ℕ → Agreement
-proposed a pdu = wanted fault.BadAcse (initiate_in pdu) >> agreed_on a
+proposed a pdu = or_fault fault.BadAcse (initiate_in pdu) >> agreed_on a
 
 abbrev associated : Accepted → List ℕ → Agreement
 associated a value =
-    wanted fault.BadAcse (associate_in value) >> λ information.
+    or_fault fault.BadAcse (associate_in value) >> λ information.
     mms_value a information >> proposed a
 
 module _ (contexts : List Context) (user : Carried) (f : AssocFault) (b : IsBytes user.value) where
-  size_case : (a : Accepted) (c : Carried) (p : Proposal) (o : Option Agreed)
+  size-case : (a : Accepted) (c : Carried) (p : Proposal) (o : Option Agreed)
       → accepted_of contexts ≡ Some a → IsIn a.acse user → IsAssociate user.value c → IsIn a.mms c
       → IsInitiate c.value p → agreed_of p ≡ o
-      → (wanted fault.PduSizeTooSmall o >> met a) ≡ Err f
+      → (or_fault fault.PduSizeTooSmall o >> met a) ≡ Err f
       → Disagrees contexts user f
-  size_case a c p None are in_acse is in_mms init small e =
-      too_small a c p are in_acse is in_mms init small (same_fault fault.PduSizeTooSmall f e)
-  size_case a c p (Some agreed) are in_acse is in_mms init small e = no_answer (a, agreed) f e
+  size-case a c p None are in_acse is in_mms init small e =
+      too_small a c p are in_acse is in_mms init small (same-fault fault.PduSizeTooSmall f e)
+  size-case a c p (Some agreed) are in_acse is in_mms init small e = no_answer (a, agreed) f e
 
-  initiate_case : (a : Accepted) (c : Carried) (o : Option Proposal)
+  initiate-case : (a : Accepted) (c : Carried) (o : Option Proposal)
       → accepted_of contexts ≡ Some a → IsIn a.acse user → IsAssociate user.value c → IsIn a.mms c
       → IsBytes c.value → initiate_in c.value ≡ o
-      → (wanted fault.BadAcse o >> agreed_on a) ≡ Err f → Disagrees contexts user f
-  initiate_case a c None are in_acse is in_mms d lack e =
+      → (or_fault fault.BadAcse o >> agreed_on a) ≡ Err f → Disagrees contexts user f
+  initiate-case a c None are in_acse is in_mms d lack e =
       no_initiate a c are in_acse is in_mms
-      (unread (IsInitiate c.value) (initiate_in c.value) (initiate_read c.value) lack)
-      (same_fault fault.BadAcse f e)
-  initiate_case a c (Some p) are in_acse is in_mms d has e =
-      size_case a c p (agreed_of p) are in_acse is in_mms (initiate_back c.value p d has) refl e
+      (unread (IsInitiate c.value) (initiate_in c.value) (initiate-read c.value) lack)
+      (same-fault fault.BadAcse f e)
+  initiate-case a c (Some p) are in_acse is in_mms d has e =
+      size-case a c p (agreed_of p) are in_acse is in_mms (initiate-back c.value p d has) refl e
 
-  pdu_case : (a : Accepted) (c : Carried) (r : Result (List ℕ) AssocFault)
+  pdu-case : (a : Accepted) (c : Carried) (r : Result (List ℕ) AssocFault)
       → accepted_of contexts ≡ Some a → IsIn a.acse user → IsAssociate user.value c
       → IsBytes c.value → Found a.mms a.acse c r → (r >> proposed a) ≡ Err f
       → Disagrees contexts user f
-  pdu_case a c r are in_acse is d (here in_mms same) e =
-      initiate_case a c (initiate_in c.value) are in_acse is in_mms d refl
+  pdu-case a c r are in_acse is d (here in_mms same) e =
+      initiate-case a c (initiate_in c.value) are in_acse is in_mms d refl
       (subst (λ (x : Result (List ℕ) AssocFault). (x >> proposed a) ≡ Err f) same e)
-  pdu_case a c r are in_acse is d (there lack has same) e =
-      pdu_in_acse a c are in_acse is lack has (same_fault fault.BadAcse f
+  pdu-case a c r are in_acse is d (there lack has same) e =
+      pdu_in_acse a c are in_acse is lack has (same-fault fault.BadAcse f
       (subst (λ (x : Result (List ℕ) AssocFault). (x >> proposed a) ≡ Err f) same e))
-  pdu_case a c r are in_acse is d (nowhere lack none same) e =
-      pdu_elsewhere a c are in_acse is (elsewhere a c none lack) (same_fault fault.NoContext f
+  pdu-case a c r are in_acse is d (nowhere lack none same) e =
+      pdu_elsewhere a c are in_acse is (elsewhere a c none lack) (same-fault fault.NoContext f
       (subst (λ (x : Result (List ℕ) AssocFault). (x >> proposed a) ≡ Err f) same e))
 
-  associate_case : (a : Accepted) (o : Option Carried) → accepted_of contexts ≡ Some a
+  associate-case : (a : Accepted) (o : Option Carried) → accepted_of contexts ≡ Some a
       → IsIn a.acse user → associate_in user.value ≡ o
-      → (wanted fault.BadAcse o >> λ information. mms_value a information >> proposed a) ≡ Err f
+      → (or_fault fault.BadAcse o >> λ information. mms_value a information >> proposed a) ≡ Err f
       → Disagrees contexts user f
-  associate_case a None are in_acse lack e =
+  associate-case a None are in_acse lack e =
       no_associate a are in_acse
-      (unread (IsAssociate user.value) (associate_in user.value) (associate_read user.value) lack)
-      (same_fault fault.BadAcse f e)
-  associate_case a (Some c) are in_acse has e =
-      let back = associate_back user.value c b has in
-      pdu_case a c (mms_value a c) are in_acse back.0 back.1 (found a.mms a.acse c) e
+      (unread (IsAssociate user.value) (associate_in user.value) (associate-read user.value) lack)
+      (same-fault fault.BadAcse f e)
+  associate-case a (Some c) are in_acse has e =
+      let back = associate-back user.value c b has in
+      pdu-case a c (mms_value a c) are in_acse back.0 back.1 (found a.mms a.acse c) e
 
-  value_case : (a : Accepted) (r : Result (List ℕ) AssocFault) → accepted_of contexts ≡ Some a
+  value-case : (a : Accepted) (r : Result (List ℕ) AssocFault) → accepted_of contexts ≡ Some a
       → Found a.acse a.mms user r → (r >> associated a) ≡ Err f → Disagrees contexts user f
-  value_case a r are (here in_acse same) e =
-      associate_case a (associate_in user.value) are in_acse refl
+  value-case a r are (here in_acse same) e =
+      associate-case a (associate_in user.value) are in_acse refl
       (subst (λ (x : Result (List ℕ) AssocFault). (x >> associated a) ≡ Err f) same e)
-  value_case a r are (there lack has same) e =
-      user_in_mms a are lack has (same_fault fault.BadAcse f
+  value-case a r are (there lack has same) e =
+      user_in_mms a are lack has (same-fault fault.BadAcse f
       (subst (λ (x : Result (List ℕ) AssocFault). (x >> associated a) ≡ Err f) same e))
-  value_case a r are (nowhere lack none same) e =
-      user_elsewhere a are (elsewhere a user lack none) (same_fault fault.NoContext f
+  value-case a r are (nowhere lack none same) e =
+      user_elsewhere a are (elsewhere a user lack none) (same-fault fault.NoContext f
       (subst (λ (x : Result (List ℕ) AssocFault). (x >> associated a) ≡ Err f) same e))
 
-  contexts_case : (o : Option Accepted) → accepted_of contexts ≡ o
-      → (wanted fault.NoContext o >> λ a. acse_value a user >> associated a) ≡ Err f
+  contexts-case : (o : Option Accepted) → accepted_of contexts ≡ o
+      → (or_fault fault.NoContext o >> λ a. acse_value a user >> associated a) ≡ Err f
       → Disagrees contexts user f
-  contexts_case None lack e = lacks_contexts lack (same_fault fault.NoContext f e)
-  contexts_case (Some a) has e =
-      value_case a (acse_value a user) has (found a.acse a.mms user) e
+  contexts-case None lack e = lacks_contexts lack (same-fault fault.NoContext f e)
+  contexts-case (Some a) has e =
+      value-case a (acse_value a user) has (found a.acse a.mms user) e
 
-  agreement_refused : agreement contexts user ≡ Err f → Disagrees contexts user f
+  agreement-refused : agreement contexts user ≡ Err f → Disagrees contexts user f
   unfolding agreement
-  agreement_refused e = contexts_case (accepted_of contexts) refl e
+  agreement-refused e = contexts-case (accepted_of contexts) refl e
 
 -- ---- a request
 
-agreed_case : (user : List ℕ) (octets : List ℕ) (r : Connect) (f : AssocFault)
+agreed-case : (user : List ℕ) (octets : List ℕ) (r : Connect) (f : AssocFault)
     (x : Result (Accepted × Agreed) AssocFault) (g : Accepted × Agreed
     → Result (Hearing × Phase) AssocFault) → ((y : Accepted × Agreed) → g y ≡ Err f → ⊥)
     → IsSpdu octets (connect user) → IsRequest user r → IsBytes r.user.value
     → agreement r.contexts r.user ≡ x → (x >> g) ≡ Err f → IsRefusedFirst octets f
-agreed_case user octets r f (Ok y) g never spdu is b same e = absurd (never y e)
-agreed_case user octets r f (Err h) g never spdu is b same e =
-    disagrees user r spdu is (agreement_refused r.contexts r.user f b
-    (same ∙ ap (λ (k : AssocFault). Err k) (sym (same_fault h f e))))
+agreed-case user octets r f (Ok y) g never spdu is b same e = absurd (never y e)
+agreed-case user octets r f (Err h) g never spdu is b same e =
+    disagrees user r spdu is (agreement-refused r.contexts r.user f b
+    (same ∙ ap (λ (k : AssocFault). Err k) (sym (same-fault h f e))))
 
-request_case : (user octets : List ℕ) (f : AssocFault) (o : Option Connect)
+request-case : (user octets : List ℕ) (f : AssocFault) (o : Option Connect)
     (g : Connect → Accepted × Agreed → Result (Hearing × Phase) AssocFault)
     → ((r : Connect) (y : Accepted × Agreed) → g r y ≡ Err f → ⊥)
     → IsSpdu octets (connect user) → IsBytes user → request_in user ≡ o
-    → (wanted fault.BadPresentation o >> λ r. agreement r.contexts r.user >> g r) ≡ Err f
+    → (or_fault fault.BadPresentation o >> λ r. agreement r.contexts r.user >> g r) ≡ Err f
     → IsRefusedFirst octets f
-request_case user octets f None g never spdu b lack e =
-    no_request user spdu (unread (IsRequest user) (request_in user) (request_read user) lack)
-    (same_fault fault.BadPresentation f e)
-request_case user octets f (Some r) g never spdu b has e =
-    let back = request_back user r b has in
-    agreed_case user octets r f (agreement r.contexts r.user) (g r) (never r) spdu back.0 back.1
+request-case user octets f None g never spdu b lack e =
+    no_request user spdu (unread (IsRequest user) (request_in user) (request-read user) lack)
+    (same-fault fault.BadPresentation f e)
+request-case user octets f (Some r) g never spdu b has e =
+    let back = request-back user r b has in
+    agreed-case user octets r f (agreement r.contexts r.user) (g r) (never r) spdu back.0 back.1
     refl e
 
-connected_refused : (user octets : List ℕ) (f : AssocFault) → IsSpdu octets (connect user)
-    → IsBytes user → connected user ≡ Err f → IsRefusedFirst octets f
-unfolding connected
-connected_refused user octets f spdu b e =
-    request_case user octets f (request_in user) _ (λ r y lack. absurd cc) spdu b refl e
+connected-refused : (user octets : List ℕ) (f : AssocFault) → IsSpdu octets (connect user)
+    → IsBytes user → connection_request user ≡ Err f → IsRefusedFirst octets f
+unfolding connection_request
+connected-refused user octets f spdu b e =
+    request-case user octets f (request_in user) _ (λ r y lack. absurd cc) spdu b refl e
 
-first_refused : (octets : List ℕ) (s : Spdu) (f : AssocFault) → IsSpdu octets s → UserBytes s
+first-refused : (octets : List ℕ) (s : Spdu) (f : AssocFault) → IsSpdu octets s → UserBytes s
     → heard_idle s ≡ Err f → IsRefusedFirst octets f
-first_refused octets (connect user) f spdu b e = connected_refused user octets f spdu b e
-first_refused octets accept f spdu b e = early accept spdu tt (same_fault fault.OutOfPhase f e)
-first_refused octets (finish user) f spdu b e =
-    early (finish user) spdu tt (same_fault fault.OutOfPhase f e)
-first_refused octets disconnect f spdu b e =
-    early disconnect spdu tt (same_fault fault.OutOfPhase f e)
-first_refused octets abort f spdu b e = no_answer _ f e
-first_refused octets (transfer user) f spdu b e =
-    early (transfer user) spdu tt (same_fault fault.OutOfPhase f e)
+first-refused octets (connect user) f spdu b e = connected-refused user octets f spdu b e
+first-refused octets accept f spdu b e = early accept spdu tt (same-fault fault.OutOfPhase f e)
+first-refused octets (finish user) f spdu b e =
+    early (finish user) spdu tt (same-fault fault.OutOfPhase f e)
+first-refused octets disconnect f spdu b e =
+    early disconnect spdu tt (same-fault fault.OutOfPhase f e)
+first-refused octets abort f spdu b e = no_answer _ f e
+first-refused octets (transfer user) f spdu b e =
+    early (transfer user) spdu tt (same-fault fault.OutOfPhase f e)
 
-idle_case : (octets : List ℕ) (o : Option Spdu) (f : AssocFault) → IsBytes octets
-    → spdu_in octets ≡ o → (wanted fault.BadSession o >> heard_idle) ≡ Err f
+idle-case : (octets : List ℕ) (o : Option Spdu) (f : AssocFault) → IsBytes octets
+    → spdu_in octets ≡ o → (or_fault fault.BadSession o >> heard_idle) ≡ Err f
     → IsRefusedFirst octets f
-idle_case octets None f b lack e =
-    no_spdu (unread (IsSpdu octets) (spdu_in octets) (spdu_again octets) lack)
-    (same_fault fault.BadSession f e)
-idle_case octets (Some s) f b has e =
-    let back = spdu_back octets s b has in
-    first_refused octets s f back.0 back.1 e
+idle-case octets None f b lack e =
+    no_spdu (unread (IsSpdu octets) (spdu_in octets) (spdu-again octets) lack)
+    (same-fault fault.BadSession f e)
+idle-case octets (Some s) f b has e =
+    let back = spdu-back octets s b has in
+    first-refused octets s f back.0 back.1 e
 
 -- ---- an open association
 
 module _ (a : Accepted) (octets user : List ℕ) (f : AssocFault) where
-  release_case : (c : Carried) (o : Option (List ℕ)) → IsSpdu octets (finish (Some user))
+  release-case : (c : Carried) (o : Option (List ℕ)) → IsSpdu octets (finish (Some user))
       → IsUser user c → IsIn a.acse c → release_in c.value ≡ o
       → (g : List ℕ → Result (Hearing × Phase) AssocFault)
       → ((y : List ℕ) → g y ≡ Err f → ⊥)
-      → (wanted fault.BadAcse o >> g) ≡ Err f → IsRefusedOpen a octets f
-  release_case c None spdu is in_acse lack g never e =
+      → (or_fault fault.BadAcse o >> g) ≡ Err f → IsRefusedOpen a octets f
+  release-case c None spdu is in_acse lack g never e =
       no_release user c spdu is in_acse
-      (λ r. absurd (let k : None ≡ Some r.content = sym lack ∙ release_read c.value r in cc))
-      (same_fault fault.BadAcse f e)
-  release_case c (Some y) spdu is in_acse has g never e = absurd (never y e)
+      (λ r. absurd (let k : None ≡ Some r.content = sym lack ∙ release-read c.value r in cc))
+      (same-fault fault.BadAcse f e)
+  release-case c (Some y) spdu is in_acse has g never e = absurd (never y e)
 
-  finish_case : (c : Carried) (r : Result (List ℕ) AssocFault) → IsSpdu octets (finish (Some user))
+  finish-case : (c : Carried) (r : Result (List ℕ) AssocFault) → IsSpdu octets (finish (Some user))
       → IsUser user c → Found a.acse a.mms c r
       → (g : List ℕ → Result (Hearing × Phase) AssocFault)
       → ((y : List ℕ) → g y ≡ Err f → ⊥)
-      → (r >> λ value. wanted fault.BadAcse (release_in value) >> g) ≡ Err f
+      → (r >> λ value. or_fault fault.BadAcse (release_in value) >> g) ≡ Err f
       → IsRefusedOpen a octets f
-  finish_case c r spdu is (here in_acse same) g never e =
-      release_case c (release_in c.value) spdu is in_acse refl g never
+  finish-case c r spdu is (here in_acse same) g never e =
+      release-case c (release_in c.value) spdu is in_acse refl g never
       (subst (λ (x : Result (List ℕ) AssocFault). (x >> λ value.
-      wanted fault.BadAcse (release_in value) >> g) ≡ Err f) same e)
-  finish_case c r spdu is (there lack has same) g never e =
-      release_in_mms user c spdu is lack has (same_fault fault.BadAcse f
+      or_fault fault.BadAcse (release_in value) >> g) ≡ Err f) same e)
+  finish-case c r spdu is (there lack has same) g never e =
+      release_in_mms user c spdu is lack has (same-fault fault.BadAcse f
       (subst (λ (x : Result (List ℕ) AssocFault). (x >> λ value.
-      wanted fault.BadAcse (release_in value) >> g) ≡ Err f) same e))
-  finish_case c r spdu is (nowhere lack none same) g never e =
-      release_elsewhere user c spdu is (elsewhere a c lack none) (same_fault fault.NoContext f
+      or_fault fault.BadAcse (release_in value) >> g) ≡ Err f) same e))
+  finish-case c r spdu is (nowhere lack none same) g never e =
+      release_elsewhere user c spdu is (elsewhere a c lack none) (same-fault fault.NoContext f
       (subst (λ (x : Result (List ℕ) AssocFault). (x >> λ value.
-      wanted fault.BadAcse (release_in value) >> g) ≡ Err f) same e))
+      or_fault fault.BadAcse (release_in value) >> g) ≡ Err f) same e))
 
-  finish_user : (o : Option Carried) → IsSpdu octets (finish (Some user)) → IsBytes user
+  finish-user : (o : Option Carried) → IsSpdu octets (finish (Some user)) → IsBytes user
       → user_in user ≡ o → (g : List ℕ → Result (Hearing × Phase) AssocFault)
       → ((y : List ℕ) → g y ≡ Err f → ⊥)
-      → (wanted fault.BadPresentation o >> λ c. acse_value a c >> λ value.
-      wanted fault.BadAcse (release_in value) >> g) ≡ Err f
+      → (or_fault fault.BadPresentation o >> λ c. acse_value a c >> λ value.
+      or_fault fault.BadAcse (release_in value) >> g) ≡ Err f
       → IsRefusedOpen a octets f
-  finish_user None spdu b lack g never e =
-      no_release_user user spdu (unread (IsUser user) (user_in user) (user_read user) lack)
-      (same_fault fault.BadPresentation f e)
-  finish_user (Some c) spdu b has g never e =
-      finish_case c (acse_value a c) spdu (user_back user c b has).0 (found a.acse a.mms c) g never
+  finish-user None spdu b lack g never e =
+      no_release_user user spdu (unread (IsUser user) (user_in user) (user-read user) lack)
+      (same-fault fault.BadPresentation f e)
+  finish-user (Some c) spdu b has g never e =
+      finish-case c (acse_value a c) spdu (user-back user c b has).0 (found a.acse a.mms c) g never
       e
 
-  data_case : (c : Carried) (r : Result (List ℕ) AssocFault) → IsSpdu octets (transfer user)
+  data-case : (c : Carried) (r : Result (List ℕ) AssocFault) → IsSpdu octets (transfer user)
       → IsUser user c → Found a.mms a.acse c r
       → (g : List ℕ → Result (Hearing × Phase) AssocFault)
       → ((y : List ℕ) → g y ≡ Err f → ⊥) → (r >> g) ≡ Err f → IsRefusedOpen a octets f
-  data_case c r spdu is (here in_mms same) g never e =
+  data-case c r spdu is (here in_mms same) g never e =
       absurd (never c.value
       (subst (λ (x : Result (List ℕ) AssocFault). (x >> g) ≡ Err f) same e))
-  data_case c r spdu is (there lack has same) g never e =
-      data_in_acse user c spdu is lack has (same_fault fault.BadAcse f
+  data-case c r spdu is (there lack has same) g never e =
+      data_in_acse user c spdu is lack has (same-fault fault.BadAcse f
       (subst (λ (x : Result (List ℕ) AssocFault). (x >> g) ≡ Err f) same e))
-  data_case c r spdu is (nowhere lack none same) g never e =
-      data_elsewhere user c spdu is (elsewhere a c none lack) (same_fault fault.NoContext f
+  data-case c r spdu is (nowhere lack none same) g never e =
+      data_elsewhere user c spdu is (elsewhere a c none lack) (same-fault fault.NoContext f
       (subst (λ (x : Result (List ℕ) AssocFault). (x >> g) ≡ Err f) same e))
 
-  data_user : (o : Option Carried) → IsSpdu octets (transfer user) → IsBytes user
+  data-user : (o : Option Carried) → IsSpdu octets (transfer user) → IsBytes user
       → user_in user ≡ o → (g : List ℕ → Result (Hearing × Phase) AssocFault)
       → ((y : List ℕ) → g y ≡ Err f → ⊥)
-      → (wanted fault.BadPresentation o >> λ c. mms_value a c >> g) ≡ Err f
+      → (or_fault fault.BadPresentation o >> λ c. mms_value a c >> g) ≡ Err f
       → IsRefusedOpen a octets f
-  data_user None spdu b lack g never e =
-      no_data_user user spdu (unread (IsUser user) (user_in user) (user_read user) lack)
-      (same_fault fault.BadPresentation f e)
-  data_user (Some c) spdu b has g never e =
-      data_case c (mms_value a c) spdu (user_back user c b has).0 (found a.mms a.acse c) g never e
+  data-user None spdu b lack g never e =
+      no_data_user user spdu (unread (IsUser user) (user_in user) (user-read user) lack)
+      (same-fault fault.BadPresentation f e)
+  data-user (Some c) spdu b has g never e =
+      data-case c (mms_value a c) spdu (user-back user c b has).0 (found a.mms a.acse c) g never e
 
-later_refused : (terms : AssociationTerms) (octets : List ℕ) (s : Spdu) (f : AssocFault)
+later-refused : (terms : AssociationTerms) (octets : List ℕ) (s : Spdu) (f : AssocFault)
     → IsSpdu octets s → UserBytes s → heard_open terms s ≡ Err f
     → IsRefusedOpen terms.contexts octets f
-unfolding finished transferred
-later_refused terms octets (connect user) f spdu b e =
-    late (connect user) spdu tt (same_fault fault.OutOfPhase f e)
-later_refused terms octets accept f spdu b e = late accept spdu tt (same_fault fault.OutOfPhase f e)
-later_refused terms octets (finish None) f spdu b e = no_answer _ f e
-later_refused terms octets (finish (Some user)) f spdu b e =
-    finish_user terms.contexts octets user f (user_in user) spdu b refl _ (λ y lack. absurd cc) e
-later_refused terms octets disconnect f spdu b e =
-    late disconnect spdu tt (same_fault fault.OutOfPhase f e)
-later_refused terms octets abort f spdu b e = no_answer _ f e
-later_refused terms octets (transfer user) f spdu b e =
-    data_user terms.contexts octets user f (user_in user) spdu b refl _ (λ y lack. absurd cc) e
+unfolding release_request data_transfer
+later-refused terms octets (connect user) f spdu b e =
+    late (connect user) spdu tt (same-fault fault.OutOfPhase f e)
+later-refused terms octets accept f spdu b e = late accept spdu tt (same-fault fault.OutOfPhase f e)
+later-refused terms octets (finish None) f spdu b e = no_answer _ f e
+later-refused terms octets (finish (Some user)) f spdu b e =
+    finish-user terms.contexts octets user f (user_in user) spdu b refl _ (λ y lack. absurd cc) e
+later-refused terms octets disconnect f spdu b e =
+    late disconnect spdu tt (same-fault fault.OutOfPhase f e)
+later-refused terms octets abort f spdu b e = no_answer _ f e
+later-refused terms octets (transfer user) f spdu b e =
+    data-user terms.contexts octets user f (user_in user) spdu b refl _ (λ y lack. absurd cc) e
 
-open_case : (terms : AssociationTerms) (octets : List ℕ) (o : Option Spdu) (f : AssocFault)
+open-case : (terms : AssociationTerms) (octets : List ℕ) (o : Option Spdu) (f : AssocFault)
     → IsBytes octets → spdu_in octets ≡ o
-    → (wanted fault.BadSession o >> heard_open terms) ≡ Err f
+    → (or_fault fault.BadSession o >> heard_open terms) ≡ Err f
     → IsRefusedOpen terms.contexts octets f
-open_case terms octets None f b lack e =
-    no_spdu_later (unread (IsSpdu octets) (spdu_in octets) (spdu_again octets) lack)
-    (same_fault fault.BadSession f e)
-open_case terms octets (Some s) f b has e =
-    let back = spdu_back octets s b has in
-    later_refused terms octets s f back.0 back.1 e
+open-case terms octets None f b lack e =
+    no_spdu_later (unread (IsSpdu octets) (spdu_in octets) (spdu-again octets) lack)
+    (same-fault fault.BadSession f e)
+open-case terms octets (Some s) f b has e =
+    let back = spdu-back octets s b has in
+    later-refused terms octets s f back.0 back.1 e
 
-pub refused_is_spelled : (phase : Phase) (octets : List ℕ) (f : AssocFault) → IsBytes octets
+pub refused-is-spelled : (phase : Phase) (octets : List ℕ) (f : AssocFault) → IsBytes octets
     → hearing phase octets ≡ Err f → IsRefused phase octets f
 unfolding hearing
-refused_is_spelled Idle octets f b e = idle_case octets (spdu_in octets) f b refl e
-refused_is_spelled (Open terms) octets f b e = open_case terms octets (spdu_in octets) f b refl e
-refused_is_spelled Over octets f b e = same_fault fault.OutOfPhase f e
-refused_is_spelled Failed octets f b e = same_fault fault.Failed f e
+refused-is-spelled Idle octets f b e = idle-case octets (spdu_in octets) f b refl e
+refused-is-spelled (Open terms) octets f b e = open-case terms octets (spdu_in octets) f b refl e
+refused-is-spelled Over octets f b e = same-fault fault.OutOfPhase f e
+refused-is-spelled Failed octets f b e = same-fault fault.Failed f e
 
 -- ---- what is spelled so is refused
 
@@ -342,186 +342,186 @@ err : {A : Type 0} (e f : AssocFault) → f ≡ e
     → (let r : Result A AssocFault = Err e in r) ≡ Err f
 err e f same = ap (λ (k : AssocFault). Err k) (sym same)
 
-no_associated : (octets : List ℕ) → IsBytes octets → ((c : Carried) → IsAssociate octets c → ⊥)
+no-associated : (octets : List ℕ) → IsBytes octets → ((c : Carried) → IsAssociate octets c → ⊥)
     → associate_in octets ≡ None
-no_associated octets b lack =
+no-associated octets b lack =
     unspelled (IsAssociate octets) (associate_in octets)
-    (λ c e. (associate_back octets c b e).0) lack
+    (λ c e. (associate-back octets c b e).0) lack
 
 module _ (contexts : List Context) (user : Carried) (f : AssocFault) (b : IsBytes user.value) where
-  disagrees_so : Disagrees contexts user f → agreement contexts user ≡ Err f
+  disagrees-so : Disagrees contexts user f → agreement contexts user ≡ Err f
   unfolding agreement
-  disagrees_so (lacks_contexts lack same) = rw (lack) (err fault.NoContext f same)
-  disagrees_so (user_elsewhere a are away same) =
+  disagrees-so (lacks_contexts lack same) = rw (lack) (err fault.NoContext f same)
+  disagrees-so (user_elsewhere a are away same) =
       rw (
         are,
-        not_there user.id a.acse away.not_acse,
-        not_there user.id a.mms away.not_mms,
+        not-there user.id a.acse away.not_acse,
+        not-there user.id a.mms away.not_mms,
       )
       (err fault.NoContext f same)
-  disagrees_so (user_in_mms a are lack has same) =
-      rw (are, not_there user.id a.acse lack, is_there user.id a.mms has)
+  disagrees-so (user_in_mms a are lack has same) =
+      rw (are, not-there user.id a.acse lack, is_there user.id a.mms has)
       (err fault.BadAcse f same)
-  disagrees_so (no_associate a are has lack same) =
-      rw (are, is_there user.id a.acse has, no_associated user.value b lack)
+  disagrees-so (no_associate a are has lack same) =
+      rw (are, is_there user.id a.acse has, no-associated user.value b lack)
       (err fault.BadAcse f same)
-  disagrees_so (pdu_elsewhere a c are has is away same) =
+  disagrees-so (pdu_elsewhere a c are has is away same) =
       rw (
         are,
         is_there user.id a.acse has,
-        associate_read user.value c is,
-        not_there c.id a.mms away.not_mms,
-        not_there c.id a.acse away.not_acse,
+        associate-read user.value c is,
+        not-there c.id a.mms away.not_mms,
+        not-there c.id a.acse away.not_acse,
       )
       (err fault.NoContext f same)
-  disagrees_so (pdu_in_acse a c are has is lack in_acse same) =
+  disagrees-so (pdu_in_acse a c are has is lack in_acse same) =
       rw (
         are,
         is_there user.id a.acse has,
-        associate_read user.value c is,
-        not_there c.id a.mms lack,
+        associate-read user.value c is,
+        not-there c.id a.mms lack,
         is_there c.id a.acse in_acse,
       )
       (err fault.BadAcse f same)
-  disagrees_so (no_initiate a c are has is in_mms lack same) =
-      let d = (associate_back user.value c b (associate_read user.value c is)).1 in
+  disagrees-so (no_initiate a c are has is in_mms lack same) =
+      let d = (associate-back user.value c b (associate-read user.value c is)).1 in
       rw (
         are,
         is_there user.id a.acse has,
-        associate_read user.value c is,
+        associate-read user.value c is,
         is_there c.id a.mms in_mms,
         unspelled (IsInitiate c.value) (initiate_in c.value)
-            (λ p e. initiate_back c.value p d e) lack,
+            (λ p e. initiate-back c.value p d e) lack,
       )
       (err fault.BadAcse f same)
-  disagrees_so (too_small a c p are has is in_mms init small same) =
+  disagrees-so (too_small a c p are has is in_mms init small same) =
       rw (
         are,
         is_there user.id a.acse has,
-        associate_read user.value c is,
+        associate-read user.value c is,
         is_there c.id a.mms in_mms,
-        initiate_read c.value p init,
+        initiate-read c.value p init,
         small,
       )
       (err fault.PduSizeTooSmall f same)
 
-early_so : (s : Spdu) (f : AssocFault) → IsEarly s → f ≡ fault.OutOfPhase → heard_idle s ≡ Err f
-early_so (connect user) f is same = absurd is
-early_so accept f is same = err fault.OutOfPhase f same
-early_so (finish user) f is same = err fault.OutOfPhase f same
-early_so disconnect f is same = err fault.OutOfPhase f same
-early_so abort f is same = absurd is
-early_so (transfer user) f is same = err fault.OutOfPhase f same
+early-so : (s : Spdu) (f : AssocFault) → IsEarly s → f ≡ fault.OutOfPhase → heard_idle s ≡ Err f
+early-so (connect user) f is same = absurd is
+early-so accept f is same = err fault.OutOfPhase f same
+early-so (finish user) f is same = err fault.OutOfPhase f same
+early-so disconnect f is same = err fault.OutOfPhase f same
+early-so abort f is same = absurd is
+early-so (transfer user) f is same = err fault.OutOfPhase f same
 
-late_so : (terms : AssociationTerms) (s : Spdu) (f : AssocFault) → IsLate s
+late-so : (terms : AssociationTerms) (s : Spdu) (f : AssocFault) → IsLate s
     → f ≡ fault.OutOfPhase → heard_open terms s ≡ Err f
-late_so terms (connect user) f is same = err fault.OutOfPhase f same
-late_so terms accept f is same = err fault.OutOfPhase f same
-late_so terms (finish user) f is same = absurd is
-late_so terms disconnect f is same = err fault.OutOfPhase f same
-late_so terms abort f is same = absurd is
-late_so terms (transfer user) f is same = absurd is
+late-so terms (connect user) f is same = err fault.OutOfPhase f same
+late-so terms accept f is same = err fault.OutOfPhase f same
+late-so terms (finish user) f is same = absurd is
+late-so terms disconnect f is same = err fault.OutOfPhase f same
+late-so terms abort f is same = absurd is
+late-so terms (transfer user) f is same = absurd is
 
-no_spdu_read : (octets : List ℕ) → IsBytes octets → ((s : Spdu) → IsSpdu octets s → ⊥)
+no-spdu-read : (octets : List ℕ) → IsBytes octets → ((s : Spdu) → IsSpdu octets s → ⊥)
     → spdu_in octets ≡ None
-no_spdu_read octets b lack =
-    unspelled (IsSpdu octets) (spdu_in octets) (λ s e. (spdu_back octets s b e).0) lack
+no-spdu-read octets b lack =
+    unspelled (IsSpdu octets) (spdu_in octets) (λ s e. (spdu-back octets s b e).0) lack
 
-user_bytes : (octets : List ℕ) (s : Spdu) → IsBytes octets → IsSpdu octets s → UserBytes s
-user_bytes octets s b is = (spdu_back octets s b (spdu_again octets s is)).1
+user-bytes : (octets : List ℕ) (s : Spdu) → IsBytes octets → IsSpdu octets s → UserBytes s
+user-bytes octets s b is = (spdu-back octets s b (spdu-again octets s is)).1
 
-no_user : (user : List ℕ) → IsBytes user → ((c : Carried) → IsUser user c → ⊥)
+no-user : (user : List ℕ) → IsBytes user → ((c : Carried) → IsUser user c → ⊥)
     → user_in user ≡ None
-no_user user b lack =
-    unspelled (IsUser user) (user_in user) (λ c e. (user_back user c b e).0) lack
+no-user user b lack =
+    unspelled (IsUser user) (user_in user) (λ c e. (user-back user c b e).0) lack
 
-first_so : (octets : List ℕ) (f : AssocFault) → IsBytes octets → IsRefusedFirst octets f
+first-so : (octets : List ℕ) (f : AssocFault) → IsBytes octets → IsRefusedFirst octets f
     → hearing Idle octets ≡ Err f
-unfolding hearing connected
-first_so octets f b (no_spdu lack same) =
-    rw (no_spdu_read octets b lack) (err fault.BadSession f same)
-first_so octets f b (early s spdu is same) =
-    rw (spdu_again octets s spdu) (early_so s f is same)
-first_so octets f b (no_request user spdu lack same) =
-    let d = user_bytes octets (connect user) b spdu in
+unfolding hearing connection_request
+first-so octets f b (no_spdu lack same) =
+    rw (no-spdu-read octets b lack) (err fault.BadSession f same)
+first-so octets f b (early s spdu is same) =
+    rw (spdu-again octets s spdu) (early-so s f is same)
+first-so octets f b (no_request user spdu lack same) =
+    let d = user-bytes octets (connect user) b spdu in
     rw (
-      spdu_again octets (connect user) spdu,
-      unspelled (IsRequest user) (request_in user) (λ r e. (request_back user r d e).0) lack,
+      spdu-again octets (connect user) spdu,
+      unspelled (IsRequest user) (request_in user) (λ r e. (request-back user r d e).0) lack,
     )
     (err fault.BadPresentation f same)
-first_so octets f b (disagrees user r spdu is why) =
-    let d = user_bytes octets (connect user) b spdu in
-    let v = (request_back user r d (request_read user r is)).1 in
+first-so octets f b (disagrees user r spdu is why) =
+    let d = user-bytes octets (connect user) b spdu in
+    let v = (request-back user r d (request-read user r is)).1 in
     rw (
-      spdu_again octets (connect user) spdu,
-      request_read user r is,
-      disagrees_so r.contexts r.user f v why,
+      spdu-again octets (connect user) spdu,
+      request-read user r is,
+      disagrees-so r.contexts r.user f v why,
     )
     refl
 
-later_so : (terms : AssociationTerms) (octets : List ℕ) (f : AssocFault) → IsBytes octets
+later-so : (terms : AssociationTerms) (octets : List ℕ) (f : AssocFault) → IsBytes octets
     → IsRefusedOpen terms.contexts octets f → hearing (Open terms) octets ≡ Err f
-unfolding hearing finished transferred
-later_so terms octets f b (no_spdu_later lack same) =
-    rw (no_spdu_read octets b lack) (err fault.BadSession f same)
-later_so terms octets f b (late s spdu is same) =
-    rw (spdu_again octets s spdu) (late_so terms s f is same)
-later_so terms octets f b (no_release_user user spdu lack same) =
-    let d = user_bytes octets (finish (Some user)) b spdu in
-    rw (spdu_again octets (finish (Some user)) spdu, no_user user d lack)
+unfolding hearing release_request data_transfer
+later-so terms octets f b (no_spdu_later lack same) =
+    rw (no-spdu-read octets b lack) (err fault.BadSession f same)
+later-so terms octets f b (late s spdu is same) =
+    rw (spdu-again octets s spdu) (late-so terms s f is same)
+later-so terms octets f b (no_release_user user spdu lack same) =
+    let d = user-bytes octets (finish (Some user)) b spdu in
+    rw (spdu-again octets (finish (Some user)) spdu, no-user user d lack)
     (err fault.BadPresentation f same)
-later_so terms octets f b (release_elsewhere user c spdu is away same) =
+later-so terms octets f b (release_elsewhere user c spdu is away same) =
     rw (
-      spdu_again octets (finish (Some user)) spdu,
-      user_read user c is,
-      not_there c.id terms.contexts.acse away.not_acse,
-      not_there c.id terms.contexts.mms away.not_mms,
+      spdu-again octets (finish (Some user)) spdu,
+      user-read user c is,
+      not-there c.id terms.contexts.acse away.not_acse,
+      not-there c.id terms.contexts.mms away.not_mms,
     )
     (err fault.NoContext f same)
-later_so terms octets f b (release_in_mms user c spdu is lack has same) =
+later-so terms octets f b (release_in_mms user c spdu is lack has same) =
     rw (
-      spdu_again octets (finish (Some user)) spdu,
-      user_read user c is,
-      not_there c.id terms.contexts.acse lack,
+      spdu-again octets (finish (Some user)) spdu,
+      user-read user c is,
+      not-there c.id terms.contexts.acse lack,
       is_there c.id terms.contexts.mms has,
     )
     (err fault.BadAcse f same)
-later_so terms octets f b (no_release user c spdu is has lack same) =
-    let d = user_bytes octets (finish (Some user)) b spdu in
-    let v = (user_back user c d (user_read user c is)).1 in
+later-so terms octets f b (no_release user c spdu is has lack same) =
+    let d = user-bytes octets (finish (Some user)) b spdu in
+    let v = (user-back user c d (user-read user c is)).1 in
     rw (
-      spdu_again octets (finish (Some user)) spdu,
-      user_read user c is,
+      spdu-again octets (finish (Some user)) spdu,
+      user-read user c is,
       is_there c.id terms.contexts.acse has,
       unspelled (λ (y : List ℕ). IsRelease c.value) (release_in c.value)
-          (λ y e. release_back c.value y v e) (λ y r. lack r),
+          (λ y e. release-back c.value y v e) (λ y r. lack r),
     )
     (err fault.BadAcse f same)
-later_so terms octets f b (no_data_user user spdu lack same) =
-    let d = user_bytes octets (transfer user) b spdu in
-    rw (spdu_again octets (transfer user) spdu, no_user user d lack)
+later-so terms octets f b (no_data_user user spdu lack same) =
+    let d = user-bytes octets (transfer user) b spdu in
+    rw (spdu-again octets (transfer user) spdu, no-user user d lack)
     (err fault.BadPresentation f same)
-later_so terms octets f b (data_elsewhere user c spdu is away same) =
+later-so terms octets f b (data_elsewhere user c spdu is away same) =
     rw (
-      spdu_again octets (transfer user) spdu,
-      user_read user c is,
-      not_there c.id terms.contexts.mms away.not_mms,
-      not_there c.id terms.contexts.acse away.not_acse,
+      spdu-again octets (transfer user) spdu,
+      user-read user c is,
+      not-there c.id terms.contexts.mms away.not_mms,
+      not-there c.id terms.contexts.acse away.not_acse,
     )
     (err fault.NoContext f same)
-later_so terms octets f b (data_in_acse user c spdu is lack has same) =
+later-so terms octets f b (data_in_acse user c spdu is lack has same) =
     rw (
-      spdu_again octets (transfer user) spdu,
-      user_read user c is,
-      not_there c.id terms.contexts.mms lack,
+      spdu-again octets (transfer user) spdu,
+      user-read user c is,
+      not-there c.id terms.contexts.mms lack,
       is_there c.id terms.contexts.acse has,
     )
     (err fault.BadAcse f same)
 
-pub spelled_is_refused : (phase : Phase) (octets : List ℕ) (f : AssocFault) → IsBytes octets
+pub spelled-is-refused : (phase : Phase) (octets : List ℕ) (f : AssocFault) → IsBytes octets
     → IsRefused phase octets f → hearing phase octets ≡ Err f
 unfolding hearing
-spelled_is_refused Idle octets f b is = first_so octets f b is
-spelled_is_refused (Open terms) octets f b is = later_so terms octets f b is
-spelled_is_refused Over octets f b is = err fault.OutOfPhase f is
-spelled_is_refused Failed octets f b is = err fault.Failed f is
+spelled-is-refused Idle octets f b is = first-so octets f b is
+spelled-is-refused (Open terms) octets f b is = later-so terms octets f b is
+spelled-is-refused Over octets f b is = err fault.OutOfPhase f is
+spelled-is-refused Failed octets f b is = err fault.Failed f is

@@ -4,7 +4,7 @@ use Rattle.std.proofs.lemmas.List.{drop_all, drop_more, length-append}
 use Rattle.std.specs.Borrow.{Bor}
 use Rattle.std.specs.Option.{ForSome, option_map}
 use Rattle.bay_ber.specs.declared.tag.Tag.{Tag}
-use Rattle.bay_ber.specs.Sheets.{Sheet, put}
+use Rattle.bay_ber.specs.Sheets.{Sheet, sheet_with}
 use Rattle.bay_ber.specs.Writing.{element, integer_octets, length_octets}
 use Rattle.bay_ber.proofs.SheetLemmas.{put_nil, put-put}
 use Rattle.bay_ber.proofs.SizeLemmas.{length-element, length-integer_octets}
@@ -16,26 +16,28 @@ use Rattle.bay_assoc.specs.declared.hearing.Accepted.{Accepted}
 
 -- ---- the results, one behind another
 
-pub each_next : (writer new whole : Sheet) (a : Accepted) (cs : List Context) (i : ℕ) (d : Context)
-    → i < length cs → new ≡ put writer (result_text a (get_or cs i d))
-    → put writer (results_text a (drop i cs)) ≡ whole
-    → put new (results_text a (drop (i + 1) cs)) ≡ whole
-each_next writer new whole a cs i d lt added all =
+pub each-next : (writer new whole : Sheet) (a : Accepted) (cs : List Context) (i : ℕ) (d : Context)
+    → i < length cs → new ≡ sheet_with writer (result_text a (get_or cs i d))
+    → sheet_with writer (results_text a (drop i cs)) ≡ whole
+    → sheet_with new (results_text a (drop (i + 1) cs)) ≡ whole
+each-next writer new whole a cs i d lt added all =
     let rest = results_text a (drop (i + 1) cs) in
-    ap (λ (s : Sheet). put s rest) added ∙ put-put writer (result_text a (get_or cs i d)) rest
-    ∙ ap (λ (xs : List Context). put writer (results_text a xs)) (sym (drop_more cs i d lt)) ∙ all
+    ap (λ (s : Sheet). sheet_with s rest) added
+    ∙ put-put writer (result_text a (get_or cs i d)) rest
+    ∙ ap (λ (xs : List Context). sheet_with writer (results_text a xs)) (sym (drop_more cs i d lt))
+    ∙ all
 
-pub each_end : (writer whole : Sheet) (a : Accepted) (cs : List Context) (i : ℕ) → length cs ≤ i
-    → put writer (results_text a (drop i cs)) ≡ whole → writer ≡ whole
-each_end writer whole a cs i past all =
-    sym (put_nil writer) ∙ ap (λ (xs : List Context). put writer (results_text a xs))
+pub each-end : (writer whole : Sheet) (a : Accepted) (cs : List Context) (i : ℕ) → length cs ≤ i
+    → sheet_with writer (results_text a (drop i cs)) ≡ whole → writer ≡ whole
+each-end writer whole a cs i past all =
+    sym (put_nil writer) ∙ ap (λ (xs : List Context). sheet_with writer (results_text a xs))
     (sym (drop_all i cs past)) ∙ all
 
 -- ---- lengths
 
-carried_short : (tag : Tag) (id : ℕ) (value : List ℕ)
+carried-short : (tag : Tag) (id : ℕ) (value : List ℕ)
     → length (carried_text tag id value) ≤ length value + 26
-carried_short tag id value =
+carried-short tag id value =
     let number = element int_tag (integer_octets (pos id)) in
     let held = element (constructed 0) value in
     omega (
@@ -47,12 +49,12 @@ carried_short tag id value =
       length-element (constructed 0) value,
     )
 
-pub user_short : (id : ℕ) (value : List ℕ) → length (user_text id value) ≤ length value + 32
-user_short id value =
+pub user-short : (id : ℕ) (value : List ℕ) → length (user_text id value) ≤ length value + 32
+user-short id value =
     omega (
       arith,
       length-element (application 1) (carried_text sequence id value),
-      carried_short sequence id value,
+      carried-short sequence id value,
     )
 
 abbrev accepted : List ℕ
@@ -61,24 +63,24 @@ accepted = 0x80 ∷ 0x01 ∷ 0x00 ∷ 0x81 ∷ 0x02 ∷ 0x51 ∷ 0x01 ∷ []
 abbrev rejected : List ℕ
 rejected = 0x80 ∷ 0x01 ∷ 0x02 ∷ []
 
-chosen_short : (b : Bool) → length (cond b accepted rejected) ≤ 7
-chosen_short true = omega arith
-chosen_short false = omega arith
+chosen-short : (b : Bool) → length (cond b accepted rejected) ≤ 7
+chosen-short true = omega arith
+chosen-short false = omega arith
 
-one_short : (a : Accepted) (c : Context) → length (result_text a c) ≤ 13
-one_short a c =
+one-short : (a : Accepted) (c : Context) → length (result_text a c) ≤ 13
+one-short a c =
     let b = (c.id == a.acse) || (c.id == a.mms) in
-    omega (arith, length-element sequence (cond b accepted rejected), chosen_short b)
+    omega (arith, length-element sequence (cond b accepted rejected), chosen-short b)
 
-results_short : (a : Accepted) (cs : List Context)
+results-short : (a : Accepted) (cs : List Context)
     → length (results_text a cs) ≤ 13 * length cs
-results_short a [] = omega arith
-results_short a (c ∷ cs) =
+results-short a [] = omega arith
+results-short a (c ∷ cs) =
     omega (
       arith,
-      results_short a cs,
+      results-short a cs,
       length-append (result_text a c) (results_text a cs),
-      one_short a c,
+      one-short a c,
     )
 
 -- a selector that came has at most 16 octets
@@ -92,14 +94,14 @@ pub at_most_16 : (called : Option (Bor (List ℕ)))
 at_most_16 None few = tt
 at_most_16 (Some octets) few = few octets refl
 
-selector_short : (called : Option (List ℕ)) → most_16 called → length (selector_text called) ≤ 22
-selector_short None few = omega arith
-selector_short (Some octets) few = omega (arith, few, length-element (context 3) octets)
+selector-short : (called : Option (List ℕ)) → most_16 called → length (selector_text called) ≤ 22
+selector-short None few = omega arith
+selector-short (Some octets) few = omega (arith, few, length-element (context 3) octets)
 
-pub connected_short : (called : Option (List ℕ)) (cs : List Context) (a : Accepted) (value : List ℕ)
+pub connected-short : (called : Option (List ℕ)) (cs : List Context) (a : Accepted) (value : List ℕ)
     → most_16 called → length cs ≤ 16 → length value ≤ 271
     → length (connected_text called cs a value) ≤ 560
-connected_short called cs a value few most short =
+connected-short called cs a value few most short =
     let mode = element (constructed 0) (0x80 ∷ 0x01 ∷ 0x01 ∷ []) in
     let list = element (constructed 5) (results_text a cs) in
     let user = user_text a.acse value in
@@ -114,18 +116,18 @@ connected_short called cs a value few most short =
       length-append selector (list ++ user),
       length-append list user,
       length-element (constructed 5) (results_text a cs),
-      results_short a cs,
-      selector_short called few,
-      user_short a.acse value,
+      results-short a cs,
+      selector-short called few,
+      user-short a.acse value,
     )
 
-oid_seven : length (element oid_tag mms_application) ≡ 7
+oid-seven : length (element oid_tag mms_application) ≡ 7
 unfolding element length_octets
-oid_seven = refl
+oid-seven = refl
 
-pub associated_short : (mms : ℕ) (pdu : List ℕ) → length pdu ≤ 200
+pub associated-short : (mms : ℕ) (pdu : List ℕ) → length pdu ≤ 200
     → length (associated_text mms pdu) ≤ 271
-associated_short mms pdu short =
+associated-short mms pdu short =
     let name = element (constructed 1) (element oid_tag mms_application) in
     let done = element (constructed 2) (0x02 ∷ 0x01 ∷ 0x00 ∷ []) in
     let source = element (constructed 3) (0xA1 ∷ 0x03 ∷ 0x02 ∷ 0x01 ∷ 0x00 ∷ []) in
@@ -137,17 +139,17 @@ associated_short mms pdu short =
       length-append done (source ++ information),
       length-append source information,
       length-element (constructed 1) (element oid_tag mms_application),
-      oid_seven,
+      oid-seven,
       length-element (constructed 2) (0x02 ∷ 0x01 ∷ 0x00 ∷ []),
       length-element (constructed 3) (0xA1 ∷ 0x03 ∷ 0x02 ∷ 0x01 ∷ 0x00 ∷ []),
       length-element (constructed 30) (carried_text external_tag mms pdu),
-      carried_short external_tag mms pdu,
+      carried-short external_tag mms pdu,
     )
 
-pub released_short : (acse : ℕ) → length (user_text acse release_text) ≤ 41
-released_short acse =
+pub released-short : (acse : ℕ) → length (user_text acse release_text) ≤ 41
+released-short acse =
     omega (
       arith,
-      user_short acse release_text,
+      user-short acse release_text,
       length-element (application 3) (0x80 ∷ 0x01 ∷ 0x00 ∷ []),
     )

@@ -11,24 +11,24 @@ use Rattle.bay_ber.specs.Tags.{same_tag}
 use Rattle.bay_ber.specs.Values.{Part, value, SpellAll, value_in, few_in, all_of, each_in, known_in, under}
 use Rattle.bay_ber.proofs.ReadLemmas.{IsBytes}
 use Rattle.bay_ber.proofs.ContentLemmas.{both}
-use Rattle.bay_ber.proofs.BackLemmas.{bind_some, some_is, AllBytes, tag_is, guard_true, guard_false, under_is, integer_back, one_back, one_under, few_back, known_back, each_back}
+use Rattle.bay_ber.proofs.BackLemmas.{bind-some, some-is, AllBytes, tag-is, guard-true, guard-false, under-is, integer-back, one-back, one-under, few-back, known-back, each-back}
 use Rattle.bay_mms.specs.Spelled.{AreEach}
-use Rattle.bay_mms.proofs.EachLemmas.{each_listed}
+use Rattle.bay_mms.proofs.EachLemmas.{each-listed}
 use Rattle.bay_mms.specs.Tags.{context, constructed, sequence, int_tag}
 use Rattle.bay_assoc.specs.Tags.{oid_tag, set_tag, external_tag, application, acse_syntax, mms_syntax, ber_syntax, mms_application}
 use Rattle.bay_assoc.specs.declared.presentation.Context.{Context}
-use Rattle.bay_assoc.specs.Presentation.{integer_under, is_ber, offers_ber, context_id, context_with, context_of, context_as, are_distinct, limited, contexts_in, Carried, carried_as, carried_of, carried_in, carried_under, user_in, Connect, selector_of, selector_as, connect_with, connect_of, normal_in, normal_as, mode_of, mode_as, request_of, request_in}
+use Rattle.bay_assoc.specs.Presentation.{integer_under, is_ber, offers_ber, context_id, context_with, context_of, context_as, are_distinct, few_contexts, contexts_in, Carried, carried_as, carried_of, carried_in, carried_under, user_in, Connect, selector_of, selector_as, connect_with, connect_of, normal_in, normal_as, mode_of, mode_as, request_of, request_in}
 use Rattle.bay_assoc.specs.Acse.{application_of, application_as, information_as, associate_of, associate_in, release_in}
 use Rattle.bay_assoc.specs.SpelledValues.{IsCarried, IsListed, IsUser, IsContext, IsOffer, IsSelectors, IsNormal, IsMode, IsRequest, IsAssociate, IsRelease}
-use Rattle.bay_assoc.proofs.ValueLemmas.{any_map}
+use Rattle.bay_assoc.proofs.ValueLemmas.{any-map}
 
 -- an integer under its tag
-pub number_back : (p : Part) (z : ℤ) → integer_under p ≡ Some z
+pub number-back : (p : Part) (z : ℤ) → integer_under p ≡ Some z
     → (number : List ℕ) × (p ≡ value int_tag number) × IsInteger number z
 unfolding integer_under
-number_back p z e =
-    let x = bind_some (under int_tag p) integer_in z e in
-    (x.0, under_is int_tag p x.0 x.1, integer_back x.0 z x.2)
+number-back p z e =
+    let x = bind-some (under int_tag p) integer_in z e in
+    (x.0, under-is int_tag p x.0 x.1, integer-back x.0 z x.2)
 
 -- ---- presentation data values
 
@@ -38,32 +38,32 @@ pub record Pair (id v : Part) (c : Carried) : Type 0 where
   pub is_number : IsInteger number c.id
   pub is_value : v ≡ value (constructed 0) c.value
 
-pair_back : (id v : Part) (c : Carried) → carried_as id v ≡ Some c → Pair id v c
+pair-back : (id v : Part) (c : Carried) → carried_as id v ≡ Some c → Pair id v c
 unfolding carried_as
-pair_back id v c e =
-    let x = bind_some (integer_under id) _ c e in
-    let y = bind_some (under (constructed 0) v) _ c x.2 in
+pair-back id v c e =
+    let x = bind-some (integer_under id) _ c e in
+    let y = bind-some (under (constructed 0) v) _ c x.2 in
     let made : Carried = record { id = x.0; value = y.0 } in
-    let same : made ≡ c = some_is made c y.2 in
-    let n = number_back id x.0 x.1 in
+    let same : made ≡ c = some-is made c y.2 in
+    let n = number-back id x.0 x.1 in
     record {
       number = n.0;
       is_id = n.1;
       is_number = subst (IsInteger n.0) (ap (λ (d : Carried). d.id) same) n.2;
       is_value =
-          under_is (constructed 0) v y.0 y.1
+          under-is (constructed 0) v y.0 y.1
           ∙ ap (λ (d : Carried). value (constructed 0) d.value) same;
     }
 
-pair_value : (id v : Part) (c : Carried) → Pair id v c → IsBytes v.content → IsBytes c.value
-pair_value id v c p b = subst IsBytes (ap (λ (x : Part). x.content) p.is_value) b
+pair-value : (id v : Part) (c : Carried) → Pair id v c → IsBytes v.content → IsBytes c.value
+pair-value id v c p b = subst IsBytes (ap (λ (x : Part). x.content) p.is_value) b
 
-carried_parts : (octets : List ℕ) (parts : List Part) (c : Carried) → SpellAll octets parts
+carried-parts : (octets : List ℕ) (parts : List Part) (c : Carried) → SpellAll octets parts
     → AllBytes parts → carried_of parts ≡ Some c → IsCarried octets c × IsBytes c.value
-carried_parts octets [] c s b e = absurd cc
-carried_parts octets (id ∷ []) c s b e = absurd cc
-carried_parts octets (id ∷ v ∷ []) c s b e =
-    let p = pair_back id v c e in (
+carried-parts octets [] c s b e = absurd cc
+carried-parts octets (id ∷ []) c s b e = absurd cc
+carried-parts octets (id ∷ v ∷ []) c s b e =
+    let p = pair-back id v c e in (
       record {
         names = [];
         number = p.number;
@@ -72,66 +72,66 @@ carried_parts octets (id ∷ v ∷ []) c s b e =
             (subst (λ (x : Part). SpellAll octets (x ∷ v ∷ [])) p.is_id s);
         is = p.is_number;
       },
-      pair_value id v c p b.1.0,
+      pair-value id v c p b.1.0,
     )
-carried_parts octets (name ∷ id ∷ v ∷ []) c s b e =
-    let x = bind_some (under oid_tag name) (λ ignored. carried_as id v) c e in
-    let p = pair_back id v c x.2 in (
+carried-parts octets (name ∷ id ∷ v ∷ []) c s b e =
+    let x = bind-some (under oid_tag name) (λ ignored. carried_as id v) c e in
+    let p = pair-back id v c x.2 in (
       record {
         names = name ∷ [];
         number = p.number;
-        is_name = ap (λ (q : Part). q.tag) (under_is oid_tag name x.0 x.1);
+        is_name = ap (λ (q : Part). q.tag) (under-is oid_tag name x.0 x.1);
         parts = subst (λ (q : Part). SpellAll octets (name ∷ value int_tag p.number ∷ q ∷ []))
             p.is_value (subst (λ (q : Part). SpellAll octets (name ∷ q ∷ v ∷ [])) p.is_id s);
         is = p.is_number;
       },
-      pair_value id v c p b.1.1.0,
+      pair-value id v c p b.1.1.0,
     )
-carried_parts octets (name ∷ id ∷ v ∷ next ∷ parts) c s b e = absurd cc
+carried-parts octets (name ∷ id ∷ v ∷ next ∷ parts) c s b e = absurd cc
 
-carried_back : (octets : List ℕ) (c : Carried) → IsBytes octets
+carried-back : (octets : List ℕ) (c : Carried) → IsBytes octets
     → (few_in octets >>= carried_of) ≡ Some c → IsCarried octets c × IsBytes c.value
-carried_back octets c b e =
-    let x = bind_some (few_in octets) carried_of c e in
-    let f = few_back octets x.0 b x.1 in
-    carried_parts octets x.0 c f.0 f.1 x.2
+carried-back octets c b e =
+    let x = bind-some (few_in octets) carried_of c e in
+    let f = few-back octets x.0 b x.1 in
+    carried-parts octets x.0 c f.0 f.1 x.2
 
 -- few values in the one under a tag
-inner_back : (tag : Tag) (octets : List ℕ) (c : Carried) → IsBytes octets
+inner-back : (tag : Tag) (octets : List ℕ) (c : Carried) → IsBytes octets
     → (value_in octets >>= under tag >>= few_in >>= carried_of) ≡ Some c
     → (content : List ℕ) × SpellAll octets (value tag content ∷ []) × IsCarried content c
     × IsBytes c.value
-inner_back tag octets c b e =
-    let x = bind_some (value_in octets >>= under tag >>= few_in) carried_of c e in
-    let y = bind_some (value_in octets >>= under tag) few_in x.0 x.1 in
-    let one = one_under tag octets y.0 b y.1 in
+inner-back tag octets c b e =
+    let x = bind-some (value_in octets >>= under tag >>= few_in) carried_of c e in
+    let y = bind-some (value_in octets >>= under tag) few_in x.0 x.1 in
+    let one = one-under tag octets y.0 b y.1 in
     let carried =
-    carried_back y.0 c one.1 (ap (λ (o : Option (List Part)). o >>= carried_of) y.2 ∙ x.2) in
+    carried-back y.0 c one.1 (ap (λ (o : Option (List Part)). o >>= carried_of) y.2 ∙ x.2) in
     (y.0, one.0, carried.0, carried.1)
 
-listed_back : (octets : List ℕ) (c : Carried) → IsBytes octets → carried_in octets ≡ Some c
+listed-back : (octets : List ℕ) (c : Carried) → IsBytes octets → carried_in octets ≡ Some c
     → IsListed octets c × IsBytes c.value
 unfolding carried_in
-listed_back octets c b e =
-    let x = inner_back sequence octets c b e in
+listed-back octets c b e =
+    let x = inner-back sequence octets c b e in
     (record { content = x.0; whole = x.1; carried = x.2 }, x.3)
 
-under_back : (p : Part) (c : Carried) → IsBytes p.content → carried_under p ≡ Some c
+under-back : (p : Part) (c : Carried) → IsBytes p.content → carried_under p ≡ Some c
     → (octets : List ℕ) × (p ≡ value (application 1) octets) × IsListed octets c × IsBytes c.value
 unfolding carried_under
-under_back p c b e =
-    let x = bind_some (under (application 1) p) carried_in c e in
-    let same = under_is (application 1) p x.0 x.1 in
-    let l = listed_back x.0 c (subst IsBytes (ap (λ (q : Part). q.content) same) b) x.2 in
+under-back p c b e =
+    let x = bind-some (under (application 1) p) carried_in c e in
+    let same = under-is (application 1) p x.0 x.1 in
+    let l = listed-back x.0 c (subst IsBytes (ap (λ (q : Part). q.content) same) b) x.2 in
     (x.0, same, l.0, l.1)
 
-pub user_back : (octets : List ℕ) (c : Carried) → IsBytes octets → user_in octets ≡ Some c
+pub user-back : (octets : List ℕ) (c : Carried) → IsBytes octets → user_in octets ≡ Some c
     → IsUser octets c × IsBytes c.value
 unfolding user_in
-user_back octets c b e =
-    let x = bind_some (value_in octets) carried_under c e in
-    let one = one_back octets x.0 b x.1 in
-    let u = under_back x.0 c one.1 x.2 in (
+user-back octets c b e =
+    let x = bind-some (value_in octets) carried_under c e in
+    let one = one-back octets x.0 b x.1 in
+    let u = under-back x.0 c one.1 x.2 in (
       record {
         content = u.0;
         whole = subst (λ (p : Part). SpellAll octets (p ∷ [])) u.1 one.0;
@@ -147,22 +147,22 @@ record Transfers (parts : List Part) (flags : List Bool) : Type 0 where
   are : parts ≡ map (value oid_tag) names
   is : flags ≡ map (λ t. bytes_eq t ber_syntax) names
 
-flag_back : (p : Part) (flag : Bool) → is_ber p ≡ Some flag
+flag-back : (p : Part) (flag : Bool) → is_ber p ≡ Some flag
     → (name : List ℕ) × (p ≡ value oid_tag name) × (flag ≡ bytes_eq name ber_syntax)
 unfolding is_ber
-flag_back p flag e =
-    let x = bind_some (under oid_tag p) (λ name. Some (bytes_eq name ber_syntax)) flag e in
-    (x.0, under_is oid_tag p x.0 x.1, sym (some_is (bytes_eq x.0 ber_syntax) flag x.2))
+flag-back p flag e =
+    let x = bind-some (under oid_tag p) (λ name. Some (bytes_eq name ber_syntax)) flag e in
+    (x.0, under-is oid_tag p x.0 x.1, sym (some-is (bytes_eq x.0 ber_syntax) flag x.2))
 
-transfers_back : (parts : List Part) (flags : List Bool) → all_of is_ber parts ≡ Some flags
+transfers-back : (parts : List Part) (flags : List Bool) → all_of is_ber parts ≡ Some flags
     → Transfers parts flags
-transfers_back [] flags e = record { names = []; are = refl; is = sym (some_is [] flags e) }
-transfers_back (p ∷ parts) flags e =
-    let x = bind_some (is_ber p) (λ flag. all_of is_ber parts >>= λ xs. Some (flag ∷ xs)) flags e in
-    let y = bind_some (all_of is_ber parts) (λ xs. Some (x.0 ∷ xs)) flags x.2 in
-    let first = flag_back p x.0 x.1 in
-    let more = transfers_back parts y.0 y.1 in
-    let whole = some_is (x.0 ∷ y.0) flags y.2 in
+transfers-back [] flags e = record { names = []; are = refl; is = sym (some-is [] flags e) }
+transfers-back (p ∷ parts) flags e =
+    let x = bind-some (is_ber p) (λ flag. all_of is_ber parts >>= λ xs. Some (flag ∷ xs)) flags e in
+    let y = bind-some (all_of is_ber parts) (λ xs. Some (x.0 ∷ xs)) flags x.2 in
+    let first = flag-back p x.0 x.1 in
+    let more = transfers-back parts y.0 y.1 in
+    let whole = some-is (x.0 ∷ y.0) flags y.2 in
     record {
       names = first.0 ∷ more.names;
       are = ap (λ (q : Part). q ∷ parts) first.1
@@ -171,53 +171,53 @@ transfers_back (p ∷ parts) flags e =
           ∙ ap (λ (bs : List Bool). bytes_eq first.0 ber_syntax ∷ bs) more.is;
     }
 
-offers_back : (list : List ℕ) (ber : Bool) → IsBytes list → offers_ber list ≡ Some ber
+offers-back : (list : List ℕ) (ber : Bool) → IsBytes list → offers_ber list ≡ Some ber
     → (transfers : List (List ℕ)) × SpellAll list (map (value oid_tag) transfers)
     × (ber ≡ list_any (λ t. bytes_eq t ber_syntax) transfers)
 unfolding offers_ber
-offers_back list ber b e =
-    let x = bind_some (each_in is_ber list) (λ each. Some (list_any (λ f. f) each)) ber e in
-    let each = each_back is_ber list x.0 b x.1 in
-    let t = transfers_back each.parts x.0 each.all in (
+offers-back list ber b e =
+    let x = bind-some (each_in is_ber list) (λ each. Some (list_any (λ f. f) each)) ber e in
+    let each = each-back is_ber list x.0 b x.1 in
+    let t = transfers-back each.parts x.0 each.all in (
       t.names,
       subst (SpellAll list) t.are each.spelled,
-      sym (some_is (list_any (λ f. f) x.0) ber x.2) ∙ ap (list_any (λ f. f)) t.is
-          ∙ any_map t.names,
+      sym (some-is (list_any (λ f. f) x.0) ber x.2) ∙ ap (list_any (λ f. f)) t.is
+          ∙ any-map t.names,
     )
 
-id_back : (z : ℤ) (n : ℕ) → context_id z ≡ Some n → (z ≡ pos n) × (0 < n) × (n < 32768)
-id_back (pos m) n e =
-    let g = guard_true (ltb 0 m && ltb m 32768) m n e in
+id-back : (z : ℤ) (n : ℕ) → context_id z ≡ Some n → (z ≡ pos n) × (0 < n) × (n < 32768)
+id-back (pos m) n e =
+    let g = guard-true (ltb 0 m && ltb m 32768) m n e in
     let h = both (ltb 0 m) (ltb m 32768) g.0 in (
       ap (λ (k : ℕ). pos k) g.1,
       subst (λ (k : ℕ). 0 < k) g.1 (ltb-true 0 m h.0),
       subst (λ (k : ℕ). k < 32768) g.1 (ltb-true m 32768 h.1),
     )
-id_back (negsuc m) n e = absurd cc
+id-back (negsuc m) n e = absurd cc
 
-context_with_back : (octets : List ℕ) (id syntax transfers : Part) (c : Context)
+context-with-back : (octets : List ℕ) (id syntax transfers : Part) (c : Context)
     → SpellAll octets (id ∷ syntax ∷ transfers ∷ []) → IsBytes transfers.content
     → context_with id syntax transfers ≡ Some c → IsContext octets c
 unfolding context_with
-context_with_back octets id syntax transfers c s b e =
-    let z = bind_some (integer_under id) _ c e in
-    let n = bind_some (context_id z.0) _ c z.2 in
-    let name = bind_some (under oid_tag syntax) _ c n.2 in
-    let list = bind_some (under sequence transfers) _ c name.2 in
-    let ber = bind_some (offers_ber list.0) _ c list.2 in
+context-with-back octets id syntax transfers c s b e =
+    let z = bind-some (integer_under id) _ c e in
+    let n = bind-some (context_id z.0) _ c z.2 in
+    let name = bind-some (under oid_tag syntax) _ c n.2 in
+    let list = bind-some (under sequence transfers) _ c name.2 in
+    let ber = bind-some (offers_ber list.0) _ c list.2 in
     let made : Context =
     record {
       id = n.0;
       is_acse = ber.0 && bytes_eq name.0 acse_syntax;
       is_mms = ber.0 && bytes_eq name.0 mms_syntax;
     } in
-    let same : made ≡ c = some_is made c ber.2 in
-    let number = number_back id z.0 z.1 in
-    let range = id_back z.0 n.0 n.1 in
-    let is_name = under_is oid_tag syntax name.0 name.1 in
-    let is_list = under_is sequence transfers list.0 list.1 in
+    let same : made ≡ c = some-is made c ber.2 in
+    let number = number-back id z.0 z.1 in
+    let range = id-back z.0 n.0 n.1 in
+    let is_name = under-is oid_tag syntax name.0 name.1 in
+    let is_list = under-is sequence transfers list.0 list.1 in
     let offers =
-    offers_back list.0 ber.0 (subst IsBytes (ap (λ (q : Part). q.content) is_list) b) ber.1 in
+    offers-back list.0 ber.0 (subst IsBytes (ap (λ (q : Part). q.content) is_list) b) ber.1 in
     subst (IsContext octets) same (record {
       number = number.0;
       name = name.0;
@@ -236,51 +236,51 @@ context_with_back octets id syntax transfers c s b e =
       is_mms = ap (λ (f : Bool). f && bytes_eq name.0 mms_syntax) offers.2;
     })
 
-context_parts : (octets : List ℕ) (parts : List Part) (c : Context) → SpellAll octets parts
+context-parts : (octets : List ℕ) (parts : List Part) (c : Context) → SpellAll octets parts
     → AllBytes parts → context_of parts ≡ Some c → IsContext octets c
-context_parts octets [] c s b e = absurd cc
-context_parts octets (p ∷ []) c s b e = absurd cc
-context_parts octets (p ∷ q ∷ []) c s b e = absurd cc
-context_parts octets (id ∷ syntax ∷ transfers ∷ []) c s b e =
-    context_with_back octets id syntax transfers c s b.1.1.0 e
-context_parts octets (p ∷ q ∷ r ∷ t ∷ parts) c s b e = absurd cc
+context-parts octets [] c s b e = absurd cc
+context-parts octets (p ∷ []) c s b e = absurd cc
+context-parts octets (p ∷ q ∷ []) c s b e = absurd cc
+context-parts octets (id ∷ syntax ∷ transfers ∷ []) c s b e =
+    context-with-back octets id syntax transfers c s b.1.1.0 e
+context-parts octets (p ∷ q ∷ r ∷ t ∷ parts) c s b e = absurd cc
 
-context_back : (p : Part) (c : Context) → IsBytes p.content → context_as p ≡ Some c
+context-back : (p : Part) (c : Context) → IsBytes p.content → context_as p ≡ Some c
     → (octets : List ℕ) × (p ≡ value sequence octets) × IsContext octets c
 unfolding context_as
-context_back p c b e =
-    let x = bind_some (under sequence p >>= few_in) context_of c e in
-    let y = bind_some (under sequence p) few_in x.0 x.1 in
-    let same = under_is sequence p y.0 y.1 in
-    let f = few_back y.0 x.0 (subst IsBytes (ap (λ (q : Part). q.content) same) b) y.2 in
-    (y.0, same, context_parts y.0 x.0 c f.0 f.1 x.2)
+context-back p c b e =
+    let x = bind-some (under sequence p >>= few_in) context_of c e in
+    let y = bind-some (under sequence p) few_in x.0 x.1 in
+    let same = under-is sequence p y.0 y.1 in
+    let f = few-back y.0 x.0 (subst IsBytes (ap (λ (q : Part). q.content) same) b) y.2 in
+    (y.0, same, context-parts y.0 x.0 c f.0 f.1 x.2)
 
-limits_back : (given contexts : List Context) → limited given ≡ Some contexts
+limits-back : (given contexts : List Context) → few_contexts given ≡ Some contexts
     → (given ≡ contexts) × (length contexts ≤ 16) × (are_distinct contexts ≡ true)
-limits_back given contexts e =
-    let g = guard_false_then (ltb 16 (length given)) _ contexts e in
-    let h = guard_true (are_distinct given) given contexts g.1 in
+limits-back given contexts e =
+    let g = guard-false-then (ltb 16 (length given)) _ contexts e in
+    let h = guard-true (are_distinct given) given contexts g.1 in
     let few = ltb-false 16 (length given) g.0 in (
       h.1,
       subst (λ (cs : List Context). length cs ≤ 16) h.1 (omega arith),
       subst (λ (cs : List Context). are_distinct cs ≡ true) h.1 h.0,
     )
   where
-    guard_false_then : {A : Type 0} (b : Bool) (o : Option A) (y : A) → cond b None o ≡ Some y
+    guard-false-then : {A : Type 0} (b : Bool) (o : Option A) (y : A) → cond b None o ≡ Some y
         → (b ≡ false) × (o ≡ Some y)
-    guard_false_then true o y f = absurd cc
-    guard_false_then false o y f = (refl, f)
+    guard-false-then true o y f = absurd cc
+    guard-false-then false o y f = (refl, f)
 
-offer_back : (octets : List ℕ) (contexts : List Context) → IsBytes octets
+offer-back : (octets : List ℕ) (contexts : List Context) → IsBytes octets
     → contexts_in octets ≡ Some contexts → IsOffer octets contexts
 unfolding contexts_in
-offer_back octets contexts b e =
-    let x = bind_some (each_in context_as octets) limited contexts e in
-    let each = each_back context_as octets x.0 b x.1 in
+offer-back octets contexts b e =
+    let x = bind-some (each_in context_as octets) few_contexts contexts e in
+    let each = each-back context_as octets x.0 b x.1 in
     let lists =
-    each_listed context_as (value sequence) IsContext context_back each.parts x.0 each.bytes
+    each-listed context_as (value sequence) IsContext context-back each.parts x.0 each.bytes
     each.all in
-    let limit = limits_back x.0 contexts x.2 in
+    let limit = limits-back x.0 contexts x.2 in
     record {
       lists = lists.lists;
       parts = subst (SpellAll octets) lists.are each.spelled;
@@ -291,10 +291,10 @@ offer_back octets contexts b e =
 
 -- ---- the request for a connection
 
-selector_back : (octets called : List ℕ) → selector_of octets ≡ Some called
+selector-back : (octets called : List ℕ) → selector_of octets ≡ Some called
     → (octets ≡ called) × (length called ≤ 16)
-selector_back octets called e =
-    let g = guard_false (ltb 16 (length octets)) octets called e in
+selector-back octets called e =
+    let g = guard-false (ltb 16 (length octets)) octets called e in
     let few = ltb-false 16 (length octets) g.0 in
     (g.1, subst (λ (xs : List ℕ). length xs ≤ 16) g.1 (omega arith))
 
@@ -309,21 +309,21 @@ record Parts (selector : Option Part) (list user : Part) (c : Connect) : Type 0 
   listed : IsListed carried c.user
   bytes : IsBytes c.user.value
 
-parts_back : (selector : Option Part) (list user : Part) (c : Connect) → IsBytes list.content
+parts-back : (selector : Option Part) (list user : Part) (c : Connect) → IsBytes list.content
     → IsBytes user.content → connect_with selector list user ≡ Some c → Parts selector list user c
 unfolding connect_with
-parts_back selector list user c b d e =
-    let called = bind_some (selector_as selector) _ c e in
-    let octets = bind_some (under (constructed 4) list) _ c called.2 in
-    let contexts = bind_some (contexts_in octets.0) _ c octets.2 in
-    let carried = bind_some (carried_under user) _ c contexts.2 in
+parts-back selector list user c b d e =
+    let called = bind-some (selector_as selector) _ c e in
+    let octets = bind-some (under (constructed 4) list) _ c called.2 in
+    let contexts = bind-some (contexts_in octets.0) _ c octets.2 in
+    let carried = bind-some (carried_under user) _ c contexts.2 in
     let made : Connect = record { called = called.0; contexts = contexts.0; user = carried.0 } in
-    let same : made ≡ c = some_is made c carried.2 in
-    let is_list = under_is (constructed 4) list octets.0 octets.1 in
+    let same : made ≡ c = some-is made c carried.2 in
+    let is_list = under-is (constructed 4) list octets.0 octets.1 in
     let offer =
-    offer_back octets.0 contexts.0 (subst IsBytes (ap (λ (q : Part). q.content) is_list) b)
+    offer-back octets.0 contexts.0 (subst IsBytes (ap (λ (q : Part). q.content) is_list) b)
     contexts.1 in
-    let listed = under_back user carried.0 d carried.1 in
+    let listed = under-back user carried.0 d carried.1 in
     record {
       chosen = called.1 ∙ ap (λ (x : Connect). Some x.called) same;
       offered = octets.0;
@@ -346,26 +346,26 @@ record Knowns (known : List Part) (c : Connect) : Type 0 where
   listed : IsListed carried c.user
   bytes : IsBytes c.user.value
 
-both_fields : (front : List Part) (list user : Part) (offered carried : List ℕ)
+both-fields : (front : List Part) (list user : Part) (offered carried : List ℕ)
     → list ≡ value (constructed 4) offered → user ≡ value (application 1) carried
     → front ++ (list ∷ user ∷ [])
     ≡ front ++ (value (constructed 4) offered ∷ value (application 1) carried ∷ [])
-both_fields front list user offered carried e f =
+both-fields front list user offered carried e f =
     ap (λ (q : Part). front ++ (q ∷ user ∷ [])) e
     ∙ ap (λ (q : Part). front ++ (value (constructed 4) offered ∷ q ∷ [])) f
 
-none_called : (called : Option (List ℕ)) → selector_as None ≡ Some called → called ≡ None
-none_called called e = sym (some_is None called e)
+none-called : (called : Option (List ℕ)) → selector_as None ≡ Some called → called ≡ None
+none-called called e = sym (some-is None called e)
 
-known_none : (known front : List Part) (list user : Part) (c : Connect)
+known-none : (known front : List Part) (list user : Part) (c : Connect)
     → known ≡ front ++ (list ∷ user ∷ []) → Parts None list user c → (IsSelectors front None)
     → Knowns known c
-known_none known front list user c are p selects = record {
+known-none known front list user c are p selects = record {
   selectors = front;
   offered = p.offered;
   carried = p.carried;
-  are = are ∙ both_fields front list user p.offered p.carried p.is_list p.is_user;
-  selects = subst (IsSelectors front) (sym (none_called c.called p.chosen)) selects;
+  are = are ∙ both-fields front list user p.offered p.carried p.is_list p.is_user;
+  selects = subst (IsSelectors front) (sym (none-called c.called p.chosen)) selects;
   offer = p.offer;
   listed = p.listed;
   bytes = p.bytes;
@@ -377,31 +377,31 @@ record Called (p : Part) (called : Option (List ℕ)) : Type 0 where
   part : p ≡ value (context 2) octets
   short : length octets ≤ 16
 
-called_back : (p : Part) (called : Option (List ℕ)) → selector_as (Some p) ≡ Some called
+called-back : (p : Part) (called : Option (List ℕ)) → selector_as (Some p) ≡ Some called
     → Called p called
-called_back p called e =
-    let x = bind_some (under (context 2) p >>= selector_of) (λ octets. Some (Some octets)) called e
+called-back p called e =
+    let x = bind-some (under (context 2) p >>= selector_of) (λ octets. Some (Some octets)) called e
     in
-    let y = bind_some (under (context 2) p) selector_of x.0 x.1 in
-    let s = selector_back y.0 x.0 y.2 in
+    let y = bind-some (under (context 2) p) selector_of x.0 x.1 in
+    let s = selector-back y.0 x.0 y.2 in
     record {
       octets = x.0;
-      is = sym (some_is (Some x.0) called x.2);
-      part = under_is (context 2) p y.0 y.1 ∙ ap (value (context 2)) s.0;
+      is = sym (some-is (Some x.0) called x.2);
+      part = under-is (context 2) p y.0 y.1 ∙ ap (value (context 2)) s.0;
       short = s.1;
     }
 
-known_called : (known front : List Part) (selector list user : Part) (c : Connect)
+known-called : (known front : List Part) (selector list user : Part) (c : Connect)
     → known ≡ front ++ (list ∷ user ∷ []) → Parts (Some selector) list user c
     → ((octets : List ℕ) → selector ≡ value (context 2) octets → length octets ≤ 16
     → IsSelectors front (Some octets)) → Knowns known c
-known_called known front selector list user c are p selects =
-    let called = called_back selector c.called p.chosen in
+known-called known front selector list user c are p selects =
+    let called = called-back selector c.called p.chosen in
     record {
       selectors = front;
       offered = p.offered;
       carried = p.carried;
-      are = are ∙ both_fields front list user p.offered p.carried p.is_list p.is_user;
+      are = are ∙ both-fields front list user p.offered p.carried p.is_list p.is_user;
       selects =
           subst (IsSelectors front) (sym called.is)
           (selects called.octets called.part called.short);
@@ -410,46 +410,46 @@ known_called known front selector list user c are p selects =
       bytes = p.bytes;
     }
 
-one_selector : (selector list user : Part) (c : Connect) (b : Bool)
+one-selector : (selector list user : Part) (c : Connect) (b : Bool)
     → same_tag selector.tag (context 1) ≡ b → IsBytes list.content → IsBytes user.content
     → cond b (connect_with None list user) (connect_with (Some selector) list user) ≡ Some c
     → Knowns (selector ∷ list ∷ user ∷ []) c
-one_selector selector list user c true is b d e =
-    known_none (selector ∷ list ∷ user ∷ []) (selector ∷ []) list user c refl
-    (parts_back None list user c b d e) (tag_is selector.tag (context 1) is)
-one_selector selector list user c false is b d e =
-    known_called (selector ∷ list ∷ user ∷ []) (selector ∷ []) selector list user c refl
-    (parts_back (Some selector) list user c b d e) (λ octets p short. (p, short))
+one-selector selector list user c true is b d e =
+    known-none (selector ∷ list ∷ user ∷ []) (selector ∷ []) list user c refl
+    (parts-back None list user c b d e) (tag-is selector.tag (context 1) is)
+one-selector selector list user c false is b d e =
+    known-called (selector ∷ list ∷ user ∷ []) (selector ∷ []) selector list user c refl
+    (parts-back (Some selector) list user c b d e) (λ octets p short. (p, short))
 
-connect_parts : (known : List Part) (c : Connect) → AllBytes known → connect_of known ≡ Some c
+connect-parts : (known : List Part) (c : Connect) → AllBytes known → connect_of known ≡ Some c
     → Knowns known c
-connect_parts [] c b e = absurd cc
-connect_parts (p ∷ []) c b e = absurd cc
-connect_parts (list ∷ user ∷ []) c b e =
-    known_none (list ∷ user ∷ []) [] list user c refl (parts_back None list user c b.0 b.1.0 e) tt
-connect_parts (selector ∷ list ∷ user ∷ []) c b e =
-    one_selector selector list user c (same_tag selector.tag (context 1)) refl b.1.0 b.1.1.0 e
-connect_parts (calling ∷ called ∷ list ∷ user ∷ []) c b e =
-    let x = bind_some (under (context 1) calling) (λ ignored. connect_with (Some called) list user)
+connect-parts [] c b e = absurd cc
+connect-parts (p ∷ []) c b e = absurd cc
+connect-parts (list ∷ user ∷ []) c b e =
+    known-none (list ∷ user ∷ []) [] list user c refl (parts-back None list user c b.0 b.1.0 e) tt
+connect-parts (selector ∷ list ∷ user ∷ []) c b e =
+    one-selector selector list user c (same_tag selector.tag (context 1)) refl b.1.0 b.1.1.0 e
+connect-parts (calling ∷ called ∷ list ∷ user ∷ []) c b e =
+    let x = bind-some (under (context 1) calling) (λ ignored. connect_with (Some called) list user)
     c e in
-    let tag = ap (λ (q : Part). q.tag) (under_is (context 1) calling x.0 x.1) in
-    known_called (calling ∷ called ∷ list ∷ user ∷ []) (calling ∷ called ∷ []) called list user c
-    refl (parts_back (Some called) list user c b.1.1.0 b.1.1.1.0 x.2)
+    let tag = ap (λ (q : Part). q.tag) (under-is (context 1) calling x.0 x.1) in
+    known-called (calling ∷ called ∷ list ∷ user ∷ []) (calling ∷ called ∷ []) called list user c
+    refl (parts-back (Some called) list user c b.1.1.0 b.1.1.1.0 x.2)
     (λ octets p short. (tag, p, short))
-connect_parts (p ∷ q ∷ r ∷ t ∷ u ∷ parts) c b e = absurd cc
+connect-parts (p ∷ q ∷ r ∷ t ∷ u ∷ parts) c b e = absurd cc
 
-normal_back : (p : Part) (c : Connect) → IsBytes p.content → normal_as p ≡ Some c
+normal-back : (p : Part) (c : Connect) → IsBytes p.content → normal_as p ≡ Some c
     → (octets : List ℕ) × (p ≡ value (constructed 2) octets) × IsNormal octets c
     × IsBytes c.user.value
 unfolding normal_as normal_in
-normal_back p c b e =
-    let x = bind_some (under (constructed 2) p) _ c e in
-    let same = under_is (constructed 2) p x.0 x.1 in
-    let y = bind_some (known_in (context 1 ∷ context 2 ∷ constructed 4 ∷ application 1 ∷ []) x.0)
+normal-back p c b e =
+    let x = bind-some (under (constructed 2) p) _ c e in
+    let same = under-is (constructed 2) p x.0 x.1 in
+    let y = bind-some (known_in (context 1 ∷ context 2 ∷ constructed 4 ∷ application 1 ∷ []) x.0)
     connect_of c x.2 in
-    let f = known_back (context 1 ∷ context 2 ∷ constructed 4 ∷ application 1 ∷ []) x.0 y.0
+    let f = known-back (context 1 ∷ context 2 ∷ constructed 4 ∷ application 1 ∷ []) x.0 y.0
     (subst IsBytes (ap (λ (q : Part). q.content) same) b) y.1 in
-    let k = connect_parts y.0 c f.bytes y.2 in (
+    let k = connect-parts y.0 c f.bytes y.2 in (
       x.0,
       same,
       record {
@@ -466,29 +466,29 @@ normal_back p c b e =
       k.bytes,
     )
 
-mode_is : (z m : ℤ) → mode_of z ≡ Some m → z ≡ pos 1
-mode_is (pos n) m e = ap (λ (k : ℕ). pos k) (eqb-true n 1 (guard_true (eqb n 1) (pos n) m e).0)
-mode_is (negsuc n) m e = absurd cc
+mode-is : (z m : ℤ) → mode_of z ≡ Some m → z ≡ pos 1
+mode-is (pos n) m e = ap (λ (k : ℕ). pos k) (eqb-true n 1 (guard-true (eqb n 1) (pos n) m e).0)
+mode-is (negsuc n) m e = absurd cc
 
-mode_back : (p : Part) (m : ℤ) → IsBytes p.content → mode_as p ≡ Some m
+mode-back : (p : Part) (m : ℤ) → IsBytes p.content → mode_as p ≡ Some m
     → (octets : List ℕ) × (p ≡ value (constructed 0) octets) × IsMode octets
 unfolding mode_as
-mode_back p m b e =
-    let w = bind_some (under (constructed 0) p >>= value_in >>= under (context 0) >>= integer_in)
+mode-back p m b e =
+    let w = bind-some (under (constructed 0) p >>= value_in >>= under (context 0) >>= integer_in)
     mode_of m e in
-    let x = bind_some (under (constructed 0) p >>= value_in >>= under (context 0)) integer_in w.0
+    let x = bind-some (under (constructed 0) p >>= value_in >>= under (context 0)) integer_in w.0
     w.1 in
-    let y = bind_some (under (constructed 0) p >>= value_in) (under (context 0)) x.0 x.1 in
-    let z = bind_some (under (constructed 0) p) value_in y.0 y.1 in
-    let same = under_is (constructed 0) p z.0 z.1 in
-    let one = one_back z.0 y.0 (subst IsBytes (ap (λ (q : Part). q.content) same) b) z.2 in
-    let inner = under_is (context 0) y.0 x.0 y.2 in (
+    let y = bind-some (under (constructed 0) p >>= value_in) (under (context 0)) x.0 x.1 in
+    let z = bind-some (under (constructed 0) p) value_in y.0 y.1 in
+    let same = under-is (constructed 0) p z.0 z.1 in
+    let one = one-back z.0 y.0 (subst IsBytes (ap (λ (q : Part). q.content) same) b) z.2 in
+    let inner = under-is (context 0) y.0 x.0 y.2 in (
       z.0,
       same,
       record {
         number = x.0;
         whole = subst (λ (q : Part). SpellAll z.0 (q ∷ [])) inner one.0;
-        is = subst (IsInteger x.0) (mode_is w.0 m w.2) (integer_back x.0 w.0 x.2);
+        is = subst (IsInteger x.0) (mode-is w.0 m w.2) (integer-back x.0 w.0 x.2);
       },
     )
 
@@ -502,14 +502,14 @@ record Both (known : List Part) (c : Connect) : Type 0 where
   is_normal : IsNormal normal c
   bytes : IsBytes c.user.value
 
-both_back : (first second : Part) (c : Connect) (b : Bool) → IsBytes first.content
+both-back : (first second : Part) (c : Connect) (b : Bool) → IsBytes first.content
     → IsBytes second.content
     → cond b (mode_as first >>= (λ mode. normal_as second))
     (mode_as second >>= (λ mode. normal_as first)) ≡ Some c → Both (first ∷ second ∷ []) c
-both_back first second c true b d e =
-    let x = bind_some (mode_as first) (λ mode. normal_as second) c e in
-    let m = mode_back first x.0 b x.1 in
-    let n = normal_back second c d x.2 in
+both-back first second c true b d e =
+    let x = bind-some (mode_as first) (λ mode. normal_as second) c e in
+    let m = mode-back first x.0 b x.1 in
+    let n = normal-back second c d x.2 in
     record {
       mode = m.0;
       normal = n.0;
@@ -519,10 +519,10 @@ both_back first second c true b d e =
       is_normal = n.2;
       bytes = n.3;
     }
-both_back first second c false b d e =
-    let x = bind_some (mode_as second) (λ mode. normal_as first) c e in
-    let m = mode_back second x.0 d x.1 in
-    let n = normal_back first c b x.2 in
+both-back first second c false b d e =
+    let x = bind-some (mode_as second) (λ mode. normal_as first) c e in
+    let m = mode-back second x.0 d x.1 in
+    let n = normal-back first c b x.2 in
     record {
       mode = m.0;
       normal = n.0;
@@ -533,25 +533,25 @@ both_back first second c false b d e =
       bytes = n.3;
     }
 
-request_parts : (known : List Part) (c : Connect) → AllBytes known → request_of known ≡ Some c
+request-parts : (known : List Part) (c : Connect) → AllBytes known → request_of known ≡ Some c
     → Both known c
-request_parts [] c b e = absurd cc
-request_parts (p ∷ []) c b e = absurd cc
-request_parts (first ∷ second ∷ []) c b e =
-    both_back first second c (same_tag first.tag (constructed 0)) b.0 b.1.0 e
-request_parts (p ∷ q ∷ r ∷ parts) c b e = absurd cc
+request-parts [] c b e = absurd cc
+request-parts (p ∷ []) c b e = absurd cc
+request-parts (first ∷ second ∷ []) c b e =
+    both-back first second c (same_tag first.tag (constructed 0)) b.0 b.1.0 e
+request-parts (p ∷ q ∷ r ∷ parts) c b e = absurd cc
 
-pub request_back : (octets : List ℕ) (c : Connect) → IsBytes octets → request_in octets ≡ Some c
+pub request-back : (octets : List ℕ) (c : Connect) → IsBytes octets → request_in octets ≡ Some c
     → IsRequest octets c × IsBytes c.user.value
 unfolding request_in
-request_back octets c b e =
-    let x = bind_some (value_in octets >>= under set_tag
+request-back octets c b e =
+    let x = bind-some (value_in octets >>= under set_tag
     >>= known_in (constructed 0 ∷ constructed 2 ∷ [])) request_of c e in
-    let y = bind_some (value_in octets >>= under set_tag)
+    let y = bind-some (value_in octets >>= under set_tag)
     (known_in (constructed 0 ∷ constructed 2 ∷ [])) x.0 x.1 in
-    let one = one_under set_tag octets y.0 b y.1 in
-    let f = known_back (constructed 0 ∷ constructed 2 ∷ []) y.0 x.0 one.1 y.2 in
-    let r = request_parts x.0 c f.bytes x.2 in (
+    let one = one-under set_tag octets y.0 b y.1 in
+    let f = known-back (constructed 0 ∷ constructed 2 ∷ []) y.0 x.0 one.1 y.2 in
+    let r = request-parts x.0 c f.bytes x.2 in (
       record {
         content = y.0;
         fields = f.fields;
@@ -568,38 +568,38 @@ request_back octets c b e =
 
 -- ---- ACSE
 
-name_back : (p : Part) (name : List ℕ) → IsBytes p.content → application_as p ≡ Some name
+name-back : (p : Part) (name : List ℕ) → IsBytes p.content → application_as p ≡ Some name
     → (octets : List ℕ) × (p ≡ value (constructed 1) octets)
     × SpellAll octets (value oid_tag mms_application ∷ [])
 unfolding application_as
-name_back p name b e =
-    let w = bind_some (under (constructed 1) p >>= value_in >>= under oid_tag) application_of name e
+name-back p name b e =
+    let w = bind-some (under (constructed 1) p >>= value_in >>= under oid_tag) application_of name e
     in
-    let x = bind_some (under (constructed 1) p >>= value_in) (under oid_tag) w.0 w.1 in
-    let y = bind_some (under (constructed 1) p) value_in x.0 x.1 in
-    let same = under_is (constructed 1) p y.0 y.1 in
-    let one = one_back y.0 x.0 (subst IsBytes (ap (λ (q : Part). q.content) same) b) y.2 in
-    let inner = under_is oid_tag x.0 w.0 x.2 in
-    let g = guard_true (bytes_eq w.0 mms_application) w.0 name w.2 in
+    let x = bind-some (under (constructed 1) p >>= value_in) (under oid_tag) w.0 w.1 in
+    let y = bind-some (under (constructed 1) p) value_in x.0 x.1 in
+    let same = under-is (constructed 1) p y.0 y.1 in
+    let one = one-back y.0 x.0 (subst IsBytes (ap (λ (q : Part). q.content) same) b) y.2 in
+    let inner = under-is oid_tag x.0 w.0 x.2 in
+    let g = guard-true (bytes_eq w.0 mms_application) w.0 name w.2 in
     let is : w.0 ≡ mms_application = (bytes_eq-Decides w.0 mms_application).0 g.0 in
     (y.0, same, subst (λ (q : Part). SpellAll y.0 (q ∷ [])) (inner ∙ ap (value oid_tag) is) one.0)
 
-information_back : (p : Part) (c : Carried) → IsBytes p.content → information_as p ≡ Some c
+information-back : (p : Part) (c : Carried) → IsBytes p.content → information_as p ≡ Some c
     → (octets : List ℕ) × (inner : List ℕ) × (p ≡ value (constructed 30) octets)
     × SpellAll octets (value external_tag inner ∷ []) × IsCarried inner c × IsBytes c.value
 unfolding information_as
-information_back p c b e =
-    let w = bind_some (under (constructed 30) p >>= value_in >>= under external_tag >>= few_in)
+information-back p c b e =
+    let w = bind-some (under (constructed 30) p >>= value_in >>= under external_tag >>= few_in)
     carried_of c e in
-    let x = bind_some (under (constructed 30) p >>= value_in >>= under external_tag) few_in w.0 w.1
+    let x = bind-some (under (constructed 30) p >>= value_in >>= under external_tag) few_in w.0 w.1
     in
-    let y = bind_some (under (constructed 30) p >>= value_in) (under external_tag) x.0 x.1 in
-    let z = bind_some (under (constructed 30) p) value_in y.0 y.1 in
-    let same = under_is (constructed 30) p z.0 z.1 in
-    let one = one_back z.0 y.0 (subst IsBytes (ap (λ (q : Part). q.content) same) b) z.2 in
-    let inner = under_is external_tag y.0 x.0 y.2 in
+    let y = bind-some (under (constructed 30) p >>= value_in) (under external_tag) x.0 x.1 in
+    let z = bind-some (under (constructed 30) p) value_in y.0 y.1 in
+    let same = under-is (constructed 30) p z.0 z.1 in
+    let one = one-back z.0 y.0 (subst IsBytes (ap (λ (q : Part). q.content) same) b) z.2 in
+    let inner = under-is external_tag y.0 x.0 y.2 in
     let carried =
-    carried_back x.0 c (subst IsBytes (ap (λ (q : Part). q.content) inner) one.1)
+    carried-back x.0 c (subst IsBytes (ap (λ (q : Part). q.content) inner) one.1)
     (ap (λ (o : Option (List Part)). o >>= carried_of) x.2 ∙ w.2) in
     (z.0, x.0, same, subst (λ (q : Part). SpellAll z.0 (q ∷ [])) inner one.0, carried.0, carried.1)
 
@@ -613,14 +613,14 @@ record Associated (known : List Part) (c : Carried) : Type 0 where
   carried : IsCarried inner c
   bytes : IsBytes c.value
 
-associate_parts : (known : List Part) (c : Carried) → AllBytes known → associate_of known ≡ Some c
+associate-parts : (known : List Part) (c : Carried) → AllBytes known → associate_of known ≡ Some c
     → Associated known c
-associate_parts [] c b e = absurd cc
-associate_parts (p ∷ []) c b e = absurd cc
-associate_parts (name ∷ information ∷ []) c b e =
-    let x = bind_some (application_as name) (λ ignored. information_as information) c e in
-    let n = name_back name x.0 b.0 x.1 in
-    let i = information_back information c b.1.0 x.2 in
+associate-parts [] c b e = absurd cc
+associate-parts (p ∷ []) c b e = absurd cc
+associate-parts (name ∷ information ∷ []) c b e =
+    let x = bind-some (application_as name) (λ ignored. information_as information) c e in
+    let n = name-back name x.0 b.0 x.1 in
+    let i = information-back information c b.1.0 x.2 in
     record {
       name = n.0;
       information = i.0;
@@ -632,19 +632,19 @@ associate_parts (name ∷ information ∷ []) c b e =
       carried = i.4;
       bytes = i.5;
     }
-associate_parts (p ∷ q ∷ r ∷ parts) c b e = absurd cc
+associate-parts (p ∷ q ∷ r ∷ parts) c b e = absurd cc
 
-pub associate_back : (octets : List ℕ) (c : Carried) → IsBytes octets → associate_in octets ≡ Some c
+pub associate-back : (octets : List ℕ) (c : Carried) → IsBytes octets → associate_in octets ≡ Some c
     → IsAssociate octets c × IsBytes c.value
 unfolding associate_in
-associate_back octets c b e =
-    let x = bind_some (value_in octets >>= under (application 0)
+associate-back octets c b e =
+    let x = bind-some (value_in octets >>= under (application 0)
     >>= known_in (constructed 1 ∷ constructed 30 ∷ [])) associate_of c e in
-    let y = bind_some (value_in octets >>= under (application 0))
+    let y = bind-some (value_in octets >>= under (application 0))
     (known_in (constructed 1 ∷ constructed 30 ∷ [])) x.0 x.1 in
-    let one = one_under (application 0) octets y.0 b y.1 in
-    let f = known_back (constructed 1 ∷ constructed 30 ∷ []) y.0 x.0 one.1 y.2 in
-    let a = associate_parts x.0 c f.bytes x.2 in (
+    let one = one-under (application 0) octets y.0 b y.1 in
+    let f = known-back (constructed 1 ∷ constructed 30 ∷ []) y.0 x.0 one.1 y.2 in
+    let a = associate-parts x.0 c f.bytes x.2 in (
       record {
         content = y.0;
         fields = f.fields;
@@ -661,19 +661,19 @@ associate_back octets c b e =
       a.bytes,
     )
 
-pub release_back : (octets content : List ℕ) → IsBytes octets → release_in octets ≡ Some content
+pub release-back : (octets content : List ℕ) → IsBytes octets → release_in octets ≡ Some content
     → IsRelease octets
-release_back octets content b e =
-    record { content = content; whole = (one_under (application 2) octets content b e).0 }
+release-back octets content b e =
+    record { content = content; whole = (one-under (application 2) octets content b e).0 }
 
-pub user_spelled : (octets : List ℕ) (c : Carried) → IsBytes octets → user_in octets ≡ Some c
+pub user-spelled : (octets : List ℕ) (c : Carried) → IsBytes octets → user_in octets ≡ Some c
     → IsUser octets c
-user_spelled octets c b e = (user_back octets c b e).0
+user-spelled octets c b e = (user-back octets c b e).0
 
-pub request_spelled : (octets : List ℕ) (c : Connect) → IsBytes octets → request_in octets ≡ Some c
+pub request-spelled : (octets : List ℕ) (c : Connect) → IsBytes octets → request_in octets ≡ Some c
     → IsRequest octets c
-request_spelled octets c b e = (request_back octets c b e).0
+request-spelled octets c b e = (request-back octets c b e).0
 
-pub associate_spelled : (octets : List ℕ) (c : Carried) → IsBytes octets
+pub associate-spelled : (octets : List ℕ) (c : Carried) → IsBytes octets
     → associate_in octets ≡ Some c → IsAssociate octets c
-associate_spelled octets c b e = (associate_back octets c b e).0
+associate-spelled octets c b e = (associate-back octets c b e).0

@@ -8,10 +8,10 @@ use Rattle.bay_base.specs.Options.{◌>>=◌}
 use Rattle.bay_ber.specs.Content.{integer_in}
 use Rattle.bay_ber.specs.Writing.{element, integer_octets}
 use Rattle.bay_ber.specs.Values.{Part, only_one, value_in, at_most_five, few_in}
-use Rattle.bay_ber.proofs.ContentLemmas.{integer_again}
-use Rattle.bay_ber.proofs.ListingLemmas.{values_again}
+use Rattle.bay_ber.proofs.ContentLemmas.{integer-again}
+use Rattle.bay_ber.proofs.ListingLemmas.{values-again}
 use Rattle.bay_ber.proofs.SizeLemmas.{length-element, length-integer_octets}
-use Rattle.bay_ber.proofs.WriteLemmas.{element_spells, integer_is}
+use Rattle.bay_ber.proofs.WriteLemmas.{element-spells, integer-is}
 use Rattle.bay_mms.specs.Tags.{constructed, sequence, int_tag}
 use Rattle.bay_assoc.specs.Tags.{application}
 use Rattle.bay_assoc.specs.declared.hearing.AssociationTerms.{AssociationTerms}
@@ -20,58 +20,58 @@ use Rattle.bay_assoc.specs.declared.hearing.Phase.TheVariants.{Open}
 use Rattle.bay_assoc.specs.Presentation.{integer_under, carried_as, carried_in, carried_under, user_in}
 use Rattle.bay_assoc.specs.Session.{spdu_in}
 use Rattle.bay_assoc.specs.Texts.{user_text, transfer_text}
-use Rattle.bay_assoc.specs.Hearing.{mms, transferred, hearing}
+use Rattle.bay_assoc.specs.Hearing.{mms, data_transfer, hearing}
 
 -- one value, and two
-pub value_element : (tag : Tag) (content : List ℕ) → tag.number < 31 → length content < 2 ^ 32
+pub value-element : (tag : Tag) (content : List ℕ) → tag.number < 31 → length content < 2 ^ 32
     → value_in (element tag content) ≡ Some (record { tag = tag; content = content })
-value_element tag content low short =
+value-element tag content low short =
     let part : Part = record { tag = tag; content = content } in
     ap (λ (o : Option (List Part)). o >>= only_one)
-    (values_again (element tag content) (part ∷ []) (
+    (values-again (element tag content) (part ∷ []) (
       element tag content,
       [],
       sym (append-nil (element tag content)),
-      element_spells tag content low short,
+      element-spells tag content low short,
       refl,
     ))
 
-pub two_elements : (one two : Tag) (first second : List ℕ) → one.number < 31 → two.number < 31
+pub two-elements : (one two : Tag) (first second : List ℕ) → one.number < 31 → two.number < 31
     → length first < 2 ^ 32 → length second < 2 ^ 32
     → few_in (element one first ++ element two second)
     ≡ Some (record { tag = one; content = first } ∷ record { tag = two; content = second } ∷ [])
-two_elements one two first second a b c d =
+two-elements one two first second a b c d =
     let p : Part = record { tag = one; content = first } in
     let q : Part = record { tag = two; content = second } in
     let x = element one first in
     let y = element two second in
     ap (λ (o : Option (List Part)). o >>= at_most_five)
-    (values_again (x ++ y) (p ∷ q ∷ []) (
+    (values-again (x ++ y) (p ∷ q ∷ []) (
       x,
       y,
       refl,
-      element_spells one first a c,
-      (y, [], sym (append-nil y), element_spells two second b d, refl),
+      element-spells one first a c,
+      (y, [], sym (append-nil y), element-spells two second b d, refl),
     ))
 
 -- a context's identifier is read back
-id_again : (id : ℕ) → id < 65536 → integer_in (integer_octets (pos id)) ≡ Some (pos id)
-id_again id low =
-    integer_again (integer_octets (pos id)) (pos id) (integer_is (pos id) (fits id low))
+id-again : (id : ℕ) → id < 65536 → integer_in (integer_octets (pos id)) ≡ Some (pos id)
+id-again id low =
+    integer-again (integer_octets (pos id)) (pos id) (integer-is (pos id) (fits id low))
   where
     fits : (id : ℕ) → id < 65536 → FitsSigned w64 (pos id)
     fits id low = omega arith
 
-carried_again : (id : ℕ) (value : List ℕ) → id < 65536
+carried-again : (id : ℕ) (value : List ℕ) → id < 65536
     → carried_as (record { tag = int_tag; content = integer_octets (pos id) })
     (record { tag = constructed 0; content = value }) ≡ Some (record { id = pos id; value = value })
 unfolding carried_as integer_under
-carried_again id value low = rw (id_again id low) refl
+carried-again id value low = rw (id-again id low) refl
 
-pub user_again : (id : ℕ) (value : List ℕ) → id < 65536 → length value < 2 ^ 31
+pub user-again : (id : ℕ) (value : List ℕ) → id < 65536 → length value < 2 ^ 31
     → user_in (user_text id value) ≡ Some (record { id = pos id; value = value })
 unfolding user_in carried_under carried_in
-user_again id value low short =
+user-again id value low short =
     let number = integer_octets (pos id) in
     let inner = element int_tag number ++ element (constructed 0) value in
     let few : length inner < 2 ^ 31 + 20 =
@@ -84,23 +84,23 @@ user_again id value low short =
     ) in
     let middle = element sequence inner in
     let some : length middle < 2 ^ 32 = omega (arith, length-element sequence inner) in
-    let a = value_element (application 1) middle (omega arith) some in
-    let b = value_element sequence inner (omega arith) (omega arith) in
-    let d = two_elements int_tag (constructed 0) number value (omega arith) (omega arith)
+    let a = value-element (application 1) middle (omega arith) some in
+    let b = value-element sequence inner (omega arith) (omega arith) in
+    let d = two-elements int_tag (constructed 0) number value (omega arith) (omega arith)
     (omega (arith, length-integer_octets (pos id))) (omega arith) in
-    rw (a, b, d) (carried_again id value low)
+    rw (a, b, d) (carried-again id value low)
 
-pub transfer_heard : (terms : AssociationTerms) (pdu : List ℕ)
+pub transfer-heard : (terms : AssociationTerms) (pdu : List ℕ)
     → user_in (user_text terms.contexts.mms pdu)
     ≡ Some (record { id = pos terms.contexts.mms; value = pdu })
     → hearing (Open terms) (transfer_text (user_text terms.contexts.mms pdu))
     ≡ Ok (mms pdu, Open terms)
-unfolding hearing spdu_in transferred
-transfer_heard terms pdu read = rw (read, eq-eqb terms.contexts.mms terms.contexts.mms refl) refl
+unfolding hearing spdu_in data_transfer
+transfer-heard terms pdu read = rw (read, eq-eqb terms.contexts.mms terms.contexts.mms refl) refl
 
-pub sent_is_heard : (phase : Phase) (terms : AssociationTerms) (front pdu : List ℕ)
+pub sent-is-heard : (phase : Phase) (terms : AssociationTerms) (front pdu : List ℕ)
     → phase ≡ Open terms → terms.contexts.mms < 65536 → length pdu ≤ 65000
     → front ++ pdu ≡ transfer_text (user_text terms.contexts.mms pdu)
     → hearing phase (front ++ pdu) ≡ Ok (mms pdu, phase)
-sent_is_heard phase terms front pdu is low short sent =
-    rw (is, sent) (transfer_heard terms pdu (user_again terms.contexts.mms pdu low (omega arith)))
+sent-is-heard phase terms front pdu is low short sent =
+    rw (is, sent) (transfer-heard terms pdu (user-again terms.contexts.mms pdu low (omega arith)))

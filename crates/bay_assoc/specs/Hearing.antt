@@ -13,7 +13,7 @@ use Rattle.bay_assoc.specs.declared.hearing.Accepted.{Accepted}
 use Rattle.bay_assoc.specs.declared.hearing.AssociationTerms.{AssociationTerms}
 use Rattle.bay_assoc.specs.declared.hearing.Phase.{Phase}
 use Rattle.bay_assoc.specs.declared.hearing.Phase.TheVariants.{Idle, Open, Over, Failed}
-use Rattle.bay_assoc.specs.Results.{wanted}
+use Rattle.bay_assoc.specs.Results.{or_fault}
 use Rattle.bay_assoc.specs.Session.{Spdu, connect, accept, finish, disconnect, abort, transfer, spdu_in}
 use Rattle.bay_assoc.specs.Presentation.{Carried, Connect, user_in, request_in}
 use Rattle.bay_assoc.specs.Acse.{associate_in, release_in}
@@ -101,40 +101,41 @@ answer_text c a agreed =
 -- What is agreed on with the contexts and the user data of a request, layer by layer: ACSE, MMS.
 unfoldable pub agreement : List Context → Carried → Result (Accepted × Agreed) AssocFault
 agreement contexts user =
-    wanted fault.NoContext (accepted_of contexts) >> λ a.
+    or_fault fault.NoContext (accepted_of contexts) >> λ a.
     acse_value a user >> λ value.
-    wanted fault.BadAcse (associate_in value) >> λ information.
+    or_fault fault.BadAcse (associate_in value) >> λ information.
     mms_value a information >> λ pdu.
-    wanted fault.BadAcse (initiate_in pdu) >> λ proposal.
-    wanted fault.PduSizeTooSmall (agreed_of proposal) >> λ agreed.
+    or_fault fault.BadAcse (initiate_in pdu) >> λ proposal.
+    or_fault fault.PduSizeTooSmall (agreed_of proposal) >> λ agreed.
     Ok (a, agreed)
 
 -- a request for a connection: presentation, and what is agreed on with what it has
-unfoldable pub connected : List ℕ → Result (Hearing × Phase) AssocFault
-connected user =
-    wanted fault.BadPresentation (request_in user) >> λ request.
+unfoldable pub connection_request : List ℕ → Result (Hearing × Phase) AssocFault
+connection_request user =
+    or_fault fault.BadPresentation (request_in user) >> λ request.
     agreement request.contexts request.user >> λ x.
     Ok (answer (answer_text request x.0 x.1), Open (record { contexts = x.0; size = x.1.size }))
 
 -- a release, with a request of ACSE's or without user data
-unfoldable pub finished : AssociationTerms → Option (List ℕ) → Result (Hearing × Phase) AssocFault
-finished terms None = Ok (released (0x0A ∷ 0 ∷ []), Over)
-finished terms (Some user) =
-    wanted fault.BadPresentation (user_in user) >> λ c.
+unfoldable pub release_request : AssociationTerms → Option (List ℕ)
+    → Result (Hearing × Phase) AssocFault
+release_request terms None = Ok (released (0x0A ∷ 0 ∷ []), Over)
+release_request terms (Some user) =
+    or_fault fault.BadPresentation (user_in user) >> λ c.
     acse_value terms.contexts c >> λ value.
-    wanted fault.BadAcse (release_in value) >> λ ignored.
+    or_fault fault.BadAcse (release_in value) >> λ ignored.
     Ok (released (disconnect_text (user_text terms.contexts.acse release_text)), Over)
 
 -- data
-unfoldable pub transferred : AssociationTerms → List ℕ → Result (Hearing × Phase) AssocFault
-transferred terms user =
-    wanted fault.BadPresentation (user_in user) >> λ c.
+unfoldable pub data_transfer : AssociationTerms → List ℕ → Result (Hearing × Phase) AssocFault
+data_transfer terms user =
+    or_fault fault.BadPresentation (user_in user) >> λ c.
     mms_value terms.contexts c >> λ pdu.
     Ok (mms pdu, Open terms)
 
 -- before the association: a request for one, or an abort
 abbrev pub heard_idle : Spdu → Result (Hearing × Phase) AssocFault
-heard_idle (connect user) = connected user
+heard_idle (connect user) = connection_request user
 heard_idle accept = Err fault.OutOfPhase
 heard_idle (finish user) = Err fault.OutOfPhase
 heard_idle disconnect = Err fault.OutOfPhase
@@ -145,14 +146,14 @@ heard_idle (transfer user) = Err fault.OutOfPhase
 abbrev pub heard_open : AssociationTerms → Spdu → Result (Hearing × Phase) AssocFault
 heard_open terms (connect user) = Err fault.OutOfPhase
 heard_open terms accept = Err fault.OutOfPhase
-heard_open terms (finish user) = finished terms user
+heard_open terms (finish user) = release_request terms user
 heard_open terms disconnect = Err fault.OutOfPhase
 heard_open terms abort = Ok (aborted, Over)
-heard_open terms (transfer user) = transferred terms user
+heard_open terms (transfer user) = data_transfer terms user
 
 -- what is heard of a TSDU in a phase, and the phase after it
 unfoldable pub hearing : Phase → List ℕ → Result (Hearing × Phase) AssocFault
-hearing Idle octets = wanted fault.BadSession (spdu_in octets) >> heard_idle
-hearing (Open terms) octets = wanted fault.BadSession (spdu_in octets) >> heard_open terms
+hearing Idle octets = or_fault fault.BadSession (spdu_in octets) >> heard_idle
+hearing (Open terms) octets = or_fault fault.BadSession (spdu_in octets) >> heard_open terms
 hearing Over octets = Err fault.OutOfPhase
 hearing Failed octets = Err fault.Failed

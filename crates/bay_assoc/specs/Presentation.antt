@@ -67,14 +67,14 @@ are_distinct [] = true
 are_distinct (c ∷ contexts) = not (has_id c.id contexts) && are_distinct contexts
 
 -- at most 16, and no two of one identifier
-abbrev pub limited : List Context → Option (List Context)
-limited contexts =
+abbrev pub few_contexts : List Context → Option (List Context)
+few_contexts contexts =
     if nat_lt 16 (length contexts) then None
     else (if are_distinct contexts then Some contexts else None)
 
 -- the contexts that octets offer
 unfoldable pub contexts_in : List ℕ → Option (List Context)
-contexts_in octets = each_in context_as octets >>= limited
+contexts_in octets = each_in context_as octets >>= few_contexts
 
 -- ---- presentation data values
 

@@ -79,7 +79,8 @@ pub data IsRefusedFirst (octets : List ℕ) (f : AssocFault) : Type 0 where
 
 -- Why one is refused in an open association.
 pub data IsRefusedOpen (a : Accepted) (octets : List ℕ) (f : AssocFault) : Type 0 where
-  no_spdu_later : ((s : Spdu) → IsSpdu octets s → ⊥) → f ≡ fault.BadSession → IsRefusedOpen a octets f
+  no_spdu_later : ((s : Spdu) → IsSpdu octets s → ⊥) → f ≡ fault.BadSession
+      → IsRefusedOpen a octets f
   late : (s : Spdu) → IsSpdu octets s → IsLate s → f ≡ fault.OutOfPhase
       → IsRefusedOpen a octets f
   no_release_user : (user : List ℕ) → IsSpdu octets (finish (Some user))

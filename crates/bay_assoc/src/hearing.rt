@@ -215,10 +215,10 @@ fn agreement(contexts: &[Context], user: Carried<'_>) -> Result<(Accepted, Agree
 }
 
 // A request for a connection.
-#[tactic(auto, unfolding(crate::specs::Hearing::connected), using(crate::proofs::ModeLemmas::a_request_has_its_mode))]
+#[tactic(auto, unfolding(crate::specs::Hearing::connection_request), using(crate::proofs::ModeLemmas::a_request_has_its_mode))]
 fn connected<'a>(alloc: Global, user: &'a [u8]) -> Result<(Heard<'a>, Phase), AssocFault>
     ensures heard { Gives AssocFault.OutOfMemory (λ x. (hearing_of x.0, x.1)) result
-        (spec.connected user.now) }
+        (spec.connection_request user.now) }
     ensures memory { IsErrOf result AssocFault.OutOfMemory → IsSome (mode_in user.now) }
     ensures short { IfOk result (λ x. IsShort x.0) }
     ensures sized { IfOk result (λ x. IsSized x.1) }
@@ -244,14 +244,14 @@ fn disconnect_alone(alloc: Global) -> Result<Vec<u8>, AllocError>
 }
 
 // A release.
-#[tactic(auto, unfolding(crate::specs::Hearing::finished))]
+#[tactic(auto, unfolding(crate::specs::Hearing::release_request))]
 fn finished<'a>(
     alloc: Global,
     terms: AssociationTerms,
     user: Option<&'a [u8]>,
 ) -> Result<(Heard<'a>, Phase), AssocFault>
     ensures heard { Gives AssocFault.OutOfMemory (λ x. (hearing_of x.0, x.1)) result
-        (spec.finished terms (option_map (λ octets. octets.now) user.entry)) }
+        (spec.release_request terms (option_map (λ octets. octets.now) user.entry)) }
     ensures short { IfOk result (λ x. IsShort x.0) }
     ensures sized { IfOk result (λ x. IsSized x.1) }
 {
@@ -268,13 +268,13 @@ fn finished<'a>(
 }
 
 // What is heard of data: the PDU of MMS that they carry in its context.
-#[tactic(auto, unfolding(crate::specs::Hearing::transferred))]
+#[tactic(auto, unfolding(crate::specs::Hearing::data_transfer))]
 fn transferred<'a>(
     terms: AssociationTerms,
     user: &'a [u8],
 ) -> Result<(Heard<'a>, Phase), AssocFault>
     requires { IsPduSize terms.size }
-    ensures heard { IsRead (λ x. (hearing_of x.0, x.1)) result (spec.transferred terms user.now) }
+    ensures heard { IsRead (λ x. (hearing_of x.0, x.1)) result (spec.data_transfer terms user.now) }
     ensures memory { IsErrOf result AssocFault.OutOfMemory → ⊥ }
     ensures short { IfOk result (λ x. IsShort x.0) }
     ensures sized { IfOk result (λ x. IsSized x.1) }

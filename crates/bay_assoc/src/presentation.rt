@@ -4,8 +4,8 @@ ghost use Rattle.std.specs.Option.{option_copied, ForSome};
 ghost use Rattle.bay_base.specs.Exact.{Gives};
 ghost use Rattle.bay_ber.specs.Values.{part_of, each_in};
 ghost use Rattle.bay_assoc.specs.declared.fault.AssocFault.TheVariants.{BadPresentation};
-ghost use Rattle.bay_assoc.specs.Results.{wanted};
-ghost use Rattle.bay_assoc.specs.Presentation.{limited};
+ghost use Rattle.bay_assoc.specs.Results.{or_fault};
+ghost use Rattle.bay_assoc.specs.Presentation.{few_contexts};
 ghost use Rattle.bay_assoc.specs.Presentation as spec;
 ghost use Rattle.bay_assoc.specs.Views.{carried_view, connect_view};
 
@@ -155,7 +155,7 @@ fn context_as(value: &Value<'_>) -> Option<Context>
 // The contexts that octets offer, one after another.
 fn read_contexts(alloc: Global, octets: &[u8]) -> Result<Vec<Context>, AssocFault>
     ensures { Gives AssocFault.OutOfMemory (λ v. v.items) result
-        (wanted BadPresentation (each_in spec.context_as octets.now)) }
+        (or_fault BadPresentation (each_in spec.context_as octets.now)) }
 {
     let mut contexts = Vec::new(alloc);
     let mut values = Values::new(octets);
@@ -205,7 +205,7 @@ fn are_distinct(contexts: &[Context]) -> bool
 #[tactic(auto, unfolding(crate::specs::Presentation::contexts_in))]
 fn contexts_in(alloc: Global, octets: &[u8]) -> Result<Vec<Context>, AssocFault>
     ensures exact { Gives AssocFault.OutOfMemory (λ v. v.items) result
-        (wanted BadPresentation (spec.contexts_in octets.now)) }
+        (or_fault BadPresentation (spec.contexts_in octets.now)) }
     ensures few { IfOk result (λ v. length v.items ≤ 16) }
 {
     let contexts = read_contexts(alloc, octets)?;
@@ -296,7 +296,7 @@ fn connect_with<'a>(
     user: &Value<'a>,
 ) -> Result<Connect<'a>, AssocFault>
     ensures { Gives AssocFault.OutOfMemory connect_view result
-        (wanted BadPresentation
+        (or_fault BadPresentation
         (spec.connect_with (option_map part_of (option_copied selector.entry)) (part_of list.now)
         (part_of user.now))) }
 {
@@ -316,7 +316,7 @@ fn connect_with<'a>(
 // The same by its parts; the selectors of the one who calls and of the one called may be missing.
 fn connect_of<'a>(alloc: Global, parts: &[Value<'a>]) -> Result<Connect<'a>, AssocFault>
     ensures { Gives AssocFault.OutOfMemory connect_view result
-        (wanted BadPresentation (spec.connect_of (map part_of parts.now))) }
+        (or_fault BadPresentation (spec.connect_of (map part_of parts.now))) }
 {
     let (called, list, user) = match parts {
         [list, user] => (None, list, user),
@@ -334,7 +334,7 @@ fn connect_of<'a>(alloc: Global, parts: &[Value<'a>]) -> Result<Connect<'a>, Ass
 #[tactic(auto, unfolding(crate::specs::Presentation::normal_in))]
 fn normal_in(alloc: Global, octets: &[u8]) -> Result<Connect<'_>, AssocFault>
     ensures { Gives AssocFault.OutOfMemory connect_view result
-        (wanted BadPresentation (spec.normal_in octets.now)) }
+        (or_fault BadPresentation (spec.normal_in octets.now)) }
 {
     let tags = [
         Tag::context(1),
@@ -350,7 +350,7 @@ fn normal_in(alloc: Global, octets: &[u8]) -> Result<Connect<'_>, AssocFault>
 #[tactic(auto, unfolding(crate::specs::Presentation::normal_as))]
 fn normal_as<'a>(alloc: Global, value: &Value<'a>) -> Result<Connect<'a>, AssocFault>
     ensures { Gives AssocFault.OutOfMemory connect_view result
-        (wanted BadPresentation (spec.normal_as (part_of value.now))) }
+        (or_fault BadPresentation (spec.normal_as (part_of value.now))) }
 {
     let octets = value
         .under(Tag::context_constructed(2))
@@ -378,7 +378,7 @@ fn mode_as(value: &Value<'_>) -> Option<i64>
 // The mode and the parameters, in either order.
 fn request_of<'a>(alloc: Global, parts: &[Value<'a>]) -> Result<Connect<'a>, AssocFault>
     ensures request { Gives AssocFault.OutOfMemory connect_view result
-        (wanted BadPresentation (spec.request_of (map part_of parts.now))) }
+        (or_fault BadPresentation (spec.request_of (map part_of parts.now))) }
     ensures memory { IsErrOf result AssocFault.OutOfMemory
         → IsSome (spec.mode_among (map part_of parts.now)) }
 {
@@ -395,7 +395,7 @@ fn request_of<'a>(alloc: Global, parts: &[Value<'a>]) -> Result<Connect<'a>, Ass
 #[tactic(auto, unfolding(crate::specs::Presentation::request_in, crate::specs::Presentation::mode_in))]
 pub(crate) fn request_in(alloc: Global, octets: &[u8]) -> Result<Connect<'_>, AssocFault>
     ensures request { Gives AssocFault.OutOfMemory connect_view result
-        (wanted BadPresentation (spec.request_in octets.now)) }
+        (or_fault BadPresentation (spec.request_in octets.now)) }
     ensures memory { IsErrOf result AssocFault.OutOfMemory → IsSome (spec.mode_in octets.now) }
 {
     let content = content_under(octets, Tag::universal_constructed(17)).ok_or(

@@ -1,7 +1,7 @@
 // The canonical texts of each layer.
 ghost use Rattle.std.specs.Prelude.{◌≡◌, ◌+◌, ◌<◌, ◌≤◌, ◌++◌, length, option_map, OnOk, IfOk};
 ghost use Rattle.std.specs.Option.{ForSome};
-ghost use Rattle.bay_ber.specs.Sheets.{put};
+ghost use Rattle.bay_ber.specs.Sheets.{sheet_with};
 ghost use Rattle.bay_ber.specs.Writing.{element};
 ghost use Rattle.bay_mms.specs.Tags.{constructed};
 ghost use Rattle.bay_assoc.specs.Tags.{oid_tag, external_tag, mms_application};
@@ -78,7 +78,7 @@ fn disconnect(alloc: Global, user: &[u8]) -> Result<Vec<u8>, AllocError>
 #[tactic(auto, using(bay_ber::proofs::SheetLemmas::sheet_rules))]
 fn put_carried(writer: &mut Writer, tag: Tag, id: u16, value: &[u8])
     requires { tag.number < 31 }
-    ensures { writer.new ≡ put writer.old (carried_text tag id value.now) }
+    ensures { writer.new ≡ sheet_with writer.old (carried_text tag id value.now) }
 {
     let start = writer.open(tag);
     writer.int(Tag::universal(2), i64::from(id));
@@ -89,7 +89,7 @@ fn put_carried(writer: &mut Writer, tag: Tag, id: u16, value: &[u8])
 // Writes fully encoded user data.
 #[tactic(auto, using(bay_ber::proofs::SheetLemmas::sheet_rules))]
 fn put_user(writer: &mut Writer, id: u16, value: &[u8])
-    ensures { writer.new ≡ put writer.old (user_text id value.now) }
+    ensures { writer.new ≡ sheet_with writer.old (user_text id value.now) }
 {
     let start = writer.open(Tag::application_constructed(1));
     put_carried(writer, Tag::sequence(), id, value);
@@ -98,7 +98,7 @@ fn put_user(writer: &mut Writer, id: u16, value: &[u8])
 
 // What comes of a context.
 fn put_result(writer: &mut Writer, accepted: Accepted, context: &Context)
-    ensures { writer.new ≡ put writer.old (result_text accepted context.now) }
+    ensures { writer.new ≡ sheet_with writer.old (result_text accepted context.now) }
 {
     if context.id == accepted.acse || context.id == accepted.mms {
         writer.octets(Tag::sequence(), &[0x80, 0x01, 0x00, 0x81, 0x02, 0x51, 0x01]);
@@ -109,7 +109,7 @@ fn put_result(writer: &mut Writer, accepted: Accepted, context: &Context)
 
 // What comes of each context.
 fn put_each(writer: &mut Writer, accepted: Accepted, contexts: &[Context])
-    ensures { writer.new ≡ put writer.old (results_text accepted contexts.now) }
+    ensures { writer.new ≡ sheet_with writer.old (results_text accepted contexts.now) }
 {
     for context in contexts {
         put_result(writer, accepted, context);
@@ -119,7 +119,7 @@ fn put_each(writer: &mut Writer, accepted: Accepted, contexts: &[Context])
 // Writes the list of the results, one for each context that was offered.
 #[tactic(auto, using(bay_ber::proofs::SheetLemmas::sheet_rules))]
 fn put_results(writer: &mut Writer, accepted: Accepted, contexts: &[Context])
-    ensures { writer.new ≡ put writer.old
+    ensures { writer.new ≡ sheet_with writer.old
         (element (constructed 5) (results_text accepted contexts.now)) }
 {
     let start = writer.open(Tag::context_constructed(5));
@@ -130,7 +130,7 @@ fn put_results(writer: &mut Writer, accepted: Accepted, contexts: &[Context])
 // Writes the selector of the one called, where it came.
 #[tactic(auto, using(bay_ber::proofs::SheetLemmas::put_nil))]
 fn put_selector(writer: &mut Writer, called: Option<&[u8]>)
-    ensures { writer.new ≡ put writer.old
+    ensures { writer.new ≡ sheet_with writer.old
         (selector_text (option_map (λ octets. octets.now) called.entry)) }
 {
     if let Some(octets) = called {
@@ -147,7 +147,7 @@ fn put_normal(
     accepted: Accepted,
     value: &[u8],
 )
-    ensures { writer.new ≡ put writer.old
+    ensures { writer.new ≡ sheet_with writer.old
         (element (constructed 2) (selector_text (option_map (λ octets. octets.now) called.entry)
         ++ (element (constructed 5) (results_text accepted contexts.now)
         ++ user_text accepted.acse value.now))) }
@@ -168,7 +168,7 @@ fn put_connected(
     accepted: Accepted,
     value: &[u8],
 )
-    ensures { writer.new ≡ put writer.old
+    ensures { writer.new ≡ sheet_with writer.old
         (connected_text (option_map (λ octets. octets.now) called.entry) contexts.now accepted
         value.now) }
 {
@@ -211,7 +211,7 @@ fn application_context() -> &'static [u8]
 // Writes the user information, which is one external.
 #[tactic(auto, using(bay_ber::proofs::SheetLemmas::sheet_rules))]
 fn put_information(writer: &mut Writer, mms: u16, pdu: &[u8])
-    ensures { writer.new ≡ put writer.old
+    ensures { writer.new ≡ sheet_with writer.old
         (element (constructed 30) (carried_text external_tag mms pdu.now)) }
 {
     let start = writer.open(Tag::context_constructed(30));
@@ -222,7 +222,7 @@ fn put_information(writer: &mut Writer, mms: u16, pdu: &[u8])
 // Writes the answer to a request for an association.
 #[tactic(auto, using(bay_ber::proofs::SheetLemmas::sheet_rules))]
 fn put_associated(writer: &mut Writer, mms: u16, pdu: &[u8])
-    ensures { writer.new ≡ put writer.old (associated_text mms pdu.now) }
+    ensures { writer.new ≡ sheet_with writer.old (associated_text mms pdu.now) }
 {
     let start = writer.open(Tag::application_constructed(1));
     writer.octets(Tag::context_constructed(1), application_context());

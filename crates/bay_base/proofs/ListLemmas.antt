@@ -6,8 +6,8 @@ pub front_of : (bs : List ℕ) (i : ℕ) → i < length bs
     → drop i bs ≡ slice_index bs i ∷ drop (i + 1) bs
 front_of bs i h = grind (arith, common_steps)
 
-pub none_left : (bs : List ℕ) (i : ℕ) → length bs ≤ i → drop i bs ≡ []
-none_left bs i h = grind (arith, common_steps)
+pub none-left : (bs : List ℕ) (i : ℕ) → length bs ≤ i → drop i bs ≡ []
+none-left bs i h = grind (arith, common_steps)
 
 picked : {X Y : Type 0} (f : X → Y) (b : Bool) (x : X) (r : Option Y) (s : Option X)
     → r ≡ option_map f s

@@ -6,7 +6,7 @@ use Rattle.std.proofs.Math.Bool.{and-false}
 use Rattle.std.proofs.lemmas.Bool.{eq-eqb, ne_eqb}
 use Rattle.std.proofs.lemmas.Str.Ascii.{uppercase-uppercase}
 use Rattle.bay_base.specs.Names.{upper, same_name}
-use Rattle.bay_base.proofs.ListLemmas.{front_of, none_left}
+use Rattle.bay_base.proofs.ListLemmas.{front_of, none-left}
 
 pub other_lengths : (a b : List ℕ) → length a ≢ length b → same_name a b ≡ false
 unfolding same_name
@@ -18,30 +18,30 @@ other_lengths (x ∷ a) (y ∷ b) h =
     unfold same_name in other_lengths a b (λ e. h (omega (arith, e))) in
     rw rest (and-false (eqb (to_ascii_uppercase x) (to_ascii_uppercase y)))
 
-same_front : (x y : ℕ) (a b : List ℕ) → to_ascii_uppercase x ≡ to_ascii_uppercase y
+same-front : (x y : ℕ) (a b : List ℕ) → to_ascii_uppercase x ≡ to_ascii_uppercase y
     → same_name (x ∷ a) (y ∷ b) ≡ same_name a b
 unfolding same_name
-same_front x y a b e = rw (eq-eqb _ _ e) refl
+same-front x y a b e = rw (eq-eqb _ _ e) refl
 
-other_front : (x y : ℕ) (a b : List ℕ) → to_ascii_uppercase x ≢ to_ascii_uppercase y
+other-front : (x y : ℕ) (a b : List ℕ) → to_ascii_uppercase x ≢ to_ascii_uppercase y
     → same_name (x ∷ a) (y ∷ b) ≡ false
 unfolding same_name
-other_front x y a b e = rw (ne_eqb _ _ e) refl
+other-front x y a b e = rw (ne_eqb _ _ e) refl
 
 pub same_from : (a b : List ℕ) (i : ℕ) → i < length a → i < length b
     → to_ascii_uppercase (slice_index a i) ≡ to_ascii_uppercase (slice_index b i)
     → same_name (drop i a) (drop i b) ≡ same_name (drop (i + 1) a) (drop (i + 1) b)
-same_from a b i h k e = rw (front_of a i h, front_of b i k) (same_front _ _ _ _ e)
+same_from a b i h k e = rw (front_of a i h, front_of b i k) (same-front _ _ _ _ e)
 
 pub other_from : (a b : List ℕ) (i : ℕ) → i < length a → i < length b
     → to_ascii_uppercase (slice_index a i) ≢ to_ascii_uppercase (slice_index b i)
     → same_name (drop i a) (drop i b) ≡ false
-other_from a b i h k e = rw (front_of a i h, front_of b i k) (other_front _ _ _ _ e)
+other_from a b i h k e = rw (front_of a i h, front_of b i k) (other-front _ _ _ _ e)
 
 pub same_at_end : (a b : List ℕ) (i : ℕ) → length a ≤ i → length b ≤ i
     → same_name (drop i a) (drop i b) ≡ true
 unfolding same_name
-same_at_end a b i h k = rw (none_left a i h, none_left b i k) refl
+same_at_end a b i h k = rw (none-left a i h, none-left b i k) refl
 
 pub upper-upper : (name : List ℕ) → upper (upper name) ≡ upper name
 upper-upper [] = refl

@@ -13,11 +13,11 @@ twice : (o : Option (Bor (List ℕ) × ReservedWord))
 twice None = refl
 twice (Some x) = refl
 
-pub word_found : (w : List ℕ) (entries : List (Bor (List ℕ) × ReservedWord))
+pub word-found : (w : List ℕ) (entries : List (Bor (List ℕ) × ReservedWord))
     → map (λ entry. (entry.0.now, entry.1)) entries ≡ reserved_words
     → option_map (λ one. one.1) (find (λ entry. same_name w entry.0.now) entries) ≡ reserved_of w
 unfolding reserved_of
-word_found w entries e =
+word-found w entries e =
     let seen : List ℕ × ReservedWord → ReservedWord = λ r. r.1 in
     twice (find (λ entry. same_name w entry.0.now) entries)
     ∙ ap (λ (o : Option (List ℕ × ReservedWord)). option_map seen o)

@@ -9,6 +9,6 @@ Gives memory view (Ok x) held = held ≡ Ok (view x)
 Gives memory view (Err e) held = (e ≡ memory) ⊎ (held ≡ Err e)
 
 -- the refusal, or where there is none the value
-abbrev pub judged : {B E : Type 0} → Option E → B → Result B E
-judged None x = Ok x
-judged (Some e) x = Err e
+abbrev pub unless_refused : {B E : Type 0} → Option E → B → Result B E
+unless_refused None x = Ok x
+unless_refused (Some e) x = Err e

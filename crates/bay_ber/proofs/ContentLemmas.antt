@@ -23,36 +23,36 @@ pub signed_of-high : (octets : List ℕ) → 0 < length octets → 128 ≤ get_o
 signed_of-high [] some high = absurd (omega arith)
 signed_of-high (first ∷ octets) some high = rw (le-ltb first 128 high) refl
 
-pub whole_content : (content : List ℕ) → 1 ≤ length content
+pub whole-content : (content : List ℕ) → 1 ≤ length content
     → content ≡ get_or content 0 0 ∷ take (length content - 1) (drop 1 content)
-whole_content [] some = absurd (omega arith)
-whole_content (first ∷ octets) some =
+whole-content [] some = absurd (omega arith)
+whole-content (first ∷ octets) some =
     ap (λ (xs : List ℕ). first ∷ xs) (sym (take_rest (first ∷ octets) 1))
 
 -- the bits behind the first octet are those of the content
-pub bits_only : (content : List ℕ) (unused : ℕ) (behind : List ℕ) (result : Result Bits BerFault)
+pub bits-only : (content : List ℕ) (unused : ℕ) (behind : List ℕ) (result : Result Bits BerFault)
     → content ≡ unused ∷ behind
     → IfOk result (λ bits. (bits.octets.now ≡ behind) × HasBits unused behind bits.count)
     → IfErr result (λ fault. (fault ≡ BadContent) × ((count : ℕ) → HasBits unused behind count → ⊥))
     → (b : BitString) → IsBits content b.octets b.count → IsOkAnd result (λ bits. bits_of bits ≡ b)
-bits_only content unused behind (Ok bits) whole ok err b is =
+bits-only content unused behind (Ok bits) whole ok err b is =
     let at : IsBits (unused ∷ behind) b.octets b.count =
     subst (λ (xs : List ℕ). IsBits xs b.octets b.count) whole is in
     let octets : bits.octets.now ≡ b.octets = ok.0 ∙ sym at.0 in
     let count : bits.count ≡ b.count = omega (arith, ok.1.filled, at.1.filled) in
     rw (octets, count) refl
-bits_only content unused behind (Err fault) whole ok err b is =
+bits-only content unused behind (Err fault) whole ok err b is =
     let at : IsBits (unused ∷ behind) b.octets b.count =
     subst (λ (xs : List ℕ). IsBits xs b.octets b.count) whole is in
     absurd (err.1 b.count at.1)
 
-pub bits_err : (content : List ℕ) (unused : ℕ) (behind : List ℕ) (result : Result Bits BerFault)
+pub bits-err : (content : List ℕ) (unused : ℕ) (behind : List ℕ) (result : Result Bits BerFault)
     → content ≡ unused ∷ behind
     → IfErr result (λ fault. (fault ≡ BadContent) × ((count : ℕ) → HasBits unused behind count → ⊥))
     → IfErr result (λ fault. (fault ≡ BadContent)
     × ((octets : List ℕ) (count : ℕ) → IsBits content octets count → ⊥))
-bits_err content unused behind (Ok bits) whole err = tt
-bits_err content unused behind (Err fault) whole err = (
+bits-err content unused behind (Ok bits) whole err = tt
+bits-err content unused behind (Err fault) whole err = (
   err.0,
   λ octets count is. err.1 count
       (let at : IsBits (unused ∷ behind) octets count =
@@ -67,28 +67,28 @@ both true false e = absurd cc
 both false true e = absurd cc
 both false false e = absurd cc
 
-long_yes : (z : ℤ) → FitsSigned w64 z → is_long z ≡ true
-long_yes (pos n) fits = lt-ltb _ _ (omega (arith, ints))
-long_yes (negsuc n) fits = lt-ltb _ _ (omega (arith, ints))
+long-yes : (z : ℤ) → FitsSigned w64 z → is_long z ≡ true
+long-yes (pos n) fits = lt-ltb _ _ (omega (arith, ints))
+long-yes (negsuc n) fits = lt-ltb _ _ (omega (arith, ints))
 
 long_is : (z : ℤ) → is_long z ≡ true → FitsSigned w64 z
 long_is (pos n) e = let b : n < 9223372036854775808 = ltb-true _ _ e in omega (arith, ints)
 long_is (negsuc n) e = let b : n < 9223372036854775808 = ltb-true _ _ e in omega (arith, ints)
 
-integer_yes : (content : List ℕ) (value : ℤ) → IsInteger content value → is_integer content ≡ true
+integer-yes : (content : List ℕ) (value : ℤ) → IsInteger content value → is_integer content ≡ true
 unfolding is_integer
-integer_yes content value is =
+integer-yes content value is =
     let fits : FitsSigned w64 (signed_of content) = subst (FitsSigned w64) is.is is.fits in
     rw (
       lt-ltb 0 (length content) is.some,
       lt-ltb (length content) 10 (let f = is.few in omega arith),
-      long_yes (signed_of content) fits,
+      long-yes (signed_of content) fits,
     ) refl
 
-pub integer_is : (content : List ℕ) → is_integer content ≡ true
+pub integer-is : (content : List ℕ) → is_integer content ≡ true
     → IsInteger content (signed_of content)
 unfolding is_integer
-integer_is content e =
+integer-is content e =
     let a = both _ _ e in
     let b = both _ _ a.1 in
     record {
@@ -98,38 +98,38 @@ integer_is content e =
       fits = long_is (signed_of content) b.1;
     }
 
-pub integer_again : (content : List ℕ) (value : ℤ) → IsInteger content value
+pub integer-again : (content : List ℕ) (value : ℤ) → IsInteger content value
     → integer_in content ≡ Some value
-integer_again content value is =
-    cond-true (is_integer content) (Some (signed_of content)) None (integer_yes content value is)
+integer-again content value is =
+    cond-true (is_integer content) (Some (signed_of content)) None (integer-yes content value is)
     ∙ ap Some (sym is.is)
 
-pub integer_exact : (content : List ℕ) (result : Result ℤ BerFault)
+pub integer-exact : (content : List ℕ) (result : Result ℤ BerFault)
     → IfOk result (λ value. IsInteger content value)
     → IfErr result (λ fault. (fault ≡ BadContent) × ((value : ℤ) → IsInteger content value → ⊥))
     → result_ok result ≡ integer_in content
-integer_exact content (Ok value) ok err =
+integer-exact content (Ok value) ok err =
     sym (cond-true (is_integer content) (Some (signed_of content)) None
-    (integer_yes content value ok) ∙ ap Some (sym ok.is))
-integer_exact content (Err fault) ok err =
+    (integer-yes content value ok) ∙ ap Some (sym ok.is))
+integer-exact content (Err fault) ok err =
     sym (cond-false (is_integer content) (Some (signed_of content)) None
     (false_from_ne_true (is_integer content)
-    (λ e. err.1 (signed_of content) (integer_is content e))))
+    (λ e. err.1 (signed_of content) (integer-is content e))))
 
-pub unused_yes : (unused : ℕ) (octets : List ℕ) (count : ℕ) → HasBits unused octets count
+pub unused-yes : (unused : ℕ) (octets : List ℕ) (count : ℕ) → HasBits unused octets count
     → are_unused unused octets ≡ true
 unfolding are_unused
-unused_yes unused octets count h =
+unused-yes unused octets count h =
     rw (
       lt-ltb unused 8 (let f = h.few in omega arith),
       lt-ltb unused (8 * length octets + 1) (let f = h.filled in omega arith),
       lt-ltb (length octets) 2305843009213693952 (let f = h.within in omega arith),
     ) refl
 
-pub unused_is : (unused : ℕ) (octets : List ℕ) → are_unused unused octets ≡ true
+pub unused-is : (unused : ℕ) (octets : List ℕ) → are_unused unused octets ≡ true
     → HasBits unused octets (8 * length octets - unused)
 unfolding are_unused
-unused_is unused octets e =
+unused-is unused octets e =
     let a = both _ _ e in
     let b = both _ _ a.1 in
     let few : unused < 8 = ltb-true _ _ a.0 in
@@ -137,27 +137,27 @@ unused_is unused octets e =
     let within : length octets < 2305843009213693952 = ltb-true _ _ b.1 in
     record { few = omega arith; filled = omega arith; within = omega arith }
 
-bits_at : (unused : ℕ) (behind : List ℕ) (result : Result Bits BerFault)
+bits-at : (unused : ℕ) (behind : List ℕ) (result : Result Bits BerFault)
     → IfOk result (λ bits. (bits.octets.now ≡ behind) × HasBits unused behind bits.count)
     → IfErr result (λ fault. (fault ≡ BadContent) × ((count : ℕ) → HasBits unused behind count → ⊥))
     → option_map bits_of (result_ok result) ≡ bits_in (unused ∷ behind)
-bits_at unused behind (Ok bits) ok err =
+bits-at unused behind (Ok bits) ok err =
     let count : bits.count ≡ 8 * length behind - unused = (let f = ok.1.filled in omega arith) in
     let same : bits_of bits ≡ record { octets = behind; count = 8 * length behind - unused } =
     rw (ok.0, count) refl in
     ap Some same ∙ sym (cond-true (are_unused unused behind)
     (Some (record { octets = behind; count = 8 * length behind - unused })) None
-    (unused_yes unused behind bits.count ok.1))
-bits_at unused behind (Err fault) ok err =
+    (unused-yes unused behind bits.count ok.1))
+bits-at unused behind (Err fault) ok err =
     sym (cond-false (are_unused unused behind)
     (Some (record { octets = behind; count = 8 * length behind - unused })) None
     (false_from_ne_true (are_unused unused behind)
-    (λ e. err.1 (8 * length behind - unused) (unused_is unused behind e))))
+    (λ e. err.1 (8 * length behind - unused) (unused-is unused behind e))))
 
-pub bits_exact : (content : List ℕ) (unused : ℕ) (behind : List ℕ) (result : Result Bits BerFault)
+pub bits-exact : (content : List ℕ) (unused : ℕ) (behind : List ℕ) (result : Result Bits BerFault)
     → content ≡ unused ∷ behind
     → IfOk result (λ bits. (bits.octets.now ≡ behind) × HasBits unused behind bits.count)
     → IfErr result (λ fault. (fault ≡ BadContent) × ((count : ℕ) → HasBits unused behind count → ⊥))
     → option_map bits_of (result_ok result) ≡ bits_in content
-bits_exact content unused behind result whole ok err =
-    bits_at unused behind result ok err ∙ ap bits_in (sym whole)
+bits-exact content unused behind result whole ok err =
+    bits-at unused behind result ok err ∙ ap bits_in (sym whole)

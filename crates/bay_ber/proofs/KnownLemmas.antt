@@ -6,7 +6,7 @@ use Rattle.std.proofs.lemmas.List.Elements.{filter-append}
 use Rattle.bay_ber.specs.declared.tag.Tag.{Tag}
 use Rattle.bay_base.specs.Options.{◌>>=◌}
 use Rattle.bay_ber.specs.Values.{Part, onto, values_in, at_most_five, is_known, with_known, known_in}
-use Rattle.bay_ber.proofs.ListingLemmas.{onto_nil, onto_onto}
+use Rattle.bay_ber.proofs.ListingLemmas.{onto-nil, onto-onto}
 
 -- Values at the front were read, and those whose tags are known were kept.
 pub record Known (tags : List Tag) (whole rest : List ℕ) (known : List Part) : Type 0 where
@@ -18,44 +18,44 @@ pub record Known (tags : List Tag) (whole rest : List ℕ) (known : List Part) :
 abbrev kept : List Tag → Option (List Part) → Option (List Part)
 kept tags o = o >>= λ parts. at_most_five (filter (is_known tags) parts)
 
-pub known_first : (tags : List Tag) (whole : List ℕ) → Known tags whole whole []
-known_first tags whole =
-    record { front = []; read = onto_nil (values_in whole); is = refl; few = omega arith }
+pub known-first : (tags : List Tag) (whole : List ℕ) → Known tags whole whole []
+known-first tags whole =
+    record { front = []; read = onto-nil (values_in whole); is = refl; few = omega arith }
 
-filter_more : (is : Part → Bool) (front : List Part) (part : Part) (b : Bool) → is part ≡ b
+filter-more : (is : Part → Bool) (front : List Part) (part : Part) (b : Bool) → is part ≡ b
     → cond b (filter is front ++ part ∷ []) (filter is front) ≡ filter is (front ++ part ∷ [])
-filter_more is front part true e =
+filter-more is front part true e =
     sym (filter-append is front (part ∷ [])
     ∙ ap (λ (ps : List Part). filter is front ++ ps) (rw e refl))
-filter_more is front part false e =
+filter-more is front part false e =
     sym (filter-append is front (part ∷ [])
     ∙ ap (λ (ps : List Part). filter is front ++ ps) (rw e refl) ∙ append-nil (filter is front))
 
-pub known_more : (tags : List Tag) (whole rest new : List ℕ) (known more : List Part) (part : Part)
+pub known-more : (tags : List Tag) (whole rest new : List ℕ) (known more : List Part) (part : Part)
     → Known tags whole rest known → values_in rest ≡ onto (part ∷ []) (values_in new)
     → more ≡ with_known tags known part → length more ≤ 5 → Known tags whole new more
-known_more tags whole rest new known more part k step is few = record {
+known-more tags whole rest new known more part k step is few = record {
   front = k.front ++ part ∷ [];
-  read = k.read ∙ ap (onto k.front) step ∙ onto_onto k.front part (values_in new);
+  read = k.read ∙ ap (onto k.front) step ∙ onto-onto k.front part (values_in new);
   is = is ∙ ap (λ (ps : List Part). with_known tags ps part) k.is
-      ∙ filter_more (is_known tags) k.front part (is_known tags part) refl;
+      ∙ filter-more (is_known tags) k.front part (is_known tags part) refl;
   few = few;
 }
 
-pub known_end : (tags : List Tag) (whole rest : List ℕ) (known : List Part)
+pub known-end : (tags : List Tag) (whole rest : List ℕ) (known : List Part)
     → Known tags whole rest known → values_in rest ≡ Some [] → known_in tags whole ≡ Some known
 unfolding known_in
-known_end tags whole rest known k last =
+known-end tags whole rest known k last =
     let short : ltb (length known) 6 ≡ true = lt-ltb _ _ (let f = k.few in omega arith) in
     ap (kept tags) (k.read ∙ ap (onto k.front) last)
     ∙ ap (λ (ps : List Part). at_most_five (filter (is_known tags) ps)) (append-nil k.front)
     ∙ ap at_most_five (sym k.is) ∙ rw short refl
 
-full_at : (is : Part → Bool) (front : List Part) (part : Part) (o : Option (List Part))
+full-at : (is : Part → Bool) (front : List Part) (part : Part) (o : Option (List Part))
     → is part ≡ true → 5 ≤ length (filter is front)
     → (onto front (onto (part ∷ []) o) >>= λ parts. at_most_five (filter is parts)) ≡ None
-full_at is front part None e many = refl
-full_at is front part (Some later) e many =
+full-at is front part None e many = refl
+full-at is front part (Some later) e many =
     let one : filter is (part ∷ later) ≡ part ∷ filter is later = rw e refl in
     let long : ltb (length (filter is (front ++ part ∷ later))) 6 ≡ false =
     le-ltb _ _
@@ -67,15 +67,15 @@ full_at is front part (Some later) e many =
     )) in
     rw long refl
 
-pub known_full : (tags : List Tag) (whole rest new : List ℕ) (known : List Part) (part : Part)
+pub known-full : (tags : List Tag) (whole rest new : List ℕ) (known : List Part) (part : Part)
     → Known tags whole rest known → values_in rest ≡ onto (part ∷ []) (values_in new)
     → is_known tags part ≡ true → 5 ≤ length known → known_in tags whole ≡ None
 unfolding known_in
-known_full tags whole rest new known part k step is full =
+known-full tags whole rest new known part k step is full =
     ap (kept tags) (k.read ∙ ap (onto k.front) step)
-    ∙ full_at (is_known tags) k.front part (values_in new) is (omega (arith, ap length k.is))
+    ∙ full-at (is_known tags) k.front part (values_in new) is (omega (arith, ap length k.is))
 
-pub known_stop : (tags : List Tag) (whole rest : List ℕ) (known : List Part)
+pub known-stop : (tags : List Tag) (whole rest : List ℕ) (known : List Part)
     → Known tags whole rest known → values_in rest ≡ None → known_in tags whole ≡ None
 unfolding known_in
-known_stop tags whole rest known k stop = ap (kept tags) (k.read ∙ ap (onto k.front) stop)
+known-stop tags whole rest known k stop = ap (kept tags) (k.read ∙ ap (onto k.front) stop)

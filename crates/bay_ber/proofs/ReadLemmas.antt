@@ -12,22 +12,22 @@ use Rattle.bay_ber.specs.declared.tlv.Tlv.{Tlv}
 use Rattle.bay_ber.specs.Octets.{number_of}
 use Rattle.bay_ber.specs.Spelling.{identifier, IsTag, IsLength, Spells}
 use Rattle.bay_ber.specs.Reading.{Reading, reading_of, Begins, HasLargeTag, HasLengthOctet, IsIndefinite, HasLongLength, IsTruncated, class_of, is_constructed, low_bits, second_at, tag_at, length_at, tlv_at}
-use Rattle.bay_ber.proofs.TagLemmas.{class_of-identifier, is_constructed-identifier, low_bits-identifier, identifier_of}
+use Rattle.bay_ber.proofs.TagLemmas.{class_of-identifier, is_constructed-identifier, low_bits-identifier, identifier-of}
 
 abbrev pub IsBytes : List ℕ → Type 0
 IsBytes octets = (i : ℕ) → get_or octets i 0 < 256
 
 -- the value of a step that did not fail
-pub bind_ok : {A B E : Type 0} (r : Result A E) (f : A → Result B E) (y : B) → (r >>= f) ≡ Ok y
+pub bind-ok : {A B E : Type 0} (r : Result A E) (f : A → Result B E) (y : B) → (r >>= f) ≡ Ok y
     → (x : A) × (r ≡ Ok x) × (f x ≡ Ok y)
-bind_ok (Ok x) f y e = (x, refl, e)
-bind_ok (Err d) f y e = absurd cc
+bind-ok (Ok x) f y e = (x, refl, e)
+bind-ok (Err d) f y e = absurd cc
 
 -- where a chain of steps failed
-pub bind_err : {A B E : Type 0} (r : Result A E) (f : A → Result B E) (d : E) → (r >>= f) ≡ Err d
+pub bind-err : {A B E : Type 0} (r : Result A E) (f : A → Result B E) (d : E) → (r >>= f) ≡ Err d
     → (r ≡ Err d) ⊎ ((x : A) × (r ≡ Ok x) × (f x ≡ Err d))
-bind_err (Ok x) f d e = inr (x, refl, e)
-bind_err (Err c) f d e = inl (let same : c ≡ d = cc in ap Err same)
+bind-err (Ok x) f d e = inr (x, refl, e)
+bind-err (Err c) f d e = inl (let same : c ≡ d = cc in ap Err same)
 
 -- which side of a test was taken
 pub chosen : {A : Type 0} (b : Bool) (x y z : A) → cond b x y ≡ z
@@ -38,17 +38,17 @@ chosen false x y z e = inr (refl, e)
 abbrev pub done : {A : Type 0} → A → Result A BerFault
 done x = Ok x
 
-pub ok_is : {A : Type 0} (x y : A) → done x ≡ done y → x ≡ y
-ok_is x y e = cc
+pub ok-is : {A : Type 0} (x y : A) → done x ≡ done y → x ≡ y
+ok-is x y e = cc
 
 abbrev pub failed : (A : Type 0) → BerFault → Result A BerFault
 failed A d = Err d
 
-err_is : {A : Type 0} (c d : BerFault) → failed A c ≡ failed A d → c ≡ d
-err_is c d e = cc
+err-is : {A : Type 0} (c d : BerFault) → failed A c ≡ failed A d → c ≡ d
+err-is c d e = cc
 
-pub not_err : {A : Type 0} (x : A) (d : BerFault) → done x ≡ failed A d → ⊥
-not_err x d e = cc
+pub not-err : {A : Type 0} (x : A) (d : BerFault) → done x ≡ failed A d → ⊥
+not-err x d e = cc
 
 -- ---- the tag
 
@@ -62,10 +62,10 @@ pub record TagBegins (octets : List ℕ) (t : Tag) (rest : List ℕ) : Type 0 wh
   pub is_tag : IsTag tag t
   pub parts : octets ≡ tag ++ rest
 
-second_takes : (first : ℕ) (octets : List ℕ) (x : Tag × List ℕ) → first < 256 → low_bits first ≡ 31
+second-takes : (first : ℕ) (octets : List ℕ) (x : Tag × List ℕ) → first < 256 → low_bits first ≡ 31
     → second_at first octets ≡ Ok x → TagBegins (first ∷ octets) x.0 x.1
-second_takes first [] x below low e = absurd cc
-second_takes first (second ∷ octets) x below low e =
+second-takes first [] x below low e = absurd cc
+second-takes first (second ∷ octets) x below low e =
     elim (chosen (ltb second 128)
     (Ok (tag_of (class_of first) (is_constructed first) second, octets)) (Err TagTooLarge)
     (Ok x) e) [
@@ -73,10 +73,10 @@ second_takes first (second ∷ octets) x below low e =
           let made : Tag × List ℕ =
           (tag_of (class_of first) (is_constructed first) second, octets) in
           let whole : first ≡ identifier (class_of first) (is_constructed first) 31 =
-          identifier_of first below
+          identifier-of first below
           ∙ ap (identifier (class_of first) (is_constructed first)) low in
           subst (λ (y : Tag × List ℕ). TagBegins (first ∷ second ∷ octets) y.0 y.1)
-          (ok_is made x here.1)
+          (ok-is made x here.1)
           (record {
             tag = first ∷ second ∷ [];
             is_tag = (whole, ltb-true _ _ here.0, refl);
@@ -85,52 +85,52 @@ second_takes first (second ∷ octets) x below low e =
       | inr here ↦ absurd (let e : Err TagTooLarge ≡ Ok x = here.1 in cc)
     ]
 
-pub tag_takes : (octets : List ℕ) (x : Tag × List ℕ) → IsBytes octets → tag_at octets ≡ Ok x
+pub tag-takes : (octets : List ℕ) (x : Tag × List ℕ) → IsBytes octets → tag_at octets ≡ Ok x
     → TagBegins octets x.0 x.1
 unfolding tag_at
-tag_takes [] x fits e = absurd cc
-tag_takes (first ∷ octets) x fits e =
+tag-takes [] x fits e = absurd cc
+tag-takes (first ∷ octets) x fits e =
     elim (chosen (eqb (low_bits first) 31) (second_at first octets)
     (Ok (tag_of (class_of first) (is_constructed first) (low_bits first), octets)) (Ok x) e) [
-      | inl here ↦ second_takes first octets x (fits 0) (eqb-true _ _ here.0) here.1
+      | inl here ↦ second-takes first octets x (fits 0) (eqb-true _ _ here.0) here.1
       | inr here ↦
           let made : Tag × List ℕ =
           (tag_of (class_of first) (is_constructed first) (low_bits first), octets) in
           let other : (low_bits first ≡ 31) → ⊥ = eqb-false _ _ here.0 in
           let low : low_bits first < 31 = omega arith in
-          subst (λ (y : Tag × List ℕ). TagBegins (first ∷ octets) y.0 y.1) (ok_is made x here.1)
+          subst (λ (y : Tag × List ℕ). TagBegins (first ∷ octets) y.0 y.1) (ok-is made x here.1)
           (record {
             tag = first ∷ [];
-            is_tag = (low, identifier_of first (fits 0));
+            is_tag = (low, identifier-of first (fits 0));
             parts = refl;
           })
     ]
 
-tag_same : (first : ℕ) (class : Class) (constructed : Bool) (low number : ℕ) → low < 32
+tag-same : (first : ℕ) (class : Class) (constructed : Bool) (low number : ℕ) → low < 32
     → first ≡ identifier class constructed low
     → tag_of (class_of first) (is_constructed first) number ≡ tag_of class constructed number
-tag_same first class constructed low number below is =
+tag-same first class constructed low number below is =
     rw (
       is,
       class_of-identifier class constructed low below,
       is_constructed-identifier class constructed low below,
     ) refl
 
-pub tag_again : (tag : List ℕ) (t : Tag) (rest : List ℕ) → IsTag tag t
+pub tag-again : (tag : List ℕ) (t : Tag) (rest : List ℕ) → IsTag tag t
     → tag_at (tag ++ rest) ≡ Ok (t, rest)
 unfolding tag_at
-tag_again [] t rest is = absurd is
-tag_again (first ∷ []) t rest is =
+tag-again [] t rest is = absurd is
+tag-again (first ∷ []) t rest is =
     let low : low_bits first ≡ t.number =
     rw is.1 (low_bits-identifier t.class t.constructed t.number (omega (arith, is.0))) in
     let test : eqb (low_bits first) 31 ≡ false = ne_eqb _ _ (λ e. omega (arith, is.0, low, e)) in
     rw (
       test,
       low,
-      tag_same first t.class t.constructed t.number t.number (omega (arith, is.0))
+      tag-same first t.class t.constructed t.number t.number (omega (arith, is.0))
           is.1,
     ) refl
-tag_again (first ∷ second ∷ []) t rest is =
+tag-again (first ∷ second ∷ []) t rest is =
     let low : low_bits first ≡ 31 =
     rw is.0 (low_bits-identifier t.class t.constructed 31 (omega arith)) in
     let test : eqb (low_bits first) 31 ≡ true = eq-eqb _ _ low in
@@ -138,9 +138,9 @@ tag_again (first ∷ second ∷ []) t rest is =
       test,
       lt-ltb second 128 is.1,
       is.2,
-      tag_same first t.class t.constructed 31 second (omega arith) is.0,
+      tag-same first t.class t.constructed 31 second (omega arith) is.0,
     ) refl
-tag_again (first ∷ second ∷ third ∷ octets) t rest is = absurd is
+tag-again (first ∷ second ∷ third ∷ octets) t rest is = absurd is
 
 -- ---- the length
 
@@ -150,17 +150,17 @@ pub record LengthBegins (octets : List ℕ) (n : ℕ) (rest : List ℕ) : Type 0
   pub parts : octets ≡ len ++ rest
 
 -- a length of several octets, behind its first
-pub many_takes : (first : ℕ) (front rest : List ℕ) → length front + 128 ≡ first → 0 < length front
+pub many-takes : (first : ℕ) (front rest : List ℕ) → length front + 128 ≡ first → 0 < length front
     → length front ≤ 4 → LengthBegins (first ∷ (front ++ rest)) (number_of front) rest
-many_takes first [] rest is some few = absurd (omega arith)
-many_takes first (second ∷ octets) rest is some few =
+many-takes first [] rest is some few = absurd (omega arith)
+many-takes first (second ∷ octets) rest is some few =
     record { len = first ∷ second ∷ octets; is_length = (omega arith, few, refl); parts = refl }
 
-pub length_takes : (octets : List ℕ) (x : ℕ × List ℕ) → length_at octets ≡ Ok x
+pub length-takes : (octets : List ℕ) (x : ℕ × List ℕ) → length_at octets ≡ Ok x
     → LengthBegins octets x.0 x.1
 unfolding length_at
-length_takes [] x e = absurd cc
-length_takes (first ∷ octets) x e =
+length-takes [] x e = absurd cc
+length-takes (first ∷ octets) x e =
     let k = first - 128 in
     let long : Result (ℕ × List ℕ) BerFault =
     cond (ltb (length octets) k) (Err Truncated) (Ok (number_of (take k octets), drop k octets))
@@ -169,7 +169,7 @@ length_takes (first ∷ octets) x e =
     (cond (eqb first 128) (Err Indefinite) (cond (ltb 132 first) (Err LengthTooLong) long))
     (Ok x) e) [
       | inl a ↦ subst (λ (y : ℕ × List ℕ). LengthBegins (first ∷ octets) y.0 y.1)
-          (ok_is (first, octets) x a.1)
+          (ok-is (first, octets) x a.1)
           (record { len = first ∷ []; is_length = (ltb-true _ _ a.0, refl); parts = refl })
       | inr a ↦ elim (chosen (eqb first 128) (Err Indefinite)
           (cond (ltb 132 first) (Err LengthTooLong) long) (Ok x) a.1) [
@@ -187,10 +187,10 @@ length_takes (first ∷ octets) x e =
                         let size : length (take k octets) ≡ k =
                         omega (arith, length-take k octets) in
                         let found =
-                        many_takes first (take k octets) (drop k octets) (omega arith) (omega arith)
+                        many-takes first (take k octets) (drop k octets) (omega arith) (omega arith)
                         (omega arith) in
                         subst (λ (y : ℕ × List ℕ). LengthBegins (first ∷ octets) y.0 y.1)
-                        (ok_is (number_of (take k octets), drop k octets) x f.1)
+                        (ok-is (number_of (take k octets), drop k octets) x f.1)
                         (subst (λ (ys : List ℕ). LengthBegins (first ∷ ys)
                         (number_of (take k octets))
                         (drop k octets)) (take-append-drop k octets) found)
@@ -199,12 +199,12 @@ length_takes (first ∷ octets) x e =
           ]
     ]
 
-pub length_again : (len : List ℕ) (n : ℕ) (rest : List ℕ) → IsLength len n
+pub length-again : (len : List ℕ) (n : ℕ) (rest : List ℕ) → IsLength len n
     → length_at (len ++ rest) ≡ Ok (n, rest)
 unfolding length_at
-length_again [] n rest is = absurd is
-length_again (first ∷ []) n rest is = rw (lt-ltb first 128 is.0, is.1) refl
-length_again (first ∷ second ∷ octets) n rest is =
+length-again [] n rest is = absurd is
+length-again (first ∷ []) n rest is = rw (lt-ltb first 128 is.0, is.1) refl
+length-again (first ∷ second ∷ octets) n rest is =
     let front : List ℕ = second ∷ octets in
     let k : first - 128 ≡ length front = omega (arith, is.0) in
     let size : length (front ++ rest) ≡ length front + length rest = length-append front rest in
@@ -234,17 +234,17 @@ regroup : (octets tag behind len after content rest : List ℕ) → octets ≡ t
     → behind ≡ len ++ after → after ≡ content ++ rest → octets ≡ (tag ++ (len ++ content)) ++ rest
 regroup octets tag behind len after content rest p q r = rw (p, q, r) (simp append_assoc)
 
-pub tlv_takes : (octets : List ℕ) (r : Reading) → IsBytes octets → tlv_at octets ≡ Ok r
+pub tlv-takes : (octets : List ℕ) (r : Reading) → IsBytes octets → tlv_at octets ≡ Ok r
     → Begins octets r
 unfolding tlv_at
-tlv_takes octets r fits e =
-    let a = bind_ok (tag_at octets) with_tag r e in
-    let b = bind_ok (length_at a.0.1) (with_length a.0.0) r a.2 in
+tlv-takes octets r fits e =
+    let a = bind-ok (tag_at octets) with_tag r e in
+    let b = bind-ok (length_at a.0.1) (with_length a.0.0) r a.2 in
     let t = a.0.0 in
     let n = b.0.0 in
     let behind = b.0.1 in
-    let tag = tag_takes octets a.0 fits a.1 in
-    let len = length_takes a.0.1 b.0 b.1 in
+    let tag = tag-takes octets a.0 fits a.1 in
+    let len = length-takes a.0.1 b.0 b.1 in
     let made : Reading = record { tag = t; content = take n behind; rest = drop n behind } in
     elim (chosen (ltb (length behind) n) (Err Truncated) (Ok made) (Ok r) b.2) [
       | inl short ↦ absurd (let e : Err Truncated ≡ Ok r = short.1 in cc)
@@ -264,13 +264,13 @@ tlv_takes octets r fits e =
           let parts : octets ≡ front ++ drop n behind =
           regroup octets tag.tag a.0.1 len.len behind (take n behind) (drop n behind) tag.parts
           len.parts (sym cut) in
-          subst (Begins octets) (ok_is made r here.1)
+          subst (Begins octets) (ok-is made r here.1)
           (record { front = front; spelled = spelled; parts = parts })
     ]
 
-pub tlv_again : (octets : List ℕ) (r : Reading) → Begins octets r → tlv_at octets ≡ Ok r
+pub tlv-again : (octets : List ℕ) (r : Reading) → Begins octets r → tlv_at octets ≡ Ok r
 unfolding tlv_at
-tlv_again octets r begins =
+tlv-again octets r begins =
     let s = begins.spelled in
     let parts : octets ≡ s.front ++ (s.len ++ (r.content ++ r.rest)) =
     begins.parts ∙ ap (λ (xs : List ℕ). xs ++ r.rest) s.parts ∙ simp append_assoc in
@@ -278,8 +278,8 @@ tlv_again octets r begins =
     le-ltb _ _ (omega (arith, length-append r.content r.rest)) in
     rw (
       parts,
-      tag_again s.front r.tag (s.len ++ (r.content ++ r.rest)) s.is_tag,
-      length_again s.len (length r.content) (r.content ++ r.rest) s.is_length,
+      tag-again s.front r.tag (s.len ++ (r.content ++ r.rest)) s.is_tag,
+      length-again s.len (length r.content) (r.content ++ r.rest) s.is_length,
       room,
       take_at r.content r.rest (length r.content) refl,
       drop_at r.content r.rest (length r.content) refl,
@@ -295,11 +295,11 @@ FaultHolds LengthTooLong octets = HasLongLength octets
 FaultHolds TagTooLarge octets = HasLargeTag octets
 FaultHolds BadContent octets = ⊥
 
-second_fault : (first : ℕ) (octets : List ℕ) (d : BerFault) → low_bits first ≡ 31
+second-fault : (first : ℕ) (octets : List ℕ) (d : BerFault) → low_bits first ≡ 31
     → second_at first octets ≡ Err d → FaultHolds d (first ∷ octets)
-second_fault first [] d low e =
+second-fault first [] d low e =
     subst (λ (x : BerFault). FaultHolds x (first ∷ [])) (let same : Truncated ≡ d = cc in same) tt
-second_fault first (second ∷ octets) d low e =
+second-fault first (second ∷ octets) d low e =
     elim (chosen (ltb second 128)
     (Ok (tag_of (class_of first) (is_constructed first) second, octets)) (Err TagTooLarge)
     (Err d) e) [
@@ -307,17 +307,17 @@ second_fault first (second ∷ octets) d low e =
           : Ok (tag_of (class_of first) (is_constructed first) second, octets) ≡ Err d = here.1 in
           cc)
       | inr here ↦ subst (λ (x : BerFault). FaultHolds x (first ∷ second ∷ octets))
-          (err_is _ _ here.1) (low, ltb-false _ _ here.0)
+          (err-is _ _ here.1) (low, ltb-false _ _ here.0)
     ]
 
-tag_fault : (octets : List ℕ) (d : BerFault) → tag_at octets ≡ Err d → FaultHolds d octets
+tag-fault : (octets : List ℕ) (d : BerFault) → tag_at octets ≡ Err d → FaultHolds d octets
 unfolding tag_at
-tag_fault [] d e =
+tag-fault [] d e =
     subst (λ (x : BerFault). FaultHolds x []) (let same : Truncated ≡ d = cc in same) tt
-tag_fault (first ∷ octets) d e =
+tag-fault (first ∷ octets) d e =
     elim (chosen (eqb (low_bits first) 31) (second_at first octets)
     (Ok (tag_of (class_of first) (is_constructed first) (low_bits first), octets)) (Err d) e) [
-      | inl here ↦ second_fault first octets d (eqb-true _ _ here.0) here.1
+      | inl here ↦ second-fault first octets d (eqb-true _ _ here.0) here.1
       | inr here ↦ absurd (let e
           : Ok (tag_of (class_of first) (is_constructed first) (low_bits first), octets) ≡ Err d =
           here.1 in cc)
@@ -332,11 +332,11 @@ LengthFault LengthTooLong octets =
 LengthFault TagTooLarge octets = ⊥
 LengthFault BadContent octets = ⊥
 
-length_fault : (octets : List ℕ) (d : BerFault) → length_at octets ≡ Err d → LengthFault d octets
+length-fault : (octets : List ℕ) (d : BerFault) → length_at octets ≡ Err d → LengthFault d octets
 unfolding length_at
-length_fault [] d e =
+length-fault [] d e =
     subst (λ (x : BerFault). LengthFault x []) (let same : Truncated ≡ d = cc in same) tt
-length_fault (first ∷ octets) d e =
+length-fault (first ∷ octets) d e =
     let k = first - 128 in
     let long : Result (ℕ × List ℕ) BerFault =
     cond (ltb (length octets) k) (Err Truncated) (Ok (number_of (take k octets), drop k octets))
@@ -344,29 +344,29 @@ length_fault (first ∷ octets) d e =
     elim (chosen (ltb first 128) (Ok (first, octets))
     (cond (eqb first 128) (Err Indefinite) (cond (ltb 132 first) (Err LengthTooLong) long))
     (Err d) e) [
-      | inl a ↦ absurd (not_err (first, octets) d a.1)
+      | inl a ↦ absurd (not-err (first, octets) d a.1)
       | inr a ↦ elim (chosen (eqb first 128) (Err Indefinite)
           (cond (ltb 132 first) (Err LengthTooLong) long) (Err d) a.1) [
-            | inl b ↦ subst (λ (x : BerFault). LengthFault x (first ∷ octets)) (err_is _ _ b.1)
+            | inl b ↦ subst (λ (x : BerFault). LengthFault x (first ∷ octets)) (err-is _ _ b.1)
                 (octets, ap (λ (f : ℕ). f ∷ octets) (eqb-true _ _ b.0))
             | inr b ↦ elim (chosen (ltb 132 first) (Err LengthTooLong) long (Err d) b.1) [
-              | inl g ↦ subst (λ (x : BerFault). LengthFault x (first ∷ octets)) (err_is _ _ g.1)
+              | inl g ↦ subst (λ (x : BerFault). LengthFault x (first ∷ octets)) (err-is _ _ g.1)
                   (first, ltb-true _ _ g.0, (octets, refl))
               | inr g ↦ elim (chosen (ltb (length octets) k) (Err Truncated)
                   (Ok (number_of (take k octets), drop k octets)) (Err d) g.1) [
                     | inl h ↦ subst (λ (x : BerFault). LengthFault x (first ∷ octets))
-                        (err_is _ _ h.1) tt
-                    | inr h ↦ absurd (not_err (number_of (take k octets), drop k octets) d h.1)
+                        (err-is _ _ h.1) tt
+                    | inr h ↦ absurd (not-err (number_of (take k octets), drop k octets) d h.1)
                   ]
             ]
           ]
     ]
 
 -- a length's fault behind a tag
-behind_tag : (octets rest : List ℕ) (t : Tag) (d : BerFault) → TagBegins octets t rest
+behind-tag : (octets rest : List ℕ) (t : Tag) (d : BerFault) → TagBegins octets t rest
     → LengthFault d rest → FaultHolds d octets
-behind_tag octets rest t Truncated tag f = tt
-behind_tag octets rest t Indefinite tag f =
+behind-tag octets rest t Truncated tag f = tt
+behind-tag octets rest t Indefinite tag f =
     record {
       tag = t;
       front = tag.tag;
@@ -374,7 +374,7 @@ behind_tag octets rest t Indefinite tag f =
       is_tag = tag.is_tag;
       parts = tag.parts ∙ ap (λ (xs : List ℕ). tag.tag ++ xs) f.1;
     }
-behind_tag octets rest t LengthTooLong tag f = (
+behind-tag octets rest t LengthTooLong tag f = (
   f.0,
   f.1,
   record {
@@ -385,19 +385,19 @@ behind_tag octets rest t LengthTooLong tag f = (
     parts = tag.parts ∙ ap (λ (xs : List ℕ). tag.tag ++ xs) f.2.1;
   },
 )
-behind_tag octets rest t TagTooLarge tag f = absurd f
-behind_tag octets rest t BadContent tag f = absurd f
+behind-tag octets rest t TagTooLarge tag f = absurd f
+behind-tag octets rest t BadContent tag f = absurd f
 
-pub tlv_fault : (octets : List ℕ) (d : BerFault) → IsBytes octets → tlv_at octets ≡ Err d
+pub tlv-fault : (octets : List ℕ) (d : BerFault) → IsBytes octets → tlv_at octets ≡ Err d
     → FaultHolds d octets
 unfolding tlv_at
-tlv_fault octets d fits e =
-    elim (bind_err (tag_at octets) with_tag d e) [
-      | inl tag ↦ tag_fault octets d tag
+tlv-fault octets d fits e =
+    elim (bind-err (tag_at octets) with_tag d e) [
+      | inl tag ↦ tag-fault octets d tag
       | inr a ↦
-          let tag = tag_takes octets a.0 fits a.1 in
-          elim (bind_err (length_at a.0.1) (with_length a.0.0) d a.2) [
-            | inl len ↦ behind_tag octets a.0.1 a.0.0 d tag (length_fault a.0.1 d len)
+          let tag = tag-takes octets a.0 fits a.1 in
+          elim (bind-err (length_at a.0.1) (with_length a.0.0) d a.2) [
+            | inl len ↦ behind-tag octets a.0.1 a.0.0 d tag (length-fault a.0.1 d len)
             | inr b ↦
                 let n = b.0.0 in
                 let behind = b.0.1 in
@@ -405,135 +405,135 @@ tlv_fault octets d fits e =
                 let made : Reading =
                 record { tag = t; content = take n behind; rest = drop n behind } in
                 elim (chosen (ltb (length behind) n) (Err Truncated) (Ok made) (Err d) b.2) [
-                  | inl short ↦ subst (λ (x : BerFault). FaultHolds x octets) (err_is _ _ short.1)
+                  | inl short ↦ subst (λ (x : BerFault). FaultHolds x octets) (err-is _ _ short.1)
                       tt
-                  | inr here ↦ absurd (not_err made d here.1)
+                  | inr here ↦ absurd (not-err made d here.1)
                 ]
           ]
     ]
 
-pub large_tag_again : (octets : List ℕ) → HasLargeTag octets → tlv_at octets ≡ Err TagTooLarge
+pub large-tag-again : (octets : List ℕ) → HasLargeTag octets → tlv_at octets ≡ Err TagTooLarge
 unfolding tlv_at tag_at
-large_tag_again [] h = absurd h
-large_tag_again (first ∷ []) h = absurd h
-large_tag_again (first ∷ second ∷ octets) h = rw (eq-eqb _ _ h.0, le-ltb second 128 h.1) refl
+large-tag-again [] h = absurd h
+large-tag-again (first ∷ []) h = absurd h
+large-tag-again (first ∷ second ∷ octets) h = rw (eq-eqb _ _ h.0, le-ltb second 128 h.1) refl
 
-length_octet_again : (octets : List ℕ) (octet : ℕ) (d : BerFault) → HasLengthOctet octets octet
+length-octet-again : (octets : List ℕ) (octet : ℕ) (d : BerFault) → HasLengthOctet octets octet
     → ((rest : List ℕ) → length_at (octet ∷ rest) ≡ Err d) → tlv_at octets ≡ Err d
 unfolding tlv_at
-length_octet_again octets octet d h refused =
-    rw (h.parts, tag_again h.front h.tag (octet ∷ h.rest) h.is_tag, refused h.rest) refl
+length-octet-again octets octet d h refused =
+    rw (h.parts, tag-again h.front h.tag (octet ∷ h.rest) h.is_tag, refused h.rest) refl
 
-long_refused : (octet : ℕ) (rest : List ℕ) → 132 < octet
+long-refused : (octet : ℕ) (rest : List ℕ) → 132 < octet
     → length_at (octet ∷ rest) ≡ Err LengthTooLong
 unfolding length_at
-long_refused octet rest above =
+long-refused octet rest above =
     rw (le-ltb octet 128 (omega arith), ne_eqb octet 128 (λ e. omega arith), lt-ltb 132 octet above)
     refl
 
-indefinite_refused : (rest : List ℕ) → length_at (128 ∷ rest) ≡ Err Indefinite
+indefinite-refused : (rest : List ℕ) → length_at (128 ∷ rest) ≡ Err Indefinite
 unfolding length_at
-indefinite_refused rest = refl
+indefinite-refused rest = refl
 
-pub indefinite_again : (octets : List ℕ) → IsIndefinite octets → tlv_at octets ≡ Err Indefinite
-indefinite_again octets h = length_octet_again octets 128 Indefinite h indefinite_refused
+pub indefinite-again : (octets : List ℕ) → IsIndefinite octets → tlv_at octets ≡ Err Indefinite
+indefinite-again octets h = length-octet-again octets 128 Indefinite h indefinite-refused
 
-pub long_length_again : (octets : List ℕ) → HasLongLength octets → tlv_at octets ≡ Err LengthTooLong
-long_length_again octets h =
-    length_octet_again octets h.0 LengthTooLong h.2 (λ rest. long_refused h.0 rest h.1)
+pub long-length-again : (octets : List ℕ) → HasLongLength octets → tlv_at octets ≡ Err LengthTooLong
+long-length-again octets h =
+    length-octet-again octets h.0 LengthTooLong h.2 (λ rest. long-refused h.0 rest h.1)
 
 -- no two answers
-two_faults : (c d : BerFault) (x : Result Reading BerFault) → x ≡ Err c → x ≡ Err d → c ≡ d
-two_faults c d x e f = err_is c d (sym e ∙ f)
+two-faults : (c d : BerFault) (x : Result Reading BerFault) → x ≡ Err c → x ≡ Err d → c ≡ d
+two-faults c d x e f = err-is c d (sym e ∙ f)
 
-pub truncated_holds : (octets : List ℕ) → tlv_at octets ≡ Err Truncated → IsTruncated octets
-truncated_holds octets e = record {
+pub truncated-holds : (octets : List ℕ) → tlv_at octets ≡ Err Truncated → IsTruncated octets
+truncated-holds octets e = record {
   no_large_tag =
       λ h. absurd (let same : Truncated ≡ TagTooLarge =
-      two_faults _ _ _ e (large_tag_again octets h) in cc);
+      two-faults _ _ _ e (large-tag-again octets h) in cc);
   not_indefinite =
       λ h. absurd (let same : Truncated ≡ Indefinite =
-      two_faults _ _ _ e (indefinite_again octets h) in cc);
+      two-faults _ _ _ e (indefinite-again octets h) in cc);
   no_long_length =
       λ h. absurd (let same : Truncated ≡ LengthTooLong =
-      two_faults _ _ _ e (long_length_again octets h) in cc);
-  not_spelled = λ h. not_err h.0 Truncated (sym (tlv_again octets h.0 h.1) ∙ e);
+      two-faults _ _ _ e (long-length-again octets h) in cc);
+  not_spelled = λ h. not-err h.0 Truncated (sym (tlv-again octets h.0 h.1) ∙ e);
 }
 
-truncated_answer : (octets : List ℕ) (x : Result Reading BerFault) → IsBytes octets
+truncated-answer : (octets : List ℕ) (x : Result Reading BerFault) → IsBytes octets
     → IsTruncated octets → tlv_at octets ≡ x → x ≡ Err Truncated
-truncated_answer octets (Ok r) fits h e = absurd (h.not_spelled (r, tlv_takes octets r fits e))
-truncated_answer octets (Err Truncated) fits h e = refl
-truncated_answer octets (Err Indefinite) fits h e =
-    absurd (h.not_indefinite (tlv_fault octets Indefinite fits e))
-truncated_answer octets (Err LengthTooLong) fits h e =
-    absurd (h.no_long_length (tlv_fault octets LengthTooLong fits e))
-truncated_answer octets (Err TagTooLarge) fits h e =
-    absurd (h.no_large_tag (tlv_fault octets TagTooLarge fits e))
-truncated_answer octets (Err BadContent) fits h e = absurd (tlv_fault octets BadContent fits e)
+truncated-answer octets (Ok r) fits h e = absurd (h.not_spelled (r, tlv-takes octets r fits e))
+truncated-answer octets (Err Truncated) fits h e = refl
+truncated-answer octets (Err Indefinite) fits h e =
+    absurd (h.not_indefinite (tlv-fault octets Indefinite fits e))
+truncated-answer octets (Err LengthTooLong) fits h e =
+    absurd (h.no_long_length (tlv-fault octets LengthTooLong fits e))
+truncated-answer octets (Err TagTooLarge) fits h e =
+    absurd (h.no_large_tag (tlv-fault octets TagTooLarge fits e))
+truncated-answer octets (Err BadContent) fits h e = absurd (tlv-fault octets BadContent fits e)
 
-pub truncated_again : (octets : List ℕ) → IsBytes octets → IsTruncated octets
+pub truncated-again : (octets : List ℕ) → IsBytes octets → IsTruncated octets
     → tlv_at octets ≡ Err Truncated
-truncated_again octets fits h = truncated_answer octets (tlv_at octets) fits h refl
+truncated-again octets fits h = truncated-answer octets (tlv_at octets) fits h refl
 
 -- ---- what a function answers that reads so
 
 pub is_ok : (octets : List ℕ) (result : Result Tlv BerFault) → IsBytes octets
     → IsRead reading_of result (tlv_at octets) → IfOk result (λ tlv. Begins octets (reading_of tlv))
-is_ok octets (Ok tlv) fits given = tlv_takes octets (reading_of tlv) fits given
+is_ok octets (Ok tlv) fits given = tlv-takes octets (reading_of tlv) fits given
 is_ok octets (Err d) fits given = tt
 
-pub is_only : (octets : List ℕ) (result : Result Tlv BerFault) (r : Reading)
+pub is-only : (octets : List ℕ) (result : Result Tlv BerFault) (r : Reading)
     → IsRead reading_of result (tlv_at octets) → Begins octets r
     → IsOkAnd result (λ tlv. reading_of tlv ≡ r)
-is_only octets (Ok tlv) r given begins =
-    ok_is (reading_of tlv) r (sym given ∙ tlv_again octets r begins)
-is_only octets (Err d) r given begins =
-    absurd (not_err r d (sym (tlv_again octets r begins) ∙ given))
+is-only octets (Ok tlv) r given begins =
+    ok-is (reading_of tlv) r (sym given ∙ tlv-again octets r begins)
+is-only octets (Err d) r given begins =
+    absurd (not-err r d (sym (tlv-again octets r begins) ∙ given))
 
 pub is_err : (octets : List ℕ) (result : Result Tlv BerFault) (d : BerFault)
     → IsRead reading_of result (tlv_at octets) → result ≡ Err d → tlv_at octets ≡ Err d
-is_err octets (Ok tlv) d given e = absurd (not_err tlv d e)
-is_err octets (Err c) d given e = given ∙ ap Err (err_is c d e)
+is_err octets (Ok tlv) d given e = absurd (not-err tlv d e)
+is_err octets (Err c) d given e = given ∙ ap Err (err-is c d e)
 
-pub err_is_answer : (octets : List ℕ) (result : Result Tlv BerFault) (d : BerFault)
+pub err-is-answer : (octets : List ℕ) (result : Result Tlv BerFault) (d : BerFault)
     → IsRead reading_of result (tlv_at octets) → tlv_at octets ≡ Err d → result ≡ Err d
-err_is_answer octets (Ok tlv) d given e = absurd (not_err (reading_of tlv) d (sym given ∙ e))
-err_is_answer octets (Err c) d given e = ap Err (err_is c d (sym given ∙ e))
+err-is-answer octets (Ok tlv) d given e = absurd (not-err (reading_of tlv) d (sym given ∙ e))
+err-is-answer octets (Err c) d given e = ap Err (err-is c d (sym given ∙ e))
 
 -- ---- the law
 
 -- at most one prefix of an input is spelled, in one way
 pub one_reading : (octets : List ℕ) (r s : Reading) → Begins octets r → Begins octets s → r ≡ s
-one_reading octets r s a b = ok_is r s (sym (tlv_again octets r a) ∙ tlv_again octets s b)
+one_reading octets r s a b = ok-is r s (sym (tlv-again octets r a) ∙ tlv-again octets s b)
 
-pub one_front : (octets : List ℕ) (r s : Reading) (a : Begins octets r) (b : Begins octets s)
+pub one-front : (octets : List ℕ) (r s : Reading) (a : Begins octets r) (b : Begins octets s)
     → a.front ≡ b.front
-one_front octets r s a b =
+one-front octets r s a b =
     let same : r.rest ≡ s.rest = ap (λ (x : Reading). x.rest) (one_reading octets r s a b) in
     append_cancel_right a.front b.front s.rest
     (ap (λ (xs : List ℕ). a.front ++ xs) (sym same) ∙ sym a.parts ∙ b.parts)
 
-pub tag_some : (tag : List ℕ) (t : Tag) → IsTag tag t → 0 < length tag
-tag_some [] t is = absurd is
-tag_some (first ∷ octets) t is = omega arith
+pub tag-some : (tag : List ℕ) (t : Tag) → IsTag tag t → 0 < length tag
+tag-some [] t is = absurd is
+tag-some (first ∷ octets) t is = omega arith
 
-len_some : (len : List ℕ) (n : ℕ) → IsLength len n → 0 < length len
-len_some [] n is = absurd is
-len_some (first ∷ octets) n is = omega arith
+len-some : (len : List ℕ) (n : ℕ) → IsLength len n → 0 < length len
+len-some [] n is = absurd is
+len-some (first ∷ octets) n is = omega arith
 
 -- a tag and a length take two octets at least
-begins_shorter : (octets : List ℕ) (r : Reading) → Begins octets r
+begins-shorter : (octets : List ℕ) (r : Reading) → Begins octets r
     → length r.content + length r.rest + 2 ≤ length octets
-begins_shorter octets r begins =
+begins-shorter octets r begins =
     let s = begins.spelled in
     let whole : length octets ≡ length s.front + (length s.len + length r.content) + length r.rest =
     rw (begins.parts, s.parts) (simp length-append) in
-    omega (arith, tag_some s.front r.tag s.is_tag, len_some s.len (length r.content) s.is_length)
+    omega (arith, tag-some s.front r.tag s.is_tag, len-some s.len (length r.content) s.is_length)
 
-pub is_shorter : (octets : List ℕ) (result : Result Tlv BerFault) → IsBytes octets
+pub is-shorter : (octets : List ℕ) (result : Result Tlv BerFault) → IsBytes octets
     → IsRead reading_of result (tlv_at octets)
     → IfOk result (λ tlv. length tlv.content.now + length tlv.rest.now + 2 ≤ length octets)
-is_shorter octets (Ok tlv) fits given =
-    begins_shorter octets (reading_of tlv) (tlv_takes octets (reading_of tlv) fits given)
-is_shorter octets (Err d) fits given = tt
+is-shorter octets (Ok tlv) fits given =
+    begins-shorter octets (reading_of tlv) (tlv-takes octets (reading_of tlv) fits given)
+is-shorter octets (Err d) fits given = tt

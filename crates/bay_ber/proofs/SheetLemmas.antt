@@ -10,7 +10,7 @@ use Rattle.std.specs.Option.{option_map}
 use Rattle.bay_ber.specs.declared.tag.Tag.{Tag}
 use Rattle.bay_ber.specs.Spelling.{octet_of}
 use Rattle.bay_ber.specs.Writing.{octets_needed, length_octets, element}
-use Rattle.bay_ber.specs.Sheets.{Sheet, tagged, empty, within, joined, put, rewritten, closed, message, wrapped, behind, IsLength, IsEnd, HasTwoAt, IsOpen}
+use Rattle.bay_ber.specs.Sheets.{Sheet, short_value, empty, within, text_with, sheet_with, rewritten, close_sheet, message, value_around, behind, IsLength, IsEnd, HasTwoAt, IsOpen}
 
 pub past : (limit : ℕ) (text : List ℕ) → limit < length text → within limit text ≡ None
 past limit text lt = rw (lt-ltb limit (length text) lt) refl
@@ -20,26 +20,26 @@ fits limit text le = rw (le-ltb limit (length text) le) refl
 
 -- ---- octets one behind another
 
-pub no_room : (limit : ℕ) (text octets : List ℕ) → limit - length text < length octets
-    → joined limit (Some text) octets ≡ None
-no_room limit text octets lt = rw (lt-ltb (limit - length text) (length octets) lt) refl
+pub no-room : (limit : ℕ) (text octets : List ℕ) → limit - length text < length octets
+    → text_with limit (Some text) octets ≡ None
+no-room limit text octets lt = rw (lt-ltb (limit - length text) (length octets) lt) refl
 
 pub room : (limit : ℕ) (text octets : List ℕ) → length octets ≤ limit - length text
-    → joined limit (Some text) octets ≡ Some (text ++ octets)
+    → text_with limit (Some text) octets ≡ Some (text ++ octets)
 room limit text octets le = rw (le-ltb (limit - length text) (length octets) le) refl
 
 joined-joined : (limit : ℕ) (text : Option (List ℕ)) (xs ys : List ℕ)
-    → joined limit (joined limit text xs) ys ≡ joined limit text (xs ++ ys)
+    → text_with limit (text_with limit text xs) ys ≡ text_with limit text (xs ++ ys)
 joined-joined limit None xs ys = refl
 joined-joined limit (Some text) xs ys =
     let n = length-append text xs in
     let m = length-append xs ys in
     elim (cases_lt (limit - length text) (length xs)) [
-      | inl lt ↦ rw (no_room limit text xs lt) (sym (no_room limit text (xs ++ ys) (omega arith)))
+      | inl lt ↦ rw (no-room limit text xs lt) (sym (no-room limit text (xs ++ ys) (omega arith)))
       | inr le ↦ elim (cases_lt (limit - length (text ++ xs)) (length ys)) [
         | inl lt ↦
-            rw (room limit text xs le, no_room limit (text ++ xs) ys lt)
-            (sym (no_room limit text (xs ++ ys) (omega arith)))
+            rw (room limit text xs le, no-room limit (text ++ xs) ys lt)
+            (sym (no-room limit text (xs ++ ys) (omega arith)))
         | inr all ↦
             rw (
               room limit text xs le,
@@ -50,22 +50,23 @@ joined-joined limit (Some text) xs ys =
       ]
     ]
 
-joined-nil : (limit : ℕ) (text : Option (List ℕ)) → joined limit text [] ≡ text
+joined-nil : (limit : ℕ) (text : Option (List ℕ)) → text_with limit text [] ≡ text
 joined-nil limit None = refl
 joined-nil limit (Some text) =
     room limit text [] (omega arith) ∙ ap (λ (ys : List ℕ). Some ys) (append-nil text)
 
-pub put_nil : (sheet : Sheet) → put sheet [] ≡ sheet
-unfolding put
+pub put_nil : (sheet : Sheet) → sheet_with sheet [] ≡ sheet
+unfolding sheet_with
 put_nil sheet = rw (joined-nil sheet.limit sheet.text) refl
 
-pub put-put : (sheet : Sheet) (xs ys : List ℕ) → put (put sheet xs) ys ≡ put sheet (xs ++ ys)
-unfolding put
+pub put-put : (sheet : Sheet) (xs ys : List ℕ)
+    → sheet_with (sheet_with sheet xs) ys ≡ sheet_with sheet (xs ++ ys)
+unfolding sheet_with
 put-put sheet xs ys = rw (joined-joined sheet.limit sheet.text xs ys) refl
 
-pub put_twice : (old middle new : Sheet) (xs ys : List ℕ) → middle ≡ put old xs
-    → new ≡ put middle ys → new ≡ put old (xs ++ ys)
-put_twice old middle new xs ys first last = last ∙ rw first (put-put old xs ys)
+pub put-twice : (old middle new : Sheet) (xs ys : List ℕ) → middle ≡ sheet_with old xs
+    → new ≡ sheet_with middle ys → new ≡ sheet_with old (xs ++ ys)
+put-twice old middle new xs ys first last = last ∙ rw first (put-put old xs ys)
 
 -- ---- values
 
@@ -79,20 +80,21 @@ length-octets n =
     ]
 
 pub length-tagged : (tag : ℕ) (content : List ℕ)
-    → length (tagged tag content) ≡ 1 + length (length_octets (length content)) + length content
-unfolding tagged
+    → length (short_value tag content)
+    ≡ 1 + length (length_octets (length content)) + length content
+unfolding short_value
 length-tagged tag content =
     omega (arith, length-append (length_octets (length content)) content)
 
 rewritten-joined : (limit : ℕ) (text : Option (List ℕ)) (start tag : ℕ) (content : List ℕ)
     → IsLength start text
-    → rewritten limit (joined limit text (tag ∷ 0 ∷ content)) start
-    ≡ joined limit text (tagged tag content)
+    → rewritten limit (text_with limit text (tag ∷ 0 ∷ content)) start
+    ≡ text_with limit text (short_value tag content)
 rewritten-joined limit None start tag content at = refl
 rewritten-joined limit (Some text) start tag content at =
     let open_text = text ++ tag ∷ 0 ∷ content in
     let n = length-append text (tag ∷ 0 ∷ content) in
-    let m = length-append text (tagged tag content) in
+    let m = length-append text (short_value tag content) in
     let k = length-tagged tag content in
     let some = length-octets (length content) in
     let front : take start open_text ≡ text = take_at text (tag ∷ 0 ∷ content) start (sym at) in
@@ -104,116 +106,119 @@ rewritten-joined limit (Some text) start tag content at =
     (length-append text (tag ∷ 0 ∷ []) ∙ omega arith)) in
     elim (cases_lt (limit - length text) (length (tag ∷ 0 ∷ content))) [
       | inl lt ↦
-          rw (no_room limit text (tag ∷ 0 ∷ content) lt)
-          (sym (no_room limit text (tagged tag content) (omega arith)))
-      | inr le ↦ elim (cases_lt limit (length (text ++ tagged tag content))) [
+          rw (no-room limit text (tag ∷ 0 ∷ content) lt)
+          (sym (no-room limit text (short_value tag content) (omega arith)))
+      | inr le ↦ elim (cases_lt limit (length (text ++ short_value tag content))) [
         | inl lt ↦
             rw (
               room limit text (tag ∷ 0 ∷ content) le,
               front,
               octet_is,
               more,
-              past limit (text ++ tagged tag content) lt,
+              past limit (text ++ short_value tag content) lt,
             )
-            (sym (no_room limit text (tagged tag content) (omega arith)))
+            (sym (no-room limit text (short_value tag content) (omega arith)))
         | inr all ↦
             rw (
               room limit text (tag ∷ 0 ∷ content) le,
               front,
               octet_is,
               more,
-              fits limit (text ++ tagged tag content) all,
+              fits limit (text ++ short_value tag content) all,
             )
-            (sym (room limit text (tagged tag content) (omega arith)))
+            (sym (room limit text (short_value tag content) (omega arith)))
       ]
     ]
 
 -- what was opened, written and closed is the value
 pub closed-put : (sheet : Sheet) (start tag : ℕ) (content : List ℕ) → IsEnd start sheet
-    → closed (put sheet (tag ∷ 0 ∷ content)) start ≡ put sheet (tagged tag content)
-unfolding put closed IsEnd
+    → close_sheet (sheet_with sheet (tag ∷ 0 ∷ content)) start
+    ≡ sheet_with sheet (short_value tag content)
+unfolding sheet_with close_sheet IsEnd
 closed-put sheet start tag content at =
     rw (rewritten-joined sheet.limit sheet.text start tag content at) refl
 
-two_at : (limit : ℕ) (text : Option (List ℕ)) (start tag : ℕ) (content : List ℕ)
-    → IsLength start text → HasTwoAt start (joined limit text (tag ∷ 0 ∷ content))
-two_at limit None start tag content at = tt
-two_at limit (Some text) start tag content at =
+two-at : (limit : ℕ) (text : Option (List ℕ)) (start tag : ℕ) (content : List ℕ)
+    → IsLength start text → HasTwoAt start (text_with limit text (tag ∷ 0 ∷ content))
+two-at limit None start tag content at = tt
+two-at limit (Some text) start tag content at =
     let n = length-append text (tag ∷ 0 ∷ content) in
     elim (cases_lt (limit - length text) (length (tag ∷ 0 ∷ content))) [
-      | inl lt ↦ rw (no_room limit text (tag ∷ 0 ∷ content) lt) tt
+      | inl lt ↦ rw (no-room limit text (tag ∷ 0 ∷ content) lt) tt
       | inr le ↦ rw (room limit text (tag ∷ 0 ∷ content) le) (omega arith)
     ]
 
 pub is_open-put : (sheet : Sheet) (start tag : ℕ) (content : List ℕ) → IsEnd start sheet
-    → IsOpen start (put sheet (tag ∷ 0 ∷ content))
-unfolding put IsEnd IsOpen
-is_open-put sheet start tag content at = two_at sheet.limit sheet.text start tag content at
+    → IsOpen start (sheet_with sheet (tag ∷ 0 ∷ content))
+unfolding sheet_with IsEnd IsOpen
+is_open-put sheet start tag content at = two-at sheet.limit sheet.text start tag content at
 
 pub element-tagged : (tag : Tag) (content : List ℕ)
-    → element tag content ≡ tagged (octet_of tag) content
-unfolding element tagged
+    → element tag content ≡ short_value (octet_of tag) content
+unfolding element short_value
 element-tagged tag content = refl
 
-pub short_value : (old middle new : Sheet) (tag : Tag) (octet : ℕ) (content : List ℕ)
+pub short-value : (old middle new : Sheet) (tag : Tag) (octet : ℕ) (content : List ℕ)
     → octet ≡ octet_of tag → length content < 128
-    → middle ≡ put old (octet ∷ length content ∷ []) → new ≡ put middle content
-    → new ≡ put old (element tag content)
+    → middle ≡ sheet_with old (octet ∷ length content ∷ []) → new ≡ sheet_with middle content
+    → new ≡ sheet_with old (element tag content)
 unfolding element
-short_value old middle new tag octet content is few first last =
+short-value old middle new tag octet content is few first last =
     let e : length_octets (length content) ≡ length content ∷ [] =
     unfold length_octets in rw (lt-ltb (length content) 128 few) refl in
     last ∙ rw (first, put-put old (octet ∷ length content ∷ []) content, is, e) refl
 
-opened_value : (old opened new : Sheet) (tag : Tag) (content : List ℕ)
-    → opened ≡ put old (octet_of tag ∷ 0 ∷ []) → new ≡ put opened content
-    → new ≡ put old (octet_of tag ∷ 0 ∷ content)
-opened_value old opened new tag content first last =
+opened-value : (old opened new : Sheet) (tag : Tag) (content : List ℕ)
+    → opened ≡ sheet_with old (octet_of tag ∷ 0 ∷ []) → new ≡ sheet_with opened content
+    → new ≡ sheet_with old (octet_of tag ∷ 0 ∷ content)
+opened-value old opened new tag content first last =
     last ∙ rw first (put-put old (octet_of tag ∷ 0 ∷ []) content)
 
-pub open_value : (old opened new : Sheet) (tag : Tag) (start : ℕ) (content : List ℕ)
-    → IsEnd start old → opened ≡ put old (octet_of tag ∷ 0 ∷ []) → new ≡ put opened content
+pub open-value : (old opened new : Sheet) (tag : Tag) (start : ℕ) (content : List ℕ)
+    → IsEnd start old → opened ≡ sheet_with old (octet_of tag ∷ 0 ∷ [])
+    → new ≡ sheet_with opened content
     → IsOpen start new
-open_value old opened new tag start content at first last =
-    rw (opened_value old opened new tag content first last)
+open-value old opened new tag start content at first last =
+    rw (opened-value old opened new tag content first last)
     (is_open-put old start (octet_of tag) content at)
 
-pub long_value : (old opened middle new : Sheet) (tag : Tag) (start : ℕ) (content : List ℕ)
-    → IsEnd start old → opened ≡ put old (octet_of tag ∷ 0 ∷ []) → middle ≡ put opened content
-    → new ≡ closed middle start → new ≡ put old (element tag content)
-long_value old opened middle new tag start content at first next last =
-    last ∙ rw (opened_value old opened middle tag content first next, element-tagged tag content)
+pub long-value : (old opened middle new : Sheet) (tag : Tag) (start : ℕ) (content : List ℕ)
+    → IsEnd start old → opened ≡ sheet_with old (octet_of tag ∷ 0 ∷ [])
+    → middle ≡ sheet_with opened content
+    → new ≡ close_sheet middle start → new ≡ sheet_with old (element tag content)
+long-value old opened middle new tag start content at first next last =
+    last ∙ rw (opened-value old opened middle tag content first next, element-tagged tag content)
     (closed-put old start (octet_of tag) content at)
 
 -- ---- a loop that writes item after item
 
-flat_map_next : {X : Type 0} (f : X → List ℕ) (xs : List X) (i : ℕ) (d : X) → i < length xs
+flat-map-next : {X : Type 0} (f : X → List ℕ) (xs : List X) (i : ℕ) (d : X) → i < length xs
     → flat_map f (take (i + 1) xs) ≡ flat_map f (take i xs) ++ f (get_or xs i d)
-flat_map_next f xs i d lt =
+flat-map-next f xs i d lt =
     ap (λ (ys : List _). flat_map f ys) (take_more xs i d lt)
     ∙ sym (flat_map_more f [] (take i xs) (get_or xs i d))
 
 pub put-next : {X : Type 0} (sheet : Sheet) (head : List ℕ) (f : X → List ℕ) (xs : List X) (i : ℕ)
     (d : X) → i < length xs
-    → put (put sheet (head ++ flat_map f (take i xs))) (f (get_or xs i d))
-    ≡ put sheet (head ++ flat_map f (take (i + 1) xs))
+    → sheet_with (sheet_with sheet (head ++ flat_map f (take i xs))) (f (get_or xs i d))
+    ≡ sheet_with sheet (head ++ flat_map f (take (i + 1) xs))
 put-next sheet head f xs i d lt =
     put-put sheet (head ++ flat_map f (take i xs)) (f (get_or xs i d))
-    ∙ rw (flat_map_next f xs i d lt, append_assoc head (flat_map f (take i xs)) (f (get_or xs i d)))
+    ∙ rw (flat-map-next f xs i d lt, append_assoc head (flat_map f (take i xs)) (f (get_or xs i d)))
     refl
 
 -- the same in a value that was opened
 pub put-item : {X : Type 0} (sheet : Sheet) (tag : ℕ) (f : X → List ℕ) (xs : List X) (i : ℕ) (d : X)
     → i < length xs
-    → put (put sheet (tag ∷ 0 ∷ flat_map f (take i xs))) (f (get_or xs i d))
-    ≡ put sheet (tag ∷ 0 ∷ flat_map f (take (i + 1) xs))
+    → sheet_with (sheet_with sheet (tag ∷ 0 ∷ flat_map f (take i xs))) (f (get_or xs i d))
+    ≡ sheet_with sheet (tag ∷ 0 ∷ flat_map f (take (i + 1) xs))
 put-item sheet tag f xs i d lt = put-next sheet (tag ∷ 0 ∷ []) f xs i d lt
 
 pub closed-items : {X : Type 0} (sheet : Sheet) (start tag : ℕ) (f : X → List ℕ) (xs : List X)
     (i : ℕ)
     → IsEnd start sheet → length xs ≤ i
-    → closed (put sheet (tag ∷ 0 ∷ flat_map f (take i xs))) start
-    ≡ put sheet (tagged tag (flat_map f xs))
+    → close_sheet (sheet_with sheet (tag ∷ 0 ∷ flat_map f (take i xs))) start
+    ≡ sheet_with sheet (short_value tag (flat_map f xs))
 closed-items sheet start tag f xs i at all =
     rw (take_all i xs all) (closed-put sheet start tag (flat_map f xs) at)
 
@@ -222,38 +227,39 @@ pub ruleset sheet_rules = (put-put, closed-put, is_open-put, put-item, closed-it
 
 -- ---- what an empty writer holds behind a text
 
-no_heads : (text : Option (List ℕ)) → behind [] text ≡ text
-no_heads None = refl
-no_heads (Some text) = refl
+no-heads : (text : Option (List ℕ)) → behind [] text ≡ text
+no-heads None = refl
+no-heads (Some text) = refl
 
-from_none : (limit : ℕ) (text : List ℕ) → joined limit (Some []) text ≡ within limit text
-from_none limit text =
+from-none : (limit : ℕ) (text : List ℕ) → text_with limit (Some []) text ≡ within limit text
+from-none limit text =
     let e : limit - 0 ≡ limit = omega arith in
     rw e refl
 
 -- of an empty writer
-pub message_put : (limit : ℕ) (text : List ℕ) → message (put (empty limit) text) ≡ within limit text
-unfolding put message
-message_put limit text = no_heads (joined limit (Some []) text) ∙ from_none limit text
+pub message_put : (limit : ℕ) (text : List ℕ)
+    → message (sheet_with (empty limit) text) ≡ within limit text
+unfolding sheet_with message
+message_put limit text = no-heads (text_with limit (Some []) text) ∙ from-none limit text
 
-pub short_message : (limit : ℕ) (text : List ℕ) (start now : Sheet) → start ≡ empty limit
-    → now ≡ put start text → length text ≤ limit → message now ≡ Some text
-short_message limit text start now is_empty is_put le =
+pub short-message : (limit : ℕ) (text : List ℕ) (start now : Sheet) → start ≡ empty limit
+    → now ≡ sheet_with start text → length text ≤ limit → message now ≡ Some text
+short-message limit text start now is_empty is_put le =
     rw (is_put, is_empty) (message_put limit text ∙ fits limit text le)
 
-pub heads_put : (sheet : Sheet) (text : List ℕ) → (put sheet text).heads ≡ sheet.heads
-unfolding put
-heads_put sheet text = refl
+pub heads-put : (sheet : Sheet) (text : List ℕ) → (sheet_with sheet text).heads ≡ sheet.heads
+unfolding sheet_with
+heads-put sheet text = refl
 
-pub limit_put : (sheet : Sheet) (text : List ℕ) → (put sheet text).limit ≡ sheet.limit
-unfolding put
-limit_put sheet text = refl
+pub limit-put : (sheet : Sheet) (text : List ℕ) → (sheet_with sheet text).limit ≡ sheet.limit
+unfolding sheet_with
+limit-put sheet text = refl
 
 -- a value of what is within the limit, if that is
-pub within_longer : (f : List ℕ → List ℕ) (limit : ℕ) (text : List ℕ)
+pub within-longer : (f : List ℕ → List ℕ) (limit : ℕ) (text : List ℕ)
     → length text ≤ length (f text)
     → (within limit text >>= λ octets. within limit (f octets)) ≡ within limit (f text)
-within_longer f limit text longer =
+within-longer f limit text longer =
     elim (cases_lt limit (length text)) [
       | inl lt ↦ rw (past limit text lt) (sym (past limit (f text) (omega arith)))
       | inr le ↦ rw (fits limit text le) refl
@@ -273,7 +279,7 @@ pub message-front : (sheet : Sheet) (head : List ℕ)
 unfolding message
 message-front sheet head = front_of head sheet.heads sheet.text
 
-pub is_headed : (old new : Sheet) (tag : Tag) (count : ℕ) (octets : List ℕ)
+pub is-headed : (old new : Sheet) (tag : Tag) (count : ℕ) (octets : List ℕ)
     → Some octets ≡ message old → count ≡ length octets
     → new ≡ record {
       limit = old.limit;
@@ -282,7 +288,7 @@ pub is_headed : (old new : Sheet) (tag : Tag) (count : ℕ) (octets : List ℕ)
     }
     → message new ≡ option_map (element tag) (message old)
 unfolding element
-is_headed old new tag count octets is counted headed =
+is-headed old new tag count octets is counted headed =
     rw (headed, counted, message-front old (octet_of tag ∷ length_octets (length octets)), ← is)
     refl
 
@@ -292,31 +298,31 @@ length-element tag content =
     rw (element-tagged tag content) (length-tagged (octet_of tag) content)
 
 -- a content is shorter than its value
-pub content_less : (tag : Tag) (content : List ℕ) → length content < length (element tag content)
-content_less tag content =
+pub content-less : (tag : Tag) (content : List ℕ) → length content < length (element tag content)
+content-less tag content =
     omega (arith, length-element tag content, length-octets (length content))
 
-no_message : (sheet : Sheet) → sheet.text ≡ None → message sheet ≡ None
+no-message : (sheet : Sheet) → sheet.text ≡ None → message sheet ≡ None
 unfolding message
-no_message sheet none = rw none refl
+no-message sheet none = rw none refl
 
 -- a value that is longer than the limit
-pub past_wrapped : (old new : Sheet) (tag : Tag) (octets : List ℕ) → Some octets ≡ message old
+pub past-wrapped : (old new : Sheet) (tag : Tag) (octets : List ℕ) → Some octets ≡ message old
     → new.text ≡ None → old.limit < length (element tag octets)
-    → message new ≡ wrapped tag old.limit (message old)
-past_wrapped old new tag octets is none lt =
-    no_message new none ∙ rw (← is, past old.limit (element tag octets) lt) refl
+    → message new ≡ value_around tag old.limit (message old)
+past-wrapped old new tag octets is none lt =
+    no-message new none ∙ rw (← is, past old.limit (element tag octets) lt) refl
 
 -- one that is not
-pub fits_wrapped : (old new : Sheet) (tag : Tag) (octets : List ℕ) → Some octets ≡ message old
+pub fits-wrapped : (old new : Sheet) (tag : Tag) (octets : List ℕ) → Some octets ≡ message old
     → length (element tag octets) ≤ old.limit
     → message new ≡ option_map (element tag) (message old)
-    → message new ≡ wrapped tag old.limit (message old)
-fits_wrapped old new tag octets is le headed =
+    → message new ≡ value_around tag old.limit (message old)
+fits-wrapped old new tag octets is le headed =
     headed ∙ rw (← is, fits old.limit (element tag octets) le) refl
 
 -- the head of a content, in one octet of the length or more
-pub head_short : (old new : Sheet) (tag : Tag) (octet count : ℕ) → octet ≡ octet_of tag
+pub head-short : (old new : Sheet) (tag : Tag) (octet count : ℕ) → octet ≡ octet_of tag
     → count < 128
     → new ≡ record { limit = old.limit; heads = octet ∷ count ∷ old.heads; text = old.text }
     → new ≡ record {
@@ -324,12 +330,12 @@ pub head_short : (old new : Sheet) (tag : Tag) (octet count : ℕ) → octet ≡
       heads = octet_of tag ∷ (length_octets count ++ old.heads);
       text = old.text;
     }
-head_short old new tag octet count is few headed =
+head-short old new tag octet count is few headed =
     let e : length_octets count ≡ count ∷ [] =
     unfold length_octets in rw (lt-ltb count 128 few) refl in
     headed ∙ rw (e, is) refl
 
-pub head_long : (old middle new : Sheet) (tag : Tag) (octet k : ℕ) (bytes : List ℕ) (count : ℕ)
+pub head-long : (old middle new : Sheet) (tag : Tag) (octet k : ℕ) (bytes : List ℕ) (count : ℕ)
     → octet ≡ octet_of tag → 128 ≤ count → k ≡ octets_needed count
     → bytes ≡ bytes_high_first k count
     → middle ≡ record { limit = old.limit; heads = bytes ++ old.heads; text = old.text }
@@ -340,20 +346,20 @@ pub head_long : (old middle new : Sheet) (tag : Tag) (octet k : ℕ) (bytes : Li
       heads = octet_of tag ∷ (length_octets count ++ old.heads);
       text = old.text;
     }
-head_long old middle new tag octet k bytes count is many needed high headed twice =
+head-long old middle new tag octet k bytes count is many needed high headed twice =
     let e : length_octets count ≡ (128 + k) ∷ bytes_high_first k count =
     unfold length_octets in rw (le-ltb count 128 many, needed) refl in
     twice ∙ rw (headed, high, e, is) refl
 
 -- a head has at most six octets
-pub head_few : (old new : Sheet) (octet count : ℕ)
+pub head-few : (old new : Sheet) (octet count : ℕ)
     → new ≡ record {
       limit = old.limit;
       heads = octet ∷ (length_octets count ++ old.heads);
       text = old.text;
     }
     → length new.heads ≤ length old.heads + 6
-head_few old new octet count headed =
+head-few old new octet count headed =
     rw headed (omega (
       arith,
       length-append (length_octets count) old.heads,
@@ -361,7 +367,7 @@ head_few old new octet count headed =
     ))
 
 -- a value in front, its content first
-pub fronted_value : (old middle new : Sheet) (tag : Tag) (content : List ℕ)
+pub fronted-value : (old middle new : Sheet) (tag : Tag) (content : List ℕ)
     → middle ≡ record { limit = old.limit; heads = content ++ old.heads; text = old.text }
     → new ≡ record {
       limit = middle.limit;
@@ -374,5 +380,5 @@ pub fronted_value : (old middle new : Sheet) (tag : Tag) (content : List ℕ)
       text = old.text;
     }
 unfolding element
-fronted_value old middle new tag content first last =
+fronted-value old middle new tag content first last =
     last ∙ rw (first, append_assoc (length_octets (length content)) content old.heads) refl

@@ -12,21 +12,21 @@ use Rattle.bay_ber.specs.Spelling.{IsLength, Spells}
 use Rattle.bay_ber.specs.Content.{signed_of, IsInteger}
 use Rattle.bay_ber.specs.Writing.{octets_needed, length_octets, element, is_needless, without_needless, integer_octets}
 use Rattle.bay_ber.proofs.ContentLemmas.{signed_of-low, signed_of-high}
-use Rattle.bay_ber.proofs.OctetLemmas.{pow_within}
-use Rattle.bay_ber.proofs.ReadLemmas.{IsBytes, chosen, tag_some}
-use Rattle.bay_ber.proofs.WriteLemmas.{octets_needed-1, octets_needed-2, octets_needed-3, octets_needed-4, long_is, number_of-cons, number_of-below, integer_is}
+use Rattle.bay_ber.proofs.OctetLemmas.{pow-within}
+use Rattle.bay_ber.proofs.ReadLemmas.{IsBytes, chosen, tag-some}
+use Rattle.bay_ber.proofs.WriteLemmas.{octets_needed-1, octets_needed-2, octets_needed-3, octets_needed-4, long_is, number_of-cons, number_of-below, integer-is}
 
 -- ---- lengths and values
 
-needed_within : (n k : ℕ) → 0 < k → k ≤ 4 → n < 256 ^ k → octets_needed n ≤ k
-needed_within n zero some few lt = absurd (omega arith)
-needed_within n (suc zero) some few lt = omega (arith, octets_needed-1 n (omega arith))
-needed_within n (suc (suc zero)) some few lt =
+needed-within : (n k : ℕ) → 0 < k → k ≤ 4 → n < 256 ^ k → octets_needed n ≤ k
+needed-within n zero some few lt = absurd (omega arith)
+needed-within n (suc zero) some few lt = omega (arith, octets_needed-1 n (omega arith))
+needed-within n (suc (suc zero)) some few lt =
     elim (cases_lt n 256) [
       | inl a ↦ omega (arith, octets_needed-1 n a)
       | inr a ↦ omega (arith, octets_needed-2 n a (omega arith))
     ]
-needed_within n (suc (suc (suc zero))) some few lt =
+needed-within n (suc (suc (suc zero))) some few lt =
     elim (cases_lt n 256) [
       | inl a ↦ omega (arith, octets_needed-1 n a)
       | inr a ↦ elim (cases_lt n 65536) [
@@ -34,7 +34,7 @@ needed_within n (suc (suc (suc zero))) some few lt =
         | inr b ↦ omega (arith, octets_needed-3 n b (omega arith))
       ]
     ]
-needed_within n (suc (suc (suc (suc k)))) some few lt =
+needed-within n (suc (suc (suc (suc k)))) some few lt =
     elim (cases_lt n 256) [
       | inl a ↦ omega (arith, octets_needed-1 n a)
       | inr a ↦ elim (cases_lt n 65536) [
@@ -58,11 +58,11 @@ pub length-long : (n : ℕ) → 128 ≤ n → length (length_octets n) ≡ suc (
 length-long n ge =
     rw (long_is n (octets_needed n) refl ge) (ap suc (length-bytes_high_first (octets_needed n) n))
 
-length_shortest : (len : List ℕ) (n : ℕ) → IsBytes len → IsLength len n
+length-shortest : (len : List ℕ) (n : ℕ) → IsBytes len → IsLength len n
     → length (length_octets n) ≤ length len
-length_shortest [] n fits is = absurd is
-length_shortest (first ∷ []) n fits is = omega (arith, length-short n (omega (arith, is.0, is.1)))
-length_shortest (first ∷ second ∷ octets) n fits is =
+length-shortest [] n fits is = absurd is
+length-shortest (first ∷ []) n fits is = omega (arith, length-short n (omega (arith, is.0, is.1)))
+length-shortest (first ∷ second ∷ octets) n fits is =
     let below : n < 256 ^ length (second ∷ octets) =
     rw is.2 (number_of-below (second ∷ octets) (λ i. fits (suc i))) in
     elim (cases_lt n 128) [
@@ -70,12 +70,12 @@ length_shortest (first ∷ second ∷ octets) n fits is =
       | inr ge ↦ omega (
         arith,
         length-long n ge,
-        needed_within n (length (second ∷ octets)) (omega arith) is.1 below,
+        needed-within n (length (second ∷ octets)) (omega arith) is.1 below,
       )
     ]
 
-bytes_within : (front middle back : List ℕ) → IsBytes (front ++ (middle ++ back)) → IsBytes middle
-bytes_within front middle back fits i =
+bytes-within : (front middle back : List ℕ) → IsBytes (front ++ (middle ++ back)) → IsBytes middle
+bytes-within front middle back fits i =
     elim (cases_lt i (length middle)) [
       | inl lt ↦ rw (
         ← get_or_append_left middle back 0 i lt,
@@ -84,13 +84,13 @@ bytes_within front middle back fits i =
       | inr le ↦ rw (get_or_past middle i 0 le) (omega arith)
     ]
 
-pub element_shortest : (octets content : List ℕ) (tag : Tag) → IsBytes octets
+pub element-shortest : (octets content : List ℕ) (tag : Tag) → IsBytes octets
     → Spells octets tag content → length (element tag content) ≤ length octets
 unfolding element
-element_shortest octets content tag fits s =
-    let fits_len = bytes_within s.front s.len content (subst IsBytes s.parts fits) in
-    let short = length_shortest s.len (length content) fits_len s.is_length in
-    let some = tag_some s.front tag s.is_tag in
+element-shortest octets content tag fits s =
+    let fits_len = bytes-within s.front s.len content (subst IsBytes s.parts fits) in
+    let short = length-shortest s.len (length content) fits_len s.is_length in
+    let some = tag-some s.front tag s.is_tag in
     let whole : length octets ≡ length s.front + (length s.len + length content) =
     rw s.parts (simp length-append) in
     omega (arith, length-append (length_octets (length content)) content)
@@ -105,19 +105,19 @@ Within q s = (neg_ℤ (pos (128 * q)) ≤ℤ s) × (s <ℤ pos (128 * q))
 abbrev Beyond : ℕ → ℤ → Type 0
 Beyond r s = (s <ℤ neg_ℤ (pos (128 * r))) ⊎ (pos (128 * r) ≤ℤ s)
 
-not_both : (q r : ℕ) (s : ℤ) → q ≤ r → Within q s → Beyond r s → ⊥
-not_both q r s le within (inl low) = omega (arith, ints, within.0, within.1)
-not_both q r s le within (inr high) = omega (arith, ints, within.0, within.1)
+not-both : (q r : ℕ) (s : ℤ) → q ≤ r → Within q s → Beyond r s → ⊥
+not-both q r s le within (inl low) = omega (arith, ints, within.0, within.1)
+not-both q r s le within (inr high) = omega (arith, ints, within.0, within.1)
 
-not_negative : (n q : ℕ) → n < q * 128 → Within q (pos n)
-not_negative n q lt = (omega (arith, ints), omega (arith, ints))
+not-negative : (n q : ℕ) → n < q * 128 → Within q (pos n)
+not-negative n q lt = (omega (arith, ints), omega (arith, ints))
 
 negative : (n q p : ℕ) → p ≡ q * 256 → 128 * q ≤ n → n < q * 256 → Within q (pos n -ℤ pos p)
 negative n q p size ge lt = (omega (arith, ints), omega (arith, ints))
 
-within_range : (first : ℕ) (octets : List ℕ) → IsBytes (first ∷ octets)
+within-range : (first : ℕ) (octets : List ℕ) → IsBytes (first ∷ octets)
     → Within (256 ^ length octets) (signed_of (first ∷ octets))
-within_range first octets fits =
+within-range first octets fits =
     let q = 256 ^ length octets in
     let n = number_of octets in
     let below : n < q = number_of-below octets (λ i. fits (suc i)) in
@@ -126,7 +126,7 @@ within_range first octets fits =
       | inl low ↦
           let top = mul-add-lt first q n 128 low below in
           rw (signed_of-low (first ∷ octets) (omega arith) low)
-          (not_negative (number_of (first ∷ octets)) q (omega (arith, whole, top)))
+          (not-negative (number_of (first ∷ octets)) q (omega (arith, whole, top)))
       | inr high ↦
           let top = mul-add-lt first q n 256 (fits 0) below in
           let bottom : 128 * q ≤ first * q = mul-le 128 q first q high (omega arith) in
@@ -136,15 +136,15 @@ within_range first octets fits =
           (omega (arith, whole, top)))
     ]
 
-beyond_high : (r n : ℕ) → 128 * r ≤ n → Beyond r (pos n)
-beyond_high r n ge = inr (omega (arith, ints))
+beyond-high : (r n : ℕ) → 128 * r ≤ n → Beyond r (pos n)
+beyond-high r n ge = inr (omega (arith, ints))
 
-beyond_low : (r n p : ℕ) → p ≡ r * 256 * 256 → n + 128 * r < p → Beyond r (pos n -ℤ pos p)
-beyond_low r n p size lt = inl (omega (arith, ints))
+beyond-low : (r n p : ℕ) → p ≡ r * 256 * 256 → n + 128 * r < p → Beyond r (pos n -ℤ pos p)
+beyond-low r n p size lt = inl (omega (arith, ints))
 
-not_needless : (first second : ℕ) → is_needless first second ≡ false → first < 256
+not-needless : (first second : ℕ) → is_needless first second ≡ false → first < 256
     → ((second < 128) × (0 < first)) ⊎ ((128 ≤ second) × (first < 255))
-not_needless first second is octet =
+not-needless first second is octet =
     elim (chosen (ltb second 128) (eqb first 0) (eqb first 255) false is) [
       | inl low ↦ inl (
         ltb-true _ _ low.0,
@@ -158,10 +158,10 @@ not_needless first second is octet =
       )
     ]
 
-beyond_range : (first second : ℕ) (octets : List ℕ) → IsBytes (first ∷ second ∷ octets)
+beyond-range : (first second : ℕ) (octets : List ℕ) → IsBytes (first ∷ second ∷ octets)
     → is_needless first second ≡ false
     → Beyond (256 ^ length octets) (signed_of (first ∷ second ∷ octets))
-beyond_range first second octets fits is =
+beyond-range first second octets fits is =
     let r = 256 ^ length octets in
     let n = number_of octets in
     let below : n < r = number_of-below octets (λ i. fits (suc (suc i))) in
@@ -172,27 +172,27 @@ beyond_range first second octets fits is =
     number_of-cons first (second ∷ octets) ∙ rw (size1, number_of-cons second octets) refl in
     elim (cases_lt first 128) [
       | inl low ↦ rw (signed_of-low (first ∷ second ∷ octets) (omega arith) low)
-          (elim (not_needless first second is (fits 0)) [
-            | inl a ↦ beyond_high r (number_of (first ∷ second ∷ octets))
+          (elim (not-needless first second is (fits 0)) [
+            | inl a ↦ beyond-high r (number_of (first ∷ second ∷ octets))
                 (let m : 1 * (r * 256) ≤ first * (r * 256) =
                 mul-le 1 (r * 256) first (r * 256) a.1 (omega arith) in omega (arith, whole))
-            | inr a ↦ beyond_high r (number_of (first ∷ second ∷ octets))
+            | inr a ↦ beyond-high r (number_of (first ∷ second ∷ octets))
                 (let m : 128 * r ≤ second * r = mul-le 128 r second r a.0 (omega arith) in
                 omega (arith, whole))
           ])
       | inr high ↦ rw (signed_of-high (first ∷ second ∷ octets) (omega arith) high)
-          (elim (not_needless first second is (fits 0)) [
+          (elim (not-needless first second is (fits 0)) [
             | inl a ↦
                 let m : first * (r * 256) ≤ 255 * (r * 256) =
                 mul-le first (r * 256) 255 (r * 256) (omega (arith, fits 0)) (omega arith) in
                 let top = mul-add-lt second r n 128 a.0 below in
-                beyond_low r (number_of (first ∷ second ∷ octets))
+                beyond-low r (number_of (first ∷ second ∷ octets))
                 (256 ^ length (first ∷ second ∷ octets)) size2 (omega (arith, whole, size2))
             | inr a ↦
                 let m : first * (r * 256) ≤ 254 * (r * 256) =
                 mul-le first (r * 256) 254 (r * 256) (omega (arith, a.1)) (omega arith) in
                 let top = mul-add-lt second r n 256 (fits 1) below in
-                beyond_low r (number_of (first ∷ second ∷ octets))
+                beyond-low r (number_of (first ∷ second ∷ octets))
                 (256 ^ length (first ∷ second ∷ octets)) size2 (omega (arith, whole, size2))
           ])
     ]
@@ -202,28 +202,28 @@ IsTight [] = Unit {0}
 IsTight (first ∷ []) = Unit {0}
 IsTight (first ∷ second ∷ octets) = is_needless first second ≡ false
 
-tight_either : (b : Bool) (first second : ℕ) (octets tight : List ℕ) → is_needless first second ≡ b
+tight-either : (b : Bool) (first second : ℕ) (octets tight : List ℕ) → is_needless first second ≡ b
     → IsTight tight → IsTight (cond b tight (first ∷ second ∷ octets))
-tight_either true first second octets tight is h = h
-tight_either false first second octets tight is h = is
+tight-either true first second octets tight is h = h
+tight-either false first second octets tight is h = is
 
 without_needless-tight : (octets : List ℕ) → IsTight (without_needless octets)
 without_needless-tight [] = tt
 without_needless-tight (first ∷ []) = tt
 without_needless-tight (first ∷ second ∷ octets) =
-    tight_either (is_needless first second) first second octets (without_needless (second ∷ octets))
+    tight-either (is_needless first second) first second octets (without_needless (second ∷ octets))
     refl (without_needless-tight (second ∷ octets))
 
-bytes_either : (b : Bool) (tight octets : List ℕ) → IsBytes tight → IsBytes octets
+bytes-either : (b : Bool) (tight octets : List ℕ) → IsBytes tight → IsBytes octets
     → IsBytes (cond b tight octets)
-bytes_either true tight octets h k = h
-bytes_either false tight octets h k = k
+bytes-either true tight octets h k = h
+bytes-either false tight octets h k = k
 
 without_needless-bytes : (octets : List ℕ) → IsBytes octets → IsBytes (without_needless octets)
 without_needless-bytes [] fits = fits
 without_needless-bytes (first ∷ []) fits = fits
 without_needless-bytes (first ∷ second ∷ octets) fits =
-    bytes_either (is_needless first second) (without_needless (second ∷ octets))
+    bytes-either (is_needless first second) (without_needless (second ∷ octets))
     (first ∷ second ∷ octets) (without_needless-bytes (second ∷ octets) (λ i. fits (suc i))) fits
 
 byte_at-below : (k n : ℕ) → byte_at k n < 256
@@ -235,24 +235,24 @@ bytes_high_first-bytes zero n i = omega arith
 bytes_high_first-bytes (suc k) n zero = byte_at-below k n
 bytes_high_first-bytes (suc k) n (suc i) = bytes_high_first-bytes k n i
 
-tight_shorter : (tight content : List ℕ) → IsBytes tight → IsBytes content → IsTight tight
+tight-shorter : (tight content : List ℕ) → IsBytes tight → IsBytes content → IsTight tight
     → 0 < length content → signed_of tight ≡ signed_of content → length tight ≤ length content
-tight_shorter [] content fits more h some same = omega arith
-tight_shorter (first ∷ []) content fits more h some same = omega arith
-tight_shorter (first ∷ second ∷ octets) [] fits more h some same = absurd (omega arith)
-tight_shorter (first ∷ second ∷ octets) (c ∷ content) fits more h some same =
+tight-shorter [] content fits more h some same = omega arith
+tight-shorter (first ∷ []) content fits more h some same = omega arith
+tight-shorter (first ∷ second ∷ octets) [] fits more h some same = absurd (omega arith)
+tight-shorter (first ∷ second ∷ octets) (c ∷ content) fits more h some same =
     elim (cases_lt (length octets) (length content)) [
       | inl enough ↦ omega arith
-      | inr short ↦ absurd (not_both (256 ^ length content) (256 ^ length octets)
-          (signed_of (c ∷ content)) (pow_within (length content) (length octets) short)
-          (within_range c content more)
-          (subst (Beyond (256 ^ length octets)) same (beyond_range first second octets fits h)))
+      | inr short ↦ absurd (not-both (256 ^ length content) (256 ^ length octets)
+          (signed_of (c ∷ content)) (pow-within (length content) (length octets) short)
+          (within-range c content more)
+          (subst (Beyond (256 ^ length octets)) same (beyond-range first second octets fits h)))
     ]
 
-pub integer_shortest : (content : List ℕ) (value : ℤ) → IsBytes content → IsInteger content value
+pub integer-shortest : (content : List ℕ) (value : ℤ) → IsBytes content → IsInteger content value
     → length (integer_octets value) ≤ length content
-integer_shortest content value fits is =
+integer-shortest content value fits is =
     let all = to_be_bytes w64 (cast_unsigned w64 value) in
-    tight_shorter (integer_octets value) content
+    tight-shorter (integer_octets value) content
     (without_needless-bytes all (bytes_high_first-bytes 8 (cast_unsigned w64 value))) fits
-    (without_needless-tight all) is.some (sym (integer_is value is.fits).is ∙ is.is)
+    (without_needless-tight all) is.some (sym (integer-is value is.fits).is ∙ is.is)

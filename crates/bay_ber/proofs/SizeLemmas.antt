@@ -6,10 +6,10 @@ use Rattle.std.proofs.lemmas.List.{length-append}
 use Rattle.bay_ber.specs.declared.tag.Tag.{Tag}
 use Rattle.bay_ber.specs.Writing.{octets_needed, length_octets, element, element_length, integer_octets, bit_octets}
 use Rattle.bay_ber.proofs.ShortestLemmas.{length-short, length-long}
-use Rattle.bay_ber.proofs.WriteLemmas.{octets_needed-1, octets_needed-2, octets_needed-3, octets_needed-4, length-without_needless, bit_string_is}
+use Rattle.bay_ber.proofs.WriteLemmas.{octets_needed-1, octets_needed-2, octets_needed-3, octets_needed-4, length-without_needless, bit-string-is}
 
-few_needed : (n : ℕ) → octets_needed n ≤ 4
-few_needed n =
+few-needed : (n : ℕ) → octets_needed n ≤ 4
+few-needed n =
     elim (cases_lt n 256) [
       | inl a ↦ omega (arith, octets_needed-1 n a)
       | inr a ↦ elim (cases_lt n 65536) [
@@ -25,7 +25,7 @@ pub length-length_octets : (n : ℕ) → length (length_octets n) ≤ 5
 length-length_octets n =
     elim (cases_lt n 128) [
       | inl small ↦ omega (arith, length-short n small)
-      | inr ge ↦ omega (arith, length-long n ge, few_needed n)
+      | inr ge ↦ omega (arith, length-long n ge, few-needed n)
     ]
 
 -- an identifier, at most five octets of length, and the content
@@ -66,4 +66,4 @@ length-integer_octets value = let size =
 pub length-bit_octets : (octets : List ℕ) (count : ℕ) → count ≤ 8 * length octets → count < 2 ^ 35
     → 8 * length (bit_octets octets count) < count + 8
 length-bit_octets octets count enough short = let is =
-    bit_string_is octets count enough short in omega (arith, is.1.filled, is.1.few)
+    bit-string-is octets count enough short in omega (arith, is.1.filled, is.1.few)

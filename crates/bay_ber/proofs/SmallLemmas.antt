@@ -7,31 +7,31 @@ use Rattle.bay_ber.specs.declared.tag.Tag.{Tag}
 use Rattle.bay_ber.specs.Spelling.{octet_of}
 use Rattle.bay_ber.specs.Writing.{element, length_octets, without_needless, integer_octets}
 
-no_byte : (k n : ℕ) → n < 256 ^ suc k → byte_at (suc k) n ≡ 0
-no_byte k n few = rw (div-eq_of_lt few) refl
+no-byte : (k n : ℕ) → n < 256 ^ suc k → byte_at (suc k) n ≡ 0
+no-byte k n few = rw (div-eq_of_lt few) refl
 
-pub eight_bytes : (n : ℕ) → n < 65536
+pub eight-bytes : (n : ℕ) → n < 65536
     → bytes_high_first 8 n ≡ 0 ∷ 0 ∷ 0 ∷ 0 ∷ 0 ∷ 0 ∷ n / 256 ∷ n % 256 ∷ []
-eight_bytes n few =
+eight-bytes n few =
     let high : byte_at 1 n ≡ n / 256 = omega arith in
     rw (
-      no_byte 6 n (omega arith),
-      no_byte 5 n (omega arith),
-      no_byte 4 n (omega arith),
-      no_byte 3 n (omega arith),
-      no_byte 2 n (omega arith),
-      no_byte 1 n (omega arith),
+      no-byte 6 n (omega arith),
+      no-byte 5 n (omega arith),
+      no-byte 4 n (omega arith),
+      no-byte 3 n (omega arith),
+      no-byte 2 n (omega arith),
+      no-byte 1 n (omega arith),
       high,
     ) refl
 
-pub id_one : (n : ℕ) → n < 128 → integer_octets (pos n) ≡ n ∷ []
-id_one n few =
+pub id-one : (n : ℕ) → n < 128 → integer_octets (pos n) ≡ n ∷ []
+id-one n few =
     let high : n / 256 ≡ 0 = omega arith in
     let low : n % 256 ≡ n = omega arith in
-    ap without_needless (eight_bytes n (omega arith)) ∙ rw (high, low, lt-ltb n 128 few) refl
+    ap without_needless (eight-bytes n (omega arith)) ∙ rw (high, low, lt-ltb n 128 few) refl
 
 -- a number below 128 takes three octets
 pub small_is : (tag : Tag) (n : ℕ) → n < 128
     → element tag (integer_octets (pos n)) ≡ octet_of tag ∷ 1 ∷ n ∷ []
 unfolding element length_octets
-small_is tag n few = rw (id_one n few) refl
+small_is tag n few = rw (id-one n few) refl

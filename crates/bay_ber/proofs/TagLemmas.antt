@@ -63,12 +63,12 @@ low_bits-identifier Private true low below = omega arith
 low_bits-identifier Private false low below = omega arith
 
 -- the bit of the form, and its weight
-form_weight : (bit : ℕ) → bit < 2 → cond (eqb bit 1) 32 0 ≡ bit * 32
-form_weight bit below = grind (arith, nat_tests)
+form-weight : (bit : ℕ) → bit < 2 → cond (eqb bit 1) 32 0 ≡ bit * 32
+form-weight bit below = grind (arith, nat_tests)
 
-by_class : (first bits : ℕ) → first < 256 → bits ≡ class_bits (class_of first)
+by-class : (first bits : ℕ) → first < 256 → bits ≡ class_bits (class_of first)
     → (bits * 64 ≤ first) × (first < bits * 64 + 64)
-by_class first bits below is =
+by-class first bits below is =
     elim (cases_lt first 64) [
       | inl lt ↦ let b : bits ≡ 0 =
           is ∙ ap class_bits (class_of-universal first lt) in (omega arith, omega arith)
@@ -85,9 +85,9 @@ by_class first bits below is =
     ]
 
 -- an octet is made of these three parts
-pub identifier_of : (first : ℕ) → first < 256
+pub identifier-of : (first : ℕ) → first < 256
     → first ≡ identifier (class_of first) (is_constructed first) (low_bits first)
-identifier_of first below =
-    let range = by_class first (class_bits (class_of first)) below refl in
-    let form = form_weight ((first / 32) % 2) (omega arith) in
+identifier-of first below =
+    let range = by-class first (class_bits (class_of first)) below refl in
+    let form = form-weight ((first / 32) % 2) (omega arith) in
     omega (arith, range.0, range.1, form)

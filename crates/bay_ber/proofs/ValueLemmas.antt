@@ -5,37 +5,37 @@ use Rattle.bay_ber.specs.declared.tag.Tag.{Tag}
 use Rattle.bay_ber.specs.Spelling.{Spells}
 use Rattle.bay_ber.specs.Reading.{Reading, Begins}
 use Rattle.bay_ber.specs.Values.{Part, SpellAll, part_in}
-use Rattle.bay_ber.proofs.ReadLemmas.{one_reading, tag_some}
+use Rattle.bay_ber.proofs.ReadLemmas.{one_reading, tag-some}
 
 -- a value that fills octets stands at their front, with nothing behind it
-pub whole_begins : (octets : List ℕ) (tag : Tag) (content : List ℕ) → Spells octets tag content
+pub whole-begins : (octets : List ℕ) (tag : Tag) (content : List ℕ) → Spells octets tag content
     → Begins octets (record { tag = tag; content = content; rest = [] })
-whole_begins octets tag content s =
+whole-begins octets tag content s =
     record { front = octets; spelled = s; parts = sym (append-nil octets) }
 
-pub begins_whole : (octets : List ℕ) (r : Reading) → r.rest ≡ [] → Begins octets r
+pub begins-whole : (octets : List ℕ) (r : Reading) → r.rest ≡ [] → Begins octets r
     → Spells octets r.tag r.content
-begins_whole octets r none b =
+begins-whole octets r none b =
     let e : octets ≡ b.front =
     b.parts ∙ ap (λ (ys : List ℕ). b.front ++ ys) none ∙ append-nil b.front in
     rw e b.spelled
 
-pub one_value : (octets : List ℕ) (p q : Part) → Spells octets p.tag p.content
+pub one-value : (octets : List ℕ) (p q : Part) → Spells octets p.tag p.content
     → Spells octets q.tag q.content → p ≡ q
-one_value octets p q s t =
+one-value octets p q s t =
     ap part_in (one_reading octets (record { tag = p.tag; content = p.content; rest = [] })
-    (record { tag = q.tag; content = q.content; rest = [] }) (whole_begins octets p.tag p.content s)
-    (whole_begins octets q.tag q.content t))
+    (record { tag = q.tag; content = q.content; rest = [] }) (whole-begins octets p.tag p.content s)
+    (whole-begins octets q.tag q.content t))
 
-pub spells_some : (octets : List ℕ) (tag : Tag) (content : List ℕ) → Spells octets tag content
+pub spells-some : (octets : List ℕ) (tag : Tag) (content : List ℕ) → Spells octets tag content
     → 0 < length octets
-spells_some octets tag content s = let some = tag_some s.front tag s.is_tag in
+spells-some octets tag content s = let some = tag-some s.front tag s.is_tag in
     rw s.parts (omega (arith, length-append s.front (s.len ++ content)))
 
-not_none : (octets : List ℕ) (p : Part) (ps : List Part) → octets ≡ [] → SpellAll octets (p ∷ ps)
+not-none : (octets : List ℕ) (p : Part) (ps : List Part) → octets ≡ [] → SpellAll octets (p ∷ ps)
     → ⊥
-not_none octets p ps none a =
-    let some = spells_some a.0 p.tag p.content a.3 in
+not-none octets p ps none a =
+    let some = spells-some a.0 p.tag p.content a.3 in
     let e : a.0 ++ a.1 ≡ [] = sym a.2 ∙ none in
     let n : length (a.0 ++ a.1) ≡ 0 = ap length e in
     omega (arith, length-append a.0 a.1)
@@ -43,8 +43,8 @@ not_none octets p ps none a =
 pub one_list : (octets : List ℕ) (ps qs : List Part) → SpellAll octets ps → SpellAll octets qs
     → ps ≡ qs
 one_list octets [] [] a b = refl
-one_list octets [] (q ∷ qs) a b = absurd (not_none octets q qs a b)
-one_list octets (p ∷ ps) [] a b = absurd (not_none octets p ps b a)
+one_list octets [] (q ∷ qs) a b = absurd (not-none octets q qs a b)
+one_list octets (p ∷ ps) [] a b = absurd (not-none octets p ps b a)
 one_list octets (p ∷ ps) (q ∷ qs) a b =
     let r : Reading = record { tag = p.tag; content = p.content; rest = a.1 } in
     let s : Reading = record { tag = q.tag; content = q.content; rest = b.1 } in
@@ -56,6 +56,6 @@ one_list octets (p ∷ ps) (q ∷ qs) a b =
     let more : ps ≡ qs = one_list b.1 ps qs (rw (← rest) a.4) b.4 in
     rw (first, more) refl
 
-pub not_empty : (octets : List ℕ) → false ≡ eqb (length octets) 0 → octets ≡ [] → ⊥
-not_empty [] some none = cc
-not_empty (x ∷ octets) some none = cc
+pub not-empty : (octets : List ℕ) → false ≡ eqb (length octets) 0 → octets ≡ [] → ⊥
+not-empty [] some none = cc
+not-empty (x ∷ octets) some none = cc

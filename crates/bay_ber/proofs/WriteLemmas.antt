@@ -11,7 +11,7 @@ use Rattle.bay_ber.specs.Octets.{number_of}
 use Rattle.bay_ber.specs.Spelling.{octet_of, IsLength, Spells}
 use Rattle.bay_ber.specs.Reading.{Begins}
 use Rattle.bay_ber.specs.Content.{signed_of, IsInteger, HasBits, IsBits, IsTruth}
-use Rattle.bay_ber.specs.Writing.{octets_needed, length_octets, element, truth_octets, is_needless, without_needless, integer_octets, cleared, bit_octets, bit_string_octets}
+use Rattle.bay_ber.specs.Writing.{octets_needed, length_octets, element, truth_octets, is_needless, without_needless, integer_octets, with_unused_clear, bit_octets, bit_string_octets}
 use Rattle.bay_ber.proofs.ContentLemmas.{signed_of-low, signed_of-high}
 use Rattle.bay_ber.proofs.ReadLemmas.{IsBytes, chosen}
 
@@ -40,9 +40,9 @@ is_long : (n k : ℕ) → octets_needed n ≡ k → 128 ≤ n → IsLength ((128
     → IsLength (length_octets n) n
 is_long n k needed ge is = rw (long_is n k needed ge) is
 
-pub length_is : (n : ℕ) → n < 2 ^ 32 → IsLength (length_octets n) n
+pub length-is : (n : ℕ) → n < 2 ^ 32 → IsLength (length_octets n) n
 unfolding length_octets
-length_is n lt =
+length-is n lt =
     elim (cases_lt n 128) [
       | inl small ↦ rw (lt-ltb n 128 small) (small, refl)
       | inr ge ↦ elim (cases_lt n 256) [
@@ -59,30 +59,30 @@ length_is n lt =
 
 -- ---- values
 
-pub element_spells : (tag : Tag) (content : List ℕ) → tag.number < 31 → length content < 2 ^ 32
+pub element-spells : (tag : Tag) (content : List ℕ) → tag.number < 31 → length content < 2 ^ 32
     → Spells (element tag content) tag content
 unfolding element
-element_spells tag content low short = record {
+element-spells tag content low short = record {
   front = octet_of tag ∷ [];
   len = length_octets (length content);
   is_tag = (low, refl);
-  is_length = length_is (length content) short;
+  is_length = length-is (length content) short;
   parts = refl;
 }
 
-pub element_begins : (tag : Tag) (content rest : List ℕ) → tag.number < 31 → length content < 2 ^ 32
+pub element-begins : (tag : Tag) (content rest : List ℕ) → tag.number < 31 → length content < 2 ^ 32
     → Begins (element tag content ++ rest) (record { tag = tag; content = content; rest = rest })
-element_begins tag content rest low short = record {
+element-begins tag content rest low short = record {
   front = element tag content;
-  spelled = element_spells tag content low short;
+  spelled = element-spells tag content low short;
   parts = refl;
 }
 
 -- ---- truth values
 
-pub truth_is : (value : Bool) → IsTruth (truth_octets value) value
-truth_is true = omega arith
-truth_is false = refl
+pub truth-is : (value : Bool) → IsTruth (truth_octets value) value
+truth-is true = omega arith
+truth-is false = refl
 
 -- ---- integers
 
@@ -115,9 +115,9 @@ number_of-below (x ∷ octets) fits =
     (mul-add-lt x (256 ^ length octets) (number_of octets) 256 (fits 0) rest)
 
 -- a needless octet changes nothing
-needless_same : (first second : ℕ) (octets : List ℕ) → is_needless first second ≡ true
+needless-same : (first second : ℕ) (octets : List ℕ) → is_needless first second ≡ true
     → signed_of (first ∷ second ∷ octets) ≡ signed_of (second ∷ octets)
-needless_same first second octets needless =
+needless-same first second octets needless =
     let p = 256 ^ length (second ∷ octets) in
     let n = number_of (second ∷ octets) in
     elim (chosen (ltb second 128) (eqb first 0) (eqb first 255) true needless) [
@@ -138,33 +138,33 @@ needless_same first second octets needless =
           ∙ sym (signed_of-high (second ∷ octets) (omega arith) (ltb-false _ _ high.0))
     ]
 
-needless_either : (b : Bool) (first second : ℕ) (octets tight : List ℕ)
+needless-either : (b : Bool) (first second : ℕ) (octets tight : List ℕ)
     → is_needless first second ≡ b → signed_of tight ≡ signed_of (second ∷ octets)
     → signed_of (cond b tight (first ∷ second ∷ octets)) ≡ signed_of (first ∷ second ∷ octets)
-needless_either true first second octets tight is same =
-    same ∙ sym (needless_same first second octets is)
-needless_either false first second octets tight is same = refl
+needless-either true first second octets tight is same =
+    same ∙ sym (needless-same first second octets is)
+needless-either false first second octets tight is same = refl
 
 without_needless-same : (octets : List ℕ) → signed_of (without_needless octets) ≡ signed_of octets
 without_needless-same [] = refl
 without_needless-same (first ∷ []) = refl
 without_needless-same (first ∷ second ∷ octets) =
-    needless_either (is_needless first second) first second octets
+    needless-either (is_needless first second) first second octets
     (without_needless (second ∷ octets)) refl (without_needless-same (second ∷ octets))
 
-length_either : (b : Bool) (first second : ℕ) (octets tight : List ℕ)
+length-either : (b : Bool) (first second : ℕ) (octets tight : List ℕ)
     → (0 < length tight) × (length tight ≤ length (second ∷ octets))
     → (0 < length (cond b tight (first ∷ second ∷ octets)))
     × (length (cond b tight (first ∷ second ∷ octets)) ≤ length (first ∷ second ∷ octets))
-length_either true first second octets tight h = (h.0, omega (arith, h.1))
-length_either false first second octets tight h = (omega arith, omega arith)
+length-either true first second octets tight h = (h.0, omega (arith, h.1))
+length-either false first second octets tight h = (omega arith, omega arith)
 
 pub length-without_needless : (octets : List ℕ) → 0 < length octets
     → (0 < length (without_needless octets)) × (length (without_needless octets) ≤ length octets)
 length-without_needless [] some = absurd (omega arith)
 length-without_needless (first ∷ []) some = (omega arith, omega arith)
 length-without_needless (first ∷ second ∷ octets) some =
-    length_either (is_needless first second) first second octets
+    length-either (is_needless first second) first second octets
     (without_needless (second ∷ octets)) (length-without_needless (second ∷ octets) (omega arith))
 
 eight : (a b c d e f g h : ℕ)
@@ -175,8 +175,8 @@ eight a b c d e f g h = omega arith
 number_of-bytes : (n : ℕ) → n < 2 ^ 64 → number_of (to_be_bytes w64 n) ≡ n
 number_of-bytes n lt = eight _ _ _ _ _ _ _ _ ∙ from_be_bytes-to_be_bytes_8 n lt
 
-below_zero : (m n p : ℕ) → m + suc n ≡ p → pos m -ℤ pos p ≡ negsuc n
-below_zero m n p is = omega (arith, ints)
+below-zero : (m n p : ℕ) → m + suc n ≡ p → pos m -ℤ pos p ≡ negsuc n
+below-zero m n p is = omega (arith, ints)
 
 signed_of-bytes : (value : ℤ) → FitsSigned w64 value
     → signed_of (to_be_bytes w64 (cast_unsigned w64 value)) ≡ value
@@ -188,11 +188,11 @@ signed_of-bytes (negsuc n) fits =
     let small : n < 2 ^ 63 = fits.sfits in
     let m = 2 ^ 64 - suc n in
     signed_of-high (to_be_bytes w64 m) (omega arith) (omega arith)
-    ∙ below_zero (number_of (to_be_bytes w64 m)) n (2 ^ 64)
+    ∙ below-zero (number_of (to_be_bytes w64 m)) n (2 ^ 64)
     (rw (number_of-bytes m (omega arith)) (omega arith))
 
-pub integer_is : (value : ℤ) → FitsSigned w64 value → IsInteger (integer_octets value) value
-integer_is value fits =
+pub integer-is : (value : ℤ) → FitsSigned w64 value → IsInteger (integer_octets value) value
+integer-is value fits =
     let all = to_be_bytes w64 (cast_unsigned w64 value) in
     let size = length-without_needless all (omega arith) in
     record {
@@ -208,7 +208,7 @@ held : (octets : List ℕ) (count whole left : ℕ) → whole ≡ count / 8 → 
     → count ≤ 8 * length octets → count < 2 ^ 35 → (b : Bool) → eqb left 0 ≡ b
     → HasBits (cond b 0 (8 - left))
     (cond b (take whole octets)
-    (take whole octets ++ cleared (8 - left) (get_or octets whole 0) ∷ [])) count
+    (take whole octets ++ with_unused_clear (8 - left) (get_or octets whole 0) ∷ [])) count
 held octets count whole left w l enough short true is =
     let none : left ≡ 0 = eqb-true left 0 is in
     let size : length (take whole octets) ≡ whole = length-take-le whole octets (omega arith) in
@@ -216,14 +216,15 @@ held octets count whole left w l enough short true is =
 held octets count whole left w l enough short false is =
     let other : (left ≡ 0) → ⊥ = eqb-false left 0 is in
     let size : length (take whole octets) ≡ whole = length-take-le whole octets (omega arith) in
-    let all : length (take whole octets ++ cleared (8 - left) (get_or octets whole 0) ∷ [])
+    let all : length (take whole octets
+    ++ with_unused_clear (8 - left) (get_or octets whole 0) ∷ [])
     ≡ length (take whole octets) + 1 =
-    length-append (take whole octets) (cleared (8 - left) (get_or octets whole 0) ∷ []) in
+    length-append (take whole octets) (with_unused_clear (8 - left) (get_or octets whole 0) ∷ []) in
     record { few = omega arith; filled = omega arith; within = omega arith }
 
-pub bit_string_is : (octets : List ℕ) (count : ℕ) → count ≤ 8 * length octets → count < 2 ^ 35
+pub bit-string-is : (octets : List ℕ) (count : ℕ) → count ≤ 8 * length octets → count < 2 ^ 35
     → IsBits (bit_string_octets octets count) (bit_octets octets count) count
-bit_string_is octets count enough short = (
+bit-string-is octets count enough short = (
   refl,
   held octets count (count / 8) (count % 8) refl refl enough short (eqb (count % 8) 0)
       refl,

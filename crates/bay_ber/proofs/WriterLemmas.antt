@@ -5,34 +5,34 @@ use Rattle.std.proofs.lemmas.List.{append_assoc, length-append, length-drop, len
 use Rattle.std.proofs.Math.Seq.{take-append-add, drop-append-add}
 use Rattle.bay_ber.specs.declared.writer.Writer.TheInside.{Inside}
 use Rattle.bay_ber.specs.Writing.{length_octets}
-use Rattle.bay_ber.specs.Sheets.{Sheet, sheet_of, tagged, held, empty, put, closed, message, IsLength, IsEnd, IsOpen}
+use Rattle.bay_ber.specs.Sheets.{Sheet, sheet_of, short_value, held_text, empty, sheet_with, close_sheet, message, IsLength, IsEnd, IsOpen}
 
 abbrev pub seen : Inside → Sheet
 seen w = sheet_of w.limit w.first w.over w.octets.items
 
 -- ---- appending
 
-pub over_put : (w : Inside) (sheet : Sheet) (more : List ℕ) → seen w ≡ sheet → w.over ≡ true
-    → sheet ≡ put sheet more
-unfolding put
-over_put w sheet more is over = rw (← is, over) refl
+pub over-put : (w : Inside) (sheet : Sheet) (more : List ℕ) → seen w ≡ sheet → w.over ≡ true
+    → sheet ≡ sheet_with sheet more
+unfolding sheet_with
+over-put w sheet more is over = rw (← is, over) refl
 
-pub past_put : (w : Inside) (sheet : Sheet) (more : List ℕ) → seen w ≡ sheet → w.over ≡ false
+pub past-put : (w : Inside) (sheet : Sheet) (more : List ℕ) → seen w ≡ sheet → w.over ≡ false
     → 64 ≤ length w.octets.items → length w.octets.items ≤ 64 + w.limit
     → 64 + w.limit - length w.octets.items < length more
-    → sheet_of w.limit w.first true w.octets.items ≡ put sheet more
-unfolding put
-past_put w sheet more is clear front fit past =
+    → sheet_of w.limit w.first true w.octets.items ≡ sheet_with sheet more
+unfolding sheet_with
+past-put w sheet more is clear front fit past =
     let t = drop 64 w.octets.items in
     let m = length-drop 64 w.octets.items in
     rw (← is, clear, lt-ltb (w.limit - length t) (length more) (omega arith)) refl
 
-pub fits_put : (w : Inside) (sheet : Sheet) (more new : List ℕ) → seen w ≡ sheet → w.over ≡ false
+pub fits-put : (w : Inside) (sheet : Sheet) (more new : List ℕ) → seen w ≡ sheet → w.over ≡ false
     → 64 ≤ length w.octets.items → length w.octets.items ≤ 64 + w.limit
     → length more ≤ 64 + w.limit - length w.octets.items → new ≡ w.octets.items ++ more
-    → sheet_of w.limit w.first w.over new ≡ put sheet more
-unfolding put
-fits_put w sheet more new is clear front fit room added =
+    → sheet_of w.limit w.first w.over new ≡ sheet_with sheet more
+unfolding sheet_with
+fits-put w sheet more new is clear front fit room added =
     let t = drop 64 w.octets.items in
     let m = length-drop 64 w.octets.items in
     rw (
@@ -55,15 +55,15 @@ cleared w sheet new is cut =
 
 -- ---- a value in place
 
-at_end : (over : Bool) (octets : List ℕ) (place : ℕ) → place ≡ length octets - 64
-    → IsLength place (held over (drop 64 octets))
-at_end true octets place is = tt
-at_end false octets place is = is ∙ sym (length-drop 64 octets)
+at-end : (over : Bool) (octets : List ℕ) (place : ℕ) → place ≡ length octets - 64
+    → IsLength place (held_text over (drop 64 octets))
+at-end true octets place is = tt
+at-end false octets place is = is ∙ sym (length-drop 64 octets)
 
 pub is_end : (w : Inside) (sheet : Sheet) (place : ℕ) → seen w ≡ sheet
     → place ≡ length w.octets.items - 64 → IsEnd place sheet
 unfolding IsEnd
-is_end w sheet place is at = rw (← is) (at_end w.over w.octets.items place at)
+is_end w sheet place is at = rw (← is) (at-end w.over w.octets.items place at)
 
 pub is_open : (w : Inside) (sheet : Sheet) (start : ℕ) → seen w ≡ sheet → w.over ≡ false
     → IsOpen start sheet → 64 + start + 2 ≤ length w.octets.items
@@ -73,17 +73,17 @@ is_open w sheet start is clear open_here =
     let two = rw text at open_here in
     omega (arith, two, length-drop 64 w.octets.items)
 
-pub over_closed : (w : Inside) (sheet : Sheet) (start : ℕ) → seen w ≡ sheet → w.over ≡ true
-    → sheet ≡ closed sheet start
-unfolding closed
-over_closed w sheet start is over = rw (← is, over) refl
+pub over-closed : (w : Inside) (sheet : Sheet) (start : ℕ) → seen w ≡ sheet → w.over ≡ true
+    → sheet ≡ close_sheet sheet start
+unfolding close_sheet
+over-closed w sheet start is over = rw (← is, over) refl
 
 -- how long the text is with the value in place
-value_length : (text : List ℕ) (start tag more : ℕ) → start + 2 ≤ length text
+value-length : (text : List ℕ) (start tag more : ℕ) → start + 2 ≤ length text
     → more + 1 ≡ length (length_octets (length (drop (start + 2) text)))
-    → length (take start text ++ tagged tag (drop (start + 2) text)) ≡ length text + more
-unfolding tagged
-value_length text start tag more two is =
+    → length (take start text ++ short_value tag (drop (start + 2) text)) ≡ length text + more
+unfolding short_value
+value-length text start tag more two is =
     let content = drop (start + 2) text in
     let n = length-append (take start text) (tag ∷ (length_octets (length content) ++ content)) in
     let m = length-append (length_octets (length content)) content in
@@ -91,47 +91,47 @@ value_length text start tag more two is =
     let b = length-drop (start + 2) text in
     omega arith
 
-pub past_closed : (w : Inside) (sheet : Sheet) (start count more : ℕ) → seen w ≡ sheet
+pub past-closed : (w : Inside) (sheet : Sheet) (start count more : ℕ) → seen w ≡ sheet
     → w.over ≡ false → 64 + start + 2 ≤ length w.octets.items
     → length w.octets.items ≤ 64 + w.limit → count ≡ length w.octets.items - (64 + start + 2)
     → more + 1 ≡ length (length_octets count) → 64 + w.limit - length w.octets.items < more
-    → sheet_of w.limit w.first true w.octets.items ≡ closed sheet start
-unfolding closed
-past_closed w sheet start count more is clear two fit counted size past =
+    → sheet_of w.limit w.first true w.octets.items ≡ close_sheet sheet start
+unfolding close_sheet
+past-closed w sheet start count more is clear two fit counted size past =
     let t = drop 64 w.octets.items in
     let m = length-drop 64 w.octets.items in
     let c : length (drop (start + 2) t) ≡ count = length-drop (start + 2) t ∙ omega arith in
-    let n = value_length t start (get_or t start 0) more (omega arith) (rw c size) in
+    let n = value-length t start (get_or t start 0) more (omega arith) (rw c size) in
     rw (
       ← is,
       clear,
-      lt-ltb w.limit (length (take start t ++ tagged (get_or t start 0) (drop (start + 2) t)))
+      lt-ltb w.limit (length (take start t ++ short_value (get_or t start 0) (drop (start + 2) t)))
           (omega arith),
     ) refl
 
 -- a list in which what stands at a place is written over, without what stands before the text
-behind_heads : (octets middle : List ℕ) (place start : ℕ) → place ≡ 64 + (start + 1)
+behind-heads : (octets middle : List ℕ) (place start : ℕ) → place ≡ 64 + (start + 1)
     → place ≤ length octets
     → drop 64 (take place octets ++ middle) ≡ take (start + 1) (drop 64 octets) ++ middle
-behind_heads octets middle place start is le =
+behind-heads octets middle place start is le =
     let n = length-take-le place octets le in
     drop-append-le 64 (take place octets) middle (omega arith)
     ∙ rw (is, drop-take 64 (start + 1) octets) refl
 
-value_in_place : (octets : List ℕ) (place start : ℕ) → place ≡ 64 + (start + 1)
+value-in-place : (octets : List ℕ) (place start : ℕ) → place ≡ 64 + (start + 1)
     → 64 + start + 2 ≤ length octets
     → drop 64 (take place octets
     ++ (length_octets (length (drop (start + 2) (drop 64 octets))) ++ drop (place + 1) octets))
     ≡ take start (drop 64 octets)
-    ++ tagged (get_or (drop 64 octets) start 0) (drop (start + 2) (drop 64 octets))
-unfolding tagged
-value_in_place octets place start is two =
+    ++ short_value (get_or (drop 64 octets) start 0) (drop (start + 2) (drop 64 octets))
+unfolding short_value
+value-in-place octets place start is two =
     let t = drop 64 octets in
     let m = length-drop 64 octets in
     let e : drop (place + 1) octets ≡ drop (start + 2) t =
     rw (drop-drop (start + 2) 64 octets, is) (ap (λ (n : ℕ). drop n octets) (omega arith)) in
     let rest = length_octets (length (drop (start + 2) t)) ++ drop (start + 2) t in
-    behind_heads octets _ place start is (omega arith)
+    behind-heads octets _ place start is (omega arith)
     ∙ rw (
       e,
       take_more t start 0 (omega arith),
@@ -139,20 +139,20 @@ value_in_place octets place start is two =
     )
     refl
 
-pub fits_closed : (w : Inside) (sheet : Sheet) (start count more place : ℕ) (new : List ℕ)
+pub fits-closed : (w : Inside) (sheet : Sheet) (start count more place : ℕ) (new : List ℕ)
     → seen w ≡ sheet → w.over ≡ false → 64 + start + 2 ≤ length w.octets.items
     → length w.octets.items ≤ 64 + w.limit → count ≡ length w.octets.items - (64 + start + 2)
     → more + 1 ≡ length (length_octets count) → more ≤ 64 + w.limit - length w.octets.items
     → place ≡ 64 + (start + 1)
     → new ≡ take place w.octets.items ++ (length_octets count ++ drop (place + 1) w.octets.items)
-    → sheet_of w.limit w.first w.over new ≡ closed sheet start
-unfolding closed
-fits_closed w sheet start count more place new is clear two fit counted size room at written =
+    → sheet_of w.limit w.first w.over new ≡ close_sheet sheet start
+unfolding close_sheet
+fits-closed w sheet start count more place new is clear two fit counted size room at written =
     let o = w.octets.items in
     let t = drop 64 o in
     let m = length-drop 64 o in
     let c : length (drop (start + 2) t) ≡ count = length-drop (start + 2) t ∙ omega arith in
-    let n = value_length t start (get_or t start 0) more (omega arith) (rw c size) in
+    let n = value-length t start (get_or t start 0) more (omega arith) (rw c size) in
     let a = length-take-le place o (omega arith) in
     let heads : take 64 new ≡ take 64 o =
     rw (
@@ -162,14 +162,14 @@ fits_closed w sheet start count more place new is clear two fit counted size roo
     )
     (take-take 64 place o (omega arith)) in
     let text : drop 64 new
-    ≡ take start t ++ tagged (get_or t start 0) (drop (start + 2) t) =
-    rw (written, ← c) (value_in_place o place start at two) in
+    ≡ take start t ++ short_value (get_or t start 0) (drop (start + 2) t) =
+    rw (written, ← c) (value-in-place o place start at two) in
     rw (
       ← is,
       clear,
       heads,
       text,
-      le-ltb w.limit (length (take start t ++ tagged (get_or t start 0) (drop (start + 2) t)))
+      le-ltb w.limit (length (take start t ++ short_value (get_or t start 0) (drop (start + 2) t)))
           (omega arith),
     ) refl
 
@@ -186,26 +186,26 @@ length-in_place octets middle place within_it =
 
 -- ---- heads
 
-room_in_front : (first : ℕ) (octets : List ℕ) → 64 ≤ length octets
+room-in-front : (first : ℕ) (octets : List ℕ) → 64 ≤ length octets
     → length (drop first (take 64 octets)) ≡ 64 - first
-room_in_front first octets front =
+room-in-front first octets front =
     length-drop first (take 64 octets) ∙ ap (λ (n : ℕ). n - first) (length-take-le 64 octets front)
 
-pub head_fits : (w : Inside) (sheet : Sheet) (head : List ℕ) → seen w ≡ sheet
+pub head-fits : (w : Inside) (sheet : Sheet) (head : List ℕ) → seen w ≡ sheet
     → 64 ≤ length w.octets.items → w.first ≤ 64 → length head + length sheet.heads ≤ 64
     → length head ≤ w.first
-head_fits w sheet head is front heads fits =
-    let n = room_in_front w.first w.octets.items front in
+head-fits w sheet head is front heads fits =
+    let n = room-in-front w.first w.octets.items front in
     let e : length sheet.heads ≡ length (drop w.first (take 64 w.octets.items)) =
     rw (← is) refl in
     omega arith
 
 -- a head in front of the others
-head_in_front : (first n : ℕ) (octets head : List ℕ) → n ≡ length head → n ≤ first → first ≤ 64
+head-in-front : (first n : ℕ) (octets head : List ℕ) → n ≡ length head → n ≤ first → first ≤ 64
     → 64 ≤ length octets
     → drop (first - n) (take 64 (take (first - n) octets ++ (head ++ drop (first - n + n) octets)))
     ≡ head ++ drop first (take 64 octets)
-head_in_front first n octets head count fits heads front =
+head-in-front first n octets head count fits heads front =
     let k = first - n in
     let rest = drop (k + n) octets in
     let new = take k octets ++ (head ++ rest) in
@@ -225,10 +225,10 @@ head_in_front first n octets head count fits heads front =
     ap (λ (m : ℕ). drop k (take m new)) whole ∙ e
     ∙ rw (at, cut, sum, same, all) refl
 
-text_stays : (first n : ℕ) (octets head : List ℕ) → n ≡ length head → n ≤ first → first ≤ 64
+text-stays : (first n : ℕ) (octets head : List ℕ) → n ≡ length head → n ≤ first → first ≤ 64
     → 64 ≤ length octets
     → drop 64 (take (first - n) octets ++ (head ++ drop (first - n + n) octets)) ≡ drop 64 octets
-text_stays first n octets head count fits heads front =
+text-stays first n octets head count fits heads front =
     let k = first - n in
     let sum : k + n ≡ first = omega arith in
     let a = length-take-le k octets (omega arith) in
@@ -250,21 +250,21 @@ fronted w sheet head new is front heads fits written =
     rw (
       ← is,
       written,
-      head_in_front w.first (length head) w.octets.items head refl fits heads front,
-      text_stays w.first (length head) w.octets.items head refl fits heads front,
+      head-in-front w.first (length head) w.octets.items head refl fits heads front,
+      text-stays w.first (length head) w.octets.items head refl fits heads front,
     ) refl
 
-pub message_is : (w : Inside) (sheet : Sheet) → seen w ≡ sheet → w.over ≡ false
+pub message-is : (w : Inside) (sheet : Sheet) → seen w ≡ sheet → w.over ≡ false
     → 64 ≤ length w.octets.items → w.first ≤ 64
     → Some (drop w.first w.octets.items) ≡ message sheet
 unfolding message
-message_is w sheet is clear front heads =
+message-is w sheet is clear front heads =
     let o = w.octets.items in
     let n = length-take-le 64 o front in
     let e = drop-append-le w.first (take 64 o) (drop 64 o) (omega arith) in
     rw (← is, clear, ← e, take-append-drop 64 o) refl
 
-pub over_message : (w : Inside) (sheet : Sheet) → seen w ≡ sheet → w.over ≡ true
+pub over-message : (w : Inside) (sheet : Sheet) → seen w ≡ sheet → w.over ≡ true
     → None ≡ message sheet
 unfolding message
-over_message w sheet is over = rw (← is, over) refl
+over-message w sheet is over = rw (← is, over) refl

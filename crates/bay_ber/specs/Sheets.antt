@@ -20,28 +20,32 @@ abbrev pub within : ℕ → List ℕ → Option (List ℕ)
 within limit text = if nat_lt limit (length text) then None else Some text
 
 -- octets behind a text, if there is room for them
-abbrev pub joined : ℕ → Option (List ℕ) → List ℕ → Option (List ℕ)
-joined limit None octets = None
-joined limit (Some text) octets =
+abbrev pub text_with : ℕ → Option (List ℕ) → List ℕ → Option (List ℕ)
+text_with limit None octets = None
+text_with limit (Some text) octets =
     if nat_lt (limit - length text) (length octets) then None else Some (text ++ octets)
 
 -- octets behind the text
-unfoldable pub put : Sheet → List ℕ → Sheet
-put sheet octets =
-    record { limit = sheet.limit; heads = sheet.heads; text = joined sheet.limit sheet.text octets }
+unfoldable pub sheet_with : Sheet → List ℕ → Sheet
+sheet_with sheet octets =
+    record {
+      limit = sheet.limit;
+      heads = sheet.heads;
+      text = text_with sheet.limit sheet.text octets;
+    }
 
 -- a tag's octet, the shortest length, and the content
-unfoldable pub tagged : ℕ → List ℕ → List ℕ
-tagged octet content = octet ∷ (length_octets (length content) ++ content)
+unfoldable pub short_value : ℕ → List ℕ → List ℕ
+short_value octet content = octet ∷ (length_octets (length content) ++ content)
 
 abbrev pub rewritten : ℕ → Option (List ℕ) → ℕ → Option (List ℕ)
 rewritten limit None start = None
 rewritten limit (Some text) start =
-    within limit (take start text ++ tagged (get_or text start 0) (drop (start + 2) text))
+    within limit (take start text ++ short_value (get_or text start 0) (drop (start + 2) text))
 
 -- what stands behind the tag and the octet of the length from a place on, as a value of this tag
-unfoldable pub closed : Sheet → ℕ → Sheet
-closed sheet start =
+unfoldable pub close_sheet : Sheet → ℕ → Sheet
+close_sheet sheet start =
     record {
       limit = sheet.limit;
       heads = sheet.heads;
@@ -73,13 +77,13 @@ unfoldable pub message : Sheet → Option (List ℕ)
 message sheet = behind sheet.heads sheet.text
 
 -- a message as the content of a value, if that is within the limit
-abbrev pub wrapped : Tag → ℕ → Option (List ℕ) → Option (List ℕ)
-wrapped tag limit text = text >>= λ octets. within limit (element tag octets)
+abbrev pub value_around : Tag → ℕ → Option (List ℕ) → Option (List ℕ)
+value_around tag limit text = text >>= λ octets. within limit (element tag octets)
 
 -- the text that is held: none where it was too long
-abbrev pub held : Bool → List ℕ → Option (List ℕ)
-held true octets = None
-held false octets = Some octets
+abbrev pub held_text : Bool → List ℕ → Option (List ℕ)
+held_text true octets = None
+held_text false octets = Some octets
 
 -- what is held behind the first octet of the heads, with the text from the place 64 on
 abbrev pub sheet_of : ℕ → ℕ → Bool → List ℕ → Sheet
@@ -87,7 +91,7 @@ sheet_of limit first over octets =
     record {
       limit = limit;
       heads = drop first (take 64 octets);
-      text = held over (drop 64 octets);
+      text = held_text over (drop 64 octets);
     }
 
 -- What holds of the room of a writer: 64 octets for heads, which are free up to the first, and the

@@ -46,8 +46,8 @@ abbrev pub integer_octets : ℤ → List ℕ
 integer_octets value = without_needless (to_be_bytes w64 (cast_unsigned w64 value))
 
 -- an octet with 0 in its unused bits, the lowest
-abbrev pub cleared : ℕ → ℕ → ℕ
-cleared unused octet = octet / 2 ^ unused * 2 ^ unused
+abbrev pub with_unused_clear : ℕ → ℕ → ℕ
+with_unused_clear unused octet = octet / 2 ^ unused * 2 ^ unused
 
 -- the octets of the first bits, with 0 in the unused bits of the last
 abbrev pub bit_octets : List ℕ → ℕ → List ℕ
@@ -55,7 +55,7 @@ bit_octets octets count =
     if count % 8 == 0
     then take (count / 8) octets
     else take (count / 8) octets
-    ++ cleared (8 - count % 8) (slice_index octets (count / 8)) ∷ []
+    ++ with_unused_clear (8 - count % 8) (slice_index octets (count / 8)) ∷ []
 
 -- how many bits of the last octet are unused
 abbrev pub unused_bits : ℕ → ℕ

@@ -4,7 +4,7 @@ ghost use Rattle.std.specs.Option.{option_map};
 ghost use Rattle.bay_ber.specs.Spelling.{octet_of};
 ghost use Rattle.bay_ber.specs.Writing.{length_octets, element, truth_octets, integer_octets};
 ghost use Rattle.bay_ber.specs.Writing as spec;
-ghost use Rattle.bay_ber.specs.Sheets.{empty, put, closed, message, wrapped, IsEnd, IsOpen};
+ghost use Rattle.bay_ber.specs.Sheets.{empty, sheet_with, close_sheet, message, value_around, IsEnd, IsOpen};
 
 use crate::outgoing::Outgoing;
 use crate::tag::Tag;
@@ -203,7 +203,7 @@ impl Writer {
 
     /// Appends octets.
     pub fn append(&mut self, octets: &[u8])
-        ensures { self.new ≡ put self.old octets.now }
+        ensures { self.new ≡ sheet_with self.old octets.now }
     {
         if self.over {
             return;
@@ -220,7 +220,7 @@ impl Writer {
     pub fn open(&mut self, tag: Tag) -> usize
         requires { tag.number < 31 }
         ensures start { IsEnd result self.old }
-        ensures tag { self.new ≡ put self.old (octet_of tag ∷ 0 ∷ []) }
+        ensures tag { self.new ≡ sheet_with self.old (octet_of tag ∷ 0 ∷ []) }
     {
         let start = self.octets.len() - HEADROOM;
         self.append(&[tag.octet(), 0]);
@@ -230,7 +230,7 @@ impl Writer {
     /// Ends the value that begins at a place: its length is written, in the fewest octets.
     pub fn close(&mut self, start: usize)
         requires { IsOpen start self.old }
-        ensures { self.new ≡ closed self.old start }
+        ensures { self.new ≡ close_sheet self.old start }
     {
         if self.over {
             return;
@@ -246,7 +246,7 @@ impl Writer {
     /// Writes a string of octets (X.690 8.7), or a value whose content is given.
     pub fn octets(&mut self, tag: Tag, content: &[u8])
         requires { tag.number < 31 }
-        ensures { self.new ≡ put self.old (element tag content.now) }
+        ensures { self.new ≡ sheet_with self.old (element tag content.now) }
     {
         if content.len() < 0x80 {
             self.append(&[tag.octet(), content.len() as u8]);
@@ -262,7 +262,7 @@ impl Writer {
     #[tactic(auto, using(crate::proofs::SmallLemmas::small_is))]
     pub fn int(&mut self, tag: Tag, value: i64)
         requires { tag.number < 31 }
-        ensures { self.new ≡ put self.old (element tag (integer_octets value)) }
+        ensures { self.new ≡ sheet_with self.old (element tag (integer_octets value)) }
     {
         match small_of(value) {
             Some(small) => self.append(&[tag.octet(), 1, small]),
@@ -274,7 +274,7 @@ impl Writer {
     #[tactic(auto, unfolding(crate::specs::Writing::element, crate::specs::Writing::length_octets))]
     pub fn boolean(&mut self, tag: Tag, value: bool)
         requires { tag.number < 31 }
-        ensures { self.new ≡ put self.old (element tag (truth_octets value)) }
+        ensures { self.new ≡ sheet_with self.old (element tag (truth_octets value)) }
     {
         let octet = if value { 0xFF } else { 0x00 };
         self.append(&[tag.octet(), 1, octet]);
@@ -318,7 +318,7 @@ impl Writer {
         requires tag { tag.number < 31 }
         requires room { length self.old.heads + 6 ≤ HEADROOM }
         ensures limit { self.new.limit ≡ self.old.limit }
-        ensures message { message self.new ≡ wrapped tag self.old.limit (message self.old) }
+        ensures message { message self.new ≡ value_around tag self.old.limit (message self.old) }
         ensures few { length self.new.heads ≤ length self.old.heads + 6 }
     {
         let Some(octets) = self.message() else {

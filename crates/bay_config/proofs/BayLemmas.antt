@@ -7,7 +7,7 @@ use Rattle.bay_config.specs.declared.names.NameSection.TheVariants.{Input, Meter
 use Rattle.bay_config.specs.declared.read.Lists.{Lists}
 use Rattle.bay_config.specs.declared.read.Sections.{Sections}
 use Rattle.bay_config.specs.Bay.{bay_section, switch_section, name_section, sections, bay_table, nameplate_in, switches_in, names_in, bay_in, bay_of_table}
-use Rattle.bay_base.specs.Exact.{judged}
+use Rattle.bay_base.specs.Exact.{unless_refused}
 use Rattle.bay_config.specs.Key.{first_of, unknown_refusal}
 use Rattle.bay_nodes.specs.Node.{rows_of_all}
 use Rattle.bay_config.specs.Point.{points_of_all, names_refusal}
@@ -29,11 +29,11 @@ section_checks f = unknown_refusal (map (λ s. s.name) sections) f ∷ map (sect
 -- the sections, one after another
 abbrev pub by_section : Members → Result Sections BayFault
 by_section f =
-    then (judged {B = Unit {0}} (unknown_refusal (map (λ s. s.name) sections) f) tt)
-    (λ _. then (judged (section_refusal f bay_section) (nameplate_in (bay_table f)))
-    (λ nameplate. then (judged (section_refusal f switch_section) (switches_in f))
-    (λ switches. then (judged (section_refusal f (name_section Input)) (names_in f Input))
-    (λ inputs. then (judged (section_refusal f (name_section Meter)) (names_in f Meter))
+    then (unless_refused {B = Unit {0}} (unknown_refusal (map (λ s. s.name) sections) f) tt)
+    (λ _. then (unless_refused (section_refusal f bay_section) (nameplate_in (bay_table f)))
+    (λ nameplate. then (unless_refused (section_refusal f switch_section) (switches_in f))
+    (λ switches. then (unless_refused (section_refusal f (name_section Input)) (names_in f Input))
+    (λ inputs. then (unless_refused (section_refusal f (name_section Meter)) (names_in f Meter))
     (λ meters. Ok
     (record {
       nameplate = nameplate;
@@ -42,9 +42,9 @@ by_section f =
       meters = meters;
     }))))))
 
-pub sections_by_section : (f : Members)
-    → judged (first_of (section_checks f)) (sections_in f) ≡ by_section f
-sections_by_section f =
+pub sections-by-section : (f : Members)
+    → unless_refused (first_of (section_checks f)) (sections_in f) ≡ by_section f
+sections-by-section f =
     let bay = section_refusal f bay_section in
     let switches = section_refusal f switch_section in
     let inputs = section_refusal f (name_section Input) in
@@ -59,8 +59,9 @@ sections_by_section f =
 
 -- the last check, behind the others
 judged-last_of : {S R : Type 0} (checks : List (Option BayFault)) (last : Option BayFault) (x : S)
-    (v : R) (g : S → Result R BayFault) → judged (first_of (last ∷ [])) v ≡ g x
-    → judged (first_of (checks ++ last ∷ [])) v ≡ then (judged (first_of checks) x) g
+    (v : R) (g : S → Result R BayFault) → unless_refused (first_of (last ∷ [])) v ≡ g x
+    → unless_refused (first_of (checks ++ last ∷ [])) v
+    ≡ then (unless_refused (first_of checks) x) g
 judged-last_of [] last x v g e = e
 judged-last_of (None ∷ checks) last x v g e = judged-last_of checks last x v g e
 judged-last_of (Some fault ∷ checks) last x v g e = refl
@@ -75,8 +76,8 @@ lists_in s =
 -- the bay: the sections, and then the lists
 abbrev pub bay_by_parts : Members → Result Bay BayFault
 bay_by_parts f =
-    then (judged (first_of (section_checks f)) (sections_in f))
-    (λ s. then (judged (names_refusal (lists_in s).points) (lists_in s))
+    then (unless_refused (first_of (section_checks f)) (sections_in f))
+    (λ s. then (unless_refused (names_refusal (lists_in s).points) (lists_in s))
     (λ l. Ok (record {
       domain = s.nameplate.domain;
       vendor = s.nameplate.vendor;
@@ -90,8 +91,8 @@ bay_by_parts f =
       meters = s.meters;
     })))
 
-pub by_parts : (f : Members) → bay_of_table f ≡ bay_by_parts f
-by_parts f =
+pub by-parts : (f : Members) → bay_of_table f ≡ bay_by_parts f
+by-parts f =
     let lists = lists_in (sections_in f) in
     judged-last_of (section_checks f) (names_refusal lists.points) (sections_in f) (bay_in f) _
     (judged-step (names_refusal lists.points) [] lists (bay_in f) _ refl)

@@ -12,8 +12,8 @@ use Rattle.toml.specs.View.{members_view}
 use Rattle.toml.proofs.Views.{Entry}
 use Rattle.bay_config.specs.declared.fault.BayFault.{BayFault}
 use Rattle.bay_config.specs.declared.fault.BayFault.TheVariants.{OutOfMemory}
-use Rattle.bay_base.specs.Exact.{judged}
-use Rattle.bay_config.specs.Key.{first_of, is_among, has_unknown, named}
+use Rattle.bay_base.specs.Exact.{unless_refused}
+use Rattle.bay_config.specs.Key.{first_of, is_among, has_unknown, value_named}
 
 pub among-map : (known : List (Bor (List ℕ))) (k : List ℕ)
     → list_any (λ o. bytes_eq k o.now) known ≡ is_among (map (λ o. o.now) known) k
@@ -32,20 +32,20 @@ unknown-map known (e ∷ es) =
 
 -- a word is among those of a list exactly where the list gives it a value
 pub among_named : {T : Type 0} (es : List (List ℕ × T)) (s : List ℕ)
-    → is_among (map (λ e. e.0) es) s ≡ is_some (named es s)
+    → is_among (map (λ e. e.0) es) s ≡ is_some (value_named es s)
 among_named [] s = refl
 among_named (e ∷ es) s =
     elim (bytes_eq s e.0) as
-    (λ b. (b || is_among (map (λ x. x.0) es) s) ≡ is_some (cond b (Some e.1) (named es s)))
+    (λ b. (b || is_among (map (λ x. x.0) es) s) ≡ is_some (cond b (Some e.1) (value_named es s)))
     [ true ↦ refl | false ↦ among_named es s ]
 
 -- what a refusal or a value says of the check
 pub judged-Err : {S : Type 0} (check : Option BayFault) (x : S) (e : BayFault)
-    → Err e ≡ judged check x → check ≡ Some e
+    → Err e ≡ unless_refused check x → check ≡ Some e
 judged-Err None x e h = cc
 judged-Err (Some f) x e h = cc
 
-pub judged-Ok : {S : Type 0} (check : Option BayFault) (x y : S) → Ok y ≡ judged check x
+pub judged-Ok : {S : Type 0} (check : Option BayFault) (x y : S) → Ok y ≡ unless_refused check x
     → (check ≡ None) × (y ≡ x)
 judged-Ok None x y h = (refl, cc)
 judged-Ok (Some f) x y h = cc
@@ -63,14 +63,15 @@ then-refused r e g (inr h) = inr (ap (λ x. then x g) h)
 
 -- the first check, and then what the rest gives
 pub judged-step : {S R : Type 0} (check : Option BayFault) (rest : List (Option BayFault)) (x : S)
-    (v : R) (g : S → Result R BayFault) → judged (first_of rest) v ≡ g x
-    → judged (first_of (check ∷ rest)) v ≡ then (judged check x) g
+    (v : R) (g : S → Result R BayFault) → unless_refused (first_of rest) v ≡ g x
+    → unless_refused (first_of (check ∷ rest)) v ≡ then (unless_refused check x) g
 judged-step None rest x v g e = e
 judged-step (Some fault) rest x v g e = refl
 
 -- the last checks, and then what their value gives
 pub judged-last : {S R : Type 0} (check : Option BayFault) (x : S) (v : R)
-    (g : S → Result R BayFault) → Ok v ≡ g x → judged check v ≡ then (judged check x) g
+    (g : S → Result R BayFault) → Ok v ≡ g x
+    → unless_refused check v ≡ then (unless_refused check x) g
 judged-last None x v g e = e
 judged-last (Some fault) x v g e = refl
 

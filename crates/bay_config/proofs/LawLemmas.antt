@@ -21,7 +21,7 @@ use Rattle.bay_config.specs.Point.{points_of, points_from, inputs_from, meter_po
 use Rattle.bay_config.specs.Section.{are_tables, count_of, tables_of, items_at, items_refusal, list_refusal, section_refusal, section_tables}
 use Rattle.bay_config.specs.Switch.{switch_keys, switch_in}
 use Rattle.bay_config.proofs.KeyLemmas.{judged-Ok, or-false_parts}
-use Rattle.bay_nodes.proofs.NumberLemmas.{rows_make_tree}
+use Rattle.bay_nodes.proofs.NumberLemmas.{rows-make-tree}
 use Rattle.bay_nodes.proofs.PathLemmas.{AllDiffer}
 
 abbrev names_of : List Point → List (List ℕ)
@@ -258,11 +258,11 @@ sound-bay f h =
       rows = refl;
       names = pairs-differ (points_of_all ss is ms) differ;
       owners = all-owned ss is ms;
-      tree = rows_make_tree (nameplate_in (bay_table f)) ss ms (omega arith) (omega arith);
+      tree = rows-make-tree (nameplate_in (bay_table f)) ss ms (omega arith) (omega arith);
     }
 
 -- a bay that is read is sound
-pub bay_is_sound : (f : Members) (bay : Bay) → bay_of_table f ≡ Ok bay → IsBay bay
-bay_is_sound f bay h =
+pub bay-is-sound : (f : Members) (bay : Bay) → bay_of_table f ≡ Ok bay → IsBay bay
+bay-is-sound f bay h =
     let parts = judged-Ok (file_refusal f) (bay_in f) bay (sym h) in
     subst IsBay (sym parts.1) (sound-bay f parts.0)

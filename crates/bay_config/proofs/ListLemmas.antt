@@ -7,7 +7,7 @@ use Rattle.toml.specs.Data.{Items, Members, as_table}
 use Rattle.toml.specs.View.{view, items_view}
 use Rattle.toml.specs.declared.value.Value.{Value}
 use Rattle.toml.proofs.Views.{items_view-drop}
-use Rattle.bay_base.specs.Exact.{judged}
+use Rattle.bay_base.specs.Exact.{unless_refused}
 use Rattle.bay_config.specs.declared.fault.BayFault.{BayFault}
 use Rattle.bay_config.specs.declared.fault.BayFault.TheVariants.{MissingKey, BadValue, TooMany}
 use Rattle.bay_config.specs.Key.{first_of}
@@ -17,7 +17,7 @@ use Rattle.bay_config.proofs.KeyLemmas.{then, judged-step, judged-last}
 -- what some tables are, or the first refusal
 abbrev pub read_all : {T : Type 0} → (Members → Option BayFault) → (Members → T) → List Members
     → Result (List T) BayFault
-read_all check make tables = judged (first_of (map check tables)) (map make tables)
+read_all check make tables = unless_refused (first_of (map check tables)) (map make tables)
 
 -- what was read so far, and then the rest
 abbrev pub after : {T : Type 0} → List T → Result (List T) BayFault → Result (List T) BayFault
@@ -26,7 +26,8 @@ after done (Err e) = Err e
 
 read_all-cons : {T : Type 0} (check : Members → Option BayFault) (make : Members → T) (t : Members)
     (ts : List Members) → read_all check make (t ∷ ts)
-    ≡ then (judged (check t) (make t)) (λ s. then (read_all check make ts) (λ ss. Ok (s ∷ ss)))
+    ≡ then (unless_refused (check t) (make t))
+    (λ s. then (read_all check make ts) (λ ss. Ok (s ∷ ss)))
 read_all-cons check make t ts =
     judged-step (check t) (map check ts) (make t) (map make (t ∷ ts)) _
     (judged-last (first_of (map check ts)) (map make ts) (map make (t ∷ ts)) _ refl)
@@ -47,32 +48,32 @@ tables-at vs i v o h at e =
     ∙ ap (λ p. option_to_list p ++ tables_of (items_view (drop (i + 1) vs))) (sym e)
 
 -- one turn: a value that is no table, a table that is read, and one that is refused
-pub turn_none : {T : Type 0} (check : Members → Option BayFault) (make : Members → T)
+pub turn-none : {T : Type 0} (check : Members → Option BayFault) (make : Members → T)
     (vs : List Value) (i : ℕ) (v : Value) (done : List T) → i < length vs → v ≡ get_or vs i v
     → None ≡ as_table (view v)
     → after done (read_all check make (tables_of (items_view (drop i vs))))
     ≡ after done (read_all check make (tables_of (items_view (drop (i + 1) vs))))
-turn_none check make vs i v done h at e =
+turn-none check make vs i v done h at e =
     ap (λ ts. after done (read_all check make ts)) (tables-at vs i v None h at e)
 
-pub turn_some : {T : Type 0} (check : Members → Option BayFault) (make : Members → T)
+pub turn-some : {T : Type 0} (check : Members → Option BayFault) (make : Members → T)
     (vs : List Value) (i : ℕ) (v : Value) (done : List T) (t : Members) (s : T) → i < length vs
-    → v ≡ get_or vs i v → Some t ≡ as_table (view v) → judged (check t) (make t) ≡ Ok s
+    → v ≡ get_or vs i v → Some t ≡ as_table (view v) → unless_refused (check t) (make t) ≡ Ok s
     → after done (read_all check make (tables_of (items_view (drop i vs))))
     ≡ after (done ++ s ∷ []) (read_all check make (tables_of (items_view (drop (i + 1) vs))))
-turn_some check make vs i v done t s h at e read =
+turn-some check make vs i v done t s h at e read =
     let rest = tables_of (items_view (drop (i + 1) vs)) in
     ap (λ ts. after done (read_all check make ts)) (tables-at vs i v (Some t) h at e)
     ∙ ap (after done) (read_all-cons check make t rest)
     ∙ ap (λ r. after done (then r (λ s. then (read_all check make rest) (λ ss. Ok (s ∷ ss))))) read
     ∙ after-push done s (read_all check make rest)
 
-pub turn_refused : {T : Type 0} (check : Members → Option BayFault) (make : Members → T)
+pub turn-refused : {T : Type 0} (check : Members → Option BayFault) (make : Members → T)
     (vs : List Value) (i : ℕ) (v : Value) (done : List T) (t : Members) (fault : BayFault)
     → i < length vs → v ≡ get_or vs i v → Some t ≡ as_table (view v)
-    → judged (check t) (make t) ≡ Err fault
+    → unless_refused (check t) (make t) ≡ Err fault
     → after done (read_all check make (tables_of (items_view (drop i vs)))) ≡ Err fault
-turn_refused check make vs i v done t fault h at e read =
+turn-refused check make vs i v done t fault h at e read =
     let rest = tables_of (items_view (drop (i + 1) vs)) in
     ap (λ ts. after done (read_all check make ts)) (tables-at vs i v (Some t) h at e)
     ∙ ap (after done) (read_all-cons check make t rest)
@@ -89,39 +90,40 @@ count-items [] = refl
 count-items (v ∷ vs) = let rest = count-items vs in omega arith
 
 -- checks, and then what the rest gives
-pub judged_append : {T : Type 0} (checks rest : List (Option BayFault)) (v : T)
-    → judged (first_of (checks ++ rest)) v
-    ≡ then (judged {B = Unit {0}} (first_of checks) tt) (λ _. judged (first_of rest) v)
-judged_append [] rest v = refl
-judged_append (None ∷ checks) rest v = judged_append checks rest v
-judged_append (Some fault ∷ checks) rest v = refl
+pub judged-append : {T : Type 0} (checks rest : List (Option BayFault)) (v : T)
+    → unless_refused (first_of (checks ++ rest)) v
+    ≡ then (unless_refused {B = Unit {0}} (first_of checks) tt)
+    (λ _. unless_refused (first_of rest) v)
+judged-append [] rest v = refl
+judged-append (None ∷ checks) rest v = judged-append checks rest v
+judged-append (Some fault ∷ checks) rest v = refl
 
 -- what is judged of a list as a whole
 abbrev whole : ℕ → ℕ → Items → Result (Unit {0}) BayFault
-whole least most items = judged {B = Unit {0}} (first_of (list_checks least most items)) tt
+whole least most items = unless_refused {B = Unit {0}} (first_of (list_checks least most items)) tt
 
-pub too_few : (least most : ℕ) (items : Items) → count_of items < least
+pub too-few : (least most : ℕ) (items : Items) → count_of items < least
     → Err MissingKey ≡ whole least most items
-too_few least most items h =
+too-few least most items h =
     let short : nat_lt (count_of items) least ≡ true = lt-ltb (count_of items) least h in
     rw short
 
-pub no_tables : (least most : ℕ) (items : Items) → least ≤ count_of items → are_tables items ≡ false
+pub no-tables : (least most : ℕ) (items : Items) → least ≤ count_of items → are_tables items ≡ false
     → Err BadValue ≡ whole least most items
-no_tables least most items enough none =
+no-tables least most items enough none =
     let long : nat_lt (count_of items) least ≡ false = grind (arith, nat_tests) in
     rw (long, none)
 
-pub too_many : (least most : ℕ) (items : Items) → least ≤ count_of items → are_tables items ≡ true
+pub too-many : (least most : ℕ) (items : Items) → least ≤ count_of items → are_tables items ≡ true
     → most < count_of items → Err TooMany ≡ whole least most items
-too_many least most items enough tables h =
+too-many least most items enough tables h =
     let long : nat_lt (count_of items) least ≡ false = grind (arith, nat_tests) in
     let many : nat_lt most (count_of items) ≡ true = lt-ltb most (count_of items) h in
     rw (long, tables, many)
 
-pub all_well : (least most : ℕ) (items : Items) → least ≤ count_of items → are_tables items ≡ true
+pub all-well : (least most : ℕ) (items : Items) → least ≤ count_of items → are_tables items ≡ true
     → count_of items ≤ most → Ok tt ≡ whole least most items
-all_well least most items enough tables h =
+all-well least most items enough tables h =
     let long : nat_lt (count_of items) least ≡ false = grind (arith, nat_tests) in
     let few : nat_lt most (count_of items) ≡ false = grind (arith, nat_tests) in
     rw (long, tables, few)

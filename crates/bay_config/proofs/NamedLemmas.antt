@@ -493,11 +493,11 @@ numbered-among make class parts is ts place name lt named =
       w.2,
     )
 
-pub names_position : (bay : Bay) (place : ℕ) (s : Switch) (name : List ℕ)
+pub names-position : (bay : Bay) (place : ℕ) (s : Switch) (name : List ℕ)
     → slice_get bay.switches place ≡ Some s
     → name ≡ node_name (class_of s.kind) (node_number bay.switches s place)
     → NamesPosition bay place name
-names_position bay place s name here named =
+names-position bay place s name here named =
     let node = position-node bay place s name here named in
     record {
       switch = s;
@@ -507,9 +507,9 @@ names_position bay place s name here named =
       rows = λ is_bay. has-position bay name s.kind (node is_bay);
     }
 
-pub names_control : (bay : Bay) (place : ℕ) (name : List ℕ) → place < length bay.switches
+pub names-control : (bay : Bay) (place : ℕ) (name : List ℕ) → place < length bay.switches
     → name ≡ node_name (codes "CSWI") (place + 1) → NamesControl bay place name
-names_control bay place name lt named =
+names-control bay place name lt named =
     let w = numbered-among control_node (codes "CSWI")
     (λ s. control_parts s.control s.sbo_timeout_ms) (λ n t. refl) bay.switches place name lt
     named in
@@ -526,9 +526,9 @@ names_control bay place name lt named =
       commands = λ is_bay. has-commands bay name w.0.control w.0.sbo_timeout_ms (node is_bay);
     }
 
-pub names_interlocking : (bay : Bay) (place : ℕ) (name : List ℕ) → place < length bay.switches
+pub names-interlocking : (bay : Bay) (place : ℕ) (name : List ℕ) → place < length bay.switches
     → name ≡ node_name (codes "CILO") (place + 1) → NamesInterlocking bay place name
-names_interlocking bay place name lt named =
+names-interlocking bay place name lt named =
     let w = numbered-among interlocking_node (codes "CILO") (λ s. interlocking_parts) (λ n t. refl)
     bay.switches place name lt named in
     let node : IsBay bay → HasNode bay (record { name = name; parts = interlocking_parts }) =
@@ -541,9 +541,9 @@ names_interlocking bay place name lt named =
       close_rows = λ is_bay. has-close bay name (node is_bay);
     }
 
-pub names_meter : (bay : Bay) (place : ℕ) (name : List ℕ) → place < length bay.meters
+pub names-meter : (bay : Bay) (place : ℕ) (name : List ℕ) → place < length bay.meters
     → name ≡ node_name (codes "MMXU") (place + 1) → NamesMeter bay place name
-names_meter bay place name lt named =
+names-meter bay place name lt named =
     let w = numbered-among meter_node (codes "MMXU") (λ s. meter_parts) (λ n t. refl) bay.meters
     place name lt named in
     let node : IsBay bay → HasNode bay (record { name = name; parts = meter_parts }) =

@@ -4,7 +4,7 @@ use Rattle.toml.specs.Data.{Members}
 use Rattle.bay_config.specs.declared.fault.BayFault.{BayFault}
 use Rattle.bay_nodes.specs.declared.nameplate.Nameplate.{Nameplate}
 use Rattle.bay_config.specs.Bay.{bay_keys, nameplate_in}
-use Rattle.bay_base.specs.Exact.{judged}
+use Rattle.bay_base.specs.Exact.{unless_refused}
 use Rattle.bay_config.specs.Key.{Key, identifier, description, number, unknown_refusal, key_refusal, entry_refusal, text_in, number_in}
 use Rattle.bay_config.proofs.KeyLemmas.{then, judged-step}
 
@@ -26,12 +26,13 @@ age_key = record { name = codes "scan_max_age_ms"; form = number 0 600000 }
 -- the nameplate, read key by key
 abbrev pub nameplate_by_keys : Members → Result Nameplate BayFault
 nameplate_by_keys t =
-    then (judged {B = Unit {0}} (unknown_refusal (map (λ key. key.name) bay_keys) t) tt)
-    (λ _. then (judged (key_refusal t domain_key) (text_in t (codes "domain")))
-    (λ domain. then (judged (key_refusal t vendor_key) (text_in t (codes "vendor")))
-    (λ vendor. then (judged (key_refusal t model_key) (text_in t (codes "model")))
-    (λ model. then (judged (key_refusal t revision_key) (text_in t (codes "revision")))
-    (λ revision. then (judged (key_refusal t age_key) (number_in t (codes "scan_max_age_ms")))
+    then (unless_refused {B = Unit {0}} (unknown_refusal (map (λ key. key.name) bay_keys) t) tt)
+    (λ _. then (unless_refused (key_refusal t domain_key) (text_in t (codes "domain")))
+    (λ domain. then (unless_refused (key_refusal t vendor_key) (text_in t (codes "vendor")))
+    (λ vendor. then (unless_refused (key_refusal t model_key) (text_in t (codes "model")))
+    (λ model. then (unless_refused (key_refusal t revision_key) (text_in t (codes "revision")))
+    (λ revision. then (unless_refused (key_refusal t age_key)
+    (number_in t (codes "scan_max_age_ms")))
     (λ age. Ok
     (record {
       domain = domain;
@@ -42,7 +43,7 @@ nameplate_by_keys t =
     })))))))
 
 pub by_keys : (t : Members)
-    → judged (entry_refusal bay_keys t) (nameplate_in t) ≡ nameplate_by_keys t
+    → unless_refused (entry_refusal bay_keys t) (nameplate_in t) ≡ nameplate_by_keys t
 by_keys t =
     let domain = key_refusal t domain_key in
     let vendor = key_refusal t vendor_key in

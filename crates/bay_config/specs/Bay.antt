@@ -9,7 +9,7 @@ use Rattle.bay_config.specs.declared.names.NameSection.{NameSection}
 use Rattle.bay_config.specs.declared.names.NameSection.TheVariants.{Input, Meter}
 use Rattle.bay_config.specs.declared.fault.BayFault.{BayFault}
 use Rattle.bay_config.specs.declared.fault.BayFault.TheVariants.{BadToml}
-use Rattle.bay_base.specs.Exact.{judged}
+use Rattle.bay_base.specs.Exact.{unless_refused}
 use Rattle.bay_config.specs.Key.{Key, identifier, description, number, first_of, unknown_refusal, text_in, number_in}
 use Rattle.bay_nodes.specs.Node.{rows_of_all}
 use Rattle.bay_config.specs.Point.{points_of_all, names_refusal}
@@ -122,7 +122,7 @@ file_refusal file =
 
 -- the bay of a file, or its first refusal
 abbrev pub bay_of_table : Members → Result Bay BayFault
-bay_of_table file = judged (file_refusal file) (bay_in file)
+bay_of_table file = unless_refused (file_refusal file) (bay_in file)
 
 -- a text that is no TOML is refused first
 abbrev pub bay_of_document : Option Members → Result Bay BayFault

@@ -111,6 +111,6 @@ number_in table name =
     unwrap_or (option_map natural (option_and_then as_integer (get_member name table))) 0
 
 -- the value that a list gives to a word
-abbrev pub named : {T : Type 0} → List (List ℕ × T) → List ℕ → Option T
-named [] s = None
-named (e ∷ es) s = if bytes_eq s e.0 then Some e.1 else named es s
+abbrev pub value_named : {T : Type 0} → List (List ℕ × T) → List ℕ → Option T
+value_named [] s = None
+value_named (e ∷ es) s = if bytes_eq s e.0 then Some e.1 else value_named es s

@@ -6,7 +6,7 @@ use Rattle.bay_nodes.specs.declared.switch.SwitchKind.{SwitchKind}
 use Rattle.bay_nodes.specs.declared.switch.SwitchKind.TheVariants.{Breaker, Disconnector, Earthing}
 use Rattle.bay_nodes.specs.declared.switch.Control.{Control}
 use Rattle.bay_nodes.specs.declared.switch.Control.TheVariants.{Status, Direct, Sbo, SboEnhanced}
-use Rattle.bay_config.specs.Key.{Key, identifier, number, word, named, text_in, number_in}
+use Rattle.bay_config.specs.Key.{Key, identifier, number, word, value_named, text_in, number_in}
 
 -- the words for the kinds of switches
 abbrev pub kinds : List (List ℕ × SwitchKind)
@@ -22,11 +22,12 @@ controls =
 -- the kind and the control of a table, where they can be read
 abbrev pub kind_of : Members → Option SwitchKind
 kind_of table =
-    option_and_then (named kinds) (option_and_then as_str (get_member (codes "kind") table))
+    option_and_then (value_named kinds) (option_and_then as_str (get_member (codes "kind") table))
 
 abbrev pub control_of : Members → Option Control
 control_of table =
-    option_and_then (named controls) (option_and_then as_str (get_member (codes "control") table))
+    option_and_then (value_named controls)
+    (option_and_then as_str (get_member (codes "control") table))
 
 abbrev pub id_key : Key
 id_key = record { name = codes "id"; form = identifier 16 }

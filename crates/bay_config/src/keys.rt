@@ -7,7 +7,7 @@ ghost use Rattle.std.specs.Str.{bytes_eq};
 ghost use Rattle.toml.specs.Data.{get_member};
 ghost use Rattle.toml.specs.View.{view, table_view};
 ghost use Rattle.bay_config.specs.declared.fault.BayFault.TheVariants.{OutOfMemory};
-ghost use Rattle.bay_base.specs.Exact.{Gives, judged};
+ghost use Rattle.bay_base.specs.Exact.{Gives, unless_refused};
 ghost use Rattle.bay_config.specs.Key.{identifier, description, number, unknown_refusal, key_refusal, text_in, number_in};
 ghost use Rattle.bay_config.specs.Key as spec;
 
@@ -41,7 +41,8 @@ fn has_unknown_key(table: &Table, known: &[&str]) -> bool
 
 /// Refuses a table with a key that is not known.
 pub fn check_keys(table: &Table, known: &[&str]) -> Result<(), BayFault>
-    ensures { result ≡ judged (unknown_refusal (map (λ k. k.now) known.now) (table_view table.now))
+    ensures { result ≡ unless_refused
+        (unknown_refusal (map (λ k. k.now) known.now) (table_view table.now))
         tt }
 {
     if has_unknown_key(table, known) {
@@ -99,7 +100,7 @@ fn is_description(text: &str) -> bool
 pub fn identifier_at(alloc: Global, table: &Table, key: &str, most: usize) -> Result<Text, BayFault>
     ensures { let file = table_view table.now in
         Gives OutOfMemory (λ x. x) result
-        (judged (key_refusal file (record { name = key.now; form = identifier most }))
+        (unless_refused (key_refusal file (record { name = key.now; form = identifier most }))
         (text_in file key.now)) }
 {
     match find(table, key) {
@@ -115,7 +116,7 @@ pub fn identifier_at(alloc: Global, table: &Table, key: &str, most: usize) -> Re
 pub fn description_at(alloc: Global, table: &Table, key: &str) -> Result<Text, BayFault>
     ensures { let file = table_view table.now in
         Gives OutOfMemory (λ x. x) result
-        (judged (key_refusal file (record { name = key.now; form = description }))
+        (unless_refused (key_refusal file (record { name = key.now; form = description }))
         (text_in file key.now)) }
 {
     match find(table, key) {
@@ -130,7 +131,8 @@ pub fn description_at(alloc: Global, table: &Table, key: &str) -> Result<Text, B
 /// The number at a key, within the two bounds.
 pub fn number_at(table: &Table, key: &str, least: u32, most: u32) -> Result<u32, BayFault>
     ensures { let file = table_view table.now in
-        result ≡ judged (key_refusal file (record { name = key.now; form = number least most }))
+        result ≡ unless_refused
+        (key_refusal file (record { name = key.now; form = number least most }))
         (number_in file key.now) }
 {
     match find(table, key) {

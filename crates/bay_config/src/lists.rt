@@ -3,7 +3,7 @@ ghost use Rattle.std.specs.Prelude.{◌≡◌, is_some};
 ghost use Rattle.std.specs.List.{list_all};
 ghost use Rattle.toml.specs.Data.{as_table};
 ghost use Rattle.toml.specs.View.{view, items_view};
-ghost use Rattle.bay_base.specs.Exact.{judged};
+ghost use Rattle.bay_base.specs.Exact.{unless_refused};
 ghost use Rattle.bay_config.specs.Key.{first_of};
 ghost use Rattle.bay_config.specs.Section.{list_checks};
 
@@ -19,7 +19,8 @@ fn are_tables(values: &[Value]) -> bool
 
 /// Refuses a list that has too few values, one that is no table, or too many.
 pub fn check_list(values: &[Value], least: usize, most: usize) -> Result<(), BayFault>
-    ensures { result ≡ judged (first_of (list_checks least most (items_view values.now))) tt }
+    ensures { result ≡ unless_refused (first_of (list_checks least most (items_view values.now)))
+        tt }
 {
     if values.len() < least {
         return Err(BayFault::MissingKey);

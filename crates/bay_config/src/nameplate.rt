@@ -2,7 +2,7 @@
 ghost use Rattle.toml.specs.View.{table_view};
 ghost use Rattle.bay_config.specs.declared.fault.BayFault.TheVariants.{OutOfMemory};
 ghost use Rattle.bay_config.specs.Bay.{bay_keys, bay_section, bay_table, nameplate_in};
-ghost use Rattle.bay_base.specs.Exact.{Gives, judged};
+ghost use Rattle.bay_base.specs.Exact.{Gives, unless_refused};
 ghost use Rattle.bay_config.specs.Key.{entry_refusal};
 ghost use Rattle.bay_config.specs.Section.{section_refusal};
 
@@ -15,7 +15,8 @@ use toml::Table;
 // What the section `bay` says, once its keys are known ones.
 fn nameplate_from(alloc: Global, table: &Table) -> Result<Nameplate, BayFault>
     ensures { let t = table_view table.now in
-        Gives OutOfMemory (λ x. x) result (judged (entry_refusal bay_keys t) (nameplate_in t)) }
+        Gives OutOfMemory (λ x. x) result
+        (unless_refused (entry_refusal bay_keys t) (nameplate_in t)) }
 {
     check_keys(
         table,
@@ -39,7 +40,7 @@ fn nameplate_from(alloc: Global, table: &Table) -> Result<Nameplate, BayFault>
 pub fn nameplate_at(alloc: Global, file: &Table) -> Result<Nameplate, BayFault>
     ensures { let f = table_view file.now in
         Gives OutOfMemory (λ x. x) result
-        (judged (section_refusal f bay_section) (nameplate_in (bay_table f))) }
+        (unless_refused (section_refusal f bay_section) (nameplate_in (bay_table f))) }
 {
     match find(file, "bay") {
         Some(value) => match value.as_table() {

@@ -4,7 +4,7 @@ ghost use Rattle.toml.specs.Data.{get_member};
 ghost use Rattle.toml.specs.View.{table_view, items_view};
 ghost use Rattle.bay_config.specs.declared.fault.BayFault.TheVariants.{OutOfMemory};
 ghost use Rattle.bay_config.specs.Bay.{name_key, name_keys, name_in, section_name, most_names, name_section, names_in};
-ghost use Rattle.bay_base.specs.Exact.{Gives, judged};
+ghost use Rattle.bay_base.specs.Exact.{Gives, unless_refused};
 ghost use Rattle.bay_config.specs.Key.{first_of, entry_refusal};
 ghost use Rattle.bay_config.specs.Section.{tables_of, items_at, items_refusal, section_refusal};
 
@@ -71,7 +71,7 @@ impl NameSection {
 fn name_from(alloc: Global, table: &Table, which: NameSection) -> Result<Text, BayFault>
     ensures { let t = table_view table.now in
         Gives OutOfMemory (λ x. x) result
-        (judged (entry_refusal (name_keys which) t) (name_in which t)) }
+        (unless_refused (entry_refusal (name_keys which) t) (name_in which t)) }
 {
     check_keys(table, which.keys())?;
     identifier_at(alloc, table, which.key(), 16)
@@ -85,7 +85,7 @@ fn names_from(
 ) -> Result<Listing<Text>, BayFault>
     ensures { let tables = tables_of (items_view values.now) in
         Gives OutOfMemory (λ x. x) result
-        (judged (first_of (map (λ t. entry_refusal (name_keys which) t) tables))
+        (unless_refused (first_of (map (λ t. entry_refusal (name_keys which) t) tables))
         (map (name_in which) tables)) }
 {
     let mut names = Vec::new(alloc);
@@ -102,7 +102,7 @@ fn names_from(
 fn names_of(alloc: Global, values: &[Value], which: NameSection) -> Result<Listing<Text>, BayFault>
     ensures { let items = items_view values.now in
         Gives OutOfMemory (λ x. x) result
-        (judged (items_refusal 0 (most_names which) (λ _. name_keys which) items)
+        (unless_refused (items_refusal 0 (most_names which) (λ _. name_keys which) items)
         (map (name_in which) (tables_of items))) }
 {
     check_list(values, 0, which.most())?;
@@ -113,7 +113,7 @@ fn names_of(alloc: Global, values: &[Value], which: NameSection) -> Result<Listi
 pub fn names_at(alloc: Global, file: &Table, which: NameSection) -> Result<Listing<Text>, BayFault>
     ensures names { let f = table_view file.now in
         Gives OutOfMemory (λ x. x) result
-        (judged (section_refusal f (name_section which)) (names_in f which)) }
+        (unless_refused (section_refusal f (name_section which)) (names_in f which)) }
     ensures memory { IsErrOf result OutOfMemory
         → IsSome (items_at (get_member (section_name which) (table_view file.now))) }
 {

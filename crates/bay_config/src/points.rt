@@ -2,7 +2,7 @@
 ghost use Rattle.std.specs.Prelude.{◌≡◌, ◌∷◌, [], ◌++◌, map, is_some, IfOk};
 ghost use Rattle.std.specs.List.{list_any};
 ghost use Rattle.std.specs.Str.{bytes_eq, str_to_ascii_uppercase};
-ghost use Rattle.bay_base.specs.Exact.{judged};
+ghost use Rattle.bay_base.specs.Exact.{unless_refused};
 ghost use Rattle.bay_config.specs.Point.{position_points, enable_points, points_from, inputs_from, field_point, meter_points, meters_from, points_of_all, names_refusal};
 ghost use Rattle.bay_config.specs.Point as spec;
 ghost use Rattle.bay_base.specs.Words.{reserved_of};
@@ -283,7 +283,7 @@ fn has_reserved_name(points: &[Point]) -> bool
 
 /// Refuses two points of one name, and then a point that is named as a reserved word.
 pub fn check_names(points: &[Point]) -> Result<(), BayFault>
-    ensures { result ≡ judged (names_refusal points.now) tt }
+    ensures { result ≡ unless_refused (names_refusal points.now) tt }
 {
     if has_twin(points) {
         return Err(BayFault::DuplicateName);

@@ -5,7 +5,7 @@ ghost use Rattle.toml.specs.View.{table_view};
 ghost use Rattle.bay_config.specs.Bay.{bay_table, bay_of_table, bay_of, document_of, nameplate_in, names_in, sections, switches_in};
 ghost use Rattle.bay_config.specs.declared.fault.BayFault.TheVariants.{BadToml, OutOfMemory};
 ghost use Rattle.bay_config.specs.declared.names.NameSection.TheVariants.{Input, Meter};
-ghost use Rattle.bay_base.specs.Exact.{Gives, judged};
+ghost use Rattle.bay_base.specs.Exact.{Gives, unless_refused};
 ghost use Rattle.bay_config.specs.Key.{first_of, unknown_refusal};
 ghost use Rattle.bay_config.specs.Laws.{IsBay};
 ghost use Rattle.bay_nodes.specs.Node.{rows_of_all};
@@ -40,7 +40,7 @@ struct Sections {
 fn sections_at(alloc: Global, file: &Table) -> Result<Sections, BayFault>
     ensures { let f = table_view file.now in
         Gives OutOfMemory (λ x. x) result
-        (judged (first_of (unknown_refusal (map (λ s. s.name) sections) f
+        (unless_refused (first_of (unknown_refusal (map (λ s. s.name) sections) f
         ∷ map (section_refusal f) sections))
         (record {
           nameplate = nameplate_in (bay_table f);
@@ -73,7 +73,7 @@ struct Lists {
 fn lists_of(alloc: Global, sections: &Sections) -> Result<Lists, BayFault>
     ensures { let s = sections.now in let points = points_of_all s.switches s.inputs s.meters in
         Gives OutOfMemory (λ x. x) result
-        (judged (names_refusal points)
+        (unless_refused (names_refusal points)
         (record { points = points; rows = rows_of_all s.nameplate s.switches s.meters })) }
 {
     let switches = sections.switches.as_slice();

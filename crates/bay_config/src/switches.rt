@@ -5,8 +5,8 @@ ghost use Rattle.bay_nodes.specs.declared.switch.SwitchKind.TheVariants.{Breaker
 ghost use Rattle.bay_config.specs.declared.fault.BayFault.TheVariants.{OutOfMemory};
 ghost use Rattle.bay_nodes.specs.declared.switch.Control.TheVariants.{Status};
 ghost use Rattle.bay_config.specs.Bay.{switch_section, switches_in};
-ghost use Rattle.bay_base.specs.Exact.{Gives, judged};
-ghost use Rattle.bay_config.specs.Key.{first_of, has_unknown, key_refusal, entry_refusal, named, number_in};
+ghost use Rattle.bay_base.specs.Exact.{Gives, unless_refused};
+ghost use Rattle.bay_config.specs.Key.{first_of, has_unknown, key_refusal, entry_refusal, value_named, number_in};
 ghost use Rattle.bay_config.specs.Section.{tables_of, items_refusal, section_refusal};
 ghost use Rattle.bay_config.specs.Switch.{kinds, controls, kind_of, control_of, kind_key, control_key, sbo_timeout_key, travel_key, time_keys, switch_keys, switch_in};
 
@@ -20,7 +20,7 @@ use toml::{Table, Value};
 
 /// The kind of switch that a word names.
 fn kind_named(word: &str) -> Option<SwitchKind>
-    ensures { result ≡ named kinds word.now }
+    ensures { result ≡ value_named kinds word.now }
 {
     match word {
         "breaker" => Some(SwitchKind::Breaker),
@@ -32,7 +32,7 @@ fn kind_named(word: &str) -> Option<SwitchKind>
 
 /// The kind of control that a word names.
 fn control_named(word: &str) -> Option<Control>
-    ensures { result ≡ named controls word.now }
+    ensures { result ≡ value_named controls word.now }
 {
     match word {
         "status" => Some(Control::Status),
@@ -47,7 +47,7 @@ fn control_named(word: &str) -> Option<Control>
 #[tactic(auto, using(crate::proofs::KeyLemmas::among_named))]
 fn kind_at(table: &Table) -> Result<SwitchKind, BayFault>
     ensures { let t = table_view table.now in
-        result ≡ judged (key_refusal t kind_key) (unwrap_or (kind_of t) Breaker) }
+        result ≡ unless_refused (key_refusal t kind_key) (unwrap_or (kind_of t) Breaker) }
 {
     match find(table, "kind") {
         Some(value) => match value.as_str() {
@@ -78,7 +78,7 @@ fn readable_control(table: &Table) -> Option<Control>
 #[tactic(auto, using(crate::proofs::KeyLemmas::among_named))]
 fn control_at(table: &Table) -> Result<Control, BayFault>
     ensures held { let t = table_view table.now in
-        result ≡ judged (key_refusal t control_key) (unwrap_or (control_of t) Status) }
+        result ≡ unless_refused (key_refusal t control_key) (unwrap_or (control_of t) Status) }
     ensures readable { IfOk result (λ c. control_of (table_view table.now) ≡ Some c) }
 {
     match find(table, "control") {
@@ -114,7 +114,7 @@ fn switch_key_names(control: Option<Control>) -> &'static [&'static str]
 /// How long a selection lasts and how long the switch may travel.
 fn both_times_at(table: &Table) -> Result<(u32, u32), BayFault>
     ensures { let t = table_view table.now in
-        result ≡ judged (first_of (map (key_refusal t) (sbo_timeout_key ∷ travel_key ∷ [])))
+        result ≡ unless_refused (first_of (map (key_refusal t) (sbo_timeout_key ∷ travel_key ∷ [])))
         (number_in t (codes "sbo_timeout_ms"), number_in t (codes "travel_ms")) }
 {
     let sbo_timeout_ms = number_at(table, "sbo_timeout_ms", 1, 600_000)?;
@@ -129,7 +129,7 @@ fn times_at(table: &Table, control: Control) -> Result<(u32, u32), BayFault>
         (table_view table.now) ≡ false }
     requires readable { control_of (table_view table.now) ≡ Some control }
     ensures { let t = table_view table.now in
-        result ≡ judged (first_of (map (key_refusal t) (time_keys (Some control))))
+        result ≡ unless_refused (first_of (map (key_refusal t) (time_keys (Some control))))
         (number_in t (codes "sbo_timeout_ms"), number_in t (codes "travel_ms")) }
 {
     match control {
@@ -146,7 +146,8 @@ fn times_at(table: &Table, control: Control) -> Result<(u32, u32), BayFault>
 /// The switch of a table.
 fn switch_from(alloc: Global, table: &Table) -> Result<Switch, BayFault>
     ensures { let t = table_view table.now in
-        Gives OutOfMemory (λ x. x) result (judged (entry_refusal (switch_keys t) t) (switch_in t)) }
+        Gives OutOfMemory (λ x. x) result
+        (unless_refused (entry_refusal (switch_keys t) t) (switch_in t)) }
 {
     check_keys(table, switch_key_names(readable_control(table)))?;
     let id = identifier_at(alloc, table, "id", 16)?;
@@ -166,7 +167,7 @@ fn switch_from(alloc: Global, table: &Table) -> Result<Switch, BayFault>
 fn switches_from(alloc: Global, values: &[Value]) -> Result<Listing<Switch>, BayFault>
     ensures { let tables = tables_of (items_view values.now) in
         Gives OutOfMemory (λ x. x) result
-        (judged (first_of (map (λ t. entry_refusal (switch_keys t) t) tables))
+        (unless_refused (first_of (map (λ t. entry_refusal (switch_keys t) t) tables))
         (map switch_in tables)) }
 {
     let mut switches = Vec::new(alloc);
@@ -183,7 +184,7 @@ fn switches_from(alloc: Global, values: &[Value]) -> Result<Listing<Switch>, Bay
 fn switches_of(alloc: Global, values: &[Value]) -> Result<Listing<Switch>, BayFault>
     ensures { let items = items_view values.now in
         Gives OutOfMemory (λ x. x) result
-        (judged (items_refusal 1 32 switch_keys items) (map switch_in (tables_of items))) }
+        (unless_refused (items_refusal 1 32 switch_keys items) (map switch_in (tables_of items))) }
 {
     check_list(values, 1, 32)?;
     switches_from(alloc, values)
@@ -193,7 +194,7 @@ fn switches_of(alloc: Global, values: &[Value]) -> Result<Listing<Switch>, BayFa
 pub fn switches_at(alloc: Global, file: &Table) -> Result<Listing<Switch>, BayFault>
     ensures { let f = table_view file.now in
         Gives OutOfMemory (λ x. x) result
-        (judged (section_refusal f switch_section) (switches_in f)) }
+        (unless_refused (section_refusal f switch_section) (switches_in f)) }
 {
     match find(file, "switch") {
         Some(value) => match value.as_array() {

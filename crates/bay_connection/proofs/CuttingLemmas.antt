@@ -2,54 +2,56 @@
 use Rattle.std.proofs.Common.{◌≡◌, ℕ, List, [], ◌∷◌, ◌++◌, take, drop, Option, Some, Result, Ok, Err, refl, sym, ap, ◌∙◌}
 use Rattle.std.proofs.lemmas.List.{take-append-drop}
 use Rattle.bay_transport.specs.Doings.{Doing, Answers, Delivers, Ends, Fails, Stream, doings, after}
-use Rattle.bay_transport.specs.Feeding.{agreed, size_after}
+use Rattle.bay_transport.specs.Feeding.{size_agreed, size_after}
 use Rattle.bay_transport.proofs.RunLemmas.{doings-append, after-append}
 use Rattle.bay_transport.proofs.SizeLemmas.{after-size}
 use Rattle.bay_assoc.specs.declared.fault.AssocFault.{AssocFault}
 use Rattle.bay_assoc.specs.declared.hearing.Phase.{Phase}
 use Rattle.bay_assoc.specs.Hearing.{Hearing, answer, mms, released, aborted, hearing}
-use Rattle.bay_connection.specs.Talk.{Talk, Terms, answers, tells, Told, on_heard, on_hearing, sent, told, comes_to, indications, left_by}
+use Rattle.bay_connection.specs.Talk.{Talk, Terms, answers, tells, Told, on_heard, on_hearing, data_tpdus, talk_after, comes_to, indications, left_by}
 use Rattle.bay_connection.specs.Feeding.{and_then}
 
 -- ---- doings, and then octets
 
-heard_cut : (s : Stream) (h : Hearing) (terms : Terms) (piece : List ℕ) (longer later : Told)
+heard-cut : (s : Stream) (h : Hearing) (terms : Terms) (piece : List ℕ) (longer later : Told)
     → longer ≡ and_then later (comes_to later.left piece)
     → on_heard (after s piece) h terms longer
     ≡ and_then (on_heard s h terms later) (comes_to (on_heard s h terms later).left piece)
-heard_cut s (answer tsdu) terms piece longer later e =
+heard-cut s (answer tsdu) terms piece longer later e =
     ap (λ (t : Told). let r : Told =
-    record { indications = answers (sent terms.size tsdu) ∷ t.indications; left = t.left } in r) e
-heard_cut s (mms pdu) terms piece longer later e =
+    record { indications = answers (data_tpdus terms.size tsdu) ∷ t.indications; left = t.left } in
+    r) e
+heard-cut s (mms pdu) terms piece longer later e =
     ap (λ (t : Told). let r : Told =
     record { indications = tells terms pdu ∷ t.indications; left = t.left } in r) e
-heard_cut s (released tsdu) terms piece longer later e = refl
-heard_cut s aborted terms piece longer later e = refl
+heard-cut s (released tsdu) terms piece longer later e = refl
+heard-cut s aborted terms piece longer later e = refl
 
-hearing_cut : (s : Stream) (r : Result (Hearing × Phase) AssocFault) (size : Option ℕ)
+hearing-cut : (s : Stream) (r : Result (Hearing × Phase) AssocFault) (size : Option ℕ)
     (piece : List ℕ) (longer later : Phase → Told)
     → ((p : Phase) → longer p ≡ and_then (later p) (comes_to (later p).left piece))
     → on_hearing size (after s piece) r longer
     ≡ and_then (on_hearing size s r later) (comes_to (on_hearing size s r later).left piece)
-hearing_cut s (Ok x) size piece longer later e =
-    heard_cut s x.0 (record { size = size; phase = x.1 }) piece (longer x.1) (later x.1) (e x.1)
-hearing_cut s (Err fault) size piece longer later e = refl
+hearing-cut s (Ok x) size piece longer later e =
+    heard-cut s x.0 (record { size = size; phase = x.1 }) piece (longer x.1) (later x.1) (e x.1)
+hearing-cut s (Err fault) size piece longer later e = refl
 
-told_cut : (s : Stream) (ds : List Doing) (size : Option ℕ) (phase : Phase) (piece : List ℕ)
-    → agreed s ≡ size_after size ds
-    → told (after s piece) (ds ++ doings s piece) size phase
-    ≡ and_then (told s ds size phase) (comes_to (told s ds size phase).left piece)
-told_cut s [] size phase piece e =
-    ap (λ (z : Option ℕ). told (after s piece) (doings s piece) z phase) (sym e)
-told_cut s (Answers n reply ∷ ds) size phase piece e =
+told-cut : (s : Stream) (ds : List Doing) (size : Option ℕ) (phase : Phase) (piece : List ℕ)
+    → size_agreed s ≡ size_after size ds
+    → talk_after (after s piece) (ds ++ doings s piece) size phase
+    ≡ and_then (talk_after s ds size phase) (comes_to (talk_after s ds size phase).left piece)
+told-cut s [] size phase piece e =
+    ap (λ (z : Option ℕ). talk_after (after s piece) (doings s piece) z phase) (sym e)
+told-cut s (Answers n reply ∷ ds) size phase piece e =
     ap (λ (t : Told). let r : Told =
     record { indications = answers reply ∷ t.indications; left = t.left } in r)
-    (told_cut s ds (Some n) phase piece e)
-told_cut s (Delivers tsdu ∷ ds) size phase piece e =
-    hearing_cut s (hearing phase tsdu) size piece (told (after s piece) (ds ++ doings s piece) size)
-    (told s ds size) (λ p. told_cut s ds size p piece e)
-told_cut s (Ends ∷ ds) size phase piece e = refl
-told_cut s (Fails fault ∷ ds) size phase piece e = refl
+    (told-cut s ds (Some n) phase piece e)
+told-cut s (Delivers tsdu ∷ ds) size phase piece e =
+    hearing-cut s (hearing phase tsdu) size piece
+    (talk_after (after s piece) (ds ++ doings s piece) size)
+    (talk_after s ds size) (λ p. told-cut s ds size p piece e)
+told-cut s (Ends ∷ ds) size phase piece e = refl
+told-cut s (Fails fault ∷ ds) size phase piece e = refl
 
 -- ---- octets
 
@@ -57,11 +59,13 @@ pub comes_to-append : (t : Talk) (octets piece : List ℕ)
     → comes_to t (octets ++ piece)
     ≡ and_then (comes_to t octets) (comes_to (left_by t octets) piece)
 comes_to-append t octets piece =
-    ap (λ (s : Stream). told s (doings t.stream (octets ++ piece)) (agreed t.stream) t.phase)
+    ap (λ (s : Stream). talk_after s (doings t.stream (octets ++ piece)) (size_agreed t.stream)
+    t.phase)
     (after-append t.stream octets piece)
-    ∙ ap (λ (ds : List Doing). told (after (after t.stream octets) piece) ds (agreed t.stream)
+    ∙ ap (λ (ds : List Doing). talk_after (after (after t.stream octets) piece) ds
+    (size_agreed t.stream)
     t.phase) (doings-append t.stream octets piece)
-    ∙ told_cut (after t.stream octets) (doings t.stream octets) (agreed t.stream) t.phase piece
+    ∙ told-cut (after t.stream octets) (doings t.stream octets) (size_agreed t.stream) t.phase piece
     (after-size t.stream octets)
 
 pub indications-append : (t : Talk) (octets piece : List ℕ)

@@ -8,27 +8,27 @@ use Rattle.bay_transport.specs.declared.fed.Got.TheVariants as got
 use Rattle.bay_transport.specs.Code.{code_of}
 use Rattle.bay_transport.specs.Doings.{Doing, Answers, Delivers, Ends, Fails, Left, Going, Over, Broken, Stream, doings, after}
 use Rattle.bay_transport.specs.Feeding as feeding
-use Rattle.bay_transport.specs.Feeding.{Received, doing_for, agreed, agreed_from, size_after, ended, broken, IsGoing, RefusesPiece}
+use Rattle.bay_transport.specs.Feeding.{Received, doing_for, size_agreed, agreed_from, size_after, end_of_stream, broken, IsGoing, RefusesPiece}
 use Rattle.bay_transport.proofs.SizeLemmas.{after-size, delivers-size, quiet-going}
 use Rattle.bay_assoc.specs.declared.fault.AssocFault.{AssocFault}
 use Rattle.bay_assoc.specs.declared.hearing.Phase.{Phase}
 use Rattle.bay_assoc.specs.declared.hearing.Phase.TheVariants as phases
 use Rattle.bay_assoc.specs.Hearing.{Hearing, answer, mms, released, aborted, hearing}
 use Rattle.bay_assoc.specs.Hears.{association_terms}
-use Rattle.bay_connection.specs.Talk.{Talk, Indication, answers, tells, releases, ends, fails, Told, closed, on_hearing, told, comes_to, indications, left_by}
+use Rattle.bay_connection.specs.Talk.{Talk, Indication, answers, tells, releases, ends, fails, Told, talk_over, on_hearing, talk_after, comes_to, indications, left_by}
 use Rattle.bay_connection.specs.Feeding.{CompletesIndication, Comes, Feeds, GoesOn}
 use Rattle.bay_connection.specs.Line.{AreJoined, IsJoined, IsReady, TakesMemory, TellsOf}
 use Rattle.bay_connection.proofs.CuttingLemmas.{indications-take, left_by-take}
 
 -- ---- the law
 
-comes_does : (t : Talk) (piece : List ℕ) (used : ℕ) (i : Indication) → Comes t piece used i
+comes-does : (t : Talk) (piece : List ℕ) (used : ℕ) (i : Indication) → Comes t piece used i
     → indications t (take used piece) ≡ i ∷ []
-comes_does t piece used (answers octets) h = h.does
-comes_does t piece used (tells terms pdu) h = h.does
-comes_does t piece used (releases octets) h = h.does
-comes_does t piece used ends h = h.does
-comes_does t piece used (fails code) h = h.1
+comes-does t piece used (answers octets) h = h.does
+comes-does t piece used (tells terms pdu) h = h.does
+comes-does t piece used (releases octets) h = h.does
+comes-does t piece used ends h = h.does
+comes-does t piece used (fails code) h = h.1
 
 pub feeding-indications : (old new : Talk) (piece : List ℕ) (used : ℕ) (i : Indication)
     → new ≡ left_by old (take used piece) → Comes old piece used i → GoesOn old new piece used i
@@ -36,7 +36,7 @@ feeding-indications old new piece used i is comes =
     indications-take old piece used
     ∙ ap (λ (t : Talk). indications old (take used piece) ++ indications t (drop used piece))
     (sym is) ∙ ap (λ (ds : List Indication). ds ++ indications new (drop used piece))
-    (comes_does old piece used i comes)
+    (comes-does old piece used i comes)
 
 pub feeding-left : (old new : Talk) (piece : List ℕ) (used : ℕ)
     → new ≡ left_by old (take used piece) → left_by old piece ≡ left_by new (drop used piece)
@@ -45,81 +45,83 @@ feeding-left old new piece used is =
 
 -- ---- what is ready
 
-agreed_joined : (left : Left) (phase : Phase) → IsSome (agreed_from left) → AreJoined left phase
-agreed_joined (Going connection rest) phases.Idle some = tt
-agreed_joined (Going connection rest) (phases.Open l) some = some
-agreed_joined (Going connection rest) phases.Over some = tt
-agreed_joined (Going connection rest) phases.Failed some = tt
-agreed_joined Over phase some = absurd (cc)
-agreed_joined Broken phase some = absurd (cc)
+agreed-joined : (left : Left) (phase : Phase) → IsSome (agreed_from left) → AreJoined left phase
+agreed-joined (Going connection rest) phases.Idle some = tt
+agreed-joined (Going connection rest) (phases.Open l) some = some
+agreed-joined (Going connection rest) phases.Over some = tt
+agreed-joined (Going connection rest) phases.Failed some = tt
+agreed-joined Over phase some = absurd (cc)
+agreed-joined Broken phase some = absurd (cc)
 
-pub sized_joined : (t : Talk) → IsSome (agreed t.stream) → IsJoined t
-sized_joined t some = agreed_joined t.stream.left t.phase some
+pub sized-joined : (t : Talk) → IsSome (size_agreed t.stream) → IsJoined t
+sized-joined t some = agreed-joined t.stream.left t.phase some
 
-open_agreed : (left : Left) (phase : Phase) → AreJoined left phase
+open-agreed : (left : Left) (phase : Phase) → AreJoined left phase
     → IsSome (association_terms phase) → IsSome (agreed_from left)
-open_agreed (Going connection rest) phases.Idle joined some = absurd (cc)
-open_agreed (Going connection rest) (phases.Open l) joined some = joined
-open_agreed (Going connection rest) phases.Over joined some = absurd (cc)
-open_agreed (Going connection rest) phases.Failed joined some = absurd (cc)
-open_agreed Over phase joined some =
+open-agreed (Going connection rest) phases.Idle joined some = absurd (cc)
+open-agreed (Going connection rest) (phases.Open l) joined some = joined
+open-agreed (Going connection rest) phases.Over joined some = absurd (cc)
+open-agreed (Going connection rest) phases.Failed joined some = absurd (cc)
+open-agreed Over phase joined some =
     absurd (let f : IsSome (association_terms phases.Over) = rw joined at some in cc)
-open_agreed Broken phase joined some = absurd joined
+open-agreed Broken phase joined some = absurd joined
 
-pub joined_agreed : (t : Talk) → IsJoined t → IsSome (association_terms t.phase)
-    → IsSome (agreed t.stream)
-joined_agreed t joined some = open_agreed t.stream.left t.phase joined some
+pub joined-agreed : (t : Talk) → IsJoined t → IsSome (association_terms t.phase)
+    → IsSome (size_agreed t.stream)
+joined-agreed t joined some = open-agreed t.stream.left t.phase joined some
 
-going_joined : (old new : Left) (phase : Phase) → AreJoined old phase → IsGoing old → IsGoing new
+going-joined : (old new : Left) (phase : Phase) → AreJoined old phase → IsGoing old → IsGoing new
     → agreed_from new ≡ agreed_from old → AreJoined new phase
-going_joined (Going connection rest) (Going next more) phases.Idle joined a b e = tt
-going_joined (Going connection rest) (Going next more) (phases.Open l) joined a b e = rw e joined
-going_joined (Going connection rest) (Going next more) phases.Over joined a b e = tt
-going_joined (Going connection rest) (Going next more) phases.Failed joined a b e = tt
-going_joined (Going connection rest) Over phase joined a b e = absurd b
-going_joined (Going connection rest) Broken phase joined a b e = absurd b
-going_joined Over new phase joined a b e = absurd a
-going_joined Broken new phase joined a b e = absurd a
+going-joined (Going connection rest) (Going next more) phases.Idle joined a b e = tt
+going-joined (Going connection rest) (Going next more) (phases.Open l) joined a b e = rw e joined
+going-joined (Going connection rest) (Going next more) phases.Over joined a b e = tt
+going-joined (Going connection rest) (Going next more) phases.Failed joined a b e = tt
+going-joined (Going connection rest) Over phase joined a b e = absurd b
+going-joined (Going connection rest) Broken phase joined a b e = absurd b
+going-joined Over new phase joined a b e = absurd a
+going-joined Broken new phase joined a b e = absurd a
 
 -- what octets that do nothing leave
-pub quiet_joined : (s : Stream) (phase : Phase) (octets : List ℕ) → AreJoined s.left phase
+pub quiet-joined : (s : Stream) (phase : Phase) (octets : List ℕ) → AreJoined s.left phase
     → IsGoing s.left → doings s octets ≡ [] → AreJoined (after s octets).left phase
-quiet_joined s phase octets joined going quiet =
-    going_joined s.left (after s octets).left phase joined going (quiet-going s octets going quiet)
+quiet-joined s phase octets joined going quiet =
+    going-joined s.left (after s octets).left phase joined going (quiet-going s octets going quiet)
     (after-size s octets ∙ rw quiet refl)
 
 -- ---- one doing
 
-heard_some : (s : Stream) (r : Result (Hearing × Phase) AssocFault) (size : Option ℕ)
+heard-some : (s : Stream) (r : Result (Hearing × Phase) AssocFault) (size : Option ℕ)
     (later : Phase → Told) → (on_hearing size s r later).indications ≡ [] → ⊥
-heard_some s (Ok (answer tsdu, phase)) size later e = cc
-heard_some s (Ok (mms pdu, phase)) size later e = cc
-heard_some s (Ok (released tsdu, phase)) size later e = cc
-heard_some s (Ok (aborted, phase)) size later e = cc
-heard_some s (Err fault) size later e = cc
+heard-some s (Ok (answer tsdu, phase)) size later e = cc
+heard-some s (Ok (mms pdu, phase)) size later e = cc
+heard-some s (Ok (released tsdu, phase)) size later e = cc
+heard-some s (Ok (aborted, phase)) size later e = cc
+heard-some s (Err fault) size later e = cc
 
-told_some : (s : Stream) (d : Doing) (size : Option ℕ) (phase : Phase)
-    → (told s (d ∷ []) size phase).indications ≡ [] → ⊥
-told_some s (Answers n reply) size phase e = cc
-told_some s (Delivers tsdu) size phase e = heard_some s (hearing phase tsdu) size (told s [] size) e
-told_some s Ends size phase e = cc
-told_some s (Fails fault) size phase e = cc
+told-some : (s : Stream) (d : Doing) (size : Option ℕ) (phase : Phase)
+    → (talk_after s (d ∷ []) size phase).indications ≡ [] → ⊥
+told-some s (Answers n reply) size phase e = cc
+told-some s (Delivers tsdu) size phase e =
+    heard-some s (hearing phase tsdu) size (talk_after s [] size) e
+told-some s Ends size phase e = cc
+told-some s (Fails fault) size phase e = cc
 
-one_done : (t : Talk) (octets : List ℕ) (d : Doing) → doings t.stream octets ≡ d ∷ []
-    → comes_to t octets ≡ told (after t.stream octets) (d ∷ []) (agreed (after t.stream octets))
+one-done : (t : Talk) (octets : List ℕ) (d : Doing) → doings t.stream octets ≡ d ∷ []
+    → comes_to t octets ≡ talk_after (after t.stream octets) (d ∷ [])
+    (size_agreed (after t.stream octets))
     t.phase
-one_done t octets (Answers n reply) e =
-    ap (λ (ds : List Doing). told (after t.stream octets) ds (agreed t.stream) t.phase) e
-one_done t octets (Delivers tsdu) e =
-    let size : agreed (after t.stream octets) ≡ agreed t.stream =
-    after-size t.stream octets ∙ ap (size_after (agreed t.stream)) e in
-    ap (λ (ds : List Doing). told (after t.stream octets) ds (agreed t.stream) t.phase) e
-    ∙ ap (λ (z : Option ℕ). told (after t.stream octets) (Delivers tsdu ∷ []) z t.phase)
+one-done t octets (Answers n reply) e =
+    ap (λ (ds : List Doing). talk_after (after t.stream octets) ds (size_agreed t.stream) t.phase) e
+one-done t octets (Delivers tsdu) e =
+    let size : size_agreed (after t.stream octets) ≡ size_agreed t.stream =
+    after-size t.stream octets ∙ ap (size_after (size_agreed t.stream)) e in
+    ap (λ (ds : List Doing). talk_after (after t.stream octets) ds (size_agreed t.stream) t.phase) e
+    ∙ ap (λ (z : Option ℕ). talk_after (after t.stream octets) (Delivers tsdu ∷ []) z t.phase)
     (sym size)
-one_done t octets Ends e =
-    ap (λ (ds : List Doing). told (after t.stream octets) ds (agreed t.stream) t.phase) e
-one_done t octets (Fails fault) e =
-    ap (λ (ds : List Doing). told (after t.stream octets) ds (agreed t.stream) t.phase) e
+one-done t octets Ends e =
+    ap (λ (ds : List Doing). talk_after (after t.stream octets) ds (size_agreed t.stream) t.phase) e
+one-done t octets (Fails fault) e =
+    ap (λ (ds : List Doing). talk_after (after t.stream octets) ds (size_agreed t.stream) t.phase) e
 
 -- ---- one feeding
 
@@ -130,37 +132,38 @@ pub record FedSo (t : Talk) (piece : List ℕ) (used : ℕ) (heard : Option Indi
   pub fed : Feeds t piece used heard
   pub left : new ≡ left_by t (take used piece)
 
-completes_comes : (t : Talk) (piece : List ℕ) (used : ℕ) (i : Indication)
+completes-comes : (t : Talk) (piece : List ℕ) (used : ℕ) (i : Indication)
     → CompletesIndication t piece used i → Comes t piece used i
-completes_comes t piece used (answers octets) h = h
-completes_comes t piece used (tells terms pdu) h = h
-completes_comes t piece used (releases octets) h = h
-completes_comes t piece used ends h = h
-completes_comes t piece used (fails code) h = (h.within, h.does)
+completes-comes t piece used (answers octets) h = h
+completes-comes t piece used (tells terms pdu) h = h
+completes-comes t piece used (releases octets) h = h
+completes-comes t piece used ends h = h
+completes-comes t piece used (fails code) h = (h.within, h.does)
 
-quiet_told : (t : Talk) (octets : List ℕ) → doings t.stream octets ≡ []
+quiet-told : (t : Talk) (octets : List ℕ) → doings t.stream octets ≡ []
     → comes_to t octets ≡ record
     { indications = []; left = record { stream = after t.stream octets; phase = t.phase } }
-quiet_told t octets e =
-    ap (λ (ds : List Doing). told (after t.stream octets) ds (agreed t.stream) t.phase) e
+quiet-told t octets e =
+    ap (λ (ds : List Doing). talk_after (after t.stream octets) ds (size_agreed t.stream) t.phase) e
 
 record Done (t : Talk) (piece : List ℕ) (used : ℕ) (i : Indication) (new : Talk) : Type 0 where
   comes : Comes t piece used i
   left : new ≡ left_by t (take used piece)
 
-going_done : (t : Talk) (piece : List ℕ) (used : ℕ) (d : Doing) (i : Indication) (new : Talk)
+going-done : (t : Talk) (piece : List ℕ) (used : ℕ) (d : Doing) (i : Indication) (new : Talk)
     → feeding.CompletesDoing t.stream piece used d
-    → told (after t.stream (take used piece)) (d ∷ []) (agreed (after t.stream (take used piece)))
+    → talk_after (after t.stream (take used piece)) (d ∷ [])
+    (size_agreed (after t.stream (take used piece)))
     t.phase ≡ record { indications = i ∷ []; left = new } → Done t piece used i new
-going_done t piece used d i new c e =
+going-done t piece used d i new c e =
     let all : comes_to t (take used piece) ≡ record { indications = i ∷ []; left = new } =
-    one_done t (take used piece) d c.does ∙ e in
+    one-done t (take used piece) d c.does ∙ e in
     record {
       comes =
-          completes_comes t piece used i (record {
+          completes-comes t piece used i (record {
             moves = c.moves;
             within = c.within;
-            quiet = ap (λ (r : Told). r.indications) (quiet_told t (take (used - 1) piece) c.quiet);
+            quiet = ap (λ (r : Told). r.indications) (quiet-told t (take (used - 1) piece) c.quiet);
             does = ap (λ (r : Told). r.indications) all;
           });
       left = sym (ap (λ (r : Told). r.left) all);
@@ -170,167 +173,169 @@ abbrev talk_with : ℕ → Left → Phase → Talk
 talk_with number left phase =
     record { stream = record { number = number; left = left }; phase = phase }
 
-over_done : (number : ℕ) (phase : Phase) (piece : List ℕ) (used : ℕ) (d : Doing) (i : Indication)
+over-done : (number : ℕ) (phase : Phase) (piece : List ℕ) (used : ℕ) (d : Doing) (i : Indication)
     (new : Talk) (s : Stream) → phase ≡ phases.Over → used ≡ 0 → d ≡ Ends → s.number ≡ number
-    → told s (d ∷ []) (agreed s) phase ≡ record { indications = i ∷ []; left = new }
+    → talk_after s (d ∷ []) (size_agreed s) phase ≡ record { indications = i ∷ []; left = new }
     → (i ≡ ends) × (new ≡ talk_with number Over phase)
-over_done number phase piece used (Answers n reply) i new s over none is same e = absurd (cc)
-over_done number phase piece used (Delivers tsdu) i new s over none is same e = absurd (cc)
-over_done number phase piece used Ends i new s over none is same e =
+over-done number phase piece used (Answers n reply) i new s over none is same e = absurd (cc)
+over-done number phase piece used (Delivers tsdu) i new s over none is same e = absurd (cc)
+over-done number phase piece used Ends i new s over none is same e =
     let a : ends ∷ [] ≡ i ∷ [] = ap (λ (r : Told). r.indications) e in
-    let b : closed s ≡ new = ap (λ (r : Told). r.left) e in
+    let b : talk_over s ≡ new = ap (λ (r : Told). r.left) e in
     let f : i ≡ ends = cc in (
       f,
       sym b ∙ ap (λ (n : ℕ). talk_with n Over phases.Over) same
           ∙ ap (talk_with number Over) (sym over),
     )
-over_done number phase piece used (Fails fault) i new s over none is same e = absurd (cc)
+over-done number phase piece used (Fails fault) i new s over none is same e = absurd (cc)
 
-fed_some : (number : ℕ) (left : Left) (phase : Phase) (piece : List ℕ) (used : ℕ) (d : Doing)
+fed-some : (number : ℕ) (left : Left) (phase : Phase) (piece : List ℕ) (used : ℕ) (d : Doing)
     (heard : Option Indication) (new : Talk) (s : Stream) → AreJoined left phase
     → feeding.FeedsFrom left (record { number = number; left = left }) piece used (Some d)
     → s ≡ after (record { number = number; left = left }) (take used piece)
-    → told s (d ∷ []) (agreed s) phase ≡ record { indications = option_to_list heard; left = new }
+    → talk_after s (d ∷ []) (size_agreed s) phase
+    ≡ record { indications = option_to_list heard; left = new }
     → FedSo (talk_with number left phase) piece used heard new
-fed_some number left phase piece used d None new s joined fed is e =
-    absurd (told_some s d (agreed s) phase (ap (λ (r : Told). r.indications) e))
-fed_some number (Going connection rest) phase piece used d (Some i) new s joined fed is e =
-    let e' : told (after (record { number = number; left = Going connection rest })
+fed-some number left phase piece used d None new s joined fed is e =
+    absurd (told-some s d (size_agreed s) phase (ap (λ (r : Told). r.indications) e))
+fed-some number (Going connection rest) phase piece used d (Some i) new s joined fed is e =
+    let e' : talk_after (after (record { number = number; left = Going connection rest })
     (take used piece)) (d ∷ [])
-    (agreed (after (record { number = number; left = Going connection rest })
+    (size_agreed (after (record { number = number; left = Going connection rest })
     (take used piece))) phase ≡ record { indications = i ∷ []; left = new } =
-    ap (λ (x : Stream). told x (d ∷ []) (agreed x) phase) (sym is) ∙ e
+    ap (λ (x : Stream). talk_after x (d ∷ []) (size_agreed x) phase) (sym is) ∙ e
     in
     let done =
-    going_done (talk_with number (Going connection rest) phase) piece used d i new fed e' in
+    going-done (talk_with number (Going connection rest) phase) piece used d i new fed e' in
     record { within = fed.within; fed = done.comes; left = done.left }
-fed_some number Over phase piece used d (Some i) new s joined fed is e =
-    let ended : d ≡ Ends = cc in
+fed-some number Over phase piece used d (Some i) new s joined fed is e =
+    let end_of_stream : d ≡ Ends = cc in
     let same : s.number ≡ number = ap (λ (x : Stream). x.number) is in
-    let over = over_done number phase piece used d i new s joined fed.0 ended same e in
+    let over = over-done number phase piece used d i new s joined fed.0 end_of_stream same e in
     record {
       within = omega (arith, fed.0);
       fed = (fed.0, ap (λ (x : Indication). Some x) over.0);
       left = over.1;
     }
-fed_some number Broken phase piece used d (Some i) new s joined fed is e = absurd joined
+fed-some number Broken phase piece used d (Some i) new s joined fed is e = absurd joined
 
-fed_none : (number : ℕ) (left : Left) (phase : Phase) (piece : List ℕ) (used : ℕ)
+fed-none : (number : ℕ) (left : Left) (phase : Phase) (piece : List ℕ) (used : ℕ)
     (heard : Option Indication) (new : Talk) (s : Stream) → AreJoined left phase
     → feeding.FeedsFrom left (record { number = number; left = left }) piece used None
     → s ≡ after (record { number = number; left = left }) (take used piece)
     → heard ≡ None → new ≡ record { stream = s; phase = phase }
     → FedSo (talk_with number left phase) piece used heard new
-fed_none number (Going connection rest) phase piece used heard new s joined fed is none same =
+fed-none number (Going connection rest) phase piece used heard new s joined fed is none same =
     let t = talk_with number (Going connection rest) phase in
     let all : take used piece ≡ piece = take_all used piece (omega (arith, fed.0)) in
     let quiet : doings t.stream (take used piece) ≡ [] = ap (doings t.stream) all ∙ fed.1 in
     rw none (record {
       within = omega (arith, fed.0);
-      fed = (fed.0, ap (λ (r : Told). r.indications) (quiet_told t piece fed.1));
+      fed = (fed.0, ap (λ (r : Told). r.indications) (quiet-told t piece fed.1));
       left = same ∙ ap (λ (x : Stream). let u : Talk = record { stream = x; phase = phase } in u) is
-          ∙ sym (ap (λ (r : Told). r.left) (quiet_told t (take used piece) quiet));
+          ∙ sym (ap (λ (r : Told). r.left) (quiet-told t (take used piece) quiet));
     })
-fed_none number Over phase piece used heard new s joined fed is none same =
+fed-none number Over phase piece used heard new s joined fed is none same =
     absurd (let f : None ≡ Some Ends = fed.1 in cc)
-fed_none number Broken phase piece used heard new s joined fed is none same = absurd joined
+fed-none number Broken phase piece used heard new s joined fed is none same = absurd joined
 
-pub fed_got : (t : Talk) (r : Received) (got : Got) (piece : List ℕ) (used : ℕ)
+pub fed-got : (t : Talk) (r : Received) (got : Got) (piece : List ℕ) (used : ℕ)
     (heard : Option Indication) (new : Talk) → IsJoined t
     → feeding.Feeds t.stream piece used (doing_for got r)
     → r.stream ≡ after t.stream (take used piece)
     → TellsOf (record { stream = r.stream; phase = t.phase }) (doing_for got r) heard new
     → FedSo t piece used heard new
-fed_got t r got.More piece used heard new joined fed is so =
-    fed_none t.stream.number t.stream.left t.phase piece used heard new r.stream joined fed is so.0
+fed-got t r got.More piece used heard new joined fed is so =
+    fed-none t.stream.number t.stream.left t.phase piece used heard new r.stream joined fed is so.0
     so.1
-fed_got t r got.Answer piece used heard new joined fed is so =
-    fed_some t.stream.number t.stream.left t.phase piece used _ heard new r.stream joined fed is so
-fed_got t r got.Tsdu piece used heard new joined fed is so =
-    fed_some t.stream.number t.stream.left t.phase piece used _ heard new r.stream joined fed is so
-fed_got t r got.Ended piece used heard new joined fed is so =
-    fed_some t.stream.number t.stream.left t.phase piece used _ heard new r.stream joined fed is so
+fed-got t r got.Answer piece used heard new joined fed is so =
+    fed-some t.stream.number t.stream.left t.phase piece used _ heard new r.stream joined fed is so
+fed-got t r got.Tsdu piece used heard new joined fed is so =
+    fed-some t.stream.number t.stream.left t.phase piece used _ heard new r.stream joined fed is so
+fed-got t r got.Ended piece used heard new joined fed is so =
+    fed-some t.stream.number t.stream.left t.phase piece used _ heard new r.stream joined fed is so
 
 -- ---- what is ready
 
-more_ready : (number : ℕ) (left : Left) (phase : Phase) (piece : List ℕ) (used : ℕ)
+more-ready : (number : ℕ) (left : Left) (phase : Phase) (piece : List ℕ) (used : ℕ)
     → AreJoined left phase → feeding.FeedsFrom left (record { number = number; left = left }) piece
     used None
     → AreJoined (after (record { number = number; left = left }) (take used piece)).left phase
-more_ready number (Going connection rest) phase piece used joined fed =
+more-ready number (Going connection rest) phase piece used joined fed =
     let s : Stream = record { number = number; left = Going connection rest } in
     let all : take used piece ≡ piece = take_all used piece (omega (arith, fed.0)) in
-    quiet_joined s phase (take used piece) joined tt (ap (doings s) all ∙ fed.1)
-more_ready number Over phase piece used joined fed = absurd (let f : None ≡ Some Ends = fed.1 in cc)
-more_ready number Broken phase piece used joined fed = absurd joined
+    quiet-joined s phase (take used piece) joined tt (ap (doings s) all ∙ fed.1)
+more-ready number Over phase piece used joined fed = absurd (let f : None ≡ Some Ends = fed.1 in cc)
+more-ready number Broken phase piece used joined fed = absurd joined
 
-answer_ready : (number : ℕ) (left : Left) (piece : List ℕ) (used n : ℕ) (reply : List ℕ)
+answer-ready : (number : ℕ) (left : Left) (piece : List ℕ) (used n : ℕ) (reply : List ℕ)
     → feeding.FeedsFrom left (record { number = number; left = left }) piece used
     (Some (Answers n reply))
-    → IsSome (agreed (after (record { number = number; left = left }) (take used piece)))
-answer_ready number (Going connection rest) piece used n reply fed =
+    → IsSome (size_agreed (after (record { number = number; left = left }) (take used piece)))
+answer-ready number (Going connection rest) piece used n reply fed =
     let s : Stream = record { number = number; left = Going connection rest } in
     rw (after-size s (take used piece) ∙ ap (size_after connection.size) fed.does) refl
-answer_ready number Over piece used n reply fed =
+answer-ready number Over piece used n reply fed =
     absurd (let f : Some (Answers n reply) ≡ Some Ends = fed.1 in cc)
-answer_ready number Broken piece used n reply fed = absurd fed
+answer-ready number Broken piece used n reply fed = absurd fed
 
-tsdu_ready : (number : ℕ) (left : Left) (piece : List ℕ) (used : ℕ) (tsdu : List ℕ)
+tsdu-ready : (number : ℕ) (left : Left) (piece : List ℕ) (used : ℕ) (tsdu : List ℕ)
     → feeding.FeedsFrom left (record { number = number; left = left }) piece used
     (Some (Delivers tsdu))
-    → IsSome (agreed (after (record { number = number; left = left }) (take used piece)))
-tsdu_ready number (Going connection rest) piece used tsdu fed =
+    → IsSome (size_agreed (after (record { number = number; left = left }) (take used piece)))
+tsdu-ready number (Going connection rest) piece used tsdu fed =
     let s : Stream = record { number = number; left = Going connection rest } in
     rw (after-size s (take used piece) ∙ ap (size_after connection.size) fed.does)
     (delivers-size s (take used piece) tsdu [] fed.does)
-tsdu_ready number Over piece used tsdu fed =
+tsdu-ready number Over piece used tsdu fed =
     absurd (let f : Some (Delivers tsdu) ≡ Some Ends = fed.1 in cc)
-tsdu_ready number Broken piece used tsdu fed = absurd fed
+tsdu-ready number Broken piece used tsdu fed = absurd fed
 
-pub is_ready : (t : Talk) (r : Received) (got : Got) (piece : List ℕ) (used : ℕ) → IsJoined t
+pub is-ready : (t : Talk) (r : Received) (got : Got) (piece : List ℕ) (used : ℕ) → IsJoined t
     → feeding.Feeds t.stream piece used (doing_for got r)
     → r.stream ≡ after t.stream (take used piece)
     → IsReady got (record { stream = r.stream; phase = t.phase })
-is_ready t r got.More piece used joined fed is =
-    rw is (more_ready t.stream.number t.stream.left t.phase piece used joined fed)
-is_ready t r got.Answer piece used joined fed is =
-    rw is (answer_ready t.stream.number t.stream.left piece used _ _ fed)
-is_ready t r got.Tsdu piece used joined fed is =
-    rw is (tsdu_ready t.stream.number t.stream.left piece used _ fed)
-is_ready t r got.Ended piece used joined fed is = tt
+is-ready t r got.More piece used joined fed is =
+    rw is (more-ready t.stream.number t.stream.left t.phase piece used joined fed)
+is-ready t r got.Answer piece used joined fed is =
+    rw is (answer-ready t.stream.number t.stream.left piece used _ _ fed)
+is-ready t r got.Tsdu piece used joined fed is =
+    rw is (tsdu-ready t.stream.number t.stream.left piece used _ fed)
+is-ready t r got.Ended piece used joined fed is = tt
 
-going_from : (left : Left) (s : Stream) (piece : List ℕ) (used : ℕ) (d : Doing)
+going-from : (left : Left) (s : Stream) (piece : List ℕ) (used : ℕ) (d : Doing)
     → feeding.FeedsFrom left s piece used (Some d) → (d ≡ Ends → ⊥) → IsGoing left
-going_from (Going connection rest) s piece used d fed not = tt
-going_from Over s piece used d fed not = absurd (not (let f : Some d ≡ Some Ends = fed.1 in cc))
-going_from Broken s piece used d fed not = absurd fed
+going-from (Going connection rest) s piece used d fed not = tt
+going-from Over s piece used d fed not = absurd (not (let f : Some d ≡ Some Ends = fed.1 in cc))
+going-from Broken s piece used d fed not = absurd fed
 
-pub takes_going : (t : Talk) (r : Received) (got : Got) (piece : List ℕ) (used : ℕ)
+pub takes-going : (t : Talk) (r : Received) (got : Got) (piece : List ℕ) (used : ℕ)
     → feeding.Feeds t.stream piece used (doing_for got r) → TakesMemory got → IsGoing t.stream.left
-takes_going t r got.More piece used fed takes = absurd takes
-takes_going t r got.Answer piece used fed takes =
-    going_from t.stream.left t.stream piece used _ fed (λ e. cc)
-takes_going t r got.Tsdu piece used fed takes =
-    going_from t.stream.left t.stream piece used _ fed (λ e. cc)
-takes_going t r got.Ended piece used fed takes = absurd takes
+takes-going t r got.More piece used fed takes = absurd takes
+takes-going t r got.Answer piece used fed takes =
+    going-from t.stream.left t.stream piece used _ fed (λ e. cc)
+takes-going t r got.Tsdu piece used fed takes =
+    going-from t.stream.left t.stream piece used _ fed (λ e. cc)
+takes-going t r got.Ended piece used fed takes = absurd takes
 
 -- ---- a fault of the transport
 
-fault_done : (number : ℕ) (left : Left) (phase : Phase) (piece : List ℕ) (fault : TransportFault)
+fault-done : (number : ℕ) (left : Left) (phase : Phase) (piece : List ℕ) (fault : TransportFault)
     (code : ℕ) → AreJoined left phase
     → doings (record { number = number; left = left }) piece ≡ Fails fault ∷ []
     → code_of fault ≡ Some code
     → FedSo (talk_with number left phase) piece (length piece) (Some (fails code))
     (talk_with number Over phases.Over)
-fault_done number (Going connection rest) phase piece fault code joined e k =
+fault-done number (Going connection rest) phase piece fault code joined e k =
     let t = talk_with number (Going connection rest) phase in
     let all : take (length piece) piece ≡ piece = take_all (length piece) piece (omega arith) in
     let q : doings t.stream (take (length piece) piece) ≡ Fails fault ∷ [] =
     ap (doings t.stream) all ∙ e in
     let c : comes_to t (take (length piece) piece)
-    ≡ told (after t.stream (take (length piece) piece)) (Fails fault ∷ []) (agreed t.stream)
-    phase = ap (λ (ds : List Doing). told (after t.stream (take (length piece) piece)) ds
-    (agreed t.stream) phase) q in
+    ≡ talk_after (after t.stream (take (length piece) piece)) (Fails fault ∷ [])
+    (size_agreed t.stream)
+    phase = ap (λ (ds : List Doing). talk_after (after t.stream (take (length piece) piece)) ds
+    (size_agreed t.stream) phase) q in
     record {
       within = omega arith;
       fed = (
@@ -340,35 +345,35 @@ fault_done number (Going connection rest) phase piece fault code joined e k =
       );
       left = sym (ap (λ (r : Told). r.left) c);
     }
-fault_done number Over phase piece fault code joined e k = absurd (cc)
-fault_done number Broken phase piece fault code joined e k = absurd joined
+fault-done number Over phase piece fault code joined e k = absurd (cc)
+fault-done number Broken phase piece fault code joined e k = absurd joined
 
-joined_sound : (left : Left) (phase : Phase) → AreJoined left phase → left ≡ Broken → ⊥
-joined_sound (Going connection rest) phase joined e = cc
-joined_sound Over phase joined e = cc
-joined_sound Broken phase joined e = joined
+joined-sound : (left : Left) (phase : Phase) → AreJoined left phase → left ≡ Broken → ⊥
+joined-sound (Going connection rest) phase joined e = cc
+joined-sound Over phase joined e = cc
+joined-sound Broken phase joined e = joined
 
-pub fed_fault : (t : Talk) (piece : List ℕ) (fault : TransportFault) (code : ℕ) → IsJoined t
+pub fed-fault : (t : Talk) (piece : List ℕ) (fault : TransportFault) (code : ℕ) → IsJoined t
     → RefusesPiece t.stream piece fault → code_of fault ≡ Some code
-    → FedSo t piece (length piece) (Some (fails code)) (closed (broken t.stream))
-fed_fault t piece BadTpkt code joined refused k =
-    fault_done t.stream.number t.stream.left t.phase piece BadTpkt code joined refused k
-fed_fault t piece BadCotp code joined refused k =
-    fault_done t.stream.number t.stream.left t.phase piece BadCotp code joined refused k
-fed_fault t piece ClassRefused code joined refused k =
-    fault_done t.stream.number t.stream.left t.phase piece ClassRefused code joined refused k
-fed_fault t piece TsduTooLong code joined refused k =
-    fault_done t.stream.number t.stream.left t.phase piece TsduTooLong code joined refused k
-fed_fault t piece Failed code joined refused k =
-    absurd (joined_sound t.stream.left t.phase joined refused)
-fed_fault t piece OutOfMemory code joined refused k = absurd (cc)
+    → FedSo t piece (length piece) (Some (fails code)) (talk_over (broken t.stream))
+fed-fault t piece BadTpkt code joined refused k =
+    fault-done t.stream.number t.stream.left t.phase piece BadTpkt code joined refused k
+fed-fault t piece BadCotp code joined refused k =
+    fault-done t.stream.number t.stream.left t.phase piece BadCotp code joined refused k
+fed-fault t piece ClassRefused code joined refused k =
+    fault-done t.stream.number t.stream.left t.phase piece ClassRefused code joined refused k
+fed-fault t piece TsduTooLong code joined refused k =
+    fault-done t.stream.number t.stream.left t.phase piece TsduTooLong code joined refused k
+fed-fault t piece Failed code joined refused k =
+    absurd (joined-sound t.stream.left t.phase joined refused)
+fed-fault t piece OutOfMemory code joined refused k = absurd (cc)
 
-pub fault_memory : (t : Talk) (piece : List ℕ) (fault : TransportFault)
+pub fault-memory : (t : Talk) (piece : List ℕ) (fault : TransportFault)
     → RefusesPiece t.stream piece fault → code_of fault ≡ None
     → IsGoing t.stream.left × (0 < length piece)
-fault_memory t piece BadTpkt refused k = absurd (cc)
-fault_memory t piece BadCotp refused k = absurd (cc)
-fault_memory t piece ClassRefused refused k = absurd (cc)
-fault_memory t piece TsduTooLong refused k = absurd (cc)
-fault_memory t piece Failed refused k = absurd (cc)
-fault_memory t piece OutOfMemory refused k = refused
+fault-memory t piece BadTpkt refused k = absurd (cc)
+fault-memory t piece BadCotp refused k = absurd (cc)
+fault-memory t piece ClassRefused refused k = absurd (cc)
+fault-memory t piece TsduTooLong refused k = absurd (cc)
+fault-memory t piece Failed refused k = absurd (cc)
+fault-memory t piece OutOfMemory refused k = refused

@@ -6,47 +6,48 @@ use Rattle.bay_assoc.specs.declared.fault.AssocFault.{AssocFault}
 use Rattle.bay_assoc.specs.declared.hearing.Phase.{Phase}
 use Rattle.bay_assoc.specs.Code.{code_of}
 use Rattle.bay_assoc.specs.Hearing.{answer, mms, released, aborted, hearing}
-use Rattle.bay_connection.specs.Talk.{answers, tells, releases, ends, fails, closed, sent, told}
+use Rattle.bay_connection.specs.Talk.{answers, tells, releases, ends, fails, talk_over, data_tpdus, talk_after}
 
 -- ---- what is heard
 
-pub hears_answer : (s : Stream) (size : Option ℕ) (phase next : Phase) (tsdu octets frames : List ℕ)
-    → hearing phase tsdu ≡ Ok (answer octets, next) → frames ≡ sent size octets
-    → told s (Delivers tsdu ∷ []) size phase
+pub hears-answer : (s : Stream) (size : Option ℕ) (phase next : Phase) (tsdu octets frames : List ℕ)
+    → hearing phase tsdu ≡ Ok (answer octets, next) → frames ≡ data_tpdus size octets
+    → talk_after s (Delivers tsdu ∷ []) size phase
     ≡ record { indications = answers frames ∷ []; left = record { stream = s; phase = next } }
-hears_answer s size phase next tsdu octets frames h f = rw (h, f) refl
+hears-answer s size phase next tsdu octets frames h f = rw (h, f) refl
 
-pub hears_pdu : (s : Stream) (size : Option ℕ) (phase next : Phase) (tsdu pdu : List ℕ)
+pub hears-pdu : (s : Stream) (size : Option ℕ) (phase next : Phase) (tsdu pdu : List ℕ)
     → hearing phase tsdu ≡ Ok (mms pdu, next)
-    → told s (Delivers tsdu ∷ []) size phase
+    → talk_after s (Delivers tsdu ∷ []) size phase
     ≡ record {
       indications = tells (record { size = size; phase = next }) pdu ∷ [];
       left = record { stream = s; phase = next };
     }
-hears_pdu s size phase next tsdu pdu h = rw h refl
+hears-pdu s size phase next tsdu pdu h = rw h refl
 
-pub hears_release : (s : Stream) (size : Option ℕ) (phase next : Phase)
+pub hears-release : (s : Stream) (size : Option ℕ) (phase next : Phase)
     (tsdu octets frames : List ℕ) → hearing phase tsdu ≡ Ok (released octets, next)
-    → frames ≡ sent size octets
-    → told s (Delivers tsdu ∷ []) size phase
-    ≡ record { indications = releases frames ∷ []; left = closed s }
-hears_release s size phase next tsdu octets frames h f = rw (h, f) refl
+    → frames ≡ data_tpdus size octets
+    → talk_after s (Delivers tsdu ∷ []) size phase
+    ≡ record { indications = releases frames ∷ []; left = talk_over s }
+hears-release s size phase next tsdu octets frames h f = rw (h, f) refl
 
-pub hears_abort : (s : Stream) (size : Option ℕ) (phase next : Phase) (tsdu : List ℕ)
+pub hears-abort : (s : Stream) (size : Option ℕ) (phase next : Phase) (tsdu : List ℕ)
     → hearing phase tsdu ≡ Ok (aborted, next)
-    → told s (Delivers tsdu ∷ []) size phase ≡ record { indications = ends ∷ []; left = closed s }
-hears_abort s size phase next tsdu h = rw h refl
+    → talk_after s (Delivers tsdu ∷ []) size phase
+    ≡ record { indications = ends ∷ []; left = talk_over s }
+hears-abort s size phase next tsdu h = rw h refl
 
-pub hears_fault : (s : Stream) (size : Option ℕ) (phase : Phase) (tsdu : List ℕ)
+pub hears-fault : (s : Stream) (size : Option ℕ) (phase : Phase) (tsdu : List ℕ)
     (fault : AssocFault) (code : ℕ) → hearing phase tsdu ≡ Err fault → code_of fault ≡ Some code
-    → told s (Delivers tsdu ∷ []) size phase
-    ≡ record { indications = fails code ∷ []; left = closed s }
-hears_fault s size phase tsdu fault code h k = rw (h, k) refl
+    → talk_after s (Delivers tsdu ∷ []) size phase
+    ≡ record { indications = fails code ∷ []; left = talk_over s }
+hears-fault s size phase tsdu fault code h k = rw (h, k) refl
 
 -- what stands last, by its length
-pub last_part : (octets front part : List ℕ) → octets ≡ front ++ part
+pub last-part : (octets front part : List ℕ) → octets ≡ front ++ part
     → drop (length octets - length part) octets ≡ part
-last_part octets front part is =
+last-part octets front part is =
     let n : length octets - length part ≡ length front =
     omega (arith, ap length is, length-append front part) in
     ap (drop (length octets - length part)) is
@@ -54,6 +55,6 @@ last_part octets front part is =
 
 -- ---- a fault's number
 
-pub number_is : {E : Type 0} (o : Option ℕ) (code : ℕ) (e : E) → Ok code ≡ ok_or o e → o ≡ Some code
-number_is (Some n) code e is = cc
-number_is None code e is = absurd (cc)
+pub number-is : {E : Type 0} (o : Option ℕ) (code : ℕ) (e : E) → Ok code ≡ ok_or o e → o ≡ Some code
+number-is (Some n) code e is = cc
+number-is None code e is = absurd (cc)

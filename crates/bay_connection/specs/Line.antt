@@ -3,12 +3,12 @@ use Rattle.std.specs.Prelude.{ℕ, ◌≡◌, ◌-◌, ◌≤◌, List, [], ◌�
 use Rattle.bay_transport.specs.declared.fed.Got.{Got}
 use Rattle.bay_transport.specs.declared.fed.Got.TheVariants as got
 use Rattle.bay_transport.specs.Doings.{Doing, Left, Going, Over, Broken}
-use Rattle.bay_transport.specs.Feeding.{agreed}
+use Rattle.bay_transport.specs.Feeding.{size_agreed}
 use Rattle.bay_assoc.specs.declared.hearing.Phase.{Phase}
 use Rattle.bay_assoc.specs.declared.hearing.Phase.TheVariants as phases
 use Rattle.bay_assoc.specs.Hears.{association_terms}
 use Rattle.bay_connection.specs.declared.line.Line.{Line}
-use Rattle.bay_connection.specs.Talk.{Talk, Indication, told}
+use Rattle.bay_connection.specs.Talk.{Talk, Indication, talk_after}
 use Rattle.bay_connection.specs.Feeding.{Client}
 
 -- An open association has a size of TPDUs agreed; where the stream has ended the association is
@@ -43,8 +43,8 @@ pub record IsKept (l : Line) : Type 0 where
 -- What the transport completed can be heard.
 abbrev pub IsReady : Got → Talk → Type 0
 IsReady got.More t = IsJoined t
-IsReady got.Answer t = IsSome (agreed t.stream)
-IsReady got.Tsdu t = IsSome (agreed t.stream)
+IsReady got.Answer t = IsSome (size_agreed t.stream)
+IsReady got.Tsdu t = IsSome (size_agreed t.stream)
 IsReady got.Ended t = Unit {0}
 
 -- Memory is taken for what is answered.
@@ -57,7 +57,7 @@ TakesMemory got.Ended = ⊥
 -- A doing that left the first talk's stream comes to this, in its phase, and leaves the second.
 abbrev pub Tells : Talk → Doing → Option Indication → Talk → Type 0
 Tells old doing heard new =
-    told old.stream (doing ∷ []) (agreed old.stream) old.phase
+    talk_after old.stream (doing ∷ []) (size_agreed old.stream) old.phase
     ≡ record { indications = option_to_list heard; left = new }
 
 -- The same where the transport completed something; else nothing is heard, and nothing changes.

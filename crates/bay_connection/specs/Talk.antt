@@ -3,8 +3,8 @@
 use Rattle.std.specs.Prelude.{ℕ, List, [], ◌∷◌, Option, Some, None, unwrap_or, Result, Ok, Err}
 use Rattle.bay_transport.specs.Code.{code_of as transport_code}
 use Rattle.bay_transport.specs.Doings.{Doing, Answers, Delivers, Ends, Fails, Stream, doings, after}
-use Rattle.bay_transport.specs.Feeding.{agreed, ended}
-use Rattle.bay_transport.specs.Wrap.{wrapped}
+use Rattle.bay_transport.specs.Feeding.{size_agreed, end_of_stream}
+use Rattle.bay_transport.specs.Wrap.{tpdus_of}
 use Rattle.bay_assoc.specs.declared.fault.AssocFault.{AssocFault}
 use Rattle.bay_assoc.specs.declared.hearing.AssociationTerms.{AssociationTerms}
 use Rattle.bay_assoc.specs.declared.hearing.Phase.{Phase}
@@ -26,7 +26,7 @@ pub record Terms : Type 0 where
 
 -- the terms on which something can be answered now
 abbrev pub terms_of : Talk → Terms
-terms_of t = record { size = agreed t.stream; phase = t.phase }
+terms_of t = record { size = size_agreed t.stream; phase = t.phase }
 
 -- one thing that octets come to: a request, with the octets that answer it; a PDU of MMS, with the
 -- terms on which it can be answered; a request for a release, with the octets that answer it; the
@@ -44,50 +44,55 @@ pub record Told : Type 0 where
   pub left : Talk
 
 -- the connection is over: no octet does anything more
-abbrev pub closed : Stream → Talk
-closed s = record { stream = ended s; phase = Over }
+abbrev pub talk_over : Stream → Talk
+talk_over s = record { stream = end_of_stream s; phase = Over }
 
 -- the data TPDUs of a TSDU
-abbrev pub sent : Option ℕ → List ℕ → List ℕ
-sent None tsdu = []
-sent (Some size) tsdu = wrapped size tsdu
+abbrev pub data_tpdus : Option ℕ → List ℕ → List ℕ
+data_tpdus None tsdu = []
+data_tpdus (Some size) tsdu = tpdus_of size tsdu
 
 -- what is heard comes first, and then what is told later; nothing is told behind a release, an
 -- abort and a fault
 abbrev pub on_heard : Stream → Hearing → Terms → Told → Told
 on_heard s (answer tsdu) terms later =
-    record { indications = answers (sent terms.size tsdu) ∷ later.indications; left = later.left }
+    record {
+      indications = answers (data_tpdus terms.size tsdu) ∷ later.indications;
+      left = later.left;
+    }
 on_heard s (mms pdu) terms later =
     record { indications = tells terms pdu ∷ later.indications; left = later.left }
 on_heard s (released tsdu) terms later =
-    record { indications = releases (sent terms.size tsdu) ∷ []; left = closed s }
-on_heard s aborted terms later = record { indications = ends ∷ []; left = closed s }
+    record { indications = releases (data_tpdus terms.size tsdu) ∷ []; left = talk_over s }
+on_heard s aborted terms later = record { indications = ends ∷ []; left = talk_over s }
 
 -- what a TSDU comes to, as it is heard or refused, and then what is told later
 abbrev pub on_hearing : Option ℕ → Stream → Result (Hearing × Phase) AssocFault → (Phase → Told)
     → Told
 on_hearing size s (Ok x) later = on_heard s x.0 (record { size = size; phase = x.1 }) (later x.1)
 on_hearing size s (Err fault) later =
-    record { indications = fails (unwrap_or (association_code fault) 0) ∷ []; left = closed s }
+    record { indications = fails (unwrap_or (association_code fault) 0) ∷ []; left = talk_over s }
 
 -- What the doings of a stream come to, which leave this stream: in a phase, and where this size of
 -- TPDUs was agreed before them.
-abbrev pub told : Stream → List Doing → Option ℕ → Phase → Told
-told s [] size phase = record { indications = []; left = record { stream = s; phase = phase } }
-told s (Answers agreed reply ∷ later) size phase =
+abbrev pub talk_after : Stream → List Doing → Option ℕ → Phase → Told
+talk_after s [] size phase =
+    record { indications = []; left = record { stream = s; phase = phase } }
+talk_after s (Answers size_agreed reply ∷ later) size phase =
     record {
-      indications = answers reply ∷ (told s later (Some agreed) phase).indications;
-      left = (told s later (Some agreed) phase).left;
+      indications = answers reply ∷ (talk_after s later (Some size_agreed) phase).indications;
+      left = (talk_after s later (Some size_agreed) phase).left;
     }
-told s (Delivers tsdu ∷ later) size phase =
-    on_hearing size s (hearing phase tsdu) (told s later size)
-told s (Ends ∷ later) size phase = record { indications = ends ∷ []; left = closed s }
-told s (Fails fault ∷ later) size phase =
-    record { indications = fails (unwrap_or (transport_code fault) 0) ∷ []; left = closed s }
+talk_after s (Delivers tsdu ∷ later) size phase =
+    on_hearing size s (hearing phase tsdu) (talk_after s later size)
+talk_after s (Ends ∷ later) size phase = record { indications = ends ∷ []; left = talk_over s }
+talk_after s (Fails fault ∷ later) size phase =
+    record { indications = fails (unwrap_or (transport_code fault) 0) ∷ []; left = talk_over s }
 
 -- what octets come to, and what they leave
 abbrev pub comes_to : Talk → List ℕ → Told
-comes_to t octets = told (after t.stream octets) (doings t.stream octets) (agreed t.stream) t.phase
+comes_to t octets =
+    talk_after (after t.stream octets) (doings t.stream octets) (size_agreed t.stream) t.phase
 
 -- what octets come to
 abbrev pub indications : Talk → List ℕ → List Indication
@@ -100,7 +105,8 @@ left_by t octets = (comes_to t octets).left
 -- what is sent of a PDU of MMS: a TSDU in the context of MMS, in data TPDUs of the size agreed
 abbrev pub sending_in : Option ℕ → Option AssociationTerms → List ℕ → List ℕ
 sending_in size None pdu = []
-sending_in size (Some terms) pdu = sent size (transfer_text (user_text terms.contexts.mms pdu))
+sending_in size (Some terms) pdu =
+    data_tpdus size (transfer_text (user_text terms.contexts.mms pdu))
 
 -- what is sent of a PDU of MMS on these terms
 abbrev pub sending : Terms → List ℕ → List ℕ

@@ -3,7 +3,7 @@ ghost use Rattle.std.specs.Prelude.{◌≡◌, ◌<◌, ◌≤◌, ◌↔◌, []
 ghost use Rattle.bay_transport.specs.Doings.{start};
 ghost use Rattle.bay_transport.specs.Feeding.{IsGoing};
 ghost use Rattle.bay_assoc.specs.Hears.{association_terms};
-ghost use Rattle.bay_connection.specs.Talk.{closed, terms_of, left_by, sending};
+ghost use Rattle.bay_connection.specs.Talk.{talk_over, terms_of, left_by, sending};
 ghost use Rattle.bay_connection.specs.Feeding.{Feeds, indication_of, IsOpenFor, LendsOnly};
 
 use crate::heard::Fed;
@@ -71,7 +71,7 @@ impl Connection {
         // connection is over.
         ensures memory { OnErr result
             (IsGoing self.old.talk.stream.left × (0 < length piece.now)) }
-        ensures over { OnErr result (self.new.talk ≡ closed self.old.talk.stream) }
+        ensures over { OnErr result (self.new.talk ≡ talk_over self.old.talk.stream) }
     {
         match self.line.feed(piece) {
             Ok(fed) => Ok(fed),

@@ -2,7 +2,7 @@
 
 /// What octets have come to.
 #[derive(Drop)]
-pub enum Heard {
+pub enum LineEvent {
     /// Nothing yet: all octets were taken.
     Nothing,
     /// A request for a connection or for an association; these octets answer it and are to be sent.
@@ -24,5 +24,5 @@ pub struct Fed {
     /// The number of octets of the piece that were taken. The others have not been looked at.
     pub used: usize,
     /// What they have come to.
-    pub heard: Heard,
+    pub heard: LineEvent,
 }

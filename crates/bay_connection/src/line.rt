@@ -2,13 +2,13 @@
 // association.
 ghost use Rattle.std.specs.Prelude.{◌≡◌, ◌<◌, ◌≤◌, [], Some, IfOk, IsSome, OnErr, OnOk, length, take};
 ghost use Rattle.bay_transport.specs.Doings.{Delivers, start};
-ghost use Rattle.bay_transport.specs.Feeding.{IsGoing, agreed, doing_for};
+ghost use Rattle.bay_transport.specs.Feeding.{IsGoing, size_agreed, doing_for};
 ghost use Rattle.bay_assoc.specs.Hears.{association_terms};
-ghost use Rattle.bay_connection.specs.Talk.{answers, closed, terms_of, sent, sending, left_by};
+ghost use Rattle.bay_connection.specs.Talk.{answers, talk_over, terms_of, data_tpdus, sending, left_by};
 ghost use Rattle.bay_connection.specs.Feeding.{Feeds, indication_of, IsOpenFor, LendsOnly};
 ghost use Rattle.bay_connection.specs.Line.{talk_of, pdu_of, client_of, IsKept, IsReady, TakesMemory, Tells, TellsOf};
 
-use crate::heard::{Fed, Heard};
+use crate::heard::{Fed, LineEvent};
 use bay_assoc::assoc::Assoc;
 use bay_assoc::hearing;
 use bay_assoc::hearing::Phase;
@@ -49,7 +49,7 @@ impl Line {
     /// Ends both layers: no more octets are taken, and their buffers are given back.
     pub(crate) fn close(&mut self)
         ensures kept { IsKept self.new }
-        ensures closed { talk_of self.new ≡ closed self.old.transport.stream }
+        ensures closed { talk_of self.new ≡ talk_over self.old.transport.stream }
         ensures nothing { pdu_of self.new ≡ [] }
     {
         self.pdu = 0;
@@ -66,11 +66,13 @@ impl Line {
         &tsdu[tsdu.len() - self.pdu..]
     }
 
-    // The frames of a TSDU; where it is one frame and there is room, its header is written in front.
+    // The frames of a TSDU; where it is one frame and there is room, its header is written in
+    // front.
     fn frames(&self, mut tsdu: Outgoing) -> Result<Outgoing, AllocError>
-        requires agreed { IsSome (agreed self.now.transport.stream) }
+        requires agreed { IsSome (size_agreed self.now.transport.stream) }
         requires short { length tsdu ≤ 70_000 }
-        ensures { IfOk result (λ octets. octets ≡ sent (agreed self.now.transport.stream) tsdu) }
+        ensures { IfOk result (λ octets. octets
+            ≡ data_tpdus (size_agreed self.now.transport.stream) tsdu) }
     {
         if let Some(header) = self.transport.header(tsdu.as_slice().len()) {
             if tsdu.front(&header) {
@@ -98,17 +100,17 @@ impl Line {
 
     // What is answered to a request that the association heard, in the TPDUs of the transport.
     fn wrapped(&self, tsdu: &[u8]) -> Result<Vec<u8>, AllocError>
-        requires agreed { IsSome (agreed self.now.transport.stream) }
+        requires agreed { IsSome (size_agreed self.now.transport.stream) }
         requires short { length tsdu.now ≤ 1_000 }
         ensures { IfOk result (λ octets. octets.items
-            ≡ sent (agreed self.now.transport.stream) tsdu.now) }
+            ≡ data_tpdus (size_agreed self.now.transport.stream) tsdu.now) }
     {
         self.transport.wrap(&[], tsdu)
     }
 
     // What the association hears of the TSDU that the transport shows.
-    fn hear(&mut self) -> Result<Heard, AllocError>
-        requires agreed { IsSome (agreed self.old.transport.stream) }
+    fn hear(&mut self) -> Result<LineEvent, AllocError>
+        requires agreed { IsSome (size_agreed self.old.transport.stream) }
         requires nothing { self.old.pdu ≡ 0 }
         ensures kept { OnOk result (IsKept self.new) }
         ensures told { IfOk result
@@ -122,42 +124,42 @@ impl Line {
         match self.assoc.on_tsdu(tsdu) {
             Ok(hearing::Heard::Answer(octets)) => {
                 let frames = self.wrapped(octets.as_slice())?;
-                Ok(Heard::Answer(frames))
+                Ok(LineEvent::Answer(frames))
             }
             Ok(hearing::Heard::Mms(pdu)) => {
                 self.pdu = pdu.len();
-                Ok(Heard::Mms)
+                Ok(LineEvent::Mms)
             }
             Ok(hearing::Heard::Released(octets)) => {
                 let frames = self.wrapped(octets.as_slice())?;
                 self.close();
-                Ok(Heard::Released(frames))
+                Ok(LineEvent::Released(frames))
             }
             Ok(hearing::Heard::Aborted) => {
                 self.close();
-                Ok(Heard::Ended)
+                Ok(LineEvent::Ended)
             }
             Err(fault) => {
                 let code = fault.code().ok_or(AllocError)?;
                 self.close();
-                Ok(Heard::Fault(code))
+                Ok(LineEvent::Fault(code))
             }
         }
     }
 
     // The answer to a request for a connection.
-    fn answer(&self) -> Result<Heard, AllocError>
+    fn answer(&self) -> Result<LineEvent, AllocError>
         requires { self.now.pdu ≡ 0 }
         ensures answer { IfOk result (λ heard. indication_of heard (client_of self.now)
             ≡ Some (answers self.now.transport.shown)) }
         ensures lent { IfOk result (λ heard. LendsOnly heard (pdu_of self.now)) }
     {
         let octets = self.transport.shown().to_vec(self.alloc)?;
-        Ok(Heard::Answer(octets))
+        Ok(LineEvent::Answer(octets))
     }
 
     // What is heard of what the transport completed.
-    fn heard(&mut self, got: Got) -> Result<Heard, AllocError>
+    fn heard(&mut self, got: Got) -> Result<LineEvent, AllocError>
         requires ready { IsReady got (talk_of self.old) }
         requires nothing { self.old.pdu ≡ 0 }
         ensures kept { OnOk result (IsKept self.new) }
@@ -170,12 +172,12 @@ impl Line {
         ensures lent { IfOk result (λ heard. LendsOnly heard (pdu_of self.new)) }
     {
         match got {
-            Got::More => Ok(Heard::Nothing),
+            Got::More => Ok(LineEvent::Nothing),
             Got::Answer => self.answer(),
             Got::Tsdu => self.hear(),
             Got::Ended => {
                 self.close();
-                Ok(Heard::Ended)
+                Ok(LineEvent::Ended)
             }
         }
     }
@@ -210,7 +212,7 @@ impl Line {
                 self.close();
                 Ok(Fed {
                     used: piece.len(),
-                    heard: Heard::Fault(code),
+                    heard: LineEvent::Fault(code),
                 })
             }
         }

@@ -10,7 +10,7 @@ use Rattle.bay_control.specs.Acts.{Act, Entry}
 use Rattle.bay_control.specs.Acts as act
 use Rattle.bay_control.specs.Backing.{choice_of, grants, selects, undoes, undoes_by}
 use Rattle.bay_control.specs.Happenings.{Call, Open, Close, Select, SelectWith, Operate, Cancel, Contact, Advance, act_of, entries_of, is_open_after, is_orderly_call, outcome_of}
-use Rattle.bay_control.specs.Decisions.{State, advanced, answer_of, cancel_of, is_selected_by, rows_of_cancel, rows_of_operate, rows_of_select, rows_of_select_with, select_of, selection_at, selection_without}
+use Rattle.bay_control.specs.Decisions.{State, controls_at, answer_of, cancel_of, is_selected_by, rows_of_cancel, rows_of_operate, rows_of_select, rows_of_select_with, select_of, selection_at, selection_without}
 use Rattle.bay_control.specs.Requests.{asked_choice, control_of}
 use Rattle.bay_control.specs.declared.cause.AddCause.{AddCause}
 use Rattle.bay_control.specs.declared.control.SwitchControl.{SwitchControl}
@@ -209,25 +209,26 @@ step-holds is_open past (Open a) now s o h =
     (opened-leaves is_open a now o) h
 step-holds is_open past (Close a) now s o h = closed-holds is_open past a now s.selection h
 step-holds is_open past (Select a k) now s o h =
-    select-holds is_open past a k now None (act.Select a k) (advanced now s) o (own-select a k) refl
+    select-holds is_open past a k now None (act.Select a k) (controls_at now s) o (own-select a k)
+    refl
     (λ b j. refl)
     (advanced-holds is_open past now s.controls s.selection h)
-    (answer_of (rows_of_select a k (advanced now s)))
+    (answer_of (rows_of_select a k (controls_at now s)))
 step-holds is_open past (SelectWith a k ask) now s o h =
     select-holds is_open past a k now (Some (asked_choice ask))
-    (act.SelectWith a k (asked_choice ask)) (advanced now s) o (own-select a k) refl
+    (act.SelectWith a k (asked_choice ask)) (controls_at now s) o (own-select a k) refl
     (λ b j. refl)
     (advanced-holds is_open past now s.controls s.selection h)
-    (answer_of (rows_of_select_with a k ask (advanced now s)))
+    (answer_of (rows_of_select_with a k ask (controls_at now s)))
 step-holds is_open past (Operate a k ask view) now s o h =
     operate-holds is_open past a k (asked_choice ask) now
-    (is_ok (answer_of (rows_of_operate a k ask view (advanced now s))))
-    (advanced now s).selection
+    (is_ok (answer_of (rows_of_operate a k ask view (controls_at now s))))
+    (controls_at now s).selection
     (advanced-holds is_open past now s.controls s.selection h)
 step-holds is_open past (Cancel a k) now s o h =
-    cancel-holds is_open past a k now (advanced now s)
+    cancel-holds is_open past a k now (controls_at now s)
     (advanced-holds is_open past now s.controls s.selection h)
-    (answer_of (rows_of_cancel a k (advanced now s)))
+    (answer_of (rows_of_cancel a k (controls_at now s)))
 step-holds is_open past (Contact k position) now s o h =
     subst (λ (es : List Entry). Holds is_open es s.selection) (sym (append-nil past)) h
 step-holds is_open past Advance now s o h =

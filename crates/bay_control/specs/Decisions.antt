@@ -60,8 +60,8 @@ run_out now controls None = None
 run_out now controls (Some e) = if is_over_at now controls e then Some e.switch else None
 
 -- the controls without what has run out
-abbrev pub advanced : ℕ → State → State
-advanced now s =
+abbrev pub controls_at : ℕ → State → State
+controls_at now s =
     record s {
       selection = selection_at now s.controls s.selection;
       execution = execution_at now s.controls s.execution;
@@ -187,10 +187,10 @@ select_of a k now choice answer s = record {
 
 abbrev pub select_outcome : ℕ → ℕ → ℕ → State → Outcome
 select_outcome a k now s = let t =
-    advanced now s in select_of a k now None (answer_of (rows_of_select a k t)) t
+    controls_at now s in select_of a k now None (answer_of (rows_of_select a k t)) t
 
 abbrev pub select_with_outcome : ℕ → ℕ → Ask → ℕ → State → Outcome
-select_with_outcome a k ask now s = let t = advanced now s in
+select_with_outcome a k ask now s = let t = controls_at now s in
     select_of a k now (Some (asked_choice ask)) (answer_of (rows_of_select_with a k ask t)) t
 
 -- an operate by the association that selected the switch ends the selection, accepted or not; an
@@ -207,7 +207,7 @@ operate_of a k on now answer s = record {
 
 abbrev pub operate_outcome : ℕ → ℕ → Ask → View → ℕ → State → Outcome
 operate_outcome a k ask view now s = let t =
-    advanced now s in operate_of a k ask.on now (answer_of (rows_of_operate a k ask view t)) t
+    controls_at now s in operate_of a k ask.on now (answer_of (rows_of_operate a k ask view t)) t
 
 -- a cancel, which where it is not refused ends the selection
 abbrev pub cancel_of : Result (Unit {0}) AddCause → State → Outcome
@@ -218,7 +218,8 @@ cancel_of answer s =
     }
 
 abbrev pub cancel_outcome : ℕ → ℕ → ℕ → State → Outcome
-cancel_outcome a k now s = let t = advanced now s in cancel_of (answer_of (rows_of_cancel a k t)) t
+cancel_outcome a k now s = let t =
+    controls_at now s in cancel_of (answer_of (rows_of_cancel a k t)) t
 
 -- ---- what ends without a request
 
@@ -228,8 +229,8 @@ selection_without a None = None
 selection_without a (Some s) = if s.association == a then None else Some s
 
 -- an association is closed, which ends its selection
-abbrev pub dropped : ℕ → State → State
-dropped a s = record s { selection = selection_without a s.selection }
+abbrev pub without_association : ℕ → State → State
+without_association a s = record s { selection = selection_without a s.selection }
 
 -- a contact tells that the execution is done
 abbrev pub is_done : ℕ → Dbpos → Option Execution → Bool
@@ -237,8 +238,8 @@ is_done k position None = false
 is_done k position (Some e) = e.switch == k && is_reached e.on position
 
 -- a switch that reaches the position which it was told to reach operates no more
-abbrev pub contacted : ℕ → Dbpos → State → State
-contacted k position s =
+abbrev pub after_contact : ℕ → Dbpos → State → State
+after_contact k position s =
     record s { execution = if is_done k position s.execution then None else s.execution }
 
 -- ---- what is taken and put back
@@ -248,8 +249,9 @@ abbrev pub standing_of : State → Standing
 standing_of s = record { selection = s.selection; execution = s.execution }
 
 -- it stands again as it did
-abbrev pub restored : Standing → State → State
-restored standing s = record s { selection = standing.selection; execution = standing.execution }
+abbrev pub with_standing : Standing → State → State
+with_standing standing s =
+    record s { selection = standing.selection; execution = standing.execution }
 
 -- ---- what is shown
 

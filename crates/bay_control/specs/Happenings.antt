@@ -3,7 +3,7 @@ use Rattle.std.specs.Prelude.{ℕ, ◌≡◌, Bool, true, not, ◌&&◌, ◌||�
 use Rattle.bay_tree.specs.declared.leaf.Dbpos.{Dbpos}
 use Rattle.bay_control.specs.Acts.{Act, Entry}
 use Rattle.bay_control.specs.Acts as act
-use Rattle.bay_control.specs.Decisions.{Outcome, State, advanced, cancel_outcome, contacted, dropped, operate_outcome, select_outcome, select_with_outcome}
+use Rattle.bay_control.specs.Decisions.{Outcome, State, controls_at, cancel_outcome, after_contact, without_association, operate_outcome, select_outcome, select_with_outcome}
 use Rattle.bay_control.specs.Requests.{asked_choice}
 use Rattle.bay_control.specs.declared.request.Ask.{Ask}
 use Rattle.bay_control.specs.declared.request.View.{View}
@@ -26,19 +26,19 @@ pub record Happening : Type 0 where
   pub call : Call
 
 -- what is no request is accepted
-abbrev pub unasked : State → Outcome
-unasked s = record { answer = Ok tt; after = s }
+abbrev pub no_request : State → Outcome
+no_request s = record { answer = Ok tt; after = s }
 
 -- the decision of a call
 abbrev pub outcome_of : Call → ℕ → State → Outcome
-outcome_of (Open a) now s = unasked s
-outcome_of (Close a) now s = unasked (dropped a s)
+outcome_of (Open a) now s = no_request s
+outcome_of (Close a) now s = no_request (without_association a s)
 outcome_of (Select a k) now s = select_outcome a k now s
 outcome_of (SelectWith a k ask) now s = select_with_outcome a k ask now s
 outcome_of (Operate a k ask view) now s = operate_outcome a k ask view now s
 outcome_of (Cancel a k) now s = cancel_outcome a k now s
-outcome_of (Contact k position) now s = unasked (contacted k position s)
-outcome_of Advance now s = unasked (advanced now s)
+outcome_of (Contact k position) now s = no_request (after_contact k position s)
+outcome_of Advance now s = no_request (controls_at now s)
 
 -- what is seen of a call: neither what the decision sees of the switch, nor contacts and time
 abbrev pub act_of : Call → Option Act

@@ -1,6 +1,6 @@
 // The controls of one bay.
 ghost use Rattle.std.specs.Prelude.{◌≡◌, ◌≤◌, [], if◌then◌else◌, None, length};
-ghost use Rattle.bay_control.specs.Decisions.{advanced, answer_of, cancel_outcome, contacted, dropped, execution_at, initial, operate_outcome, restored, rows_of_operate, run_out, select_outcome, select_rows, select_with_outcome, selected_switch, selection_at, standing_of};
+ghost use Rattle.bay_control.specs.Decisions.{controls_at, answer_of, cancel_outcome, after_contact, without_association, execution_at, initial, operate_outcome, with_standing, rows_of_operate, run_out, select_outcome, select_rows, select_with_outcome, selected_switch, selection_at, standing_of};
 ghost use Rattle.bay_control.specs.Decisions as spec;
 ghost use Rattle.bay_control.specs.Requests.{control_of};
 ghost use Rattle.bay_control.specs.Requests as spec_requests;
@@ -116,7 +116,7 @@ impl Controls {
     #[inline(always)]
     pub fn advance(&mut self, now: u64) -> Option<usize>
         ensures run_out { result ≡ run_out now self.old.controls self.old.execution }
-        ensures after { self.new ≡ advanced now self.old }
+        ensures after { self.new ≡ controls_at now self.old }
     {
         if self.selection.is_none() && self.execution.is_none() {
             return None;
@@ -128,7 +128,7 @@ impl Controls {
     #[inline(never)]
     fn end(&mut self, now: u64) -> Option<usize>
         ensures run_out { result ≡ run_out now self.old.controls self.old.execution }
-        ensures after { self.new ≡ advanced now self.old }
+        ensures after { self.new ≡ controls_at now self.old }
     {
         if self.is_selection_over(now) {
             self.selection = None;
@@ -317,7 +317,7 @@ impl Controls {
 
     /// Ends the selection of an association, which is closed.
     pub fn drop_owner(&mut self, association: u16)
-        ensures { self.new ≡ dropped association self.old }
+        ensures { self.new ≡ without_association association self.old }
     {
         if self
             .selection
@@ -331,7 +331,7 @@ impl Controls {
     /// Takes the position of a switch, and tells whether it ends the switch's execution.
     pub fn contact(&mut self, switch: usize, position: Dbpos) -> bool
         ensures ended { result ≡ spec.is_done switch position self.old.execution }
-        ensures after { self.new ≡ contacted switch position self.old }
+        ensures after { self.new ≡ after_contact switch position self.old }
     {
         let is_ended = is_done(self.execution, switch, position);
         if is_ended {
@@ -368,7 +368,7 @@ impl Controls {
 
     /// Puts back what was selected and what was operating.
     pub fn restore(&mut self, standing: Standing)
-        ensures { self.new ≡ restored standing self.old }
+        ensures { self.new ≡ with_standing standing self.old }
     {
         self.selection = standing.selection;
         self.execution = standing.execution;

@@ -2,7 +2,7 @@
 ghost use Rattle.std.specs.Prelude.{◌≡◌, ℕ, Bool, true, List, [], ◌++◌, None, is_ok};
 ghost use Rattle.bay_control.specs.Acts.{Entry};
 ghost use Rattle.bay_control.specs.Backing.{AreBacked};
-ghost use Rattle.bay_control.specs.Decisions.{State, restored, standing_of};
+ghost use Rattle.bay_control.specs.Decisions.{State, with_standing, standing_of};
 ghost use Rattle.bay_control.specs.declared.selection.Standing.{Standing};
 ghost use Rattle.bay_control.specs.Happenings.{Call, Leads, act_of, entries_of, is_open_after, is_orderly_call, outcome_of};
 
@@ -32,6 +32,6 @@ pub fn calls_lead()
 /// What was standing before some calls is put back as if they had not been made.
 pub fn restoring_undoes()
     ensures calls { (standing : Standing) (call : Call) (now : ℕ) (s : State) →
-        restored standing (outcome_of call now s).after ≡ restored standing s }
-    ensures own { (s : State) → restored (standing_of s) s ≡ s }
+        with_standing standing (outcome_of call now s).after ≡ with_standing standing s }
+    ensures own { (s : State) → with_standing (standing_of s) s ≡ s }
 {}

@@ -21,10 +21,10 @@ use Rattle.bay_process.specs.Scans.{outputs_put}
 use Rattle.bay_process.specs.Told.{AreEnabling, AreInterlocked}
 use Rattle.bay_process.specs.declared.rows.SwitchRows.{SwitchRows}
 use Rattle.bay_process.specs.declared.switch.BoundSwitch.{BoundSwitch}
-use Rattle.bay_process.specs.Values.{counted, is_operation, operation_counted, position_quality, rows_after_change, rows_after_contact, rows_after_measure, tells, tells_measure, with_enabled, with_output, with_status}
+use Rattle.bay_process.specs.Values.{with_count, is_operation, operation_counted, position_quality, rows_after_change, rows_after_contact, rows_after_measure, tells, tells_measure, with_enabled, with_output, with_status}
 use Rattle.bay_control.specs.Decisions.{State}
 use Rattle.bay_services.specs.Bay.{ShowSelection}
-use Rattle.bay_services.proofs.ShownLemmas.{shown_kept}
+use Rattle.bay_services.proofs.ShownLemmas.{shown-kept}
 
 -- ---- names: that of a selection ends with a `d`
 
@@ -146,18 +146,18 @@ module _ (controls : State) (count : ℕ) where
   shows-status : (names : StatusNames) (value : Leaf) (q : Quality) (now : ℕ) (rows : List Row)
       → AreApart names → Shows rows → Shows (with_status names value q now rows)
   shows-status names value q now rows apart shows =
-      shown_kept controls count _ names.time _ apart.time_apart
-      (shown_kept controls count _ names.quality _ apart.quality_apart
-      (shown_kept controls count rows names.value _ apart.value_apart shows))
+      shown-kept controls count _ names.time _ apart.time_apart
+      (shown-kept controls count _ names.quality _ apart.quality_apart
+      (shown-kept controls count rows names.value _ apart.value_apart shows))
 
   shows-counted : (names : StatusNames) (o : Option Leaf) (now : ℕ) (rows : List Row)
-      → AreApart names → Shows rows → Shows (counted names o now rows)
+      → AreApart names → Shows rows → Shows (with_count names o now rows)
   shows-counted names (Some (leaf.Int32 n)) now rows apart shows =
       shows-if (int_lt n (pos 2147483647))
       (with_leaf_of names.time (leaf.Utc now)
       (with_leaf_of names.value (leaf.Int32 (n +ℤ pos 1)) rows)) rows
-      (shown_kept controls count _ names.time _ apart.time_apart
-      (shown_kept controls count rows names.value _ apart.value_apart shows)) shows
+      (shown-kept controls count _ names.time _ apart.time_apart
+      (shown-kept controls count rows names.value _ apart.value_apart shows)) shows
   shows-counted names None now rows apart shows = shows
   shows-counted names (Some (leaf.Truth b)) now rows apart shows = shows
   shows-counted names (Some (leaf.Dbpos p)) now rows apart shows = shows
@@ -183,10 +183,10 @@ module _ (controls : State) (count : ℕ) where
       shows-status names.control _ _ now told (position-apart (control_of j))
       (shows-status names.position _ _ now rows (position-apart (node_of switches j switch))
       shows) in
-      let counted = operation_counted names.operations now after in
+      let with_count = operation_counted names.operations now after in
       shows-if (tells names.position position rows) rows (rows_after_change names position now rows)
       shows
-      (shows-if (is_operation position (leaf_of names.position.value rows)) counted after
+      (shows-if (is_operation position (leaf_of names.position.value rows)) with_count after
       (shows-counted names.operations (leaf_of names.operations.value after) now after
       (operation-apart (node_of switches j switch)) both) both)
 

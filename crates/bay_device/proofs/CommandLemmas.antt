@@ -8,15 +8,15 @@ use Rattle.bay_config.specs.declared.bay.MeterField.{MeterField}
 use Rattle.bay_process.specs.Values.{is_truth}
 use Rattle.bay_control.specs.Decisions as control
 use Rattle.bay_connection.specs.Talk.{Indication, answers, tells, releases, ends as ends-heard, fails, Talk, Terms, indications, left_by, sending}
-use Rattle.bay_services.specs.Answers.{answered}
+use Rattle.bay_services.specs.Answers.{pdu_answer}
 use Rattle.bay_services.specs.Bay.{Bay}
 use Rattle.bay_services.specs.Released.{AreTimed, Leaves, releasing}
 use Rattle.bay_services.specs.Released as services
 use Rattle.bay_services.specs.declared.answer.Command.{Command}
 use Rattle.bay_services.proofs.ReleaseLemmas.{Sole, all-of, answer-sent, at-most-one, busy-still, commands-each, idle-now, interlocking-apart, leaves-none, leaves-then, leaves-with, request-leaves, sole-said}
 use Rattle.bay_device.specs.Commands.{AllCommanded, AreCommanded, IsReleasedAt, IsSingle}
-use Rattle.bay_device.specs.Device.{State, advanced, bay_of, ended_at, is_recent}
-use Rattle.bay_device.specs.Hearing.{Done, Heard, client_at, heard, on_heard, said, sent_on, with_sent}
+use Rattle.bay_device.specs.Device.{State, device_at, bay_of, ended_at, is_recent}
+use Rattle.bay_device.specs.Hearing.{Done, AllHeard, client_at, after_indications, on_heard, after_pdu, sent_on, with_sent}
 use Rattle.bay_device.specs.Outcomes.{Outcome, close_outcome, connection_at, contact_outcome, event_outcome, input_outcome, first_talk, last_moment, measure_outcome, nothing_done, octets_outcome, open_outcome, outcome, outcomes, place_of, recv_after, recv_outcome, with_connection, without_owner}
 use Rattle.bay_device.specs.declared.event.Event.{Event}
 use Rattle.bay_device.specs.declared.event.Event.TheVariants.{Open, Recv, Close, Contact, Input, Measure, Scan}
@@ -48,10 +48,10 @@ pub record Makes (now : ℕ) (s : State) (d : Done) : Type 0 where
   pub replied : d.commands ≢ [] → d.sent ≢ []
   pub sole : AreTimed s.controls.controls → Sole now d.commands d.state.controls
 
-pub begins : (now : ℕ) (s : State) → Makes now s (nothing_done (advanced now s))
+pub begins : (now : ℕ) (s : State) → Makes now s (nothing_done (device_at now s))
 begins now s = record {
   leaves =
-      leaves-with now (bay_of s) (bay_of s) (control.advanced now s.controls)
+      leaves-with now (bay_of s) (bay_of s) (control.controls_at now s.controls)
       (leaves-none now (bay_of s)) (busy-still now s.controls);
   notes = refl;
   released = tt;
@@ -62,8 +62,10 @@ begins now s = record {
 enabled-before : (now k : ℕ) (on : Bool) (b d : Bay) → Leaves now b d
     → is_truth true (leaf_of (releasing k on) d.rows) ≡ true
     → is_truth true (leaf_of (releasing k on) b.rows) ≡ true
-enabled-before now k true b d left h = ap (is_truth true) (sym (left.values _ (interlocking-apart k _))) ∙ h
-enabled-before now k false b d left h = ap (is_truth true) (sym (left.values _ (interlocking-apart k _))) ∙ h
+enabled-before now k true b d left h =
+    ap (is_truth true) (sym (left.values _ (interlocking-apart k _))) ∙ h
+enabled-before now k false b d left h =
+    ap (is_truth true) (sym (left.values _ (interlocking-apart k _))) ∙ h
 
 released-before : (now a : ℕ) (terms : Terms) (s : State) (d : Done) (command : Command)
     → Makes now s d → services.IsReleased (client_at now a terms d.state) (bay_of d.state) command
@@ -74,7 +76,7 @@ released-before now a terms s d command makes is = record {
   enabled =
       enabled-before now command.switch command.on (bay_of s) (bay_of d.state) makes.leaves
       is.enabled;
-  idle = idle-now now s.controls d.state.controls (control.advanced now s.controls).execution
+  idle = idle-now now s.controls d.state.controls (control.controls_at now s.controls).execution
       makes.leaves.busy is.idle refl;
 }
 
@@ -100,20 +102,20 @@ not-empty f [] (x ∷ xs) some = λ e. cc
 not-empty f (b ∷ before) xs some = λ e. cc
 
 makes-said : (now a : ℕ) (terms : Terms) (pdu : List ℕ) (s : State) (d : Done) → Makes now s d
-    → Makes now s (said now a terms pdu d)
+    → Makes now s (after_pdu now a terms pdu d)
 makes-said now a terms pdu s d makes =
     let c = client_at now a terms d.state in
     let b = bay_of d.state in
     record {
       leaves =
-          leaves-then now (bay_of s) b (answered c pdu b).after makes.leaves
+          leaves-then now (bay_of s) b (pdu_answer c pdu b).after makes.leaves
           (request-leaves c pdu b);
       notes = makes.notes;
       released =
-          joined now s d.commands (answered c pdu b).commands makes.released
-          (all-before now a terms s d (answered c pdu b).commands makes (commands-each c pdu b));
+          joined now s d.commands (pdu_answer c pdu b).commands makes.released
+          (all-before now a terms s d (pdu_answer c pdu b).commands makes (commands-each c pdu b));
       replied =
-          λ some. not-empty (λ x. sent_on a (sending terms x)) d.sent (answered c pdu b).sent
+          λ some. not-empty (λ x. sent_on a (sending terms x)) d.sent (pdu_answer c pdu b).sent
           (answer-sent c pdu b);
       sole = λ timed. sole-said c pdu b d.commands (makes.sole timed);
     }
@@ -136,7 +138,7 @@ makes-sent now a octets s d makes =
       sole = makes.sole;
     }
 
-makes-one : (now a : ℕ) (i : Indication) (s : State) (d : Done) (later : Done → Heard)
+makes-one : (now a : ℕ) (i : Indication) (s : State) (d : Done) (later : Done → AllHeard)
     → Makes now s d → ((e : Done) → Makes now s e → Makes now s (later e).done)
     → Makes now s (on_heard now a i d later).done
 makes-one now a (answers octets) s d later makes rest = rest _ (makes-sent now a octets s d makes)
@@ -147,15 +149,16 @@ makes-one now a ends-heard s d later makes rest = makes
 makes-one now a (fails code) s d later makes rest = makes
 
 pub makes-heard : (choice : Option ℕ) (now a : ℕ) (is : List Indication) (s : State) (d : Done)
-    → Makes now s d → Makes now s (heard choice now a is d).done
+    → Makes now s d → Makes now s (after_indications choice now a is d).done
 makes-heard None now a [] s d makes = makes
 makes-heard None now a (i ∷ is) s d makes =
-    makes-one now a i s d (heard None now a is) makes (λ e m. makes-heard None now a is s e m)
+    makes-one now a i s d (after_indications None now a is) makes
+    (λ e m. makes-heard None now a is s e m)
 makes-heard (Some zero) now a [] s d makes = makes
 makes-heard (Some zero) now a (i ∷ is) s d makes = makes
 makes-heard (Some (suc n)) now a [] s d makes = makes
 makes-heard (Some (suc n)) now a (i ∷ is) s d makes =
-    makes-one now a i s d (heard (Some n) now a is) makes
+    makes-one now a i s d (after_indications (Some n) now a is) makes
     (λ e m. makes-heard (Some n) now a is s e m)
 
 -- ---- events
@@ -175,7 +178,7 @@ octets-commanded choice now a s talk [] = none-commanded now s (ended_at now s) 
 octets-commanded choice now a s talk (octet ∷ octets) =
     let makes =
     makes-heard choice now a (indications talk (octet ∷ octets)) s
-    (nothing_done (advanced now s)) (begins now s) in
+    (nothing_done (device_at now s)) (begins now s) in
     record { released = all-of (IsReleasedAt now s) _ makes.released; replied = makes.replied }
 
 recv-commanded : (choice : Option ℕ) (now a : ℕ) (octets : List ℕ) (s : State) (talk : Option Talk)
@@ -253,10 +256,11 @@ octets-single : (choice : Option ℕ) (now a : ℕ) (s : State) (talk : Talk) (o
 octets-single choice now a s talk [] timed = none-single
 octets-single choice now a s talk (octet ∷ octets) timed =
     let made =
-    heard choice now a (indications talk (octet ∷ octets)) (nothing_done (advanced now s)) in
+    after_indications choice now a (indications talk (octet ∷ octets))
+    (nothing_done (device_at now s)) in
     let makes =
     makes-heard choice now a (indications talk (octet ∷ octets)) s
-    (nothing_done (advanced now s)) (begins now s) in
+    (nothing_done (device_at now s)) (begins now s) in
     at-most-one now made.done.commands made.done.state.controls (makes.sole timed).single
 
 recv-single : (choice : Option ℕ) (now a : ℕ) (octets : List ℕ) (s : State) (talk : Option Talk)
@@ -320,9 +324,10 @@ step-single choice now event s timed =
 
 heard-timed : (choice : Option ℕ) (now a : ℕ) (is : List Indication) (s : State)
     → AreTimed s.controls.controls
-    → AreTimed (heard choice now a is (nothing_done (advanced now s))).done.state.controls.controls
+    → AreTimed (after_indications choice now a is
+    (nothing_done (device_at now s))).done.state.controls.controls
 heard-timed choice now a is s timed =
-    ((makes-heard choice now a is s (nothing_done (advanced now s)) (begins now s)).sole
+    ((makes-heard choice now a is s (nothing_done (device_at now s)) (begins now s)).sole
     timed).timed
 
 with-connection-timed : (o : Option ℕ) (talk : Option Talk) (s : State)
@@ -342,7 +347,7 @@ octets-timed : (choice : Option ℕ) (now a : ℕ) (s : State) (talk : Talk) (oc
 octets-timed choice now a s talk [] timed = timed
 octets-timed choice now a s talk (octet ∷ octets) timed =
     let is = indications talk (octet ∷ octets) in
-    let made = heard choice now a is (nothing_done (advanced now s)) in
+    let made = after_indications choice now a is (nothing_done (device_at now s)) in
     after-timed a (left_by talk (octet ∷ octets)) made.done.state made.why
     (heard-timed choice now a is s timed)
 
@@ -357,13 +362,13 @@ open-timed : (now a : ℕ) (s : State) (o : Option ℕ) (talk : Option Talk)
 open-timed now a s None talk timed = timed
 open-timed now a s (Some place) (Some talk) timed = timed
 open-timed now a s (Some place) None timed =
-    with-connection-timed (place_of a) (Some (first_talk a)) (advanced now s) timed
+    with-connection-timed (place_of a) (Some (first_talk a)) (device_at now s) timed
 
 close-timed : (now a : ℕ) (s : State) (talk : Option Talk) → AreTimed s.controls.controls
     → AreTimed (close_outcome now a s talk).after.controls.controls
 close-timed now a s None timed = timed
 close-timed now a s (Some talk) timed =
-    with-connection-timed (place_of a) None (without_owner a (advanced now s)) timed
+    with-connection-timed (place_of a) None (without_owner a (device_at now s)) timed
 
 contact-timed : (now k : ℕ) (position : Dbpos) (s : State) (o : Option Switch)
     → AreTimed s.controls.controls

@@ -16,10 +16,10 @@ use Rattle.bay_control.proofs.LeadsLemmas.{none-leads, two-lead}
 use Rattle.bay_connection.specs.Talk.{Indication, Talk, answers, tells, releases, ends as ends-heard, fails, indications, left_by}
 use Rattle.bay_services.proofs.EntryLemmas.{request-leads}
 use Rattle.bay_services.specs.Entries.{entries_in}
-use Rattle.bay_device.specs.Device.{State, advanced, bay_of, contact_taken}
-use Rattle.bay_device.specs.Entries.{Leading, entries_all, entries_at, entries_close, entries_closed, entries_heard, entries_octets, entries_of_event, entries_on, entries_open, entries_recv, opens, told}
-use Rattle.bay_device.specs.Hearing.{Done, Heard, client_at, heard, on_heard, said}
-use Rattle.bay_device.specs.Outcomes.{Outcome, close_outcome, closed, connection_at, contact_outcome, event_outcome, first_talk, input_outcome, last_moment, measure_outcome, nothing_done, octets_outcome, open_outcome, outcome, outcomes, place_of, refused, recv_after, recv_outcome, with_connection, without_owner}
+use Rattle.bay_device.specs.Device.{State, device_at, bay_of, contact_taken}
+use Rattle.bay_device.specs.Entries.{Leading, entries_all, entries_at, entries_close, entries_closed, entries_heard, entries_octets, entries_of_event, entries_on, entries_open, entries_recv, opens, entries_of_act}
+use Rattle.bay_device.specs.Hearing.{Done, AllHeard, client_at, after_indications, on_heard, after_pdu}
+use Rattle.bay_device.specs.Outcomes.{Outcome, close_outcome, without_connection, connection_at, contact_outcome, event_outcome, first_talk, input_outcome, last_moment, measure_outcome, nothing_done, octets_outcome, open_outcome, outcome, outcomes, place_of, refusal_of, recv_after, recv_outcome, with_connection, without_owner}
 use Rattle.bay_device.specs.Steps.{Steps}
 use Rattle.bay_device.specs.declared.event.Event.{Event}
 use Rattle.bay_device.specs.declared.event.Event.TheVariants.{Open, Recv, Close, Contact, Input, Measure, Scan}
@@ -159,9 +159,10 @@ behind first next s t u p q = record {
 
 -- ---- what ends by itself, and contacts
 
-led-advanced : (now : ℕ) (s : State) → Led [] s (advanced now s)
+led-advanced : (now : ℕ) (s : State) → Led [] s (device_at now s)
 led-advanced now s =
-    called call.Advance now s (advanced now s) refl refl (λ a. opens-same s (advanced now s) a refl)
+    called call.Advance now s (device_at now s) refl refl
+    (λ a. opens-same s (device_at now s) a refl)
     refl
 
 led-contact : (now k : ℕ) (switch : Switch) (position : Dbpos) (s : State)
@@ -186,7 +187,7 @@ kept-if false f a b is opened = refl
 
 led-opened : (now a place : ℕ) (x : Talk) (s : State) → length s.connections ≡ 8
     → place_of a ≡ Some place → connection_at (Some place) s ≡ None
-    → Led (told now (act.Opened a)) s (with_connection (place_of a) (Some x) s)
+    → Led (entries_of_act now (act.Opened a)) s (with_connection (place_of a) (Some x) s)
 led-opened now a place x s sized here none =
     called (call.Open a) now s (with_connection (place_of a) (Some x) s)
     (ap (λ (o : Option ℕ). not (is_some (connection_at o s))) here
@@ -196,9 +197,9 @@ led-opened now a place x s sized here none =
     (sized-with (place_of a) (Some x) s)
 
 led-closed : (now a place : ℕ) (s : State) → length s.connections ≡ 8 → place_of a ≡ Some place
-    → opens s a ≡ true → Led (told now (act.Closed a)) s (closed a s)
+    → opens s a ≡ true → Led (entries_of_act now (act.Closed a)) s (without_connection a s)
 led-closed now a place s sized here opened =
-    called (call.Close a) now s (closed a s) opened
+    called (call.Close a) now s (without_connection a s) opened
     (controls-with (place_of a) None (without_owner a s))
     (λ b. opens-set a b place None (without_owner a s) sized here
     ∙ ap (cond (b == a) false) (opens-same s (without_owner a s) b refl)
@@ -222,14 +223,15 @@ led-after now a place left s (Some why) sized here opened =
 -- ---- what is heard
 
 module _ (now a : ℕ) (is_open : ℕ → Bool) (opened : is_open a ≡ true) where
-  on-heard-leads : (i : Indication) (d : Done) (entries : Done → List Entry) (later : Done → Heard)
+  on-heard-leads : (i : Indication) (d : Done) (entries : Done → List Entry)
+      (later : Done → AllHeard)
       → ((e : Done) → Leads (entries e) is_open e.state.controls is_open
       (later e).done.state.controls)
       → Leads (entries_on now a i d entries) is_open d.state.controls is_open
       (on_heard now a i d later).done.state.controls
   on-heard-leads (answers octets) d entries later rest = rest _
   on-heard-leads (tells terms pdu) d entries later rest =
-      let e : Done = said now a terms pdu d in
+      let e : Done = after_pdu now a terms pdu d in
       two-lead (entries_in (client_at now a terms d.state) pdu (bay_of d.state)) (entries e) is_open
       is_open is_open
       d.state.controls e.state.controls (later e).done.state.controls
@@ -240,44 +242,45 @@ module _ (now a : ℕ) (is_open : ℕ → Bool) (opened : is_open a ≡ true) wh
 
   heard-leads : (choice : Option ℕ) (is : List Indication) (d : Done)
       → Leads (entries_heard choice now a is d) is_open d.state.controls is_open
-      (heard choice now a is d).done.state.controls
+      (after_indications choice now a is d).done.state.controls
   heard-leads None [] d = none-leads is_open d.state.controls
   heard-leads None (i ∷ is) d =
-      on-heard-leads i d (entries_heard None now a is) (heard None now a is)
+      on-heard-leads i d (entries_heard None now a is) (after_indications None now a is)
       (λ e. heard-leads None is e)
   heard-leads (Some zero) [] d = none-leads is_open d.state.controls
   heard-leads (Some zero) (i ∷ is) d = none-leads is_open d.state.controls
   heard-leads (Some (suc n)) [] d = none-leads is_open d.state.controls
   heard-leads (Some (suc n)) (i ∷ is) d =
-      on-heard-leads i d (entries_heard (Some n) now a is) (heard (Some n) now a is)
+      on-heard-leads i d (entries_heard (Some n) now a is) (after_indications (Some n) now a is)
       (λ e. heard-leads (Some n) is e)
 
-on-heard-connected : (now a : ℕ) (i : Indication) (d : Done) (later : Done → Heard)
+on-heard-connected : (now a : ℕ) (i : Indication) (d : Done) (later : Done → AllHeard)
     → ((e : Done) → (later e).done.state.connections ≡ e.state.connections)
     → (on_heard now a i d later).done.state.connections ≡ d.state.connections
 on-heard-connected now a (answers octets) d later rest = rest _
-on-heard-connected now a (tells terms pdu) d later rest = rest (said now a terms pdu d)
+on-heard-connected now a (tells terms pdu) d later rest = rest (after_pdu now a terms pdu d)
 on-heard-connected now a (releases octets) d later rest = refl
 on-heard-connected now a ends-heard d later rest = refl
 on-heard-connected now a (fails code) d later rest = refl
 
 pub heard-connected : (choice : Option ℕ) (now a : ℕ) (is : List Indication) (d : Done)
-    → (heard choice now a is d).done.state.connections ≡ d.state.connections
+    → (after_indications choice now a is d).done.state.connections ≡ d.state.connections
 heard-connected None now a [] d = refl
 heard-connected None now a (i ∷ is) d =
-    on-heard-connected now a i d (heard None now a is) (λ e. heard-connected None now a is e)
+    on-heard-connected now a i d (after_indications None now a is)
+    (λ e. heard-connected None now a is e)
 heard-connected (Some zero) now a [] d = refl
 heard-connected (Some zero) now a (i ∷ is) d = refl
 heard-connected (Some (suc n)) now a [] d = refl
 heard-connected (Some (suc n)) now a (i ∷ is) d =
-    on-heard-connected now a i d (heard (Some n) now a is)
+    on-heard-connected now a i d (after_indications (Some n) now a is)
     (λ e. heard-connected (Some n) now a is e)
 
 led-heard : (choice : Option ℕ) (now a : ℕ) (is : List Indication) (d : Done)
     → opens d.state a ≡ true
-    → Led (entries_heard choice now a is d) d.state (heard choice now a is d).done.state
+    → Led (entries_heard choice now a is d) d.state (after_indications choice now a is d).done.state
 led-heard choice now a is d opened =
-    let h : Heard = heard choice now a is d in
+    let h : AllHeard = after_indications choice now a is d in
     let same : h.done.state.connections ≡ d.state.connections = heard-connected choice now a is d in
     let leads : Leads (entries_heard choice now a is d) (opens d.state) d.state.controls
     (opens d.state) h.done.state.controls =
@@ -307,10 +310,10 @@ led-octets : (choice : Option ℕ) (now a : ℕ) (s : State) (talk : Talk) (octe
 led-octets choice now a s talk [] sized is = led-advanced now s
 led-octets choice now a s talk (octet ∷ octets) sized is =
     let place = place-at a (place_of a) s talk refl is in
-    let t : State = advanced now s in
+    let t : State = device_at now s in
     let left : Talk = left_by talk (octet ∷ octets) in
     let is-heard : List Indication = indications talk (octet ∷ octets) in
-    let h : Heard = heard choice now a is-heard (nothing_done t) in
+    let h : AllHeard = after_indications choice now a is-heard (nothing_done t) in
     let opened : opens t a ≡ true =
     opens-same s t a refl ∙ ap (λ (o : Option Talk). is_some o) is in
     let first : Led [] s t = led-advanced now s in
@@ -342,34 +345,35 @@ module _ (now : ℕ) (s : State) (sized : length s.connections ≡ 8) where
   led-open a None talk here is = nothing s
   led-open a (Some place) (Some talk) here is = nothing s
   led-open a (Some place) None here is =
-      behind [] (told now (act.Opened a)) s (advanced now s)
-      (with_connection (place_of a) (Some (first_talk a)) (advanced now s)) (led-advanced now s)
-      (led-opened now a place (first_talk a) (advanced now s) sized here
-      (connections-at (Some place) s (advanced now s) refl ∙ is))
+      behind [] (entries_of_act now (act.Opened a)) s (device_at now s)
+      (with_connection (place_of a) (Some (first_talk a)) (device_at now s)) (led-advanced now s)
+      (led-opened now a place (first_talk a) (device_at now s) sized here
+      (connections-at (Some place) s (device_at now s) refl ∙ is))
 
   led-close : (a : ℕ) (talk : Option Talk) → connection_at (place_of a) s ≡ talk
       → Led (entries_close now a talk) s (close_outcome now a s talk).after
   led-close a None is = nothing s
   led-close a (Some talk) is =
       let place = place-at a (place_of a) s talk refl is in
-      let opened : opens (advanced now s) a ≡ true =
-      opens-same s (advanced now s) a refl ∙ ap (λ (o : Option Talk). is_some o) is in
-      behind [] (told now (act.Closed a)) s (advanced now s) (closed a (advanced now s))
-      (led-advanced now s) (led-closed now a place.0 (advanced now s) sized place.1 opened)
+      let opened : opens (device_at now s) a ≡ true =
+      opens-same s (device_at now s) a refl ∙ ap (λ (o : Option Talk). is_some o) is in
+      behind [] (entries_of_act now (act.Closed a)) s (device_at now s)
+      (without_connection a (device_at now s))
+      (led-advanced now s) (led-closed now a place.0 (device_at now s) sized place.1 opened)
 
   led-contacted : (k : ℕ) (position : Dbpos) (o : Option Switch)
       → Led [] s (contact_outcome now k position s o).after
   led-contacted k position None = nothing s
   led-contacted k position (Some switch) =
-      behind [] [] s (advanced now s) (contact_taken now k switch position (advanced now s))
-      (led-advanced now s) (led-contact now k switch position (advanced now s))
+      behind [] [] s (device_at now s) (contact_taken now k switch position (device_at now s))
+      (led-advanced now s) (led-contact now k switch position (device_at now s))
 
   -- what leaves controls and connections
-  led-beside : (t : State) → t.controls ≡ (advanced now s).controls → t.connections ≡ s.connections
+  led-beside : (t : State) → t.controls ≡ (device_at now s).controls → t.connections ≡ s.connections
       → Led [] s t
   led-beside t controls connections =
-      behind [] [] s (advanced now s) t (led-advanced now s)
-      (quiet (advanced now s) t controls (λ a. opens-same (advanced now s) t a connections)
+      behind [] [] s (device_at now s) t (led-advanced now s)
+      (quiet (device_at now s) t controls (λ a. opens-same (device_at now s) t a connections)
       (ap (λ (cs : List (Option Talk)). length cs) connections))
 
   led-input : (k : ℕ) (value : Bool) (o : Option Bool)
@@ -403,7 +407,7 @@ module _ (now : ℕ) (s : State) (sized : length s.connections ≡ 8) where
   led-outcome choice event =
       led-if (nat_lt last_moment now) _ _ _ _ (nothing s)
       (led-if (nat_lt now s.moment) [] (entries_of_event choice now event s)
-      (refused TimeWentBack s) (event_outcome choice now event s) (nothing s)
+      (refusal_of TimeWentBack s) (event_outcome choice now event s) (nothing s)
       (led-event choice event))
 
 -- an event, from whatever was before

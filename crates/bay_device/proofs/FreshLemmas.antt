@@ -9,8 +9,8 @@ use Rattle.bay_config.specs.declared.bay.Source.{Source}
 use Rattle.bay_config.specs.declared.bay.Source.TheVariants as source
 use Rattle.bay_connection.specs.Talk.{Indication, Talk, indications, left_by}
 use Rattle.bay_control.specs.Decisions as control
-use Rattle.bay_control.specs.Decisions.{dropped, selected_switch}
-use Rattle.il_compile.proofs.Memories.{set_same}
+use Rattle.bay_control.specs.Decisions.{without_association, selected_switch}
+use Rattle.il_compile.proofs.Memories.{set-same}
 use Rattle.il_image.specs.declared.value.Value.{Value}
 use Rattle.il_image.specs.declared.value.Value.TheVariants.{Long, Truth}
 use Rattle.bay_nodes.specs.Names.{switch_names, meter_names}
@@ -29,10 +29,10 @@ use Rattle.bay_tree.specs.declared.leaf.Leaf.TheVariants as leaf
 use Rattle.bay_tree.specs.declared.leaf.Quality.TheVariants.{Good}
 use Rattle.bay_tree.specs.declared.row.Row.{Row}
 use Rattle.bay_device.specs.Commands.{AreCommanded, IsReleasedAt}
-use Rattle.bay_device.specs.Device.{State, advanced, contact_taken, input_taken, inputs_of, is_fresh, is_recent, measure_taken, point_value, scanned}
+use Rattle.bay_device.specs.Device.{State, device_at, contact_taken, input_taken, inputs_of, is_fresh, is_recent, measure_taken, point_value, after_scan}
 use Rattle.bay_device.specs.Fresh.{AllFresh, Came, HasScan, IsFresh, IsSameProcess, IsSameStatus, Past, with_event}
-use Rattle.bay_device.specs.Hearing.{Done, Heard, heard}
-use Rattle.bay_device.specs.Outcomes.{Outcome, close_outcome, closed, connection_at, contact_outcome, event_outcome, first_talk, input_outcome, last_moment, measure_outcome, nothing_done, octets_outcome, open_outcome, outcome, place_of, recv_after, recv_outcome, refused, with_connection, without_owner}
+use Rattle.bay_device.specs.Hearing.{Done, AllHeard, after_indications}
+use Rattle.bay_device.specs.Outcomes.{Outcome, close_outcome, without_connection, connection_at, contact_outcome, event_outcome, first_talk, input_outcome, last_moment, measure_outcome, nothing_done, octets_outcome, open_outcome, outcome, place_of, recv_after, recv_outcome, refusal_of, with_connection, without_owner}
 use Rattle.bay_device.specs.declared.event.Event.{Event}
 use Rattle.bay_device.specs.declared.event.Event.TheVariants.{Open, Recv, Close, Contact, Input, Measure, Scan}
 use Rattle.bay_device.specs.declared.event.Step.{Step}
@@ -129,16 +129,18 @@ still-then s t u p q = record {
   same = λ h. same-then s t u (p.same (q.stale h)) (q.same h);
 }
 
-still-advanced : (now : ℕ) (s : State) → Still s (advanced now s)
+still-advanced : (now : ℕ) (s : State) → Still s (device_at now s)
 still-advanced now s =
-    still-kept s (advanced now s)
-    (keeps-shown (selected_switch (control.advanced now s.controls).selection) (length s.switches)
+    still-kept s (device_at now s)
+    (keeps-shown (selected_switch (control.controls_at now s.controls).selection)
+    (length s.switches)
     s.rows) refl refl refl
 
 still-dropped : (a : ℕ) (s : State) → Still s (without_owner a s)
 still-dropped a s =
     still-kept s (without_owner a s)
-    (keeps-shown (selected_switch (dropped a s.controls).selection) (length s.switches) s.rows)
+    (keeps-shown (selected_switch (without_association a s.controls).selection) (length s.switches)
+    s.rows)
     refl refl refl
 
 still-with : (s : State) (o : Option ℕ) (x : Option Talk) (t : State) → Still s t
@@ -152,7 +154,7 @@ still-with s (Some place) x t p = record {
       record { positions = same.positions; inputs = same.inputs; measures = same.measures };
 }
 
-still-closed : (s : State) (a : ℕ) (t : State) → Still s t → Still s (closed a t)
+still-closed : (s : State) (a : ℕ) (t : State) → Still s t → Still s (without_connection a t)
 still-closed s a t p =
     still-with s (place_of a) None (without_owner a t)
     (still-then s t (without_owner a t) p (still-dropped a t))
@@ -200,7 +202,7 @@ still-input k value before s here =
           let is : value ≡ before =
           same-truth value before (not-none told (or-none s.is_stale (not told) h).1) in
           process-same s (input_taken k value before s) (λ name apart. refl)
-          (ap (slice_set s.input_values k) is ∙ set_same s.input_values k before here);
+          (ap (slice_set s.input_values k) is ∙ set-same s.input_values k before here);
     }
 
 still-measure : (now k : ℕ) (field : MeterField) (value : ℤ) (s : State)
@@ -237,10 +239,10 @@ still-octets : (choice : Option ℕ) (now a : ℕ) (s : State) (talk : Talk) (oc
 still-octets choice now a s talk [] = still-advanced now s
 still-octets choice now a s talk (octet ∷ octets) =
     let is : List Indication = indications talk (octet ∷ octets) in
-    let h : Heard = heard choice now a is (nothing_done (advanced now s)) in
+    let h : AllHeard = after_indications choice now a is (nothing_done (device_at now s)) in
     still-recv a (left_by talk (octet ∷ octets)) s h.done.state h.why
     (still-made now s h.done
-    (makes-heard choice now a is s (nothing_done (advanced now s)) (begins now s)))
+    (makes-heard choice now a is s (nothing_done (device_at now s)) (begins now s)))
 
 -- ---- the scan that stands behind
 
@@ -292,7 +294,7 @@ module _ (past : List Past) (s : State) (tracks : Tracks past s) (now : ℕ) whe
   unfolding with_event
   led-scan = record {
     since_scan = λ m scans fresh.
-        let t : State = scanned now (advanced now s) in
+        let t : State = after_scan now (device_at now s) in
         let at : now ≡ m = (let e : (let o : Option ℕ = Some now in o) ≡ Some m = scans in cc) in
         record {
           since = [];
@@ -318,13 +320,13 @@ module _ (past : List Past) (s : State) (tracks : Tracks past s) (now : ℕ) whe
   led-open a None talk = led-still (Open a) _ (still-none s)
   led-open a (Some place) (Some talk) = led-still (Open a) _ (still-none s)
   led-open a (Some place) None =
-      led-still (Open a) _ (still-with s (place_of a) (Some (first_talk a)) (advanced now s)
+      led-still (Open a) _ (still-with s (place_of a) (Some (first_talk a)) (device_at now s)
       (still-advanced now s))
 
   led-close : (a : ℕ) (talk : Option Talk) → Led now (Close a) past (close_outcome now a s talk)
   led-close a None = led-still (Close a) _ (still-none s)
   led-close a (Some talk) =
-      led-still (Close a) _ (still-closed s a (advanced now s) (still-advanced now s))
+      led-still (Close a) _ (still-closed s a (device_at now s) (still-advanced now s))
 
   led-recv : (choice : Option ℕ) (a : ℕ) (event : Event) (octets : List ℕ) (talk : Option Talk)
       → Led now event past (recv_outcome choice now a octets s talk)
@@ -336,7 +338,7 @@ module _ (past : List Past) (s : State) (tracks : Tracks past s) (now : ℕ) whe
       → Led now (Contact k position) past (contact_outcome now k position s o)
   led-contact k position None = led-still (Contact k position) _ (still-none s)
   led-contact k position (Some switch) =
-      let t : State = advanced now s in
+      let t : State = device_at now s in
       led-still (Contact k position) _ (still-then s t (contact_taken now k switch position t)
       (still-advanced now s) (still-contact now k switch position t))
 
@@ -344,7 +346,7 @@ module _ (past : List Past) (s : State) (tracks : Tracks past s) (now : ℕ) whe
       → Led now (Input k value) past (input_outcome now k value s o)
   led-input k value None here = led-still (Input k value) _ (still-none s)
   led-input k value (Some before) here =
-      let t : State = advanced now s in
+      let t : State = device_at now s in
       led-still (Input k value) _ (still-then s t (input_taken k value before t)
       (still-advanced now s) (still-input k value before t here))
 
@@ -352,7 +354,7 @@ module _ (past : List Past) (s : State) (tracks : Tracks past s) (now : ℕ) whe
       → Led now (Measure k field value) past (measure_outcome now k field value s o)
   led-measure k field value None = led-still (Measure k field value) _ (still-none s)
   led-measure k field value (Some id) =
-      let t : State = advanced now s in
+      let t : State = device_at now s in
       led-still (Measure k field value) _ (still-then s t (measure_taken now k field value t)
       (still-advanced now s) (still-measure now k field value t))
 
@@ -374,9 +376,9 @@ module _ (past : List Past) (s : State) (tracks : Tracks past s) (now : ℕ) whe
 
   led : (choice : Option ℕ) (event : Event) → Led now event past (outcome choice now event s)
   led choice event =
-      led-if (nat_lt last_moment now) event (refused MomentTooLarge s) _
+      led-if (nat_lt last_moment now) event (refusal_of MomentTooLarge s) _
       (led-still event _ (still-none s))
-      (led-if (nat_lt now s.moment) event (refused TimeWentBack s) _
+      (led-if (nat_lt now s.moment) event (refusal_of TimeWentBack s) _
       (led-still event _ (still-none s)) (led-event choice event))
 
 -- ---- commands

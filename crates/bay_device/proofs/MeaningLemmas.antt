@@ -11,9 +11,9 @@ use Rattle.bay_config.specs.declared.bay.Source.{Source}
 use Rattle.bay_config.specs.declared.bay.Source.TheVariants as source
 use Rattle.bay_nodes.specs.declared.switch.Switch.{Switch}
 use Rattle.bay_config.specs.declared.bay.SwitchPoint.TheVariants.{Position, Open, Closed, EnableOpen, EnableClose}
-use Rattle.il_image.specs.Machine.{Halted, run, initial_state}
+use Rattle.il_image.specs.Machine.{Halted, run_from, initial_state}
 use Rattle.il_image.specs.Values.{type_of}
-use Rattle.il_image.proofs.ValueLemmas.{default_typed}
+use Rattle.il_image.proofs.ValueLemmas.{default-typed}
 use Rattle.il_image.specs.declared.image.ImagePoint.{ImagePoint}
 use Rattle.il_image.specs.declared.timer.TimerState.{TimerState}
 use Rattle.il_image.specs.declared.value.Value.{Value}
@@ -32,8 +32,8 @@ use Rattle.bay_process.proofs.SourceLemmas.{IsTyped, bay-typed, points-fit, read
 use Rattle.il_compile.specs.Meaning.{Memory}
 use Rattle.il_scan.specs.Scans.{Held, first_input, first_slots, outputs_of, read_only, type_of_point, with_inputs}
 use Rattle.bay_connection.specs.Talk.{Talk, Indication, indications, left_by, answers, tells, releases, ends as ends-heard, fails}
-use Rattle.bay_device.specs.Device.{State, Ran, advanced, ending_at, inputs_of, point_value, ran_at, ran_of, scanned}
-use Rattle.bay_device.specs.Hearing.{Done, Heard, heard, on_heard}
+use Rattle.bay_device.specs.Device.{State, Ran, device_at, ending_at, inputs_of, point_value, ran_at, ran_of, after_scan}
+use Rattle.bay_device.specs.Hearing.{Done, AllHeard, after_indications, on_heard}
 use Rattle.bay_device.specs.Outcomes.{Outcome, close_outcome, connection_at, contact_outcome, event_outcome, input_outcome, last_moment, measure_outcome, nothing_done, octets_outcome, open_outcome, outcome, outcomes, place_of, recv_after, recv_outcome, with_connection}
 use Rattle.bay_device.specs.declared.event.Why.{Why}
 use Rattle.bay_process.specs.Values.{with_outputs}
@@ -172,7 +172,7 @@ module _ (c : Checked) (s : State) (r : Runs c s) (now : ℕ) where
   after = follows.means.after
 
   ends : ending_at now s ≡ Halted (after.externals ++ after.variables) after.timers follows.steps
-  ends = ap (λ (slots : List Value). run s.machine.image.code now (length s.machine.image.code)
+  ends = ap (λ (slots : List Value). run_from s.machine.image.code now (length s.machine.image.code)
       (initial_state slots s.machine.timers) 0)
       (sym (take-append-drop count (with_inputs points (inputs_of s) s.machine.slots)))
       ∙ follows.halts
@@ -197,7 +197,7 @@ module _ (c : Checked) (s : State) (r : Runs c s) (now : ℕ) where
       ap₂ (λ es vs. let m : Memory =
       record { externals = es; variables = vs; timers = after.timers } in m) externals variables
 
-  keeps : memory_of c (scanned now s).machine.slots (scanned now s).machine.timers ≡ after
+  keeps : memory_of c (after_scan now s).machine.slots (after_scan now s).machine.timers ≡ after
   keeps = ap (λ (x : Ran). memory_of c x.slots x.timers) ran ∙ kept
 
   pub means-scan : Means c now s
@@ -213,7 +213,7 @@ module _ (c : Checked) (s : State) (r : Runs c s) (now : ℕ) where
         ∙ ap (λ (ps : List ImagePoint). outputs_of ps after.externals) r.points);
   }
 
-  pub runs-on : Runs c (scanned now s)
+  pub runs-on : Runs c (after_scan now s)
   runs-on = record {
     points = r.points;
     does = r.does;
@@ -244,7 +244,7 @@ connected : (o : Option ℕ) (talk : Option Talk) (s t : State) → SameProgram 
 connected None talk s t same = same
 connected (Some place) talk s t same = record { machine = same.machine; reads = same.reads }
 
-on-heard : (now a : ℕ) (i : Indication) (s : State) (d : Done) (later : Done → Heard)
+on-heard : (now a : ℕ) (i : Indication) (s : State) (d : Done) (later : Done → AllHeard)
     → SameProgram s d.state
     → ((e : Done) → SameProgram s e.state → SameProgram s (later e).done.state)
     → SameProgram s (on_heard now a i d later).done.state
@@ -256,15 +256,17 @@ on-heard now a ends-heard s d later same rest = same
 on-heard now a (fails code) s d later same rest = same
 
 same-heard : (choice : Option ℕ) (now a : ℕ) (is : List Indication) (s : State) (d : Done)
-    → SameProgram s d.state → SameProgram s (heard choice now a is d).done.state
+    → SameProgram s d.state → SameProgram s (after_indications choice now a is d).done.state
 same-heard None now a [] s d same = same
 same-heard None now a (i ∷ is) s d same =
-    on-heard now a i s d (heard None now a is) same (λ e h. same-heard None now a is s e h)
+    on-heard now a i s d (after_indications None now a is) same
+    (λ e h. same-heard None now a is s e h)
 same-heard (Some zero) now a [] s d same = same
 same-heard (Some zero) now a (i ∷ is) s d same = same
 same-heard (Some (suc n)) now a [] s d same = same
 same-heard (Some (suc n)) now a (i ∷ is) s d same =
-    on-heard now a i s d (heard (Some n) now a is) same (λ e h. same-heard (Some n) now a is s e h)
+    on-heard now a i s d (after_indications (Some n) now a is) same
+    (λ e h. same-heard (Some n) now a is s e h)
 
 same-after : (a : ℕ) (left : Talk) (s t : State) (why : Option Why) → SameProgram s t
     → SameProgram s (recv_after a left t why)
@@ -278,7 +280,7 @@ same-octets choice now a s talk [] = record { machine = refl; reads = refl }
 same-octets choice now a s talk (octet ∷ octets) =
     same-after a (left_by talk (octet ∷ octets)) s _ _
     (same-heard choice now a (indications talk (octet ∷ octets)) s
-    (nothing_done (advanced now s)) (record { machine = refl; reads = refl }))
+    (nothing_done (device_at now s)) (record { machine = refl; reads = refl }))
 
 same-recv : (choice : Option ℕ) (now a : ℕ) (octets : List ℕ) (s : State) (talk : Option Talk)
     → SameProgram s (recv_outcome choice now a octets s talk).after
@@ -290,7 +292,7 @@ same-open : (now a : ℕ) (s : State) (o : Option ℕ) (talk : Option Talk)
 same-open now a s None talk = record { machine = refl; reads = refl }
 same-open now a s (Some place) (Some talk) = record { machine = refl; reads = refl }
 same-open now a s (Some place) None =
-    connected (place_of a) _ s (advanced now s) (record { machine = refl; reads = refl })
+    connected (place_of a) _ s (device_at now s) (record { machine = refl; reads = refl })
 
 same-close : (now a : ℕ) (s : State) (talk : Option Talk)
     → SameProgram s (close_outcome now a s talk).after
@@ -299,8 +301,8 @@ same-close now a s (Some talk) =
     connected (place_of a) None s _ (record { machine = refl; reads = refl })
 
 module _ (c : Checked) (s : State) (r : Runs c s) (now : ℕ) where
-  runs-advanced : Runs c (advanced now s)
-  runs-advanced = runs-as c s (advanced now s) r refl refl
+  runs-advanced : Runs c (device_at now s)
+  runs-advanced = runs-as c s (device_at now s) r refl refl
 
   runs-same : (t : State) → SameProgram s t → Runs c t
   runs-same t same = runs-as c s t r same.machine same.reads
@@ -329,7 +331,7 @@ module _ (c : Checked) (s : State) (r : Runs c s) (now : ℕ) where
   runs-event choice (Contact k position) = runs-contact k position (slice_get s.switches k)
   runs-event choice (Input k value) = runs-input k value (slice_get s.input_values k)
   runs-event choice (Measure k field value) = runs-measure k field value (slice_get s.meters k)
-  runs-event choice Scan = runs-on c (advanced now s) runs-advanced now
+  runs-event choice Scan = runs-on c (device_at now s) runs-advanced now
 
   runs-if : (b : Bool) (x y : Outcome) → Runs c x.after → Runs c y.after → Runs c (cond b x y).after
   runs-if true x y h k = h
@@ -341,7 +343,7 @@ module _ (c : Checked) (s : State) (r : Runs c s) (now : ℕ) where
       (runs-if (nat_lt now s.moment) _ _ r (runs-event choice event))
 
   pub means-event : (event : Event) → MeansAt c now event s
-  means-event Scan = means-scan c (advanced now s) runs-advanced now
+  means-event Scan = means-scan c (device_at now s) runs-advanced now
   means-event (Open a) = tt
   means-event (Recv a octets) = tt
   means-event (Close a) = tt
@@ -378,7 +380,7 @@ first-typed : (es : List External) (vs : List Value)
     ≡ map (λ (e : External). e.kind) es
 first-typed [] vs = refl
 first-typed (e ∷ es) vs =
-    ap₂ (λ (t : ElementaryType) (ts : List ElementaryType). t ∷ ts) (default_typed e.kind).0
+    ap₂ (λ (t : ElementaryType) (ts : List ElementaryType). t ∷ ts) (default-typed e.kind).0
     (first-typed es vs)
 
 first-behind : (es : List External) (vs : List Value)

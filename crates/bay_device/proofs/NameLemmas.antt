@@ -14,7 +14,7 @@ use Rattle.bay_tree.specs.declared.leaf.Leaf.TheVariants as leaf
 use Rattle.bay_tree.specs.declared.leaf.Quality.{Quality}
 use Rattle.bay_tree.specs.declared.leaf.Quality.TheVariants.{Good}
 use Rattle.bay_tree.specs.declared.row.Row.{Row}
-use Rattle.bay_process.specs.Values.{counted, is_operation, operation_counted, output_of, position_quality, rows_after_change, rows_after_contact, rows_after_measure, tells, tells_measure, with_enabled, with_output, with_outputs, with_status}
+use Rattle.bay_process.specs.Values.{with_count, is_operation, operation_counted, output_of, position_quality, rows_after_change, rows_after_contact, rows_after_measure, tells, tells_measure, with_enabled, with_output, with_outputs, with_status}
 
 leaf-if : (b : Bool) (r : Row) (v : Leaf)
     → (cond b (let s : Row = record { name = r.name; leaf = Some v } in s) r).name ≡ r.name
@@ -42,7 +42,7 @@ names-if true old xs ys p q = p
 names-if false old xs ys p q = q
 
 counted-names : (names : StatusNames) (value : Option Leaf) (now : ℕ) (rows : List Row)
-    → names_of (counted names value now rows) ≡ names_of rows
+    → names_of (with_count names value now rows) ≡ names_of rows
 counted-names names None now rows = refl
 counted-names names (Some (leaf.Truth v)) now rows = refl
 counted-names names (Some (leaf.Dbpos v)) now rows = refl

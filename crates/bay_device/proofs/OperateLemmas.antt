@@ -14,11 +14,11 @@ use Rattle.bay_services.specs.declared.answer.Command.{Command}
 use Rattle.bay_services.specs.declared.client.Client.{Client}
 use Rattle.bay_services.proofs.OperateLemmas.{answer-operates, operates-append}
 use Rattle.bay_tree.specs.declared.leaf.Dbpos.{Dbpos}
-use Rattle.bay_device.specs.Device.{State, advanced, bay_of}
+use Rattle.bay_device.specs.Device.{State, device_at, bay_of}
 use Rattle.bay_device.specs.Entries.{IsIdle, entries_at, entries_close, entries_closed, entries_heard, entries_octets, entries_of_event, entries_on, entries_open, entries_recv}
-use Rattle.bay_device.specs.Hearing.{Done, Heard, client_at, heard, on_heard, said, with_sent}
+use Rattle.bay_device.specs.Hearing.{Done, AllHeard, client_at, after_indications, on_heard, after_pdu, with_sent}
 use Rattle.bay_device.specs.Operates.{AllOperate, AreOperates, AreReplied, AreRepliedAt, IsReplied}
-use Rattle.bay_device.specs.Outcomes.{Outcome, close_outcome, connection_at, contact_outcome, event_outcome, input_outcome, last_moment, measure_outcome, nothing_done, octets_outcome, open_outcome, outcome, outcomes, place_of, recv_outcome, refused}
+use Rattle.bay_device.specs.Outcomes.{Outcome, close_outcome, connection_at, contact_outcome, event_outcome, input_outcome, last_moment, measure_outcome, nothing_done, octets_outcome, open_outcome, outcome, outcomes, place_of, recv_outcome, refusal_of}
 use Rattle.bay_device.specs.Told.{AreTalks, behind_one, of_answer, pdus_in, talk_at, told_closed, told_heard, told_recv, told_step}
 use Rattle.bay_device.specs.declared.event.Event.{Event}
 use Rattle.bay_device.specs.declared.event.Event.TheVariants.{Open, Recv, Close, Contact, Input, Measure, Scan}
@@ -39,17 +39,17 @@ only x = (0, omega arith, refl)
 -- ---- what was heard
 
 -- the commands then are those before, and those of these entries
-abbrev Adds : Done → List Entry → Heard → Type 0
+abbrev Adds : Done → List Entry → AllHeard → Type 0
 Adds d entries h = h.done.commands ≡ d.commands ++ operates_in entries
 
-on-adds : (now a : ℕ) (i : Indication) (d : Done) (later : Done → Heard)
+on-adds : (now a : ℕ) (i : Indication) (d : Done) (later : Done → AllHeard)
     (entries : Done → List Entry) → ((e : Done) → Adds e (entries e) (later e))
     → Adds d (entries_on now a i d entries) (on_heard now a i d later)
 on-adds now a (answers octets) d later entries rest = rest (with_sent a octets d)
 on-adds now a (tells terms pdu) d later entries rest =
     let c : Client = client_at now a terms d.state in
     let b : Bay = bay_of d.state in
-    let e : Done = said now a terms pdu d in
+    let e : Done = after_pdu now a terms pdu d in
     let own : List Entry = entries_in c pdu b in
     rest e
     ∙ ap (λ cs. (d.commands ++ cs) ++ operates_in (entries e)) (answer-operates c pdu b)
@@ -60,16 +60,16 @@ on-adds now a ends-heard d later entries rest = sym (append-nil d.commands)
 on-adds now a (fails code) d later entries rest = sym (append-nil d.commands)
 
 heard-adds : (choice : Option ℕ) (now a : ℕ) (is : List Indication) (d : Done)
-    → Adds d (entries_heard choice now a is d) (heard choice now a is d)
+    → Adds d (entries_heard choice now a is d) (after_indications choice now a is d)
 heard-adds None now a [] d = sym (append-nil d.commands)
 heard-adds None now a (i ∷ is) d =
-    on-adds now a i d (heard None now a is) (entries_heard None now a is)
+    on-adds now a i d (after_indications None now a is) (entries_heard None now a is)
     (heard-adds None now a is)
 heard-adds (Some zero) now a [] d = sym (append-nil d.commands)
 heard-adds (Some zero) now a (i ∷ is) d = sym (append-nil d.commands)
 heard-adds (Some (suc n)) now a [] d = sym (append-nil d.commands)
 heard-adds (Some (suc n)) now a (i ∷ is) d =
-    on-adds now a i d (heard (Some n) now a is) (entries_heard (Some n) now a is)
+    on-adds now a i d (after_indications (Some n) now a is) (entries_heard (Some n) now a is)
     (heard-adds (Some n) now a is)
 
 -- ---- an event
@@ -88,9 +88,9 @@ octets-gives : (choice : Option ℕ) (now a : ℕ) (s : State) (talk : Talk) (oc
 octets-gives choice now a s talk [] = refl
 octets-gives choice now a s talk (octet ∷ octets) =
     let is : List Indication = indications talk (octet ∷ octets) in
-    let d : Done = nothing_done (advanced now s) in
+    let d : Done = nothing_done (device_at now s) in
     let own : List Entry = entries_heard choice now a is d in
-    let why : Option Why = (heard choice now a is d).why in
+    let why : Option Why = (after_indications choice now a is d).why in
     heard-adds choice now a is d ∙ sym (append-nil (operates_in own))
     ∙ ap (λ cs. operates_in own ++ cs) (sym (closed-none now a why))
     ∙ sym (operates-append own (entries_closed now a why))
@@ -150,8 +150,8 @@ gives-if false xs ys x y p q = q
 outcome-gives : (choice : Option ℕ) (now : ℕ) (event : Event) (s : State)
     → Gives (entries_at choice now event s) (outcome choice now event s).answer
 outcome-gives choice now event s =
-    gives-if (nat_lt last_moment now) [] _ (refused MomentTooLarge s) _ tt
-    (gives-if (nat_lt now s.moment) [] _ (refused TimeWentBack s) _ tt
+    gives-if (nat_lt last_moment now) [] _ (refusal_of MomentTooLarge s) _ tt
+    (gives-if (nat_lt now s.moment) [] _ (refusal_of TimeWentBack s) _ tt
     (event-gives choice now event s))
 
 -- ---- responses
@@ -235,7 +235,8 @@ replied-heard now a n (tells terms pdu ∷ is) pdus x found =
     elim (Contains-append_cases (operates_in own) (operates_in rest) x
     (subst (λ (cs : List Command). Contains cs x) (operates-append own rest) found)) [
       | inl here ↦ replied-own now a n terms pdu is response.0 pdus x (first-in may pdus) here
-      | inr later ↦ replied-later now a n (tells terms pdu) is response.1 pdus x (behind-in may pdus)
+      | inr later ↦ replied-later now a n (tells terms pdu) is response.1 pdus x
+          (behind-in may pdus)
           (replied-heard now a n is response.1 x later)
     ]
 replied-heard now a n (releases octets ∷ is) pdus x found = absurd (none-in x found)

@@ -3,10 +3,10 @@ use Rattle.std.proofs.Common.{◌≡◌, ◌<◌, ℕ, List, [], ◌∷◌, leng
 use Rattle.std.proofs.lemmas.List.{set-set}
 use Rattle.std.specs.Result.{OnOk, IfErr, result_err}
 use Rattle.bay_connection.specs.Talk.{Talk, left_by}
-use Rattle.bay_device.specs.Device.{State, advanced, ended_at}
+use Rattle.bay_device.specs.Device.{State, device_at, ended_at}
 use Rattle.bay_device.specs.Hearing.{Done}
 use Rattle.bay_device.specs.HearingViews.{ComesTo}
-use Rattle.bay_device.specs.Outcomes.{Outcome, closed_by, connection_at, event_outcome, last_moment, nothing_done, outcome, place_of, refused, recv_after, recv_done, recv_outcome, with_connection, without_owner}
+use Rattle.bay_device.specs.Outcomes.{Outcome, closed_by, connection_at, event_outcome, last_moment, nothing_done, outcome, place_of, refusal_of, recv_after, recv_done, recv_outcome, with_connection, without_owner}
 use Rattle.bay_device.specs.Steps.{IsOutcome, HearsFrom, IsWithoutOctets, Receives, Steps}
 use Rattle.bay_device.specs.declared.event.Event.{Event}
 use Rattle.bay_device.specs.declared.event.Event.TheVariants.{Open, Recv, Close, Contact, Input, Measure, Scan}
@@ -75,7 +75,7 @@ heard-from now a octets told s new talk why e comes is =
 
 pub received : (now a : ℕ) (octets : List ℕ) (old new : State) (talk : Talk) (step : Step)
     → connection_at (place_of a) old ≡ Some talk → 0 < length octets
-    → HearsFrom now a octets (ended_at now old) (advanced now old) talk step new
+    → HearsFrom now a octets (ended_at now old) (device_at now old) talk step new
     → Receives now a octets old (Ok step) new
 received now a [] old new talk step here some hears = absurd (omega arith)
 received now a (octet ∷ octets) old new talk step here some hears =
@@ -91,7 +91,7 @@ pub received-none : (now a : ℕ) (old : State) (talk : Talk)
     → connection_at (place_of a) old ≡ Some talk
     → Receives now a [] old (Ok
     (record { ended = ended_at now old; sent = []; commands = []; closed = None; scan = None }))
-    (advanced now old)
+    (device_at now old)
 received-none now a old talk here =
     let whole = ap (recv_outcome None now a [] old) here in
     record {
@@ -161,8 +161,8 @@ pub one-outcome : (now : ℕ) (event : Event) (s : State) (answer : Result Step 
     → IsOutcome (outcome None now event s) answer new
 one-outcome now event s answer new steps h =
     let same : outcome steps.choice now event s ≡ outcome None now event s =
-    ap (λ (x : Outcome). cond (nat_lt last_moment now) (refused MomentTooLarge s)
-    (cond (nat_lt now s.moment) (refused TimeWentBack s) x))
+    ap (λ (x : Outcome). cond (nat_lt last_moment now) (refusal_of MomentTooLarge s)
+    (cond (nat_lt now s.moment) (refusal_of TimeWentBack s) x))
     (one-event steps.choice now event s h) in
     record {
       answered = steps.answered ∙ ap (λ (o : Outcome). o.answer) same;

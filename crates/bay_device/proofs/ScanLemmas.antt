@@ -8,13 +8,13 @@ use Rattle.bay_config.specs.declared.bay.Source.{Source}
 use Rattle.bay_config.specs.declared.bay.Source.TheVariants as source
 use Rattle.bay_nodes.specs.declared.switch.Switch.{Switch}
 use Rattle.bay_config.specs.declared.bay.SwitchPoint.{SwitchPoint}
-use Rattle.il_image.specs.Machine.{Halted, Ending, run}
+use Rattle.il_image.specs.Machine.{Halted, Ending, run_from}
 use Rattle.il_image.specs.declared.value.Value.{Value}
 use Rattle.il_image.specs.declared.value.Value.TheVariants.{Long}
 use Rattle.il_scan.specs.Places.{is_true}
-use Rattle.il_scan.specs.Scans.{Held, Scans, outputs_of, started}
+use Rattle.il_scan.specs.Scans.{Held, Scans, outputs_of, scan_start}
 use Rattle.bay_connection.specs.Talk.{Talk}
-use Rattle.bay_device.specs.Device.{Ran, after_run, ending_at, inputs_of, point_value, ran_at, ran_of, scanned}
+use Rattle.bay_device.specs.Device.{Ran, after_run, ending_at, inputs_of, point_value, ran_at, ran_of, after_scan}
 use Rattle.bay_process.specs.Values.{measure_leaf, number_of_leaf, output_at, position_leaf, position_value, with_output, with_outputs}
 use Rattle.bay_process.specs.Layout.{Layout, layout_of, switches_of, IsBound, AreBound, AreLeafTyped, AreMetersBound, AreMetersLeafTyped}
 use Rattle.bay_device.specs.Meaning.{Halts}
@@ -138,7 +138,8 @@ module _ (connections : List (Option Talk)) (d : DeviceState) (now : ℕ) (input
   pub ended : ending_at now (state_view connections d) ≡ Halted new.slots new.timers steps
   ended =
       ap (λ is. let s : Ending =
-      run d.machine.image.code now (length d.machine.image.code) (started d.machine is) 0 in s)
+      run_from d.machine.image.code now (length d.machine.image.code) (scan_start d.machine is) 0 in
+      s)
       (sym read)
       ∙ did.halts (length d.machine.image.code) did.few
 
@@ -160,7 +161,7 @@ module _ (connections : List (Option Talk)) (d : DeviceState) (now : ℕ) (input
       → rows ≡ outputs_put (layout_of d.bay.tree) d.bay.switches outputs now d.bay.tree
       → record (state_view connections d)
       { machine = new; rows = rows; last_scan = Some now; is_stale = false }
-      ≡ scanned now (state_view connections d)
+      ≡ after_scan now (state_view connections d)
   scan-done rows writes =
       let s = state_view connections d in
       let written : rows ≡ with_outputs s.switches s.writes outputs now 0 s.switches s.rows =

@@ -4,13 +4,13 @@ use Rattle.bay_base.specs.Options.{◌>>=◌}
 use Rattle.bay_ber.specs.Values.{Part, under, value, value_in, values_in}
 use Rattle.bay_ber.specs.Writing.{element, integer_octets}
 use Rattle.bay_ber.specs.declared.tag.Tag.{Tag}
-use Rattle.bay_ber.proofs.BackLemmas.{one_read}
-use Rattle.bay_ber.proofs.ListingLemmas.{values_again}
+use Rattle.bay_ber.proofs.BackLemmas.{one-read}
+use Rattle.bay_ber.proofs.ListingLemmas.{values-again}
 use Rattle.bay_ber.proofs.SizeLemmas.{length-element, length-integer_octets}
-use Rattle.bay_ber.proofs.WriteLemmas.{element_spells}
+use Rattle.bay_ber.proofs.WriteLemmas.{element-spells}
 use Rattle.bay_mms.specs.Tags.{constructed, int_tag, sequence}
 use Rattle.bay_transport.specs.Doings.{Run}
-use Rattle.bay_transport.specs.Wrap.{full_before, wrapped}
+use Rattle.bay_transport.specs.Wrap.{full_before, tpdus_of}
 use Rattle.bay_transport.proofs.WrapLemmas.{run-data_frames}
 use Rattle.bay_assoc.specs.Hears.{association_terms}
 use Rattle.bay_assoc.specs.Session.{Spdu, spdu_in, transfer}
@@ -25,7 +25,7 @@ use Rattle.bay_device.proofs.TalkLemmas.{IsOpen}
 
 -- the TSDU in data TPDUs of any size
 tsdu-read : (size : ℕ) (tsdu : List ℕ) → length tsdu ≤ 70000
-    → tsdu_in (wrapped size tsdu) ≡ Some tsdu
+    → tsdu_in (tpdus_of size tsdu) ≡ Some tsdu
 tsdu-read size tsdu few =
     ap (λ (r : Run). only_tsdu r.doings)
     (run-data_frames 0 0 (size - 3) (full_before (size - 3) tsdu) [] tsdu few)
@@ -37,11 +37,11 @@ spdu-read user = refl
 one-value : (tag : Tag) (content : List ℕ) → tag.number < 31 → length content < 4294967296
     → value_in (element tag content) ≡ Some (value tag content)
 one-value tag content small short =
-    one_read (element tag content) (value tag content) (
+    one-read (element tag content) (value tag content) (
       element tag content,
       [],
       sym (append-nil (element tag content)),
-      element_spells tag content small short,
+      element-spells tag content small short,
       refl,
     )
 
@@ -52,12 +52,12 @@ two-values : (one two : Tag) (first second : List ℕ) → one.number < 31 → t
 two-values one two first second a b c d =
     let x : List ℕ = element one first in
     let y : List ℕ = element two second in
-    values_again (x ++ y) (value one first ∷ value two second ∷ []) (
+    values-again (x ++ y) (value one first ∷ value two second ∷ []) (
       x,
       y,
       refl,
-      element_spells one first a c,
-      (y, [], sym (append-nil y), element_spells two second b d, refl),
+      element-spells one first a c,
+      (y, [], sym (append-nil y), element-spells two second b d, refl),
     )
 
 value-read : (id : ℕ) (pdu : List ℕ) → length pdu ≤ 65000 → value_of (user_text id pdu) ≡ Some pdu

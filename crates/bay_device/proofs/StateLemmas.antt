@@ -8,14 +8,14 @@ use Rattle.bay_control.specs.declared.selection.Standing.{Standing}
 use Rattle.bay_process.specs.Told.{AreTold}
 use Rattle.bay_process.specs.declared.switch.Enabled.{Enabled}
 use Rattle.bay_process.proofs.ToldLemmas.{told-kept}
-use Rattle.bay_services.specs.Bay.{Bay, ShowSelection, shown, standing_again, with_controls}
+use Rattle.bay_services.specs.Bay.{Bay, ShowSelection, rows_shown, standing_again, with_controls}
 use Rattle.bay_services.proofs.ReleaseLemmas.{interlocking-apart, keeps-shown}
 
 -- rows that show another selection
 pub told-shown : (rows new : List Row) (told : List (Option Enabled)) (selected : Option ℕ)
-    (count : ℕ) → AreTold rows told → new ≡ shown selected count rows → AreTold new told
+    (count : ℕ) → AreTold rows told → new ≡ rows_shown selected count rows → AreTold new told
 told-shown rows new told selected count all is =
-    rw is (told-kept rows (shown selected count rows) told all
+    rw is (told-kept rows (rows_shown selected count rows) told all
     (λ k s. keeps-shown selected count rows (interlocking_of k ++ s) (interlocking-apart k s)))
 
 pub told-with : (old new : Bay) (controls : control.State) (told : List (Option Enabled))
@@ -30,8 +30,8 @@ pub told-again : (old new : Bay) (told : List (Option Enabled)) → AreTold old.
     → ((standing : Standing) → standing_again standing new ≡ standing_again standing old)
     → ShowSelection new.controls (length new.switches) new.rows → AreTold new.rows told
 told-again old new told all back shows =
-    let own : shown (selected_switch new.controls.selection) (length new.switches) new.rows
-    ≡ shown (selected_switch new.controls.selection) (length old.switches) old.rows =
+    let own : rows_shown (selected_switch new.controls.selection) (length new.switches) new.rows
+    ≡ rows_shown (selected_switch new.controls.selection) (length old.switches) old.rows =
     ap (λ (b : Bay). b.rows) (back (standing_of new.controls)) in
     told-shown old.rows new.rows told (selected_switch new.controls.selection) (length old.switches)
     all (sym shows ∙ own)

@@ -4,7 +4,7 @@ use Rattle.bay_tree.specs.declared.row.Row.{Row}
 use Rattle.bay_tree.specs.declared.leaf.Dbpos.{Dbpos}
 use Rattle.bay_config.specs.declared.bay.MeterField.{MeterField}
 use Rattle.bay_control.specs.Decisions as control
-use Rattle.bay_control.specs.Decisions.{contacted, is_done}
+use Rattle.bay_control.specs.Decisions.{after_contact, is_done}
 use Rattle.bay_nodes.specs.declared.switch.Switch.{Switch}
 use Rattle.bay_nodes.specs.Names.{StatusNames, SwitchNames, switch_names, meter_names}
 use Rattle.bay_process.specs.Names.{field_names}
@@ -17,7 +17,7 @@ pub contact-done : (s : State) (k : ℕ) (switch : Switch) (names : SwitchNames)
     → names ≡ switch_names s.switches k switch
     → changed ≡ not (tells names.position position s.rows)
     → rows ≡ rows_after_contact names position now s.rows
-    → controls ≡ contacted k position s.controls
+    → controls ≡ after_contact k position s.controls
     → due ≡ cond (is_done k position s.controls.execution) None s.due
     → record s { rows = rows; is_stale = s.is_stale || changed; controls = controls; due = due }
     ≡ contact_taken now k switch position s

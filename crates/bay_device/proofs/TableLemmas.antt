@@ -10,22 +10,22 @@ use Rattle.std.proofs.lemmas.Option.{slice_get-map, slice_get_within}
 use Rattle.std.proofs.lemmas.Slice.Eq.{bytes_eq-Decides}
 use Rattle.std.proofs.Math.ListN.{set}
 use Rattle.bay_base.specs.Names.{same_name, upper}
-use Rattle.bay_device.specs.Table.{IsTable, key_after, key_of, noted}
+use Rattle.bay_device.specs.Table.{IsTable, key_after, key_of, with_place_of}
 
 -- ---- keys
 
 -- a letter in upper case leaves the same by 32
 upper-rest : (c : ℕ) → to_ascii_uppercase c % 32 ≡ c % 32
-upper-rest c = by_low (nat_lt c 97) refl
+upper-rest c = by-low (nat_lt c 97) refl
   where
-    by_high : (v : Bool) → nat_lt c 123 ≡ v → nat_lt c 97 ≡ false → cond v (c - 32) c % 32 ≡ c % 32
-    by_high true e low = let back : c ≡ (c - 32) + 32 =
+    by-high : (v : Bool) → nat_lt c 123 ≡ v → nat_lt c 97 ≡ false → cond v (c - 32) c % 32 ≡ c % 32
+    by-high true e low = let back : c ≡ (c - 32) + 32 =
         grind (arith, nat_tests) in omega (arith, back)
-    by_high false e low = refl
+    by-high false e low = refl
 
-    by_low : (v : Bool) → nat_lt c 97 ≡ v → cond v c (cond (nat_lt c 123) (c - 32) c) % 32 ≡ c % 32
-    by_low true e = refl
-    by_low false e = by_high (nat_lt c 123) refl e
+    by-low : (v : Bool) → nat_lt c 97 ≡ v → cond v c (cond (nat_lt c 123) (c - 32) c) % 32 ≡ c % 32
+    by-low true e = refl
+    by-low false e = by-high (nat_lt c 123) refl e
 
 -- the key is that of the name in upper case
 key-upper : (name : List ℕ) (key : ℕ) → fold key_after key name ≡ fold key_after key (upper name)
@@ -91,12 +91,12 @@ noted-if false key place firsts k is lt =
     (omega arith, few)
 
 pub noted-lower : (key place : ℕ) (firsts : List ℕ) (k : ℕ) → key < length firsts
-    → get_or (noted key place firsts) k 0 ≤ get_or firsts k 0
+    → get_or (with_place_of key place firsts) k 0 ≤ get_or firsts k 0
 noted-lower key place firsts k lt =
     (noted-if (nat_lt place (get_or firsts key 0)) key place firsts k refl lt).0
 
 noted-here : (key place : ℕ) (firsts : List ℕ) → key < length firsts
-    → get_or (noted key place firsts) key 0 ≤ place
+    → get_or (with_place_of key place firsts) key 0 ≤ place
 noted-here key place firsts lt =
     (noted-if (nat_lt place (get_or firsts key 0)) key place firsts key refl lt).1
 
@@ -108,10 +108,10 @@ sized-if false key place firsts = refl
 -- one name more
 pub Tabled-step : (names : List (List ℕ)) (place : ℕ) (firsts : List ℕ) (name : List ℕ)
     → Tabled names place firsts → slice_get names place ≡ Some name → key_of name < 64
-    → Tabled names (place + 1) (noted (key_of name) place firsts)
+    → Tabled names (place + 1) (with_place_of (key_of name) place firsts)
 Tabled-step names place firsts name t here small =
     let key = key_of name in
-    let after = noted key place firsts in
+    let after = with_place_of key place firsts in
     let lt : key < length firsts = rw t.sized small in
     record {
       sized = sized-if (nat_lt place (get_or firsts key 0)) key place firsts ∙ t.sized;

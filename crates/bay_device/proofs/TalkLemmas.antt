@@ -12,10 +12,10 @@ use Rattle.bay_transport.specs.declared.frame.Front.{Front}
 use Rattle.bay_transport.specs.declared.frame.Front.TheVariants.{Begun, NoFrame, Whole}
 use Rattle.bay_transport.specs.declared.frame.Tpdu.{Tpdu}
 use Rattle.bay_transport.specs.declared.frame.Tpdu.TheVariants.{Request, Data, Release, Unknown}
-use Rattle.bay_transport.specs.Frame.{front_of, tpdu_of, cut}
+use Rattle.bay_transport.specs.Frame.{front_of, tpdu_of, cut_of}
 use Rattle.bay_transport.specs.Connect.{Confirmation}
-use Rattle.bay_transport.specs.Doings.{Doing, Answers, Delivers, Ends, Fails, TransportConnection, Left, Going, Over, Broken, Run, TpduEffect, Joins, Finishes, Agrees, Closes, Refuses, connected as connected_effect, data_effect, kind_effect, tpdu_effect, effect_of, connection_after, on_effect, at_rest, frames_run, run, Stream, doings, after}
-use Rattle.bay_transport.specs.Feeding.{agreed_from, agreed}
+use Rattle.bay_transport.specs.Doings.{Doing, Answers, Delivers, Ends, Fails, TransportConnection, Left, Going, Over, Broken, Run, TpduEffect, Joins, Finishes, Agrees, Closes, Refuses, connect_effect as connected_effect, data_effect, kind_effect, tpdu_effect, effect_of, connection_after, on_effect, at_rest, frames_run, run_of, Stream, doings, after}
+use Rattle.bay_transport.specs.Feeding.{agreed_from, size_agreed}
 use Rattle.bay_assoc.specs.declared.fault.AssocFault.{AssocFault}
 use Rattle.bay_assoc.specs.declared.fault.AssocFault.TheVariants as fault
 use Rattle.bay_assoc.specs.declared.hearing.Accepted.{Accepted}
@@ -24,12 +24,12 @@ use Rattle.bay_assoc.specs.declared.hearing.Phase.{Phase}
 use Rattle.bay_assoc.specs.declared.hearing.Phase.TheVariants as phases
 use Rattle.bay_assoc.specs.declared.presentation.Context.{Context}
 use Rattle.bay_assoc.specs.Acse.{associate_in, release_in}
-use Rattle.bay_assoc.specs.Hearing.{Hearing, answer, mms, released, aborted, accepted_of, acse_value, agreed_of, agreement, connected, finished, heard_idle, heard_open, hearing, mms_value, size_of, transferred}
+use Rattle.bay_assoc.specs.Hearing.{Hearing, answer, mms, released, aborted, accepted_of, acse_value, agreed_of, agreement, connection_request, release_request, heard_idle, heard_open, hearing, mms_value, size_of, data_transfer}
 use Rattle.bay_assoc.specs.Presentation.{Carried, user_in, request_in}
-use Rattle.bay_assoc.specs.Results.{wanted}
+use Rattle.bay_assoc.specs.Results.{or_fault}
 use Rattle.bay_assoc.specs.Session.{Spdu, connect, accept, finish, disconnect, abort, transfer, spdu_in}
 use Rattle.bay_assoc.specs.Sized.{IsPduSize, IsSized}
-use Rattle.bay_connection.specs.Talk.{Indication, Talk, Told, answers, tells, releases, ends, fails, comes_to, indications, left_by, on_heard, on_hearing, told}
+use Rattle.bay_connection.specs.Talk.{Indication, Talk, Told, answers, tells, releases, ends, fails, comes_to, indications, left_by, on_heard, on_hearing, talk_after}
 
 -- ---- a TSDU comes where a size is agreed
 
@@ -104,9 +104,9 @@ frames-sized number connection (frame ∷ frames) rest =
     (tpdu-sized number connection (drop 4 frame)) (frames-sized number next frames rest)
 
 left-sized : (number : ℕ) (left : Left) (octets : List ℕ)
-    → AreSized (agreed_from left) (run number left octets).doings
+    → AreSized (agreed_from left) (run_of number left octets).doings
 left-sized number (Going connection rest) octets =
-    frames-sized number connection (cut (rest ++ octets)).frames (cut (rest ++ octets)).rest
+    frames-sized number connection (cut_of (rest ++ octets)).frames (cut_of (rest ++ octets)).rest
 left-sized number Over octets = tt
 left-sized number Broken octets = tt
 
@@ -143,12 +143,12 @@ size-is (Some (negsuc n)) = tt
 
 agreed-by : (size : Option ℕ) (f : ℕ → Agreed) → ((n : ℕ) → (f n).size ≡ n) → SomeIs IsPduSize size
     → OkIs (λ (x : Agreed). IsPduSize x.size)
-    (wanted fault.PduSizeTooSmall (size >>= λ n. Some (f n)))
+    (or_fault fault.PduSizeTooSmall (size >>= λ n. Some (f n)))
 agreed-by (Some n) f same is = record { least = rw (same n) is.least; most = rw (same n) is.most }
 agreed-by None f same is = tt
 
 agreed-sized : (p : Proposal)
-    → OkIs (λ (x : Agreed). IsPduSize x.size) (wanted fault.PduSizeTooSmall (agreed_of p))
+    → OkIs (λ (x : Agreed). IsPduSize x.size) (or_fault fault.PduSizeTooSmall (agreed_of p))
 agreed-sized p = agreed-by (size_of p.size) _ (λ n. refl) (size-is p.size)
 
 agreement-sized : (contexts : List Context) (user : Carried)
@@ -156,14 +156,14 @@ agreement-sized : (contexts : List Context) (user : Carried)
 unfolding agreement
 agreement-sized contexts user =
     let P : Accepted × Agreed → Type 0 = λ x. IsPduSize x.1.size in
-    bound P (wanted fault.NoContext (accepted_of contexts)) _ (λ a.
+    bound P (or_fault fault.NoContext (accepted_of contexts)) _ (λ a.
     bound P (acse_value a user) _ (λ value.
-    bound P (wanted fault.BadAcse (associate_in value)) _ (λ information.
+    bound P (or_fault fault.BadAcse (associate_in value)) _ (λ information.
     bound P (mms_value a information) _ (λ pdu.
-    bound P (wanted fault.BadAcse (initiate_in pdu)) _ (λ proposal.
+    bound P (or_fault fault.BadAcse (initiate_in pdu)) _ (λ proposal.
     bound-by (λ (x : Agreed). IsPduSize x.size) P
-    (wanted fault.PduSizeTooSmall (agreed_of proposal)) _ (agreed-sized proposal)
-    (λ agreed is. is))))))
+    (or_fault fault.PduSizeTooSmall (agreed_of proposal)) _ (agreed-sized proposal)
+    (λ size_agreed is. is))))))
 
 -- an association that is open, with a size of PDUs
 abbrev pub IsOpen : Phase → Type 0
@@ -181,28 +181,28 @@ HeardOpen aborted phase = Unit {0}
 abbrev IsHeard : Hearing × Phase → Type 0
 IsHeard x = IsSized x.1 × HeardOpen x.0 x.1
 
-connected-sized : (user : List ℕ) → OkIs IsHeard (connected user)
-unfolding connected
+connected-sized : (user : List ℕ) → OkIs IsHeard (connection_request user)
+unfolding connection_request
 connected-sized user =
-    bound IsHeard (wanted fault.BadPresentation (request_in user)) _ (λ request.
+    bound IsHeard (or_fault fault.BadPresentation (request_in user)) _ (λ request.
     bound-by (λ (x : Accepted × Agreed). IsPduSize x.1.size) IsHeard
     (agreement request.contexts request.user) _ (agreement-sized request.contexts request.user)
     (λ x is. (is, tt)))
 
 finished-sized : (terms : AssociationTerms) (user : Option (List ℕ))
-    → OkIs IsHeard (finished terms user)
-unfolding finished
+    → OkIs IsHeard (release_request terms user)
+unfolding release_request
 finished-sized terms None = (tt, tt)
 finished-sized terms (Some user) =
-    bound IsHeard (wanted fault.BadPresentation (user_in user)) _ (λ c.
+    bound IsHeard (or_fault fault.BadPresentation (user_in user)) _ (λ c.
     bound IsHeard (acse_value terms.contexts c) _ (λ value.
-    bound IsHeard (wanted fault.BadAcse (release_in value)) _ (λ ignored. (tt, tt))))
+    bound IsHeard (or_fault fault.BadAcse (release_in value)) _ (λ ignored. (tt, tt))))
 
 transferred-sized : (terms : AssociationTerms) (user : List ℕ) → IsPduSize terms.size
-    → OkIs IsHeard (transferred terms user)
-unfolding transferred
+    → OkIs IsHeard (data_transfer terms user)
+unfolding data_transfer
 transferred-sized terms user is =
-    bound IsHeard (wanted fault.BadPresentation (user_in user)) _ (λ c.
+    bound IsHeard (or_fault fault.BadPresentation (user_in user)) _ (λ c.
     bound IsHeard (mms_value terms.contexts c) _ (λ pdu. (is, is)))
 
 idle-sized : (s : Spdu) → OkIs IsHeard (heard_idle s)
@@ -225,9 +225,9 @@ open-sized terms (transfer user) is = transferred-sized terms user is
 hearing-sized : (phase : Phase) (tsdu : List ℕ) → IsSized phase → OkIs IsHeard (hearing phase tsdu)
 unfolding hearing
 hearing-sized phases.Idle tsdu is =
-    bound IsHeard (wanted fault.BadSession (spdu_in tsdu)) heard_idle idle-sized
+    bound IsHeard (or_fault fault.BadSession (spdu_in tsdu)) heard_idle idle-sized
 hearing-sized (phases.Open terms) tsdu is =
-    bound IsHeard (wanted fault.BadSession (spdu_in tsdu)) (heard_open terms)
+    bound IsHeard (or_fault fault.BadSession (spdu_in tsdu)) (heard_open terms)
     (λ s. open-sized terms s is)
 hearing-sized phases.Over tsdu is = tt
 hearing-sized phases.Failed tsdu is = tt
@@ -268,20 +268,21 @@ hearing-told s (Ok x) size later some is rest =
 hearing-told s (Err e) size later some is rest = record { all = (tt, tt); left = tt }
 
 told-so : (s : Stream) (ds : List Doing) (size : Option ℕ) (phase : Phase) → AreSized size ds
-    → IsSized phase → IsTold (told s ds size phase)
+    → IsSized phase → IsTold (talk_after s ds size phase)
 told-so s [] size phase sized is = record { all = tt; left = is }
 told-so s (Answers n reply ∷ ds) size phase sized is =
-    let rest : IsTold (told s ds (Some n) phase) =
+    let rest : IsTold (talk_after s ds (Some n) phase) =
     told-so s ds (Some n) phase sized is in record { all = (tt, rest.all); left = rest.left }
 told-so s (Delivers tsdu ∷ ds) size phase sized is =
-    hearing-told s (hearing phase tsdu) size (told s ds size) sized.0 (hearing-sized phase tsdu is)
+    hearing-told s (hearing phase tsdu) size (talk_after s ds size) sized.0
+    (hearing-sized phase tsdu is)
     (λ p q. told-so s ds size p sized.1 q)
 told-so s (Ends ∷ ds) size phase sized is = record { all = (tt, tt); left = tt }
 told-so s (Fails fault ∷ ds) size phase sized is = record { all = (tt, tt); left = tt }
 
 comes-told : (t : Talk) (octets : List ℕ) → IsSized t.phase → IsTold (comes_to t octets)
 comes-told t octets is =
-    told-so (after t.stream octets) (doings t.stream octets) (agreed t.stream) t.phase
+    told-so (after t.stream octets) (doings t.stream octets) (size_agreed t.stream) t.phase
     (left-sized t.stream.number t.stream.left octets) is
 
 pub can-answer : (t : Talk) (octets : List ℕ) → IsSized t.phase

@@ -3,7 +3,7 @@ use Rattle.std.specs.Prelude.{replicate}
 use Rattle.std.proofs.Common.{◌≡◌, ◌≤◌, ℕ, zero, suc, ℤ, Bool, true, false, cond, nat_lt, List, [], ◌∷◌, ◌++◌, length, map, slice_get, slice_set, Option, None, Some, IsSome, unwrap_or, Result, Ok, Err, refl, ap, ap₂, sym, ◌∙◌, subst, arith, append-nil, append_assoc}
 use Rattle.bay_base.specs.Options.{◌>>=◌}
 use Rattle.bay_ber.specs.Values.{Part, only_one, under, value_in, values_in}
-use Rattle.bay_ber.proofs.ListingLemmas.{no_values}
+use Rattle.bay_ber.proofs.ListingLemmas.{no-values}
 use Rattle.bay_nodes.specs.declared.switch.Switch.{Switch}
 use Rattle.bay_nodes.specs.Names.{switch_names, meter_names}
 use Rattle.bay_config.specs.declared.bay.MeterField.{MeterField}
@@ -22,20 +22,20 @@ use Rattle.bay_connection.specs.Talk.{Indication, Talk, Terms, answers, tells, r
 use Rattle.bay_control.specs.Acts.{Entry}
 use Rattle.bay_control.specs.Backing.{AreBacked}
 use Rattle.bay_control.specs.Decisions as control
-use Rattle.bay_control.specs.Decisions.{dropped}
+use Rattle.bay_control.specs.Decisions.{without_association}
 use Rattle.bay_control.specs.Happenings.{Leads}
 use Rattle.bay_services.specs.Accepted.{AreNamedAlike, accepted_in, behind_id, first_response, may_be_reported, message_accepted, read_accepted, read_results, write_accepted, write_results}
-use Rattle.bay_services.specs.Answers.{Answered, answered}
+use Rattle.bay_services.specs.Answers.{Answered, pdu_answer}
 use Rattle.bay_services.specs.Bay.{Bay}
 use Rattle.bay_services.specs.Entries.{entries_in}
 use Rattle.bay_services.specs.declared.client.Client.{Client}
 use Rattle.bay_services.proofs.AcceptedLemmas.{alike-after, none-read, none-written, response-tells}
 use Rattle.bay_services.proofs.VariableLemmas.{alike-still}
-use Rattle.bay_services.proofs.ShortLemmas.{AreShort, answer_short}
-use Rattle.bay_device.specs.Device.{State, advanced, bay_of, ran_at}
+use Rattle.bay_services.proofs.ShortLemmas.{AreShort, answer-short}
+use Rattle.bay_device.specs.Device.{State, device_at, bay_of, ran_at}
 use Rattle.bay_device.specs.Entries.{IsIdle, Leading, opens, entries_all, entries_at, entries_close, entries_closed, entries_heard, entries_octets, entries_of_event, entries_on, entries_open, entries_recv}
-use Rattle.bay_device.specs.Hearing.{Done, Heard, client_at, heard, on_heard, said, sent_on, size_of, with_sent}
-use Rattle.bay_device.specs.Outcomes.{Outcome, close_outcome, closed, closed_by, connection_at, contact_outcome, event_outcome, first_talk, input_outcome, last_moment, measure_outcome, nothing_done, octets_outcome, open_outcome, outcome, outcomes, place_of, refused, recv_after, recv_outcome, with_connection, without_owner}
+use Rattle.bay_device.specs.Hearing.{Done, AllHeard, client_at, after_indications, on_heard, after_pdu, sent_on, size_of, with_sent}
+use Rattle.bay_device.specs.Outcomes.{Outcome, close_outcome, without_connection, closed_by, connection_at, contact_outcome, event_outcome, first_talk, input_outcome, last_moment, measure_outcome, nothing_done, octets_outcome, open_outcome, outcome, outcomes, place_of, refusal_of, recv_after, recv_outcome, with_connection, without_owner}
 use Rattle.bay_device.specs.Told.{AreTalks, Telling, of_answer, pdus_in, talk_at, talk_behind, talks_answer, talks_heard, talks_step, told_all, told_answer, told_closed, told_heard, told_recv, told_step, with_talk}
 use Rattle.bay_device.specs.declared.event.Event.{Event}
 use Rattle.bay_device.specs.declared.event.Event.TheVariants.{Open, Recv, Close, Contact, Input, Measure, Scan}
@@ -52,7 +52,7 @@ use Rattle.bay_device.proofs.TalkLemmas.{CanAnswer, CanAnswerAll, IsOpen, can-an
 -- ---- where nothing was sent
 
 no-value : value_in [] ≡ None
-no-value = ap (λ (o : Option (List Part)). o >>= only_one) no_values
+no-value = ap (λ (o : Option (List Part)). o >>= only_one) no-values
 
 none-read-in : read_results [] ≡ None
 none-read-in =
@@ -107,7 +107,7 @@ pdus-back a terms (pdu ∷ pdus) later some is short =
     (pdus-back a terms pdus later some is (λ k d lt. short (suc k) d (omega arith)))
 
 -- What was heard has sent more, which tells what is seen, and leaves the names as they are.
-record Walks (now a : ℕ) (n : Bay) (is : List Indication) (h : Heard) (d : Done)
+record Walks (now a : ℕ) (n : Bay) (is : List Indication) (h : AllHeard) (d : Done)
     (entries : List Entry) : Type 0 where
   more : List Sent
   sent : h.done.sent ≡ d.sent ++ more
@@ -115,7 +115,7 @@ record Walks (now a : ℕ) (n : Bay) (is : List Indication) (h : Heard) (d : Don
   alike : AreNamedAlike n (bay_of h.done.state)
 
 on-walks : (now a : ℕ) (n : Bay) (i : Indication) (is : List Indication) (d : Done)
-    (later : Done → Heard) (entries : Done → List Entry) → CanAnswer i
+    (later : Done → AllHeard) (entries : Done → List Entry) → CanAnswer i
     → AreNamedAlike n (bay_of d.state)
     → ((e : Done) → AreNamedAlike n (bay_of e.state) → Walks now a n is (later e) e (entries e))
     → Walks now a n (i ∷ is) (on_heard now a i d later) d (entries_on now a i d entries)
@@ -131,13 +131,13 @@ on-walks now a n (answers octets) is d later entries can alike rest =
 on-walks now a n (tells terms pdu) is d later entries can alike rest =
     let c : Client = client_at now a terms d.state in
     let b : Bay = bay_of d.state in
-    let x : Answered = answered c pdu b in
-    let e : Done = said now a terms pdu d in
+    let x : Answered = pdu_answer c pdu b in
+    let e : Done = after_pdu now a terms pdu d in
     let sents : List Sent = map (λ p. sent_on a (sending terms p)) x.sent in
     let w : Walks now a n is (later e) e (entries e) = rest e (alike-after n c pdu b alike) in
     let small : c.size ≤ 65000 = size-small terms.phase can.1 in
     let back : pdus_in (sents ++ w.more) ≡ x.sent ++ pdus_in w.more =
-    pdus-back a terms x.sent w.more can.0 can.1 (answer_short c b (answer_to pdu) small) in
+    pdus-back a terms x.sent w.more can.0 can.1 (answer-short c b (answer_to pdu) small) in
     let response = response-tells c pdu n b (pdus_in w.more) small alike in
     let may : Bool = may_be_reported (answer_to pdu) in
     record {
@@ -160,11 +160,12 @@ on-walks now a n (fails code) is d later entries can alike rest =
 
 walks : (choice : Option ℕ) (now a : ℕ) (n : Bay) (is : List Indication) (d : Done)
     → CanAnswerAll is → AreNamedAlike n (bay_of d.state)
-    → Walks now a n is (heard choice now a is d) d (entries_heard choice now a is d)
+    → Walks now a n is (after_indications choice now a is d) d (entries_heard choice now a is d)
 walks None now a n [] d can alike =
     record { more = []; sent = sym (append-nil d.sent); told = refl; alike = alike }
 walks None now a n (i ∷ is) d can alike =
-    on-walks now a n i is d (heard None now a is) (entries_heard None now a is) can.0 alike
+    on-walks now a n i is d (after_indications None now a is) (entries_heard None now a is) can.0
+    alike
     (λ e same. walks None now a n is e can.1 same)
 walks (Some zero) now a n [] d can alike =
     record { more = []; sent = sym (append-nil d.sent); told = refl; alike = alike }
@@ -178,7 +179,8 @@ walks (Some zero) now a n (i ∷ is) d can alike =
 walks (Some (suc k)) now a n [] d can alike =
     record { more = []; sent = sym (append-nil d.sent); told = refl; alike = alike }
 walks (Some (suc k)) now a n (i ∷ is) d can alike =
-    on-walks now a n i is d (heard (Some k) now a is) (entries_heard (Some k) now a is) can.0 alike
+    on-walks now a n i is d (after_indications (Some k) now a is) (entries_heard (Some k) now a is)
+    can.0 alike
     (λ e same. walks (Some k) now a n is e can.1 same)
 
 -- ---- talks
@@ -244,11 +246,11 @@ module _ (n : Bay) (now : ℕ) (s : State) (alike : AreNamedAlike n (bay_of s))
   abbrev talks : List (Option Talk)
   talks = s.connections
 
-  alike-advanced : AreNamedAlike n (bay_of (advanced now s))
-  alike-advanced = alike-still n (bay_of s) (control.advanced now s.controls) alike
+  alike-advanced : AreNamedAlike n (bay_of (device_at now s))
+  alike-advanced = alike-still n (bay_of s) (control.controls_at now s.controls) alike
 
   refused-told : (f : Step → List Entry) (g : Step → List (Option Talk)) (fault : StepFault)
-      → IsTold n talks f g (refused fault s) []
+      → IsTold n talks f g (refusal_of fault s) []
   refused-told f g fault = record { told = refl; left = refl; alike = alike; sized = sized }
 
   open-told : (a : ℕ) (o : Option ℕ) (talk : Option Talk)
@@ -259,17 +261,17 @@ module _ (n : Bay) (now : ℕ) (s : State) (alike : AreNamedAlike n (bay_of s))
       record { told = refl; left = refl; alike = alike; sized = sized }
   open-told a (Some place) None = record {
     told = refl;
-    left = with-one (place_of a) (Some (first_talk a)) (advanced now s);
-    alike = alike-with n (place_of a) (Some (first_talk a)) (advanced now s) alike-advanced;
-    sized = with-talks (place_of a) (Some (first_talk a)) (advanced now s) sized tt;
+    left = with-one (place_of a) (Some (first_talk a)) (device_at now s);
+    alike = alike-with n (place_of a) (Some (first_talk a)) (device_at now s) alike-advanced;
+    sized = with-talks (place_of a) (Some (first_talk a)) (device_at now s) sized tt;
   }
 
   -- an association that is closed, on a device with these talks and names
   closed-alike : (a : ℕ) (t : State) → AreNamedAlike n (bay_of t)
-      → AreNamedAlike n (bay_of (closed a t))
+      → AreNamedAlike n (bay_of (without_connection a t))
   closed-alike a t same =
       alike-with n (place_of a) None (without_owner a t)
-      (alike-still n (bay_of t) (dropped a t.controls) same)
+      (alike-still n (bay_of t) (without_association a t.controls) same)
 
   close-told : (a : ℕ) (talk : Option Talk)
       → IsTold n talks (told_step now (Close a) n talks) (talks_step (Close a) talks)
@@ -277,9 +279,9 @@ module _ (n : Bay) (now : ℕ) (s : State) (alike : AreNamedAlike n (bay_of s))
   close-told a None = record { told = refl; left = refl; alike = alike; sized = sized }
   close-told a (Some talk) = record {
     told = refl;
-    left = with-one (place_of a) None (without_owner a (advanced now s));
-    alike = closed-alike a (advanced now s) alike-advanced;
-    sized = with-talks (place_of a) None (without_owner a (advanced now s)) sized tt;
+    left = with-one (place_of a) None (without_owner a (device_at now s));
+    alike = closed-alike a (device_at now s) alike-advanced;
+    sized = with-talks (place_of a) None (without_owner a (device_at now s)) sized tt;
   }
 
   -- ---- octets
@@ -324,9 +326,9 @@ module _ (n : Bay) (now : ℕ) (s : State) (alike : AreNamedAlike n (bay_of s))
   octets-told choice a talk (octet ∷ octets) is =
       let here : talk_at (place_of a) talks ≡ Some talk = sym (at-talk (place_of a) s) ∙ is in
       let all : List ℕ = octet ∷ octets in
-      let begun : Done = nothing_done (advanced now s) in
+      let begun : Done = nothing_done (device_at now s) in
       let phased : IsSized talk.phase = talk-sized (place_of a) s talk sized is in
-      let h : Heard = heard choice now a (indications talk all) begun in
+      let h : AllHeard = after_indications choice now a (indications talk all) begun in
       let w : Walks now a n (indications talk all) h begun
       (entries_heard choice now a (indications talk all) begun) =
       walks choice now a n (indications talk all) begun (can-answer talk all phased) alike-advanced
@@ -362,7 +364,7 @@ module _ (n : Bay) (now : ℕ) (s : State) (alike : AreNamedAlike n (bay_of s))
       (talks_step (Contact k position) talks) (contact_outcome now k position s o) []
   contact-told k position None = record { told = refl; left = refl; alike = alike; sized = sized }
   contact-told k position (Some switch) =
-      let t : State = advanced now s in
+      let t : State = device_at now s in
       record {
         told = refl;
         left = refl;
@@ -396,7 +398,7 @@ module _ (n : Bay) (now : ℕ) (s : State) (alike : AreNamedAlike n (bay_of s))
   measure-told k field value None =
       record { told = refl; left = refl; alike = alike; sized = sized }
   measure-told k field value (Some id) =
-      let t : State = advanced now s in
+      let t : State = device_at now s in
       record {
         told = refl;
         left = refl;
@@ -412,7 +414,7 @@ module _ (n : Bay) (now : ℕ) (s : State) (alike : AreNamedAlike n (bay_of s))
   scan-told : IsTold n talks (told_step now Scan n talks) (talks_step Scan talks)
       (event_outcome None now Scan s) []
   scan-told =
-      let t : State = advanced now s in
+      let t : State = device_at now s in
       record {
         told = refl;
         left = refl;
@@ -451,13 +453,14 @@ module _ (n : Bay) (now : ℕ) (s : State) (alike : AreNamedAlike n (bay_of s))
       let f : Step → List Entry = told_step now event n talks in
       let g : Step → List (Option Talk) = talks_step event talks in
       let inner : IsTold n talks f g
-      (cond (nat_lt now s.moment) (refused TimeWentBack s) (event_outcome choice now event s))
+      (cond (nat_lt now s.moment) (refusal_of TimeWentBack s) (event_outcome choice now event s))
       (cond (nat_lt now s.moment) [] (entries_of_event choice now event s)) =
-      told-if (nat_lt now s.moment) f g (refused TimeWentBack s) (event_outcome choice now event s)
+      told-if (nat_lt now s.moment) f g (refusal_of TimeWentBack s)
+      (event_outcome choice now event s)
       [] (entries_of_event choice now event s) (refused-told f g TimeWentBack)
       (event-told choice event) in
-      told-if (nat_lt last_moment now) f g (refused MomentTooLarge s)
-      (cond (nat_lt now s.moment) (refused TimeWentBack s) (event_outcome choice now event s))
+      told-if (nat_lt last_moment now) f g (refusal_of MomentTooLarge s)
+      (cond (nat_lt now s.moment) (refusal_of TimeWentBack s) (event_outcome choice now event s))
       []
       (cond (nat_lt now s.moment) [] (entries_of_event choice now event s))
       (refused-told f g MomentTooLarge) inner

@@ -10,8 +10,8 @@ use Rattle.bay_connection.specs.Talk.{Talk, Indication, answers, tells, releases
 use Rattle.bay_connection.specs.Feeding.{Comes, Feeds, FeedsFrom, IsContinued}
 use Rattle.bay_connection.proofs.CuttingLemmas.{indications-append, left_by-append}
 use Rattle.bay_connection.proofs.FeedingLemmas.{feeding-indications}
-use Rattle.bay_connection.proofs.GoingLemmas.{heard_going, nothing_going}
-use Rattle.bay_device.specs.Hearing.{Done, Heard, heard, on_heard}
+use Rattle.bay_connection.proofs.GoingLemmas.{heard-going, nothing-going}
+use Rattle.bay_device.specs.Hearing.{Done, AllHeard, after_indications, on_heard}
 use Rattle.bay_device.specs.HearingViews.{ComesTo, IsContinuedIf, Moves, on_heard_if}
 use Rattle.bay_device.specs.declared.event.Why.{Why}
 use Rattle.bay_device.specs.declared.event.Why.TheVariants.{Ended, Fault, Memory}
@@ -22,13 +22,14 @@ next None = None
 next (Some n) = Some (suc n)
 
 heard-next : (later : Option ℕ) (now a : ℕ) (i : Indication) (is : List Indication) (d : Done)
-    → heard (next later) now a (i ∷ is) d ≡ on_heard now a i d (heard later now a is)
+    → after_indications (next later) now a (i ∷ is) d
+    ≡ on_heard now a i d (after_indications later now a is)
 unfolding next
 heard-next None now a i is d = refl
 heard-next (Some n) now a i is d = refl
 
 refused-here : (now a : ℕ) (is : List Indication) (d : Done)
-    → heard (Some 0) now a is d ≡ record { done = d; why = Some Memory }
+    → after_indications (Some 0) now a is d ≡ record { done = d; why = Some Memory }
 refused-here now a [] d = refl
 refused-here now a (i ∷ is) d = refl
 
@@ -79,15 +80,15 @@ module _ (now a : ℕ) (old : Talk) (rest : List ℕ) (used : ℕ) (new : Talk)
   goes-on None fed goes =
       let all = fed-none old.stream.left old rest used going fed in
       let whole : take used rest ≡ rest = ap (λ n. take n rest) all.0 ∙ take-length rest in
-      rw (left, whole) (nothing_going old rest going all.1)
+      rw (left, whole) (nothing-going old rest going all.1)
   goes-on (Some i) fed goes =
       let does =
       (comes-some old rest used i goes (fed-some old.stream.left old rest used i going fed)).1
       in
-      rw left (heard_going old (take used rest) i does goes)
+      rw left (heard-going old (take used rest) i does goes)
 
   pub moves-heard : (i : Option Indication) (d e : Done) → Feeds old rest used i
-      → ((later : Done → Heard) → on_heard_if now a i d later ≡ later e)
+      → ((later : Done → AllHeard) → on_heard_if now a i d later ≡ later e)
       → Moves now a old rest d new (drop used rest) e
   moves-heard None d e fed done =
       let all = fed-none old.stream.left old rest used going fed in
@@ -99,8 +100,8 @@ module _ (now a : ℕ) (old : Talk) (rest : List ℕ) (used : ℕ) (new : Talk)
       record {
         goes = λ later. (
           later,
-          ap (λ is. heard later now a is d) (all.1 ∙ sym quiet)
-              ∙ done (heard later now a (indications new (drop used rest))),
+          ap (λ is. after_indications later now a is d) (all.1 ∙ sym quiet)
+              ∙ done (after_indications later now a (indications new (drop used rest))),
         );
       }
   moves-heard (Some i) d e fed done =
@@ -110,21 +111,23 @@ module _ (now a : ℕ) (old : Talk) (rest : List ℕ) (used : ℕ) (new : Talk)
       record {
         goes = λ later. (
           next later,
-          ap (λ is. heard (next later) now a is d) comes
+          ap (λ is. after_indications (next later) now a is d) comes
               ∙ heard-next later now a i (indications new (drop used rest)) d
-              ∙ done (heard later now a (indications new (drop used rest))),
+              ∙ done (after_indications later now a (indications new (drop used rest))),
         );
       }
 
   -- the association is closed by what was heard, which is not want of memory
   pub stops-heard : (i : Option Indication) (d e : Done) (why : Why) → Feeds old rest used i
-      → ((later : Done → Heard) → on_heard_if now a i d later ≡ record { done = e; why = Some why })
+      → ((later : Done → AllHeard)
+      → on_heard_if now a i d later ≡ record { done = e; why = Some why })
       → ComesTo now a old rest d (Some why) e
   stops-heard None d e why fed done =
       let no : record { done = d; why = None }
-      ≡ (let h : Heard = record { done = e; why = Some why } in h) =
+      ≡ (let h : AllHeard = record { done = e; why = Some why } in h) =
       done (λ x. record { done = x; why = None }) in
-      absurd (let w : None ≡ (let o : Option Why = Some why in o) = ap (λ (h : Heard). h.why) no in
+      absurd (let w : None ≡ (let o : Option Why = Some why in o) =
+      ap (λ (h : AllHeard). h.why) no in
       cc)
   stops-heard (Some i) d e why fed done =
       let comes =
@@ -132,8 +135,8 @@ module _ (now a : ℕ) (old : Talk) (rest : List ℕ) (used : ℕ) (new : Talk)
       (fed-some old.stream.left old rest used i going fed) in
       record {
         choice = None;
-        is = ap (λ is. heard None now a is d) comes
-            ∙ done (heard None now a (indications new (drop used rest)));
+        is = ap (λ is. after_indications None now a is d) comes
+            ∙ done (after_indications None now a (indications new (drop used rest)));
       }
 
 pub stops-memory : (now a : ℕ) (old : Talk) (octets : List ℕ) (d e : Done) → e ≡ d
@@ -183,7 +186,7 @@ pub ends-all : (now a : ℕ) (old : Talk) (octets : List ℕ) (d : Done) (new : 
 ends-all now a old octets d new e left moves =
     let m = moves.goes None in
     let quiet : indications new [] ≡ [] = rw left (left-quiet old octets) in
-    record { choice = m.0; is = m.1 ∙ ap (λ is. heard None now a is e) quiet }
+    record { choice = m.0; is = m.1 ∙ ap (λ is. after_indications None now a is e) quiet }
 
 -- ---- what is left
 

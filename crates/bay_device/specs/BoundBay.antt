@@ -5,7 +5,7 @@ use Rattle.bay_config.specs.declared.bay.Source.{Source}
 use Rattle.bay_control.specs.Decisions.{controls_of, initial}
 use Rattle.bay_process.specs.Layout.{AreBound, AreMetersBound, layout_of, meters_of}
 use Rattle.bay_process.specs.Told.{AreTold}
-use Rattle.bay_services.specs.Bay.{shown}
+use Rattle.bay_services.specs.Bay.{rows_shown}
 use Rattle.bay_services.specs.Views.{bay_view}
 use Rattle.bay_device.specs.declared.load.BoundBay.{BoundBay}
 
@@ -18,7 +18,7 @@ pub record IsBoundBay (bay : Bay) (writes : List Source) (b : BoundBay) : Type 0
     model = bay.model;
     revision = bay.revision;
     switches = bay.switches;
-    rows = shown None (length bay.switches) bay.rows;
+    rows = rows_shown None (length bay.switches) bay.rows;
     controls = initial (controls_of bay.switches);
   }
   pub age : b.scan_max_age_ms ≡ bay.scan_max_age_ms

@@ -16,7 +16,7 @@ use Rattle.bay_device.specs.declared.fault.StepFault.{StepFault}
 pub record IsReleasedAt (now : ℕ) (s : State) (command : Command) : Type 0 where
   pub fresh : is_fresh now s ≡ true
   pub enabled : is_truth true (leaf_of (releasing command.switch command.on) s.rows) ≡ true
-  pub idle : (control.advanced now s.controls).execution ≡ None
+  pub idle : (control.controls_at now s.controls).execution ≡ None
 
 -- The commands of a step are so, and come with replies.
 pub record AreCommanded (now : ℕ) (s : State) (step : Step) : Type 0 where

@@ -10,15 +10,15 @@ use Rattle.bay_nodes.specs.Names.{switch_names, meter_names}
 use Rattle.bay_config.specs.declared.bay.MeterField.{MeterField}
 use Rattle.bay_config.specs.declared.bay.Source.{Source}
 use Rattle.bay_config.specs.declared.bay.Source.TheVariants as source
-use Rattle.il_image.specs.Machine.{Ending, Halted, Trapped, Unfinished, run}
+use Rattle.il_image.specs.Machine.{Ending, Halted, Trapped, Unfinished, run_from}
 use Rattle.il_image.specs.declared.timer.TimerState.{TimerState}
 use Rattle.il_image.specs.declared.value.Value.{Value}
 use Rattle.il_image.specs.declared.value.Value.TheVariants.{Truth, Long}
-use Rattle.il_scan.specs.Scans.{Held, outputs_of, started}
+use Rattle.il_scan.specs.Scans.{Held, outputs_of, scan_start}
 use Rattle.bay_process.specs.Names.{field_names}
 use Rattle.bay_process.specs.Values.{measure_leaf, number_of_leaf, position_leaf, position_value, rows_after_contact, rows_after_measure, tells, tells_measure, with_outputs}
 use Rattle.bay_control.specs.Decisions as control
-use Rattle.bay_control.specs.Decisions.{contacted, is_done, run_out}
+use Rattle.bay_control.specs.Decisions.{after_contact, is_done, run_out}
 use Rattle.bay_connection.specs.Talk.{Talk}
 use Rattle.bay_services.specs.Bay.{Bay, with_controls}
 use Rattle.bay_device.specs.declared.due.Due.{Due}
@@ -94,14 +94,14 @@ sent_to a None = None
 sent_to a (Some octets) = Some (record { association = a; octets = octets })
 
 -- a client is told that a switch has reached its position, and that it has not reached it in time
-abbrev pub reached : Option Due → Option Sent
-reached None = None
-reached (Some due) = sent_to due.association due.positive
+abbrev pub reached_report : Option Due → Option Sent
+reached_report None = None
+reached_report (Some due) = sent_to due.association due.positive
 
 -- the report of a switch that did not reach its position in time
-abbrev pub missed : Option Due → Option Sent
-missed None = None
-missed (Some due) = sent_to due.association due.negative
+abbrev pub missed_report : Option Due → Option Sent
+missed_report None = None
+missed_report (Some due) = sent_to due.association due.negative
 
 -- the switch whose execution has run out at a moment
 abbrev pub over_at : ℕ → State → Option ℕ
@@ -113,14 +113,15 @@ due_unless (Some switch) due = None
 
 abbrev pub missed_if : Option ℕ → Option Due → Option Sent
 missed_if None due = None
-missed_if (Some switch) due = missed due
+missed_if (Some switch) due = missed_report due
 
 -- the device at a moment, with what has run out ended, a selection and an execution
-abbrev pub advanced : ℕ → State → State
-advanced now s = record (with_bay (with_controls (control.advanced now s.controls) (bay_of s)) s) {
-  moment = now;
-  due = due_unless (over_at now s) s.due;
-}
+abbrev pub device_at : ℕ → State → State
+device_at now s =
+    record (with_bay (with_controls (control.controls_at now s.controls) (bay_of s)) s) {
+      moment = now;
+      due = due_unless (over_at now s) s.due;
+    }
 
 -- what is then sent
 abbrev pub ended_at : ℕ → State → Option Sent
@@ -135,13 +136,14 @@ contact_taken now k switch position s =
     record s {
       rows = rows_after_contact names position now s.rows;
       is_stale = s.is_stale || not (tells names.position position s.rows);
-      controls = contacted k position s.controls;
+      controls = after_contact k position s.controls;
       due = if is_done k position s.controls.execution then None else s.due;
     }
 
 -- the report of a switch that reaches its position with this contact
 abbrev pub reached_at : ℕ → Dbpos → State → Option Sent
-reached_at k position s = if is_done k position s.controls.execution then reached s.due else None
+reached_at k position s =
+    if is_done k position s.controls.execution then reached_report s.due else None
 
 -- an input has this value, and where that is another the last scan is stale
 abbrev pub input_taken : ℕ → Bool → Bool → State → State
@@ -189,7 +191,8 @@ ran_of Unfinished = record { slots = []; timers = []; steps = 0 }
 -- the machine's run at a moment, from what the points that are read hold then
 abbrev pub ending_at : ℕ → State → Ending
 ending_at now s =
-    run s.machine.image.code now (length s.machine.image.code) (started s.machine (inputs_of s)) 0
+    run_from s.machine.image.code now (length s.machine.image.code)
+    (scan_start s.machine (inputs_of s)) 0
 
 -- the program runs once on what stands
 abbrev pub ran_at : ℕ → State → Ran
@@ -206,5 +209,5 @@ after_run now ran s = record s {
 }
 
 -- the points are read, the program runs once, and the interlocking values take their points' values
-abbrev pub scanned : ℕ → State → State
-scanned now s = after_run now (ran_at now s) s
+abbrev pub after_scan : ℕ → State → State
+after_scan now s = after_run now (ran_at now s) s

@@ -6,8 +6,8 @@ use Rattle.bay_control.specs.Decisions as control
 use Rattle.bay_control.specs.Happenings.{Leads}
 use Rattle.bay_connection.specs.Talk.{Indication, Talk, answers, tells, releases, ends, fails, indications}
 use Rattle.bay_services.specs.Entries.{entries_in}
-use Rattle.bay_device.specs.Device.{State, advanced, bay_of}
-use Rattle.bay_device.specs.Hearing.{Done, client_at, heard, said, with_sent}
+use Rattle.bay_device.specs.Device.{State, device_at, bay_of}
+use Rattle.bay_device.specs.Hearing.{Done, client_at, after_indications, after_pdu, with_sent}
 use Rattle.bay_device.specs.Outcomes.{connection_at, last_moment, nothing_done, outcome, place_of}
 use Rattle.bay_device.specs.Steps.{Steps}
 use Rattle.bay_device.specs.declared.event.Event.{Event}
@@ -26,8 +26,8 @@ pub record IsIdle (s : State) : Type 0 where
   pub closed : s.connections ≡ replicate 8 None
 
 -- an association was opened, or closed
-abbrev pub told : ℕ → Act → List Entry
-told now act = record { now = now; act = act; is_accepted = true } ∷ []
+abbrev pub entries_of_act : ℕ → Act → List Entry
+entries_of_act now act = record { now = now; act = act; is_accepted = true } ∷ []
 
 -- ---- octets
 
@@ -36,7 +36,7 @@ abbrev pub entries_on : ℕ → ℕ → Indication → Done → (Done → List E
 entries_on now a (answers octets) d later = later (with_sent a octets d)
 entries_on now a (tells terms pdu) d later =
     entries_in (client_at now a terms d.state) pdu (bay_of d.state)
-    ++ later (said now a terms pdu d)
+    ++ later (after_pdu now a terms pdu d)
 entries_on now a (releases octets) d later = []
 entries_on now a ends d later = []
 entries_on now a (fails code) d later = []
@@ -53,14 +53,14 @@ entries_heard (Some (suc n)) now a (i ∷ is) d =
 -- the device closes the association
 abbrev pub entries_closed : ℕ → ℕ → Option Why → List Entry
 entries_closed now a None = []
-entries_closed now a (Some why) = told now (Closed a)
+entries_closed now a (Some why) = entries_of_act now (Closed a)
 
 abbrev pub entries_octets : Option ℕ → ℕ → ℕ → State → Talk → List ℕ → List Entry
 entries_octets choice now a s talk [] = []
 entries_octets choice now a s talk (octet ∷ octets) =
-    entries_heard choice now a (indications talk (octet ∷ octets)) (nothing_done (advanced now s))
-    ++ entries_closed now a (heard choice now a (indications talk (octet ∷ octets))
-    (nothing_done (advanced now s))).why
+    entries_heard choice now a (indications talk (octet ∷ octets)) (nothing_done (device_at now s))
+    ++ entries_closed now a (after_indications choice now a (indications talk (octet ∷ octets))
+    (nothing_done (device_at now s))).why
 
 abbrev pub entries_recv : Option ℕ → ℕ → ℕ → List ℕ → State → Option Talk → List Entry
 entries_recv choice now a octets s None = []
@@ -72,12 +72,12 @@ entries_recv choice now a octets s (Some talk) = entries_octets choice now a s t
 abbrev pub entries_open : ℕ → ℕ → Option ℕ → Option Talk → List Entry
 entries_open now a None talk = []
 entries_open now a (Some place) (Some talk) = []
-entries_open now a (Some place) None = told now (Opened a)
+entries_open now a (Some place) None = entries_of_act now (Opened a)
 
 -- one that is open is closed
 abbrev pub entries_close : ℕ → ℕ → Option Talk → List Entry
 entries_close now a None = []
-entries_close now a (Some talk) = told now (Closed a)
+entries_close now a (Some talk) = entries_of_act now (Closed a)
 
 -- of an event that its moment does not refuse; the process and the program ask for nothing
 abbrev pub entries_of_event : Option ℕ → ℕ → Event → State → List Entry

@@ -1,6 +1,6 @@
 -- What stands behind a command: a scan that is not too old, since which no contact, no input and no
--- measure has changed. It is said of what the process tells after each event, and nothing here looks
--- at what a device notes of its scans.
+-- measure has changed. It is said of what the process tells after each event, and nothing here
+-- looks at what a device notes of its scans.
 use Rattle.std.specs.Prelude.{ℕ, ◌≡◌, ◌≢◌, ◌+◌, ◌≤◌, All, List, [], ◌∷◌, ◌++◌, Option, None, Result, IfOk, IsOk}
 use Rattle.bay_config.specs.declared.bay.Bay.{Bay}
 use Rattle.bay_config.specs.declared.bay.MeterField.{MeterField}

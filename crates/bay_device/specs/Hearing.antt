@@ -4,7 +4,7 @@ use Rattle.std.specs.Prelude.{ℕ, zero, suc, List, [], ◌∷◌, ◌++◌, map
 use Rattle.bay_assoc.specs.Hears.{association_terms}
 use Rattle.bay_assoc.specs.declared.hearing.AssociationTerms.{AssociationTerms}
 use Rattle.bay_connection.specs.Talk.{Indication, answers, tells, releases, ends, fails, Terms, sending}
-use Rattle.bay_services.specs.Answers.{Answered, answered}
+use Rattle.bay_services.specs.Answers.{Answered, pdu_answer}
 use Rattle.bay_services.specs.declared.answer.Command.{Command}
 use Rattle.bay_services.specs.declared.answer.Ending.{Ending}
 use Rattle.bay_services.specs.declared.client.Client.{Client}
@@ -76,29 +76,30 @@ answered_with a terms x d = record {
 }
 
 -- a PDU of a client, answered and done
-abbrev pub said : ℕ → ℕ → Terms → List ℕ → Done → Done
-said now a terms pdu d =
-    answered_with a terms (answered (client_at now a terms d.state) pdu (bay_of d.state)) d
+abbrev pub after_pdu : ℕ → ℕ → Terms → List ℕ → Done → Done
+after_pdu now a terms pdu d =
+    answered_with a terms (pdu_answer (client_at now a terms d.state) pdu (bay_of d.state)) d
 
 -- what octets have come to, and why the association is closed, if it is
-pub record Heard : Type 0 where
+pub record AllHeard : Type 0 where
   pub done : Done
   pub why : Option Why
 
 -- one thing that was heard, and then what follows; nothing does behind a release, an end and a
 -- fault
-abbrev pub on_heard : ℕ → ℕ → Indication → Done → (Done → Heard) → Heard
+abbrev pub on_heard : ℕ → ℕ → Indication → Done → (Done → AllHeard) → AllHeard
 on_heard now a (answers octets) d later = later (with_sent a octets d)
-on_heard now a (tells terms pdu) d later = later (said now a terms pdu d)
+on_heard now a (tells terms pdu) d later = later (after_pdu now a terms pdu d)
 on_heard now a (releases octets) d later = record { done = with_sent a octets d; why = Some Ended }
 on_heard now a ends d later = record { done = d; why = Some Ended }
 on_heard now a (fails code) d later = record { done = d; why = Some (Fault code) }
 
 -- All that was heard, in its order. The first argument is the free choice: None, memory is never
 -- refused; Some n, it is refused behind n things that were heard.
-abbrev pub heard : Option ℕ → ℕ → ℕ → List Indication → Done → Heard
-heard None now a [] d = record { done = d; why = None }
-heard None now a (i ∷ is) d = on_heard now a i d (heard None now a is)
-heard (Some zero) now a is d = record { done = d; why = Some Memory }
-heard (Some (suc n)) now a [] d = record { done = d; why = None }
-heard (Some (suc n)) now a (i ∷ is) d = on_heard now a i d (heard (Some n) now a is)
+abbrev pub after_indications : Option ℕ → ℕ → ℕ → List Indication → Done → AllHeard
+after_indications None now a [] d = record { done = d; why = None }
+after_indications None now a (i ∷ is) d = on_heard now a i d (after_indications None now a is)
+after_indications (Some zero) now a is d = record { done = d; why = Some Memory }
+after_indications (Some (suc n)) now a [] d = record { done = d; why = None }
+after_indications (Some (suc n)) now a (i ∷ is) d =
+    on_heard now a i d (after_indications (Some n) now a is)

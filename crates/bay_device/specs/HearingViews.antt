@@ -5,7 +5,7 @@ use Rattle.bay_connection.specs.Talk.{Indication, Talk, indications}
 use Rattle.bay_connection.specs.Feeding.{IsContinued}
 use Rattle.bay_services.specs.Bay.{standing_again}
 use Rattle.bay_device.specs.Device.{State, bay_of, with_bay}
-use Rattle.bay_device.specs.Hearing.{Done, Heard, heard, on_heard}
+use Rattle.bay_device.specs.Hearing.{Done, AllHeard, after_indications, on_heard}
 use Rattle.bay_device.specs.declared.event.Why.{Why}
 use Rattle.bay_device.specs.declared.message.Made.{Made}
 
@@ -17,7 +17,7 @@ abbrev pub put_back : Standing → State → State
 put_back standing s = with_bay (standing_again standing (bay_of s)) s
 
 -- one thing that was heard, if there is one, and then what follows
-abbrev pub on_heard_if : ℕ → ℕ → Option Indication → Done → (Done → Heard) → Heard
+abbrev pub on_heard_if : ℕ → ℕ → Option Indication → Done → (Done → AllHeard) → AllHeard
 on_heard_if now a None d later = later d
 on_heard_if now a (Some i) d later = on_heard now a i d later
 
@@ -30,10 +30,12 @@ pub record Moves (now a : ℕ) (old : Talk) (octets : List ℕ) (d : Done) (new 
     (e : Done) : Type 0 where
   pub goes : (later : Option ℕ)
       → (choice : Option ℕ) ×
-      (heard choice now a (indications old octets) d ≡ heard later now a (indications new rest) e)
+      (after_indications choice now a (indications old octets) d
+      ≡ after_indications later now a (indications new rest) e)
 
 -- There is a choice with which the octets come to this.
 pub record ComesTo (now a : ℕ) (old : Talk) (octets : List ℕ) (d : Done) (why : Option Why)
     (e : Done) : Type 0 where
   pub choice : Option ℕ
-  pub is : heard choice now a (indications old octets) d ≡ record { done = e; why = why }
+  pub is : after_indications choice now a (indications old octets) d
+      ≡ record { done = e; why = why }

@@ -25,7 +25,7 @@ use Rattle.bay_device.specs.Device.{State}
 use Rattle.bay_device.specs.declared.fault.LoadFault.{LoadFault}
 use Rattle.bay_device.specs.declared.fault.LoadFault.TheVariants.{Refused, OutOfMemory}
 use Rattle.bay_control.specs.Decisions.{controls_of, initial}
-use Rattle.bay_services.specs.Bay.{shown}
+use Rattle.bay_services.specs.Bay.{rows_shown}
 use Rattle.bay_process.specs.Sources.{sources_of}
 
 -- a device before its first event: nothing is selected, which its rows show, and nothing is
@@ -44,7 +44,7 @@ initial_device bay image = record {
   reads = sources_of false bay.points image.points;
   writes = sources_of true bay.points image.points;
   machine = held_first image;
-  rows = shown None (length bay.switches) bay.rows;
+  rows = rows_shown None (length bay.switches) bay.rows;
   moment = 0;
   last_scan = None;
   is_stale = false;

@@ -19,16 +19,16 @@ abbrev pub meter_place : State → List ℕ → Option ℕ
 meter_place s id = position (λ m. same_name m id) s.meters
 
 -- an interlocking value, by its names
-abbrev pub enabled : State → StatusNames → Bool
-enabled s names = is_truth true (leaf_of names.value s.rows)
+abbrev pub is_enabled : State → StatusNames → Bool
+is_enabled s names = is_truth true (leaf_of names.value s.rows)
 
 -- whether the switch at a place may be opened, and closed
 abbrev pub may_open : State → ℕ → Bool
-may_open s k = enabled s (opening_of k)
+may_open s k = is_enabled s (opening_of k)
 
 -- the program lets the switch be closed
 abbrev pub may_close : State → ℕ → Bool
-may_close s k = enabled s (closing_of k)
+may_close s k = is_enabled s (closing_of k)
 
 -- both of them, of a switch that is there
 abbrev pub enabled_of : State → ℕ → Option (Bool × Bool)

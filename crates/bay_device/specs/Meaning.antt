@@ -9,8 +9,8 @@ use Rattle.il_compile.specs.Compiled.{point_of}
 use Rattle.il_compile.specs.Correct.{DoesTheText, HasTypes}
 use Rattle.il_compile.specs.Meaning.{Memory, mean}
 use Rattle.il_verify.specs.Verdicts.{IsBudget}
-use Rattle.il_scan.specs.Scans.{outputs_of, read_only, started, type_of_point}
-use Rattle.bay_device.specs.Device.{State, advanced, ending_at, inputs_of, scanned}
+use Rattle.il_scan.specs.Scans.{outputs_of, read_only, scan_start, type_of_point}
+use Rattle.bay_device.specs.Device.{State, device_at, ending_at, inputs_of, after_scan}
 use Rattle.bay_device.specs.Outcomes.{last_moment, outcome}
 use Rattle.bay_device.specs.Steps.{AllSteps}
 use Rattle.bay_process.specs.Values.{with_outputs}
@@ -32,7 +32,7 @@ pub record Halts (now : ℕ) (s : State) : Type 0 where
 
 -- So it is, if the event is a scan, once what has run out is ended.
 abbrev pub HaltsAt : ℕ → Event → State → Type 0
-HaltsAt now Scan s = Halts now (advanced now s)
+HaltsAt now Scan s = Halts now (device_at now s)
 HaltsAt now (Open a) s = Unit {0}
 HaltsAt now (Recv a octets) s = Unit {0}
 HaltsAt now (Close a) s = Unit {0}
@@ -74,21 +74,21 @@ memory_of c slots timers =
 -- read
 abbrev pub memory_before : Checked → State → Memory
 memory_before c s = let start =
-    started s.machine (inputs_of s) in memory_of c start.slots start.timers
+    scan_start s.machine (inputs_of s) in memory_of c start.slots start.timers
 
 -- The scan does what the text means: what the program means on these values is what the device
 -- keeps, and the interlocking values in the tree are those of its externals.
 pub record Means (c : Checked) (now : ℕ) (s : State) : Type 0 where
   pub after : Memory
   pub is : mean now c.items (memory_before c s) ≡ Some after
-  pub keeps : memory_of c (scanned now s).machine.slots (scanned now s).machine.timers ≡ after
-  pub rows : (scanned now s).rows
+  pub keeps : memory_of c (after_scan now s).machine.slots (after_scan now s).machine.timers ≡ after
+  pub rows : (after_scan now s).rows
       ≡ with_outputs s.switches s.writes (outputs_of (map point_of c.externals) after.externals) now
       0 s.switches s.rows
 
 -- So it is, if the event is a scan, once what has run out is ended.
 abbrev pub MeansAt : Checked → ℕ → Event → State → Type 0
-MeansAt c now Scan s = Means c now (advanced now s)
+MeansAt c now Scan s = Means c now (device_at now s)
 MeansAt c now (Open a) s = Unit {0}
 MeansAt c now (Recv a octets) s = Unit {0}
 MeansAt c now (Close a) s = Unit {0}

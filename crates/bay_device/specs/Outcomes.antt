@@ -5,11 +5,11 @@ use Rattle.bay_nodes.specs.declared.switch.Switch.{Switch}
 use Rattle.bay_config.specs.declared.bay.MeterField.{MeterField}
 use Rattle.bay_transport.specs.Doings.{start}
 use Rattle.bay_assoc.specs.declared.hearing.Phase.TheVariants.{Idle}
-use Rattle.bay_control.specs.Decisions.{dropped}
+use Rattle.bay_control.specs.Decisions.{without_association}
 use Rattle.bay_connection.specs.Talk.{Talk, indications, left_by}
 use Rattle.bay_services.specs.Bay.{with_controls}
-use Rattle.bay_device.specs.Device.{State, advanced, bay_of, contact_taken, ended_at, input_taken, measure_taken, ran_at, reached_at, scanned, with_bay}
-use Rattle.bay_device.specs.Hearing.{Done, Heard, heard}
+use Rattle.bay_device.specs.Device.{State, device_at, bay_of, contact_taken, ended_at, input_taken, measure_taken, ran_at, reached_at, after_scan, with_bay}
+use Rattle.bay_device.specs.Hearing.{Done, AllHeard, after_indications}
 use Rattle.bay_device.specs.declared.due.Due.{Due}
 use Rattle.bay_device.specs.declared.event.Event.{Event}
 use Rattle.bay_device.specs.declared.event.Event.TheVariants.{Open, Recv, Close, Contact, Input, Measure, Scan}
@@ -25,8 +25,8 @@ pub record Outcome : Type 0 where
   pub after : State
 
 -- a refused event changes nothing
-abbrev pub refused : StepFault → State → Outcome
-refused fault s = record { answer = Err fault; after = s }
+abbrev pub refusal_of : StepFault → State → Outcome
+refusal_of fault s = record { answer = Err fault; after = s }
 
 -- an event that sends nothing but what tells of an end
 abbrev pub quiet : Option Sent → State → Outcome
@@ -45,20 +45,20 @@ or_else (Some sent) later = Some sent
 or_else None later = later
 
 abbrev pub contact_outcome : ℕ → ℕ → Dbpos → State → Option Switch → Outcome
-contact_outcome now k position s None = refused NoSuchPoint s
+contact_outcome now k position s None = refusal_of NoSuchPoint s
 contact_outcome now k position s (Some switch) =
-    quiet (or_else (ended_at now s) (reached_at k position (advanced now s)))
-    (contact_taken now k switch position (advanced now s))
+    quiet (or_else (ended_at now s) (reached_at k position (device_at now s)))
+    (contact_taken now k switch position (device_at now s))
 
 abbrev pub input_outcome : ℕ → ℕ → Bool → State → Option Bool → Outcome
-input_outcome now k value s None = refused NoSuchPoint s
+input_outcome now k value s None = refusal_of NoSuchPoint s
 input_outcome now k value s (Some before) =
-    quiet (ended_at now s) (input_taken k value before (advanced now s))
+    quiet (ended_at now s) (input_taken k value before (device_at now s))
 
 abbrev pub measure_outcome : ℕ → ℕ → MeterField → ℤ → State → Option (List ℕ) → Outcome
-measure_outcome now k field value s None = refused NoSuchPoint s
+measure_outcome now k field value s None = refusal_of NoSuchPoint s
 measure_outcome now k field value s (Some id) =
-    quiet (ended_at now s) (measure_taken now k field value (advanced now s))
+    quiet (ended_at now s) (measure_taken now k field value (device_at now s))
 
 abbrev pub scan_outcome : ℕ → State → Outcome
 scan_outcome now s = record {
@@ -68,9 +68,9 @@ scan_outcome now s = record {
         sent = [];
         commands = [];
         closed = None;
-        scan = Some (ran_at now (advanced now s)).steps;
+        scan = Some (ran_at now (device_at now s)).steps;
       });
-  after = scanned now (advanced now s);
+  after = after_scan now (device_at now s);
 }
 
 -- ---- the associations
@@ -101,29 +101,29 @@ due_without a (Some due) = if due.association == a then None else Some due
 -- an association is closed, which ends its selection
 abbrev pub without_owner : ℕ → State → State
 without_owner a s =
-    record (with_bay (with_controls (dropped a s.controls) (bay_of s)) s)
+    record (with_bay (with_controls (without_association a s.controls) (bay_of s)) s)
     { due = due_without a s.due }
 
 -- it is open no more
-abbrev pub closed : ℕ → State → State
-closed a s = with_connection (place_of a) None (without_owner a s)
+abbrev pub without_connection : ℕ → State → State
+without_connection a s = with_connection (place_of a) None (without_owner a s)
 
 -- an association is opened that is not open
 abbrev pub open_outcome : ℕ → ℕ → State → Option ℕ → Option Talk → Outcome
-open_outcome now a s None talk = refused NoSuchAssociation s
-open_outcome now a s (Some place) (Some talk) = refused AlreadyOpen s
+open_outcome now a s None talk = refusal_of NoSuchAssociation s
+open_outcome now a s (Some place) (Some talk) = refusal_of AlreadyOpen s
 open_outcome now a s (Some place) None =
-    quiet (ended_at now s) (with_connection (place_of a) (Some (first_talk a)) (advanced now s))
+    quiet (ended_at now s) (with_connection (place_of a) (Some (first_talk a)) (device_at now s))
 
 -- an association is closed that is open
 abbrev pub close_outcome : ℕ → ℕ → State → Option Talk → Outcome
-close_outcome now a s None = refused NoSuchAssociation s
-close_outcome now a s (Some talk) = quiet (ended_at now s) (closed a (advanced now s))
+close_outcome now a s None = refusal_of NoSuchAssociation s
+close_outcome now a s (Some talk) = quiet (ended_at now s) (without_connection a (device_at now s))
 
 -- an association that goes on, or is closed by the device
 abbrev pub recv_after : ℕ → Talk → State → Option Why → State
 recv_after a left s None = with_connection (place_of a) (Some left) s
-recv_after a left s (Some why) = closed a s
+recv_after a left s (Some why) = without_connection a s
 
 -- that the device closed it, and why
 abbrev pub closed_by : ℕ → Option Why → Option (ℕ × Why)
@@ -131,7 +131,7 @@ closed_by a None = None
 closed_by a (Some why) = Some (a, why)
 
 -- the answer to octets that were heard
-abbrev pub recv_done : ℕ → Talk → Option Sent → Heard → Outcome
+abbrev pub recv_done : ℕ → Talk → Option Sent → AllHeard → Outcome
 recv_done a left ended h = record {
   answer =
       Ok (record {
@@ -150,14 +150,15 @@ nothing_done s = record { state = s; sent = []; commands = [] }
 
 -- octets of an open association; where there are none nothing is heard, and no memory is taken
 abbrev pub octets_outcome : Option ℕ → ℕ → ℕ → State → Talk → List ℕ → Outcome
-octets_outcome choice now a s talk [] = quiet (ended_at now s) (advanced now s)
+octets_outcome choice now a s talk [] = quiet (ended_at now s) (device_at now s)
 octets_outcome choice now a s talk (octet ∷ octets) =
     recv_done a (left_by talk (octet ∷ octets)) (ended_at now s)
-    (heard choice now a (indications talk (octet ∷ octets)) (nothing_done (advanced now s)))
+    (after_indications choice now a (indications talk (octet ∷ octets))
+    (nothing_done (device_at now s)))
 
 -- octets of an association, which are refused where it is not open
 abbrev pub recv_outcome : Option ℕ → ℕ → ℕ → List ℕ → State → Option Talk → Outcome
-recv_outcome choice now a octets s None = refused NoSuchAssociation s
+recv_outcome choice now a octets s None = refusal_of NoSuchAssociation s
 recv_outcome choice now a octets s (Some talk) = octets_outcome choice now a s talk octets
 
 -- ---- events
@@ -186,8 +187,8 @@ last_moment = 4294967295999
 -- octets come to; None, it never is.
 abbrev pub outcome : Option ℕ → ℕ → Event → State → Outcome
 outcome choice now event s =
-    if nat_lt last_moment now then refused MomentTooLarge s
-    else if nat_lt now s.moment then refused TimeWentBack s
+    if nat_lt last_moment now then refusal_of MomentTooLarge s
+    else if nat_lt now s.moment then refusal_of TimeWentBack s
     else event_outcome choice now event s
 
 -- what a list of events does, one after the other, with a choice for each; where there is none left

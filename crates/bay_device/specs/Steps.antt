@@ -2,7 +2,7 @@
 use Rattle.std.specs.Prelude.{ℕ, ◌≡◌, List, [], length, Option, Some, None, Result, Ok, Err}
 use Rattle.bay_connection.specs.Talk.{Talk, indications, left_by}
 use Rattle.bay_device.specs.Device.{State}
-use Rattle.bay_device.specs.Hearing.{heard}
+use Rattle.bay_device.specs.Hearing.{after_indications}
 use Rattle.bay_device.specs.Outcomes.{Outcome, connection_at, nothing_done, outcome, outcomes, place_of, recv_done, recv_outcome}
 use Rattle.bay_device.specs.declared.event.Event.{Event}
 use Rattle.bay_device.specs.declared.event.Event.TheVariants.{Open, Recv, Close, Contact, Input, Measure, Scan}
@@ -49,9 +49,9 @@ pub record HearsFrom (now a : ℕ) (octets : List ℕ) (ended : Option Sent) (s 
   pub choice : Option ℕ
   pub answered : (let answer : Result Step StepFault = Ok step in answer)
       ≡ (recv_done a (left_by talk octets) ended
-      (heard choice now a (indications talk octets) (nothing_done s))).answer
+      (after_indications choice now a (indications talk octets) (nothing_done s))).answer
   pub left : new ≡ (recv_done a (left_by talk octets) ended
-      (heard choice now a (indications talk octets) (nothing_done s))).after
+      (after_indications choice now a (indications talk octets) (nothing_done s))).after
 
 abbrev pub Hears : ℕ → ℕ → List ℕ → Option Sent → State → Step → State → Type 0
 Hears now a octets ended s step new = (talk : Talk) → connection_at (place_of a) s ≡ Some talk

@@ -13,8 +13,8 @@ abbrev pub key_of : List ℕ → ℕ
 key_of name = fold key_after 0 name
 
 -- the places with one more name
-abbrev pub noted : ℕ → ℕ → List ℕ → List ℕ
-noted key place firsts =
+abbrev pub with_place_of : ℕ → ℕ → List ℕ → List ℕ
+with_place_of key place firsts =
     if nat_lt place (get_or firsts key 0) then slice_set firsts key place else firsts
 
 -- no name stands before the place of its key, and no place is past the names

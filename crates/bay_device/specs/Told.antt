@@ -5,7 +5,7 @@ use Rattle.bay_base.specs.Options.{◌>>=◌}
 use Rattle.bay_ber.specs.Values.{under, value_in, values_in}
 use Rattle.bay_mms.specs.Grammar.{answer_to}
 use Rattle.bay_mms.specs.Tags.{constructed, sequence}
-use Rattle.bay_transport.specs.Doings.{Doing, Answers, Delivers, Ends, Fails, Going, run}
+use Rattle.bay_transport.specs.Doings.{Doing, Answers, Delivers, Ends, Fails, Going, run_of}
 use Rattle.bay_assoc.specs.Session.{Spdu, connect, accept, finish, disconnect, abort, transfer, spdu_in}
 use Rattle.bay_assoc.specs.Sized.{IsSized}
 use Rattle.bay_assoc.specs.Tags.{application}
@@ -16,7 +16,7 @@ use Rattle.bay_control.specs.Happenings.{Leads}
 use Rattle.bay_services.specs.Accepted.{AreNamedAlike, accepted_in, behind_id, first_response, may_be_reported}
 use Rattle.bay_services.specs.Bay.{Bay}
 use Rattle.bay_device.specs.Device.{State, bay_of}
-use Rattle.bay_device.specs.Entries.{opens, told}
+use Rattle.bay_device.specs.Entries.{opens, entries_of_act}
 use Rattle.bay_device.specs.Outcomes.{first_talk, place_of}
 use Rattle.bay_device.specs.declared.event.Event.{Event}
 use Rattle.bay_device.specs.declared.event.Event.TheVariants.{Open, Recv, Close, Contact, Input, Measure, Scan}
@@ -38,7 +38,8 @@ only_tsdu (Fails fault ∷ doings) = None
 
 -- of data TPDUs, on a connection that is open
 abbrev pub tsdu_in : List ℕ → Option (List ℕ)
-tsdu_in octets = only_tsdu (run 0 (Going (record { size = Some 0; group = [] }) []) octets).doings
+tsdu_in octets =
+    only_tsdu (run_of 0 (Going (record { size = Some 0; group = [] }) []) octets).doings
 
 -- the user data of a DATA TRANSFER
 abbrev pub user_data : Spdu → Option (List ℕ)
@@ -91,7 +92,7 @@ told_recv now a names octets (Some talk) sent =
 -- the device tells that it closes an association
 abbrev pub told_closed : ℕ → Option (ℕ × Why) → List Entry
 told_closed now None = []
-told_closed now (Some closed) = told now (Closed closed.0)
+told_closed now (Some closed) = entries_of_act now (Closed closed.0)
 
 -- ---- events and their answers
 
@@ -107,11 +108,11 @@ with_talk (Some place) talk talks = slice_set talks place talk
 
 -- what an event that is not refused tells
 abbrev pub told_step : ℕ → Event → Bay → List (Option Talk) → Step → List Entry
-told_step now (Open a) names talks step = told now (Opened a)
+told_step now (Open a) names talks step = entries_of_act now (Opened a)
 told_step now (Recv a octets) names talks step =
     told_recv now a names octets.now (talk_at (place_of a) talks) step.sent
     ++ told_closed now step.closed
-told_step now (Close a) names talks step = told now (Closed a)
+told_step now (Close a) names talks step = entries_of_act now (Closed a)
 told_step now (Contact k position) names talks step = []
 told_step now (Input k value) names talks step = []
 told_step now (Measure k field value) names talks step = []

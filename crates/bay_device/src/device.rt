@@ -6,7 +6,7 @@ ghost use Rattle.bay_services.specs.Bay.{Bay};
 ghost use Rattle.bay_services.specs.Released.{AreTimed};
 ghost use Rattle.bay_transport.specs.Feeding.{IsGoing};
 ghost use Rattle.il_check.specs.Program.{Checked};
-ghost use Rattle.il_image.specs.Images.{encoded};
+ghost use Rattle.il_image.specs.Images.{image_octets};
 ghost use Rattle.il_image.specs.declared.opcode.Version.TheVariants.{Two};
 ghost use Rattle.bay_device.specs.Commands.{AllCommanded, AreCommanded, IsSingle};
 ghost use Rattle.bay_device.specs.Device.{bay_of};
@@ -15,7 +15,7 @@ ghost use Rattle.bay_device.specs.Fresh.{AllFresh, Came, IsFresh, Past};
 ghost use Rattle.bay_device.specs.LookUps.{switch_place, input_place, meter_place, enabled_of};
 ghost use Rattle.bay_device.specs.Meaning.{AllMean, Halting, HaltsAt, MeansAt, Runs, is_refused};
 ghost use Rattle.bay_device.specs.Operates.{AllOperate, AreOperates};
-ghost use Rattle.bay_device.specs.Outcomes.{closed, connection_at, event_outcome, outcome, recv_after};
+ghost use Rattle.bay_device.specs.Outcomes.{without_connection, connection_at, event_outcome, outcome, recv_after};
 ghost use Rattle.bay_device.specs.Outcomes as spec;
 ghost use Rattle.bay_device.specs.Report.{IsReport};
 ghost use Rattle.bay_device.specs.StateView.{state_view};
@@ -95,7 +95,7 @@ impl Device {
 
     /// The octets of the program's image, in version 2 of the format.
     pub fn image(&self) -> Result<Vec<u8>, AllocError>
-        ensures { IfOk result (λ octets. octets.items ≡ encoded Two self.now.machine.image) }
+        ensures { IfOk result (λ octets. octets.items ≡ image_octets Two self.now.machine.image) }
     {
         encode(self.alloc, self.state.machine.verified().image())
     }
@@ -134,7 +134,7 @@ impl Device {
     // Closes an association, which ends its selection.
     fn drop_connection(&mut self, association: u16, place: usize)
         requires { spec.place_of association ≡ Some place }
-        ensures { self.new ≡ closed association self.old }
+        ensures { self.new ≡ without_connection association self.old }
     {
         self.connections.put(place, None);
         self.state.drop_owner(association);

@@ -34,7 +34,7 @@ fn sent_to(association: u16, octets: Option<Outgoing>) -> Option<Sent>
 
 /// Tells that the switch has reached its position. Nothing is due then.
 pub fn reached(due: &mut Option<Due>) -> Option<Sent>
-    ensures sent { result ≡ spec.reached due.old }
+    ensures sent { result ≡ spec.reached_report due.old }
     ensures none { due.new ≡ None }
 {
     match due.take() {
@@ -45,7 +45,7 @@ pub fn reached(due: &mut Option<Due>) -> Option<Sent>
 
 /// Tells that it has not reached it in time. Nothing is due then.
 pub fn missed(due: &mut Option<Due>) -> Option<Sent>
-    ensures sent { result ≡ spec.missed due.old }
+    ensures sent { result ≡ spec.missed_report due.old }
     ensures none { due.new ≡ None }
 {
     match due.take() {

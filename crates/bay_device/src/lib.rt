@@ -4,8 +4,8 @@
 // What is handed out: `load` (a device from the texts of a bay file and a program, or from an
 // image), `device` (`step`, `run`, the report, the image and the look-ups), `event` (what happens
 // to a device, and what is answered), `report` (the size of a program, and what a scan of it takes
-// at most), `fault` (why texts and images are not loaded, and why an event is refused), `laws` (that
-// nothing which a program reads is left out).
+// at most), `fault` (why texts and images are not loaded, and why an event is refused), `laws`
+// (that nothing which a program reads is left out).
 //
 // Within: `state` is all that a step works on but for its clients, and can take no memory;
 // bay_process and bay_services make its parts of a bay and a verified image. `step` does what

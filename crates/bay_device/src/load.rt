@@ -2,7 +2,7 @@
 ghost use Rattle.std.specs.Prelude.{◌≡◌, ◌≢◌, ℕ, [], None, Ok, Err, IfOk, IfErr, OnOk, length, replicate};
 ghost use Rattle.bay_process.specs.Controls.{AreAllControlRows, HaveSelected};
 ghost use Rattle.bay_process.specs.Layout.{layout_of};
-ghost use Rattle.bay_services.specs.Bay.{shown};
+ghost use Rattle.bay_services.specs.Bay.{rows_shown};
 ghost use Rattle.bay_services.specs.Released.{AreTimed};
 ghost use Rattle.bay_base.specs.Exact.{Gives};
 ghost use Rattle.bay_config.specs.Bay.{bay_of};
@@ -14,7 +14,7 @@ ghost use Rattle.il_text.specs.declared.fault.TextFault.TheVariants as text_faul
 ghost use Rattle.il_check.specs.Checking.{checked_of};
 ghost use Rattle.il_check.specs.Program.{Checked};
 ghost use Rattle.il_check.specs.ProgramViews.{checked_view};
-ghost use Rattle.il_image.specs.Decoding.{decoded};
+ghost use Rattle.il_image.specs.Decoding.{image_spelled};
 ghost use Rattle.il_compile.specs.Compiled.{compiled_of};
 ghost use Rattle.il_verify.specs.Refusals.{IsRefusal};
 ghost use Rattle.il_verify.specs.Verdicts.{IsVerified};
@@ -66,7 +66,7 @@ fn shown_rows(
     requires { HaveSelected tree.old count }
     ensures sized { IfOk result (λ rows. length rows ≡ count) }
     ensures named { IfOk result (λ rows. AreAllControlRows tree.new rows) }
-    ensures rows { OnOk result (tree.new ≡ shown None count tree.old) }
+    ensures rows { OnOk result (tree.new ≡ rows_shown None count tree.old) }
     ensures layout { OnOk result (layout_of tree.new ≡ layout_of tree.old) }
 {
     let rows = control_rows(alloc, tree, count)?;
@@ -298,9 +298,9 @@ fn load_decoded(alloc: Global, bay: Box<Bay>, image: Image) -> Result<Device, Lo
 /// The device of a bay and the octets of an image.
 fn load_octets(alloc: Global, bay: Box<Bay>, image: &[u8]) -> Result<Device, LoadFault>
     requires { IsBay bay.value }
-    ensures ok { IfOk result (λ device. LoadsRead bay.value (decoded image.now) (Ok device)) }
+    ensures ok { IfOk result (λ device. LoadsRead bay.value (image_spelled image.now) (Ok device)) }
     ensures refused { IfErr result
-        (λ e. e ≢ OutOfMemory → LoadsRead bay.value (decoded image.now) (Err e)) }
+        (λ e. e ≢ OutOfMemory → LoadsRead bay.value (image_spelled image.now) (Err e)) }
 {
     let image = decode(alloc, image)?;
     load_decoded(alloc, bay, image)
@@ -310,9 +310,10 @@ fn load_octets(alloc: Global, bay: Box<Bay>, image: &[u8]) -> Result<Device, Loa
 /// file (50 to 55) comes before one of the octets (80 to 83), and that before one of the image (90
 /// to 100).
 pub fn load_image(alloc: Global, bay: &str, image: &[u8]) -> Result<Device, LoadFault>
-    ensures ok { IfOk result (λ device. Loads (bay_of bay.now) (decoded image.now) (Ok device)) }
+    ensures ok { IfOk result
+        (λ device. Loads (bay_of bay.now) (image_spelled image.now) (Ok device)) }
     ensures refused { IfErr result
-        (λ e. e ≢ OutOfMemory → Loads (bay_of bay.now) (decoded image.now) (Err e)) }
+        (λ e. e ≢ OutOfMemory → Loads (bay_of bay.now) (image_spelled image.now) (Err e)) }
     // No event was done: nothing is selected, and no association is open; each switch that can be
     // operated takes some time.
     ensures loaded { IfOk result IsLoaded }

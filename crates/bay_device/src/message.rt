@@ -3,10 +3,10 @@ ghost use Rattle.std.specs.Prelude.{◌≡◌, ◌≤◌, ◌++◌, List, Option
 ghost use Rattle.bay_assoc.specs.Hears.{association_terms};
 ghost use Rattle.bay_connection.specs.Talk.{Talk, sending, terms_of};
 ghost use Rattle.bay_control.specs.declared.selection.Standing.{Standing};
-ghost use Rattle.bay_services.specs.Answers.{answered};
+ghost use Rattle.bay_services.specs.Answers.{pdu_answer};
 ghost use Rattle.bay_services.specs.Controls.{AreShort, IsShort};
 ghost use Rattle.bay_device.specs.Device.{bay_of};
-ghost use Rattle.bay_device.specs.Hearing.{answered_with, later_due, said, sending_if, sent_on};
+ghost use Rattle.bay_device.specs.Hearing.{answered_with, later_due, after_pdu, sending_if, sent_on};
 ghost use Rattle.bay_device.specs.Hearing as spec;
 ghost use Rattle.bay_device.specs.HearingViews.{done_of, put_back};
 ghost use Rattle.bay_device.specs.StateView.{state_view};
@@ -168,7 +168,7 @@ fn answer(
     ensures ok { OnOk result
         ((connections : List (Option Talk)) → done_of (state_view connections state.new) made.new
         ≡ answered_with client.association (terms_of connection.now.talk)
-        (answered client connection.now.pdu (bay_of (state_view connections state.old)))
+        (pdu_answer client connection.now.pdu (bay_of (state_view connections state.old)))
         (done_of (state_view connections state.old) made.old)) }
     ensures back { OnErr result ((connections : List (Option Talk)) (standing : Standing)
         → put_back standing (state_view connections state.new)
@@ -196,7 +196,7 @@ pub fn message(
     requires { IsSome (association_terms connection.now.talk.phase) }
     ensures ok { OnOk result
         ((connections : List (Option Talk)) → done_of (state_view connections state.new) made.new
-        ≡ said now association (terms_of connection.now.talk) connection.now.pdu
+        ≡ after_pdu now association (terms_of connection.now.talk) connection.now.pdu
         (done_of (state_view connections state.old) made.old)) }
     ensures err { OnErr result
         ((connections : List (Option Talk))

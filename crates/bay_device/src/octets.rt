@@ -3,7 +3,7 @@ ghost use Rattle.std.specs.Prelude.{◌≡◌, ◌≢◌, ◌<◌, ◌≤◌, �
 ghost use Rattle.bay_transport.specs.Feeding.{IsGoing};
 ghost use Rattle.bay_connection.specs.Talk.{Talk, left_by};
 ghost use Rattle.bay_connection.specs.Feeding.{IsOpenFor, indication_of};
-ghost use Rattle.bay_device.specs.Hearing.{Done, Heard as HeardSo, sent_on};
+ghost use Rattle.bay_device.specs.Hearing.{Done, AllHeard as HeardSo, sent_on};
 ghost use Rattle.bay_device.specs.HearingViews.{done_of, on_heard_if, ComesTo, IsContinuedIf, Moves};
 ghost use Rattle.bay_device.specs.StateView.{state_view};
 ghost use Rattle.bay_device.specs.declared.event.Why.TheVariants.{Memory};
@@ -13,7 +13,7 @@ use crate::message::{Made, message};
 use crate::state::DeviceState;
 use bay_ber::outgoing::Outgoing;
 use bay_connection::connection::Connection;
-use bay_connection::heard::Heard;
+use bay_connection::heard::LineEvent;
 use std::alloc::{AllocError, Global};
 
 impl From<AllocError> for Why {
@@ -46,7 +46,7 @@ fn hear(
     association: u16,
     state: &mut DeviceState,
     connection: &Connection,
-    heard: Heard,
+    heard: LineEvent,
     made: &mut Made,
 ) -> Result<(), Why>
     requires { IsOpenFor heard connection.now.talk.phase }
@@ -65,21 +65,21 @@ fn hear(
         ≡ record { done = done_of (state_view connections state.new) made.new; why = Some why }) }
 {
     match heard {
-        Heard::Nothing => Ok(()),
-        Heard::Answer(octets) => {
+        LineEvent::Nothing => Ok(()),
+        LineEvent::Answer(octets) => {
             send(association, octets, made)?;
             Ok(())
         }
-        Heard::Mms => {
+        LineEvent::Mms => {
             message(alloc, now, association, state, connection, made)?;
             Ok(())
         }
-        Heard::Released(octets) => {
+        LineEvent::Released(octets) => {
             send(association, octets, made)?;
             Err(Why::Ended)
         }
-        Heard::Ended => Err(Why::Ended),
-        Heard::Fault(code) => Err(Why::Fault(code)),
+        LineEvent::Ended => Err(Why::Ended),
+        LineEvent::Fault(code) => Err(Why::Fault(code)),
     }
 }
 

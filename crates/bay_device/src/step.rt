@@ -7,7 +7,7 @@ ghost use Rattle.bay_nodes.specs.declared.switch.Switch.{Switch};
 ghost use Rattle.bay_process.specs.Layout.{AreLeafTyped, AreMetersLeafTyped, layout_of, switches_of};
 ghost use Rattle.bay_process.specs.Scans.{bound_value};
 ghost use Rattle.bay_process.specs.Sources.{type_of_source};
-ghost use Rattle.bay_device.specs.Device.{advanced, contact_taken, ended_at, ran_at, reached_at, scanned};
+ghost use Rattle.bay_device.specs.Device.{device_at, contact_taken, ended_at, ran_at, reached_at, after_scan};
 ghost use Rattle.bay_device.specs.Device as spec;
 ghost use Rattle.bay_device.specs.Meaning.{Halts};
 ghost use Rattle.bay_device.specs.Outcomes.{event_outcome, without_owner};
@@ -86,7 +86,7 @@ impl DeviceState {
         ensures sent { (connections : List (Option Talk))
             → result ≡ ended_at now (state_view connections self.old) }
         ensures after { (connections : List (Option Talk))
-            → state_view connections self.new ≡ advanced now (state_view connections self.old) }
+            → state_view connections self.new ≡ device_at now (state_view connections self.old) }
         ensures meters { self.new.meters ≡ self.old.meters }
         ensures layout { layout_of self.new.bay.tree ≡ layout_of self.old.bay.tree }
     {
@@ -178,7 +178,7 @@ impl DeviceState {
     /// counts its steps.
     pub fn scan(&mut self, now: u64) -> u32
         ensures after { (connections : List (Option Talk))
-            → state_view connections self.new ≡ scanned now (state_view connections self.old) }
+            → state_view connections self.new ≡ after_scan now (state_view connections self.old) }
         ensures steps { (connections : List (Option Talk))
             → result ≡ (ran_at now (state_view connections self.old)).steps }
         ensures halts { (connections : List (Option Talk))

@@ -1,7 +1,7 @@
 // Where names stand, found without going over all of them.
 ghost use Rattle.std.specs.Prelude.{◌≡◌, ◌<◌, length, map, position};
 ghost use Rattle.bay_base.specs.Names.{same_name};
-ghost use Rattle.bay_device.specs.Table.{IsTable, AreTables, noted};
+ghost use Rattle.bay_device.specs.Table.{IsTable, AreTables, with_place_of};
 ghost use Rattle.bay_device.specs.Table as spec;
 
 use bay_base::names::same_name;
@@ -77,7 +77,7 @@ impl NameTable {
     /// Notes that a name with this key stands at a place.
     fn note(&mut self, key: usize, place: usize)
         requires { key < 64 }
-        ensures { self.new.firsts ≡ noted key place self.old.firsts }
+        ensures { self.new.firsts ≡ with_place_of key place self.old.firsts }
     {
         if place < self.firsts[key] {
             self.firsts[key] = place;

@@ -50,8 +50,8 @@ pub trait FileSystem {
         ensures err { IfErr result (λ fault. reads self.now name.now (Err fault)) };
 
     /// Makes a file of these octets under the name beside, and gives it the other, in the place of
-    /// what had that; nothing else is touched. Where something has the name beside, it is Ok(false),
-    /// and nothing is done; where a call fails, nothing that was made stays.
+    /// what had that; nothing else is touched. Where something has the name beside, it is
+    /// Ok(false), and nothing is done; where a call fails, nothing that was made stays.
     fn write(&mut self, name: &str, beside: &str, octets: &[u8]) -> Result<bool, FileFault>
         ensures { writes self.old name.now beside.now octets.now result self.new };
 

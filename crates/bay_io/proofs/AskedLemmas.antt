@@ -4,9 +4,9 @@ use Rattle.std.proofs.Math.Bool.{or_assoc}
 use Rattle.bay_io.specs.Calls.{Asked, AskedFew, ReadCall, Talks, WriteCall, flushes, read_failed, reads, some_call, write_failed, writes}
 use Rattle.bay_io.specs.Watched.{write_fails}
 
-pub or_false : (b : Bool) → b ≡ (b || false)
-or_false true = refl
-or_false false = refl
+pub or-false : (b : Bool) → b ≡ (b || false)
+or-false true = refl
+or-false false = refl
 
 pub some-append : {C : Type 0} (f : C → Bool) (xs ys : List C)
     → some_call f (xs ++ ys) ≡ (some_call f xs || some_call f ys)
@@ -23,7 +23,7 @@ talks-append does a b c (x ∷ xs) ys t u = (t.0, t.1, talks-append does t.0 b c
 module _ {S C : Type 0} {does : S → C → S → Type 0} {fails : C → Bool} where
   -- nothing was asked
   abbrev pub Asked-none : (s : S) (b : Bool) → Asked does fails s b s b
-  Asked-none s b = record { calls = []; talks = refl; failed = or_false b }
+  Asked-none s b = record { calls = []; talks = refl; failed = or-false b }
 
   -- one call
   abbrev pub Asked-one : (old new : S) (was is : Bool) (call : C) → does old call new
@@ -31,7 +31,7 @@ module _ {S C : Type 0} {does : S → C → S → Type 0} {fails : C → Bool} w
   Asked-one old new was is call d e = record {
     calls = call ∷ [];
     talks = (new, d, refl);
-    failed = e ∙ ap (λ b. was || b) (or_false (fails call));
+    failed = e ∙ ap (λ b. was || b) (or-false (fails call));
   }
 
   -- some, and then others

@@ -5,7 +5,7 @@ use Rattle.std.proofs.lemmas.List.{get_or-take, length-take, take_more}
 use Rattle.std.proofs.lemmas.List.Elements.{All-from_get_or}
 use Rattle.std.proofs.lemmas.List.Quantifiers.{position-Some}
 use Rattle.std.specs.List.{position}
-use Rattle.bay_lines.specs.Cuttings.{AreLines, Comes, Cutting, IsLine, LosesNothing, Move, Takes, all_of, cut, took}
+use Rattle.bay_lines.specs.Cuttings.{AreLines, Comes, Cutting, IsLine, LosesNothing, Move, Takes, all_of, cutting_of, took}
 use Rattle.bay_lines.specs.Fronts.{Front, Overlong, Waiting, Whole, front, front_at, is_end, without_return}
 
 -- where the end of a line was looked for
@@ -54,19 +54,19 @@ cuts-at xs k e =
     }
 
 cuts-front : (xs line rest : List ℕ) → front xs ≡ Whole line rest → Cuts xs line rest
-cuts-front xs line rest e = by_place (position is_end (take 257 xs)) refl e
+cuts-front xs line rest e = by-place (position is_end (take 257 xs)) refl e
   where
-    by_long : (v : Bool) → (if v then Overlong else Waiting) ≡ Whole line rest → Cuts xs line rest
-    by_long true e = absurd cc
-    by_long false e = absurd cc
+    by-long : (v : Bool) → (if v then Overlong else Waiting) ≡ Whole line rest → Cuts xs line rest
+    by-long true e = absurd cc
+    by-long false e = absurd cc
 
-    by_place : (o : Option ℕ) → position is_end (take 257 xs) ≡ o
+    by-place : (o : Option ℕ) → position is_end (take 257 xs) ≡ o
         → front_at xs o ≡ Whole line rest → Cuts xs line rest
-    by_place None is e = by_long (nat_lt 256 (length xs)) e
-    by_place (Some k) is e =
+    by-place None is e = by-long (nat_lt 256 (length xs)) e
+    by-place (Some k) is e =
         let line_is : without_return (take k xs) ≡ line = cc in
-        let rest_is : drop (k + 1) xs ≡ rest = cc in
-        rw (← line_is, ← rest_is) (cuts-at xs k is)
+        let rest-is : drop (k + 1) xs ≡ rest = cc in
+        rw (← line_is, ← rest-is) (cuts-at xs k is)
 
 -- ---- nothing is lost, from what is kept
 
@@ -89,7 +89,8 @@ took-whole (Whole line rest) kept all later e h =
           ∙ ap (λ t. c.piece ++ t) l.whole ∙ sym (append_assoc c.piece l.text (later rest).kept);
     }
 
-loses-nothing : (moves : List Move) (kept : List ℕ) → LosesFrom kept (all_of moves) (cut moves kept)
+loses-nothing : (moves : List Move) (kept : List ℕ)
+    → LosesFrom kept (all_of moves) (cutting_of moves kept)
 loses-nothing [] kept = record { text = []; lines = refl; whole = append-nil kept }
 loses-nothing (Comes octets ∷ moves) kept =
     let l = loses-nothing moves (kept ++ octets) in
@@ -99,7 +100,7 @@ loses-nothing (Comes octets ∷ moves) kept =
       whole = sym (append_assoc kept octets (all_of moves)) ∙ l.whole;
     }
 loses-nothing (Takes ∷ moves) kept =
-    took-whole (front kept) kept (all_of moves) (cut moves) refl (loses-nothing moves)
+    took-whole (front kept) kept (all_of moves) (cutting_of moves) refl (loses-nothing moves)
 
 pub nothing-is-lost : (moves : List Move) → LosesNothing moves
 nothing-is-lost moves =

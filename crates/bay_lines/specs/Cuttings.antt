@@ -21,10 +21,10 @@ took Overlong kept later = later kept
 took (Whole line rest) kept later = with_line line (later rest)
 
 -- what moves come to, from what is kept; where no line stands in front, none is taken
-abbrev pub cut : List Move → List ℕ → Cutting
-cut [] kept = record { lines = []; kept = kept }
-cut (Comes octets ∷ moves) kept = cut moves (kept ++ octets)
-cut (Takes ∷ moves) kept = took (front kept) kept (cut moves)
+abbrev pub cutting_of : List Move → List ℕ → Cutting
+cutting_of [] kept = record { lines = []; kept = kept }
+cutting_of (Comes octets ∷ moves) kept = cutting_of moves (kept ++ octets)
+cutting_of (Takes ∷ moves) kept = took (front kept) kept (cutting_of moves)
 
 -- all octets that come
 abbrev pub all_of : List Move → List ℕ
@@ -51,5 +51,5 @@ AreLines (line ∷ lines) text =
 -- lost, repeated or joined with another.
 pub record LosesNothing (moves : List Move) : Type 0 where
   pub text : List ℕ
-  pub lines : AreLines (cut moves []).lines text
-  pub whole : all_of moves ≡ text ++ (cut moves []).kept
+  pub lines : AreLines (cutting_of moves []).lines text
+  pub whole : all_of moves ≡ text ++ (cutting_of moves []).kept

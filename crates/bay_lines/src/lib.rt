@@ -1,7 +1,7 @@
 // Octets that come in pieces become lines.
 //
-// Handed out: `kept` (octets that are kept, at most so many), `front` (the line that stands in front
-// of them), `laws` (what holds of every cutting of the octets).
+// Handed out: `kept` (octets that are kept, at most so many), `front` (the line that stands in
+// front of them), `laws` (what holds of every cutting of the octets).
 #![tactic(auto)]
 
 pub mod front;

@@ -1,7 +1,7 @@
 -- What the commands come to: what is printed, the exit status, and what becomes of files.
 use Rattle.bay_io.specs.Calls.{WriteCall}
 use Rattle.std.specs.Prelude.{◌≡◌, ℕ, Bool, true, false, List, codes, Option, None, Some, Result, Ok, Err, is_err, ◌⊎◌}
-use Rattle.il_image.specs.Images.{encoded}
+use Rattle.il_image.specs.Images.{image_octets}
 use Rattle.il_image.specs.declared.opcode.Version.TheVariants.{Two}
 use Rattle.bay_device.specs.Device.{State}
 use Rattle.bay_device.specs.Report.{IsReport as IsReportOf}
@@ -65,7 +65,7 @@ abbrev pub WritesImage : {F W : Type 0} → FileWrites F
     → Type 0
 WritesImage writes contents asks out s before after old new answer =
     ((fault : Option FileFault)
-    × WritesWhole writes 100 0 out (encoded Two s.machine.image) before after fault
+    × WritesWhole writes 100 0 out (image_octets Two s.machine.image) before after fault
     × EndsWritten contents asks fault old new answer)
     ⊎ (Prints contents asks (IsLast (codes "fault memory\n") 3) old new answer × (after ≡ before))
 

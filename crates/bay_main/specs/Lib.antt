@@ -1,3 +1,12 @@
+-- The commands of the program. `Commands` is the main file: what any command line comes to. The job
+-- that the words ask for is done, with what is printed, the exit status and what becomes of files;
+-- or the words are refused, and nothing is read, printed or touched; or there is no memory to read
+-- them. An image is written by way of a new file beside it.
+--
+-- `Check`: what is printed for a load alone, and its status. `Ending`: a command's exit status, and
+-- what it writes to standard error. Serving, replaying and files are said by bay_serving,
+-- bay_replay and bay_files.
+
 -- What public clauses cite of the crates below.
 pub use Rattle.bay_files.specs.Files
 pub use Rattle.bay_replay.specs.Replay

@@ -6,59 +6,59 @@ use Rattle.bay_base.specs.Options.{◌>>=◌}
 use Rattle.bay_ber.specs.Tags.{same_tag}
 use Rattle.bay_ber.specs.Values.{Part, value, SpellAll, value_in, one_or_two_in, each_in, under}
 use Rattle.bay_ber.proofs.ReadLemmas.{IsBytes}
-use Rattle.bay_ber.proofs.ListingLemmas.{values_again}
-use Rattle.bay_ber.proofs.BackLemmas.{bind_some, some_is, tag_is, under_is, listed, one_back, two_back, each_back, one_read, two_read}
+use Rattle.bay_ber.proofs.ListingLemmas.{values-again}
+use Rattle.bay_ber.proofs.BackLemmas.{bind-some, some-is, tag-is, under-is, listed, one-back, two-back, each-back, one-read, two-read}
 use Rattle.bay_mms.specs.Tags.{context, constructed, sequence, visible_tag}
 use Rattle.bay_base.specs.Results.{◌>>=◌ as ◌>>◌}
-use Rattle.bay_mms.specs.Spelled.{spelled}
+use Rattle.bay_mms.specs.Spelled.{or_misspelled}
 use Rattle.bay_mms.specs.Requests.{Naming, vmd, domain, association, VariableSpecification, Access, variables, named_list}
-use Rattle.bay_mms.specs.Grammar.{domain_name, name_as, name_in, is_partial, variable_of, variable_as, any_alternate, judged, listed_in, names_as}
+use Rattle.bay_mms.specs.Grammar.{domain_name, name_as, name_in, is_partial, variable_of, variable_as, any_alternate, names_asked, listed_in, names_as}
 use Rattle.bay_mms.specs.SpelledNames.{IsName, IsPartial, IsVariable, IsAccess, as_whole, AreServed, AreUnserved, AreMany}
-use Rattle.bay_mms.proofs.EachLemmas.{each_read, each_listed}
+use Rattle.bay_mms.proofs.EachLemmas.{each-read, each-listed}
 use Rattle.bay_mms.specs.declared.fault.Refusal.{Refusal}
 use Rattle.bay_mms.specs.declared.fault.Refusal.TheVariants.{Bad, Unknown, Many, OutOfMemory}
 
 -- ---- one thing after another
 
-pub right_is : {A E : Type 0} (x y : A) → let a : Result A E = Ok x in let b : Result A E =
+pub right-is : {A E : Type 0} (x y : A) → let a : Result A E = Ok x in let b : Result A E =
     Ok y in a ≡ b → x ≡ y
-right_is x y e = cc
+right-is x y e = cc
 
 -- an answer that is not for bad spelling
 abbrev pub IsFair : {A : Type 0} → Result A Refusal → Type 0
 IsFair r = r ≡ Err Bad → ⊥
 
-pub spelled_then : {A B : Type 0} (o : Option A) (f : A → Result B Refusal) (r : Result B Refusal)
-    → IsFair r → (spelled o >> f) ≡ r → (x : A) × (o ≡ Some x) × (f x ≡ r)
-spelled_then None f r fair e = absurd (fair (sym e))
-spelled_then (Some x) f r fair e = (x, refl, e)
+pub spelled-then : {A B : Type 0} (o : Option A) (f : A → Result B Refusal) (r : Result B Refusal)
+    → IsFair r → (or_misspelled o >> f) ≡ r → (x : A) × (o ≡ Some x) × (f x ≡ r)
+spelled-then None f r fair e = absurd (fair (sym e))
+spelled-then (Some x) f r fair e = (x, refl, e)
 
 -- which of two a tag chooses
-pub by_tag : {A : Type 0} (tag : Tag) (part : Part) (x y z : A)
+pub by-tag : {A : Type 0} (tag : Tag) (part : Part) (x y z : A)
     → cond (same_tag part.tag tag) x y ≡ z
     → ((part ≡ value tag part.content) × (x ≡ z)) ⊎ ((same_tag part.tag tag ≡ false) × (y ≡ z))
-by_tag {A = A} tag part x y z e = pick (same_tag part.tag tag) refl e
+by-tag {A = A} tag part x y z e = pick (same_tag part.tag tag) refl e
   where
     pick : (b : Bool) → same_tag part.tag tag ≡ b → cond b x y ≡ z
         → ((part ≡ value tag part.content) × (x ≡ z)) ⊎ ((same_tag part.tag tag ≡ false) × (y ≡ z))
-    pick true s f = inl (ap (λ (t : Tag). value t part.content) (tag_is part.tag tag s), f)
+    pick true s f = inl (ap (λ (t : Tag). value t part.content) (tag-is part.tag tag s), f)
     pick false s f = inr (s, f)
 
-pub spelled_under : (octets : List ℕ) (p q : Part) → p ≡ q → SpellAll octets (p ∷ [])
+pub spelled-under : (octets : List ℕ) (p q : Part) → p ≡ q → SpellAll octets (p ∷ [])
     → SpellAll octets (q ∷ [])
-spelled_under octets p q e s = subst (λ (x : Part). SpellAll octets (x ∷ [])) e s
+spelled-under octets p q e s = subst (λ (x : Part). SpellAll octets (x ∷ [])) e s
 
 -- ---- names
 
-pub name_read : (octets : List ℕ) (n : Naming) → IsName octets n → name_in octets ≡ Some n
+pub name-read : (octets : List ℕ) (n : Naming) → IsName octets n → name_in octets ≡ Some n
 unfolding name_in name_as
-name_read octets (vmd text) is = rw (one_read octets (value (context 0) text) is) refl
-name_read octets (domain d item) is =
+name-read octets (vmd text) is = rw (one-read octets (value (context 0) text) is) refl
+name-read octets (domain d item) is =
     rw (
-      one_read octets (value (constructed 1) is.0) is.1,
-      two_read is.0 (value visible_tag d ∷ value visible_tag item ∷ []) is.2,
+      one-read octets (value (constructed 1) is.0) is.1,
+      two-read is.0 (value visible_tag d ∷ value visible_tag item ∷ []) is.2,
     ) refl
-name_read octets (association text) is = rw (one_read octets (value (context 2) text) is) refl
+name-read octets (association text) is = rw (one-read octets (value (context 2) text) is) refl
 
 record Both (p : Part) (o : Option Part) (n : Naming) : Type 0 where
   first : List ℕ
@@ -66,27 +66,27 @@ record Both (p : Part) (o : Option Part) (n : Naming) : Type 0 where
   are : p ∷ listed o ≡ value visible_tag first ∷ value visible_tag second ∷ []
   is : domain first second ≡ n
 
-domain_back : (p : Part) (o : Option Part) (n : Naming) → domain_name p o ≡ Some n → Both p o n
-domain_back p o n e =
-    let x = bind_some (under visible_tag p) _ n e in
-    let y = bind_some o _ n x.2 in
-    let z = bind_some (under visible_tag y.0) _ n y.2 in
+domain-back : (p : Part) (o : Option Part) (n : Naming) → domain_name p o ≡ Some n → Both p o n
+domain-back p o n e =
+    let x = bind-some (under visible_tag p) _ n e in
+    let y = bind-some o _ n x.2 in
+    let z = bind-some (under visible_tag y.0) _ n y.2 in
     record {
       first = x.0;
       second = z.0;
-      are = ap (λ (r : Part). r ∷ listed o) (under_is visible_tag p x.0 x.1)
+      are = ap (λ (r : Part). r ∷ listed o) (under-is visible_tag p x.0 x.1)
           ∙ ap (λ (q : Option Part). value visible_tag x.0 ∷ listed q) y.1
-          ∙ ap (λ (r : Part). value visible_tag x.0 ∷ r ∷ []) (under_is visible_tag y.0 z.0 z.1);
-      is = some_is (domain x.0 z.0) n z.2;
+          ∙ ap (λ (r : Part). value visible_tag x.0 ∷ r ∷ []) (under-is visible_tag y.0 z.0 z.1);
+      is = some-is (domain x.0 z.0) n z.2;
     }
 
-domain_named : (octets : List ℕ) (part : Part) (n : Naming)
+domain-named : (octets : List ℕ) (part : Part) (n : Naming)
     → SpellAll octets (value (constructed 1) part.content ∷ []) → IsBytes part.content
     → (one_or_two_in part.content >>= (λ ps. domain_name ps.0 ps.1)) ≡ Some n → IsName octets n
-domain_named octets part n s b e =
-    let x = bind_some (one_or_two_in part.content) (λ ps. domain_name ps.0 ps.1) n e in
-    let f = two_back part.content x.0 b x.1 in
-    let d = domain_back x.0.0 x.0.1 n x.2 in
+domain-named octets part n s b e =
+    let x = bind-some (one_or_two_in part.content) (λ ps. domain_name ps.0 ps.1) n e in
+    let f = two-back part.content x.0 b x.1 in
+    let d = domain-back x.0.0 x.0.1 n x.2 in
     subst (IsName octets) d.is (part.content, s, subst (SpellAll part.content) d.are f.0)
 
 named : (octets : List ℕ) (part : Part) (n : Naming) → SpellAll octets (part ∷ [])
@@ -98,136 +98,136 @@ named octets part n s b e =
     let both : Option Naming =
     one_or_two_in part.content >>= (λ ps. domain_name ps.0 ps.1) in
     let later : Option Naming = cond (same_tag part.tag (constructed 1)) both last in
-    elim (by_tag (context 0) part (Some (vmd part.content)) later (Some n) e) [
-      | inl here ↦ subst (IsName octets) (some_is (vmd part.content) n here.1)
-          (spelled_under octets part (value (context 0) part.content) here.0 s)
-      | inr next ↦ elim (by_tag (constructed 1) part both last (Some n) next.1) [
-        | inl here ↦ domain_named octets part n
-            (spelled_under octets part (value (constructed 1) part.content) here.0 s) b here.1
-        | inr more ↦ elim (by_tag (context 2) part (Some (association part.content)) None
+    elim (by-tag (context 0) part (Some (vmd part.content)) later (Some n) e) [
+      | inl here ↦ subst (IsName octets) (some-is (vmd part.content) n here.1)
+          (spelled-under octets part (value (context 0) part.content) here.0 s)
+      | inr next ↦ elim (by-tag (constructed 1) part both last (Some n) next.1) [
+        | inl here ↦ domain-named octets part n
+            (spelled-under octets part (value (constructed 1) part.content) here.0 s) b here.1
+        | inr more ↦ elim (by-tag (context 2) part (Some (association part.content)) None
             (Some n)
             more.1) [
-              | inl here ↦ subst (IsName octets) (some_is (association part.content) n here.1)
-                  (spelled_under octets part (value (context 2) part.content) here.0 s)
+              | inl here ↦ subst (IsName octets) (some-is (association part.content) n here.1)
+                  (spelled-under octets part (value (context 2) part.content) here.0 s)
               | inr none ↦ absurd (let no : None ≡ Some n = none.1 in cc)
             ]
       ]
     ]
 
-pub name_back : (octets : List ℕ) (n : Naming) → IsBytes octets → name_in octets ≡ Some n
+pub name-back : (octets : List ℕ) (n : Naming) → IsBytes octets → name_in octets ≡ Some n
     → IsName octets n
 unfolding name_in
-name_back octets n b e =
-    let x = bind_some (value_in octets) name_as n e in
-    let one = one_back octets x.0 b x.1 in
+name-back octets n b e =
+    let x = bind-some (value_in octets) name_as n e in
+    let one = one-back octets x.0 b x.1 in
     named octets x.0 n one.0 one.1 x.2
 
 -- ---- variables
 
-variable_with : (octets name : List ℕ) (behind : List Part) (n : Naming) (alternate : Bool)
+variable-with : (octets name : List ℕ) (behind : List Part) (n : Naming) (alternate : Bool)
     → SpellAll octets (value (constructed 0) name ∷ behind) → IsName name n
     → IsPartial behind alternate
     → (one_or_two_in octets >>= (λ ps. variable_of ps.0 ps.1))
     ≡ Some (record { name = n; is_alternate = alternate })
-variable_with octets name [] n false s is partial =
-    rw (two_read octets (value (constructed 0) name ∷ []) s, name_read name n is) refl
-variable_with octets name [] n true s is partial = absurd partial
-variable_with octets name (part ∷ []) n false s is partial = absurd partial
-variable_with octets name (part ∷ []) n true s is partial =
-    rw (two_read octets (value (constructed 0) name ∷ part ∷ []) s, name_read name n is, partial)
+variable-with octets name [] n false s is partial =
+    rw (two-read octets (value (constructed 0) name ∷ []) s, name-read name n is) refl
+variable-with octets name [] n true s is partial = absurd partial
+variable-with octets name (part ∷ []) n false s is partial = absurd partial
+variable-with octets name (part ∷ []) n true s is partial =
+    rw (two-read octets (value (constructed 0) name ∷ part ∷ []) s, name-read name n is, partial)
     refl
-variable_with octets name (part ∷ next ∷ parts) n alternate s is partial = absurd partial
+variable-with octets name (part ∷ next ∷ parts) n alternate s is partial = absurd partial
 
-variable_read : (octets : List ℕ) (v : VariableSpecification) → IsVariable octets v
+variable-read : (octets : List ℕ) (v : VariableSpecification) → IsVariable octets v
     → variable_as (value sequence octets) ≡ Some v
 unfolding variable_as
-variable_read octets v is =
-    variable_with octets is.name is.behind v.name v.is_alternate is.parts is.is_name is.alternate
+variable-read octets v is =
+    variable-with octets is.name is.behind v.name v.is_alternate is.parts is.is_name is.alternate
 
 record Named (p : Part) (n : Naming) : Type 0 where
   name : List ℕ
   part : p ≡ value (constructed 0) name
   is : IsName name n
 
-under_named : (p : Part) (name : List ℕ) (n : Naming) → IsBytes p.content
+under-named : (p : Part) (name : List ℕ) (n : Naming) → IsBytes p.content
     → under (constructed 0) p ≡ Some name → name_in name ≡ Some n → Named p n
-under_named p name n b e f =
-    let same = under_is (constructed 0) p name e in
+under-named p name n b e f =
+    let same = under-is (constructed 0) p name e in
     record {
       name = name;
       part = same;
-      is = name_back name n (subst IsBytes (ap (λ (q : Part). q.content) same) b) f;
+      is = name-back name n (subst IsBytes (ap (λ (q : Part). q.content) same) b) f;
     }
 
-partial_back : (o : Option Part) (b : Bool) → is_partial o ≡ Some b → IsPartial (listed o) b
-partial_back None b e = subst (IsPartial []) (some_is false b e) tt
-partial_back (Some q) b e =
-    let x = bind_some (under (constructed 5) q) _ b e in
-    subst (IsPartial (q ∷ [])) (some_is true b x.2)
-    (ap (λ (r : Part). r.tag) (under_is (constructed 5) q x.0 x.1))
+partial-back : (o : Option Part) (b : Bool) → is_partial o ≡ Some b → IsPartial (listed o) b
+partial-back None b e = subst (IsPartial []) (some-is false b e) tt
+partial-back (Some q) b e =
+    let x = bind-some (under (constructed 5) q) _ b e in
+    subst (IsPartial (q ∷ [])) (some-is true b x.2)
+    (ap (λ (r : Part). r.tag) (under-is (constructed 5) q x.0 x.1))
 
-variable_parts : (octets : List ℕ) (p : Part) (o : Option Part) (v : VariableSpecification)
+variable-parts : (octets : List ℕ) (p : Part) (o : Option Part) (v : VariableSpecification)
     → SpellAll octets (p ∷ listed o) → IsBytes p.content → variable_of p o ≡ Some v
     → IsVariable octets v
-variable_parts octets p o v s b e =
-    let w = bind_some (is_partial o) _ v e in
-    let x = bind_some (under (constructed 0) p) _ v w.2 in
-    let y = bind_some (name_in x.0) _ v x.2 in
+variable-parts octets p o v s b e =
+    let w = bind-some (is_partial o) _ v e in
+    let x = bind-some (under (constructed 0) p) _ v w.2 in
+    let y = bind-some (name_in x.0) _ v x.2 in
     let made : VariableSpecification = record { name = y.0; is_alternate = w.0 } in
-    let n = under_named p x.0 y.0 b x.1 y.1 in
-    subst (IsVariable octets) (some_is made v y.2) (record {
+    let n = under-named p x.0 y.0 b x.1 y.1 in
+    subst (IsVariable octets) (some-is made v y.2) (record {
       name = n.name;
       behind = listed o;
       parts = subst (λ (r : Part). SpellAll octets (r ∷ listed o)) n.part s;
       is_name = n.is;
-      alternate = partial_back o w.0 w.1;
+      alternate = partial-back o w.0 w.1;
     })
 
-variable_back : (p : Part) (v : VariableSpecification) → IsBytes p.content → variable_as p ≡ Some v
+variable-back : (p : Part) (v : VariableSpecification) → IsBytes p.content → variable_as p ≡ Some v
     → (octets : List ℕ) × (p ≡ value sequence octets) × IsVariable octets v
 unfolding variable_as
-variable_back p v b e =
-    let x = bind_some (under sequence p >>= one_or_two_in) (λ ps. variable_of ps.0 ps.1) v e in
-    let y = bind_some (under sequence p) one_or_two_in x.0 x.1 in
-    let same = under_is sequence p y.0 y.1 in
-    let f = two_back y.0 x.0 (subst IsBytes (ap (λ (q : Part). q.content) same) b) y.2 in
-    (y.0, same, variable_parts y.0 x.0.0 x.0.1 v f.0 f.1.0 x.2)
+variable-back p v b e =
+    let x = bind-some (under sequence p >>= one_or_two_in) (λ ps. variable_of ps.0 ps.1) v e in
+    let y = bind-some (under sequence p) one_or_two_in x.0 x.1 in
+    let same = under-is sequence p y.0 y.1 in
+    let f = two-back y.0 x.0 (subst IsBytes (ap (λ (q : Part). q.content) same) b) y.2 in
+    (y.0, same, variable-parts y.0 x.0.0 x.0.1 v f.0 f.1.0 x.2)
 
 -- ---- the variables of a read or a write
 
-pub access_read : (count : Option ℕ) (part : Part) (a : Access) → IsAccess part a
-    → names_as count part ≡ judged count a
+pub access-read : (count : Option ℕ) (part : Part) (a : Access) → IsAccess part a
+    → names_as count part ≡ names_asked count a
 unfolding names_as
-access_read count part (variables vs) is =
+access-read count part (variables vs) is =
     rw (
       is.2,
-      values_again is.0 (map (value sequence) is.1) is.3,
-      each_read variable_as (value sequence) IsVariable variable_read is.1 vs is.4,
+      values-again is.0 (map (value sequence) is.1) is.3,
+      each-read variable_as (value sequence) IsVariable variable-read is.1 vs is.4,
     ) refl
-access_read count part named_list is = rw (is.2, name_read is.0 is.1 is.3) refl
+access-read count part named_list is = rw (is.2, name-read is.0 is.1 is.3) refl
 
 -- The value is variables, or a list by its name, which are judged so.
 pub record Accessed (count : Option ℕ) (part : Part) (r : Result (List Naming) Refusal)
     : Type 0 where
   pub access : Access
   pub is : IsAccess part access
-  pub answer : judged count access ≡ r
+  pub answer : names_asked count access ≡ r
 
-pub access_back : (count : Option ℕ) (part : Part) (r : Result (List Naming) Refusal) → IsFair r
+pub access-back : (count : Option ℕ) (part : Part) (r : Result (List Naming) Refusal) → IsFair r
     → IsBytes part.content → names_as count part ≡ r → Accessed count part r
 unfolding names_as
-access_back count part r fair b e =
+access-back count part r fair b e =
     let list : Result (List Naming) Refusal =
-    spelled (name_in part.content) >> (λ n. judged count named_list) in
+    or_misspelled (name_in part.content) >> (λ n. names_asked count named_list) in
     let last : Result (List Naming) Refusal =
     cond (same_tag part.tag (constructed 1)) list (Err Bad) in
-    elim (by_tag (constructed 0) part (listed_in count part.content) last r e) [
+    elim (by-tag (constructed 0) part (listed_in count part.content) last r e) [
       | inl here ↦
-          let x = spelled_then (each_in variable_as part.content)
-          (λ vs. judged count (variables vs))
+          let x = spelled-then (each_in variable_as part.content)
+          (λ vs. names_asked count (variables vs))
           r fair here.1 in
-          let each = each_back variable_as part.content x.0 b x.1 in
-          let l = each_listed variable_as (value sequence) IsVariable variable_back each.parts x.0
+          let each = each-back variable_as part.content x.0 b x.1 in
+          let l = each-listed variable_as (value sequence) IsVariable variable-back each.parts x.0
           each.bytes each.all in
           record {
             access = variables x.0;
@@ -240,13 +240,14 @@ access_back count part r fair b e =
             );
             answer = x.2;
           }
-      | inr next ↦ elim (by_tag (constructed 1) part list (Err Bad) r next.1) [
+      | inr next ↦ elim (by-tag (constructed 1) part list (Err Bad) r next.1) [
         | inl here ↦
-            let x = spelled_then (name_in part.content) (λ n. judged count named_list) r fair here.1
+            let x = spelled-then (name_in part.content) (λ n. names_asked count named_list) r fair
+            here.1
             in
             record {
               access = named_list;
-              is = (part.content, x.0, here.0, name_back part.content x.0 b x.1);
+              is = (part.content, x.0, here.0, name-back part.content x.0 b x.1);
               answer = x.2;
             }
         | inr none ↦ absurd (fair (sym none.1))
@@ -255,41 +256,41 @@ access_back count part r fair b e =
 
 -- ---- which of them are served
 
-none_partial : (names : List Naming) → any_alternate (map as_whole names) ≡ false
-none_partial [] = refl
-none_partial (n ∷ names) = none_partial names
+none-partial : (names : List Naming) → any_alternate (map as_whole names) ≡ false
+none-partial [] = refl
+none-partial (n ∷ names) = none-partial names
 
-names_of_whole : (names : List Naming) → map (λ v. v.name) (map as_whole names) ≡ names
-names_of_whole [] = refl
-names_of_whole (n ∷ names) = ap (λ (ns : List Naming). n ∷ ns) (names_of_whole names)
+names-of-whole : (names : List Naming) → map (λ v. v.name) (map as_whole names) ≡ names
+names-of-whole [] = refl
+names-of-whole (n ∷ names) = ap (λ (ns : List Naming). n ∷ ns) (names-of-whole names)
 
-pub either_false : (a b : Bool) → (a || b) ≡ false → (a ≡ false) × (b ≡ false)
-either_false true b e = absurd cc
-either_false false b e = (refl, e)
+pub either-false : (a b : Bool) → (a || b) ≡ false → (a ≡ false) × (b ≡ false)
+either-false true b e = absurd cc
+either-false false b e = (refl, e)
 
-are_whole : (vs : List VariableSpecification) → any_alternate vs ≡ false
+are-whole : (vs : List VariableSpecification) → any_alternate vs ≡ false
     → vs ≡ map as_whole (map (λ v. v.name) vs)
-are_whole [] e = refl
-are_whole (v ∷ vs) e =
-    let x = either_false v.is_alternate (any_alternate vs) e in
+are-whole [] e = refl
+are-whole (v ∷ vs) e =
+    let x = either-false v.is_alternate (any_alternate vs) e in
     ap (λ (b : Bool). let made : VariableSpecification =
     record { name = v.name; is_alternate = b } in made ∷ vs) x.0
-    ∙ ap (λ (ws : List VariableSpecification). as_whole v.name ∷ ws) (are_whole vs x.1)
+    ∙ ap (λ (ws : List VariableSpecification). as_whole v.name ∷ ws) (are-whole vs x.1)
 
-pub judged_served : (a : Access) (names : List Naming) → AreServed a names
-    → judged None a ≡ Ok names
-judged_served (variables vs) names are =
-    rw (are.0, none_partial names, names_of_whole names, le-ltb _ _ are.1) refl
-judged_served named_list names are = absurd are
+pub judged-served : (a : Access) (names : List Naming) → AreServed a names
+    → names_asked None a ≡ Ok names
+judged-served (variables vs) names are =
+    rw (are.0, none-partial names, names-of-whole names, le-ltb _ _ are.1) refl
+judged-served named_list names are = absurd are
 
-pub judged_unserved : (a : Access) → AreUnserved a → judged None a ≡ Err Unknown
-judged_unserved (variables vs) some = rw some refl
-judged_unserved named_list some = refl
+pub judged-unserved : (a : Access) → AreUnserved a → names_asked None a ≡ Err Unknown
+judged-unserved (variables vs) some = rw some refl
+judged-unserved named_list some = refl
 
-pub judged_many : (a : Access) → AreMany a → judged None a ≡ Err Many
-judged_many (variables vs) are =
-    rw (are.1, none_partial are.0, names_of_whole are.0, lt-ltb _ _ are.2) refl
-judged_many named_list are = absurd are
+pub judged-many : (a : Access) → AreMany a → names_asked None a ≡ Err Many
+judged-many (variables vs) are =
+    rw (are.1, none-partial are.0, names-of-whole are.0, lt-ltb _ _ are.2) refl
+judged-many named_list are = absurd are
 
 -- What is judged so.
 abbrev pub Judged : Access → Result (List Naming) Refusal → Type 0
@@ -299,15 +300,15 @@ Judged a (Err Unknown) = AreUnserved a
 Judged a (Err Many) = AreMany a
 Judged a (Err OutOfMemory) = ⊥
 
-judged_by : (vs : List VariableSpecification) (some many : Bool) → any_alternate vs ≡ some
+judged-by : (vs : List VariableSpecification) (some many : Bool) → any_alternate vs ≡ some
     → ltb 32 (length (map (λ v. v.name) vs)) ≡ many
     → Judged (variables vs) (cond some (Err Unknown)
     (cond many (Err Many) (Ok (map (λ v. v.name) vs))))
-judged_by vs true many e f = e
-judged_by vs false true e f = (map (λ v. v.name) vs, are_whole vs e, ltb-true 32 _ f)
-judged_by vs false false e f = (are_whole vs e, ltb-false 32 _ f)
+judged-by vs true many e f = e
+judged-by vs false true e f = (map (λ v. v.name) vs, are-whole vs e, ltb-true 32 _ f)
+judged-by vs false false e f = (are-whole vs e, ltb-false 32 _ f)
 
-pub judged_back : (a : Access) → Judged a (judged None a)
-judged_back (variables vs) =
-    judged_by vs (any_alternate vs) (ltb 32 (length (map (λ v. v.name) vs))) refl refl
-judged_back named_list = tt
+pub judged-back : (a : Access) → Judged a (names_asked None a)
+judged-back (variables vs) =
+    judged-by vs (any_alternate vs) (ltb 32 (length (map (λ v. v.name) vs))) refl refl
+judged-back named_list = tt

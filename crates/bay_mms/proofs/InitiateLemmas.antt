@@ -6,98 +6,98 @@ use Rattle.bay_ber.specs.Content.{IsInteger, IsBits, BitString, integer_in, bits
 use Rattle.bay_base.specs.Options.{◌>>=◌}
 use Rattle.bay_ber.specs.Values.{Part, value, SpellAll, value_in, at_most_five, few_in, known_in, under}
 use Rattle.bay_ber.proofs.ReadLemmas.{IsBytes}
-use Rattle.bay_ber.proofs.ContentLemmas.{integer_again}
-use Rattle.bay_ber.proofs.BackLemmas.{bind_some, some_is, AllBytes, under_is, integer_back, bits_back, bits_again, one_under, few_back, known_back, one_read, few_read, known_read}
+use Rattle.bay_ber.proofs.ContentLemmas.{integer-again}
+use Rattle.bay_ber.proofs.BackLemmas.{bind-some, some-is, AllBytes, under-is, integer-back, bits-back, bits-again, one-under, few-back, known-back, one-read, few-read, known-read}
 use Rattle.bay_mms.specs.Tags.{context, constructed}
 use Rattle.bay_mms.specs.declared.request.Proposal.{Proposal}
 use Rattle.bay_mms.specs.Grammar.{integer_under, some_of, outstanding_as, three_bits, parameters_of, parameters_as, services_as, detail_of, detail_in, size_of, nesting_of, proposal_of, initiate_of, proposal_in, initiate_in}
 use Rattle.bay_mms.specs.SpelledInitiate.{field, IsNumber, IsPositive, IsDetail, IsInitiate}
-use Rattle.bay_mms.proofs.AccessLemmas.{by_tag}
+use Rattle.bay_mms.proofs.AccessLemmas.{by-tag}
 
 -- ---- what is spelled is read
 
-parameters_read : (content : List ℕ) (first : ℕ) (later : List ℕ) (count : ℕ)
+parameters-read : (content : List ℕ) (first : ℕ) (later : List ℕ) (count : ℕ)
     → IsBits content (first ∷ later) count → 3 ≤ count
     → parameters_as (value (context 1) content) ≡ Some (first / 32 * 32)
 unfolding parameters_as
-parameters_read content first later count is three =
-    rw (bits_again content (first ∷ later) count is, le-ltb count 3 three) refl
+parameters-read content first later count is three =
+    rw (bits-again content (first ∷ later) count is, le-ltb count 3 three) refl
 
-services_read : (content held : List ℕ) (count : ℕ) → IsBits content held count
+services-read : (content held : List ℕ) (count : ℕ) → IsBits content held count
     → services_as (value (context 2) content) ≡ Some (record { octets = held; count = count })
 unfolding services_as
-services_read content held count is = bits_again content held count is
+services-read content held count is = bits-again content held count is
 
-version_read : (content : List ℕ) (z : ℤ) → IsInteger content z
+version-read : (content : List ℕ) (z : ℤ) → IsInteger content z
     → integer_under (context 0) (value (context 0) content) ≡ Some z
 unfolding integer_under
-version_read content z is = integer_again content z is
+version-read content z is = integer-again content z is
 
-detail_read : (octets : List ℕ) (parameters : ℕ) → IsDetail octets parameters
+detail-read : (octets : List ℕ) (parameters : ℕ) → IsDetail octets parameters
     → detail_in octets ≡ Some parameters
 unfolding detail_in
-detail_read octets parameters d =
+detail-read octets parameters d =
     rw (
-      known_read (context 0 ∷ context 1 ∷ context 2 ∷ []) octets d.fields
+      known-read (context 0 ∷ context 1 ∷ context 2 ∷ []) octets d.fields
           (value (context 0) d.version ∷ value (context 1) d.blocks ∷ value (context 2) d.services
           ∷ []) d.spelled d.known,
-      version_read d.version d.number d.is_version,
-      parameters_read d.blocks d.first d.later d.count d.are_blocks d.three,
-      services_read d.services d.held d.served d.are_services,
+      version-read d.version d.number d.is_version,
+      parameters-read d.blocks d.first d.later d.count d.are_blocks d.three,
+      services-read d.services d.held d.served d.are_services,
     )
     (ap (λ (n : ℕ). Some n) (sym d.is))
 
-size_read : (size : Option (List ℕ)) (z : Option ℤ) → IsNumber size z
+size-read : (size : Option (List ℕ)) (z : Option ℤ) → IsNumber size z
     → size_of (option_map (value (context 0)) size) ≡ Some z
 unfolding integer_under
-size_read None None is = refl
-size_read None (Some z) is = absurd is
-size_read (Some content) None is = absurd is
-size_read (Some content) (Some z) is = rw (integer_again content z is) refl
+size-read None None is = refl
+size-read None (Some z) is = absurd is
+size-read (Some content) None is = absurd is
+size-read (Some content) (Some z) is = rw (integer-again content z is) refl
 
-nesting_read : (nesting : Option (List ℕ)) (z : Option ℤ) → IsNumber nesting z
+nesting-read : (nesting : Option (List ℕ)) (z : Option ℤ) → IsNumber nesting z
     → nesting_of (option_map (value (context 3)) nesting) ≡ Some z
 unfolding integer_under
-nesting_read None None is = refl
-nesting_read None (Some z) is = absurd is
-nesting_read (Some content) None is = absurd is
-nesting_read (Some content) (Some z) is = rw (integer_again content z is) refl
+nesting-read None None is = refl
+nesting-read None (Some z) is = absurd is
+nesting-read (Some content) None is = absurd is
+nesting-read (Some content) (Some z) is = rw (integer-again content z is) refl
 
-some_positive : (n : ℕ) → 0 < n → some_of (pos n) ≡ Some (pos n)
-some_positive zero some = absurd (omega arith)
-some_positive (suc n) some = refl
+some-positive : (n : ℕ) → 0 < n → some_of (pos n) ≡ Some (pos n)
+some-positive zero some = absurd (omega arith)
+some-positive (suc n) some = refl
 
-some_read : (content : List ℕ) (z : ℤ) → IsPositive content z
+some-read : (content : List ℕ) (z : ℤ) → IsPositive content z
     → (integer_in content >>= some_of) ≡ Some z
-some_read content z is =
-    rw (integer_again content z is.3)
-    (ap some_of is.1 ∙ some_positive is.0 is.2 ∙ ap (λ (x : ℤ). Some x) (sym is.1))
+some-read content z is =
+    rw (integer-again content z is.3)
+    (ap some_of is.1 ∙ some-positive is.0 is.2 ∙ ap (λ (x : ℤ). Some x) (sym is.1))
 
-calling_read : (content : List ℕ) (z : ℤ) → IsPositive content z
+calling-read : (content : List ℕ) (z : ℤ) → IsPositive content z
     → outstanding_as (context 1) (value (context 1) content) ≡ Some z
 unfolding outstanding_as integer_under
-calling_read content z is = some_read content z is
+calling-read content z is = some-read content z is
 
-called_read : (content : List ℕ) (z : ℤ) → IsPositive content z
+called-read : (content : List ℕ) (z : ℤ) → IsPositive content z
     → outstanding_as (context 2) (value (context 2) content) ≡ Some z
 unfolding outstanding_as integer_under
-called_read content z is = some_read content z is
+called-read content z is = some-read content z is
 
-proposal_read : (octets : List ℕ) (p : Proposal) → (i : IsInitiate octets p)
+proposal-read : (octets : List ℕ) (p : Proposal) → (i : IsInitiate octets p)
     → proposal_of (option_map (value (context 0)) i.size) (value (context 1) i.calling)
     (value (context 2) i.called) (option_map (value (context 3)) i.nesting)
     (value (constructed 4) i.detail) ≡ Some p
 unfolding proposal_of
-proposal_read octets p i =
+proposal-read octets p i =
     rw (
-      size_read i.size p.size i.is_size,
-      calling_read i.calling p.calling i.is_calling,
-      called_read i.called p.called i.is_called,
-      nesting_read i.nesting p.nesting i.is_nesting,
-      detail_read i.detail p.parameters i.is_detail,
+      size-read i.size p.size i.is_size,
+      calling-read i.calling p.calling i.is_calling,
+      called-read i.called p.called i.is_called,
+      nesting-read i.nesting p.nesting i.is_nesting,
+      detail-read i.detail p.parameters i.is_detail,
     ) refl
 
-fields_read : (size : Option (List ℕ)) (calling called : List ℕ) (nesting : Option (List ℕ))
+fields-read : (size : Option (List ℕ)) (calling called : List ℕ) (nesting : Option (List ℕ))
     (detail : List ℕ) → (at_most_five
     (field (context 0) size ++
     (value (context 1) calling ∷ value (context 2) called
@@ -105,85 +105,85 @@ fields_read : (size : Option (List ℕ)) (calling called : List ℕ) (nesting : 
     ≡ proposal_of (option_map (value (context 0)) size) (value (context 1) calling)
     (value (context 2) called) (option_map (value (context 3)) nesting)
     (value (constructed 4) detail)
-fields_read None calling called None detail = refl
-fields_read None calling called (Some nesting) detail = refl
-fields_read (Some size) calling called None detail = refl
-fields_read (Some size) calling called (Some nesting) detail = refl
+fields-read None calling called None detail = refl
+fields-read None calling called (Some nesting) detail = refl
+fields-read (Some size) calling called None detail = refl
+fields-read (Some size) calling called (Some nesting) detail = refl
 
-pub initiate_read : (octets : List ℕ) (p : Proposal) → IsInitiate octets p
+pub initiate-read : (octets : List ℕ) (p : Proposal) → IsInitiate octets p
     → initiate_in octets ≡ Some p
 unfolding initiate_in
-initiate_read octets p i =
+initiate-read octets p i =
     let fields : List Part =
     field (context 0) i.size
     ++ (value (context 1) i.calling ∷ value (context 2) i.called
     ∷ (field (context 3) i.nesting ++ (value (constructed 4) i.detail ∷ []))) in
     rw (
-      one_read octets (value (constructed 8) i.content) i.whole,
-      few_read i.content fields i.parts,
+      one-read octets (value (constructed 8) i.content) i.whole,
+      few-read i.content fields i.parts,
     )
-    (fields_read i.size i.calling i.called i.nesting i.detail ∙ proposal_read octets p i)
+    (fields-read i.size i.calling i.called i.nesting i.detail ∙ proposal-read octets p i)
 
-pub proposal_in_read : (octets : List ℕ) (p : Proposal) → (i : IsInitiate octets p)
+pub proposal-in-read : (octets : List ℕ) (p : Proposal) → (i : IsInitiate octets p)
     → proposal_in i.content ≡ Some p
-proposal_in_read octets p i =
+proposal-in-read octets p i =
     let fields : List Part =
     field (context 0) i.size
     ++ (value (context 1) i.calling ∷ value (context 2) i.called
     ∷ (field (context 3) i.nesting ++ (value (constructed 4) i.detail ∷ []))) in
-    ap (λ (o : Option (List Part)). o >>= initiate_of) (few_read i.content fields i.parts)
-    ∙ fields_read i.size i.calling i.called i.nesting i.detail ∙ proposal_read octets p i
+    ap (λ (o : Option (List Part)). o >>= initiate_of) (few-read i.content fields i.parts)
+    ∙ fields-read i.size i.calling i.called i.nesting i.detail ∙ proposal-read octets p i
 
 -- ---- what is read is spelled
 
-number_back : (tag : Tag) (p : Part) (z : ℤ) → integer_under tag p ≡ Some z
+number-back : (tag : Tag) (p : Part) (z : ℤ) → integer_under tag p ≡ Some z
     → (content : List ℕ) × (p ≡ value tag content) × IsInteger content z
 unfolding integer_under
-number_back tag p z e =
-    let x = bind_some (under tag p) integer_in z e in
-    (x.0, under_is tag p x.0 x.1, integer_back x.0 z x.2)
+number-back tag p z e =
+    let x = bind-some (under tag p) integer_in z e in
+    (x.0, under-is tag p x.0 x.1, integer-back x.0 z x.2)
 
-positive_is : (content : List ℕ) (given z : ℤ) → IsInteger content given → some_of given ≡ Some z
+positive-is : (content : List ℕ) (given z : ℤ) → IsInteger content given → some_of given ≡ Some z
     → IsPositive content z
-positive_is content (pos zero) z is e = absurd cc
-positive_is content (pos (suc n)) z is e =
-    let same : pos (suc n) ≡ z = some_is (pos (suc n)) z e in
+positive-is content (pos zero) z is e = absurd cc
+positive-is content (pos (suc n)) z is e =
+    let same : pos (suc n) ≡ z = some-is (pos (suc n)) z e in
     (suc n, sym same, omega arith, subst (IsInteger content) same is)
-positive_is content (negsuc n) z is e = absurd cc
+positive-is content (negsuc n) z is e = absurd cc
 
-positive_back : (tag : Tag) (p : Part) (z : ℤ) → outstanding_as tag p ≡ Some z
+positive-back : (tag : Tag) (p : Part) (z : ℤ) → outstanding_as tag p ≡ Some z
     → (content : List ℕ) × (p ≡ value tag content) × IsPositive content z
 unfolding outstanding_as
-positive_back tag p z e =
-    let x = bind_some (integer_under tag p) some_of z e in
-    let n = number_back tag p x.0 x.1 in
-    (n.0, n.1, positive_is n.0 x.0 z n.2 x.2)
+positive-back tag p z e =
+    let x = bind-some (integer_under tag p) some_of z e in
+    let n = number-back tag p x.0 x.1 in
+    (n.0, n.1, positive-is n.0 x.0 z n.2 x.2)
 
 -- a value, or none
 abbrev given : Option Part → List Part
 given None = []
 given (Some p) = p ∷ []
 
-size_back : (o : Option Part) (z : Option ℤ) → size_of o ≡ Some z
+size-back : (o : Option Part) (z : Option ℤ) → size_of o ≡ Some z
     → (content : Option (List ℕ)) × (given o ≡ field (context 0) content) × IsNumber content z
-size_back None z e = (None, refl, subst (IsNumber None) (some_is None z e) tt)
-size_back (Some p) z e =
-    let x = bind_some (integer_under (context 0) p) (λ n. Some (Some n)) z e in
-    let n = number_back (context 0) p x.0 x.1 in (
+size-back None z e = (None, refl, subst (IsNumber None) (some-is None z e) tt)
+size-back (Some p) z e =
+    let x = bind-some (integer_under (context 0) p) (λ n. Some (Some n)) z e in
+    let n = number-back (context 0) p x.0 x.1 in (
       Some n.0,
       ap (λ (q : Part). q ∷ []) n.1,
-      subst (IsNumber (Some n.0)) (some_is (Some x.0) z x.2) n.2,
+      subst (IsNumber (Some n.0)) (some-is (Some x.0) z x.2) n.2,
     )
 
-nesting_back : (o : Option Part) (z : Option ℤ) → nesting_of o ≡ Some z
+nesting-back : (o : Option Part) (z : Option ℤ) → nesting_of o ≡ Some z
     → (content : Option (List ℕ)) × (given o ≡ field (context 3) content) × IsNumber content z
-nesting_back None z e = (None, refl, subst (IsNumber None) (some_is None z e) tt)
-nesting_back (Some p) z e =
-    let x = bind_some (integer_under (context 3) p) (λ n. Some (Some n)) z e in
-    let n = number_back (context 3) p x.0 x.1 in (
+nesting-back None z e = (None, refl, subst (IsNumber None) (some-is None z e) tt)
+nesting-back (Some p) z e =
+    let x = bind-some (integer_under (context 3) p) (λ n. Some (Some n)) z e in
+    let n = number-back (context 3) p x.0 x.1 in (
       Some n.0,
       ap (λ (q : Part). q ∷ []) n.1,
-      subst (IsNumber (Some n.0)) (some_is (Some x.0) z x.2) n.2,
+      subst (IsNumber (Some n.0)) (some-is (Some x.0) z x.2) n.2,
     )
 
 -- Parameter conformance blocks of three bits or more.
@@ -197,11 +197,11 @@ record AreBlocks (p : Part) (parameters : ℕ) : Type 0 where
   three : 3 ≤ count
   is : parameters ≡ first / 32 * 32
 
-blocks_of : (p : Part) (content held : List ℕ) (count parameters : ℕ)
+blocks-of : (p : Part) (content held : List ℕ) (count parameters : ℕ)
     → p ≡ value (context 1) content → IsBits content held count → 3 ≤ count
     → three_bits held ≡ Some parameters → AreBlocks p parameters
-blocks_of p content [] count parameters part are three e = absurd cc
-blocks_of p content (first ∷ later) count parameters part are three e =
+blocks-of p content [] count parameters part are three e = absurd cc
+blocks-of p content (first ∷ later) count parameters part are three e =
     record {
       content = content;
       first = first;
@@ -210,7 +210,7 @@ blocks_of p content (first ∷ later) count parameters part are three e =
       part = part;
       are = are;
       three = three;
-      is = sym (some_is (first / 32 * 32) parameters e);
+      is = sym (some-is (first / 32 * 32) parameters e);
     }
 
 unguarded : {A : Type 0} (b : Bool) (o : Option A) (x : A) → cond b None o ≡ Some x
@@ -218,22 +218,22 @@ unguarded : {A : Type 0} (b : Bool) (o : Option A) (x : A) → cond b None o ≡
 unguarded true o x e = absurd cc
 unguarded false o x e = (refl, e)
 
-blocks_back : (p : Part) (parameters : ℕ) → parameters_as p ≡ Some parameters
+blocks-back : (p : Part) (parameters : ℕ) → parameters_as p ≡ Some parameters
     → AreBlocks p parameters
 unfolding parameters_as
-blocks_back p parameters e =
-    let x = bind_some (under (context 1) p >>= bits_in) parameters_of parameters e in
-    let y = bind_some (under (context 1) p) bits_in x.0 x.1 in
+blocks-back p parameters e =
+    let x = bind-some (under (context 1) p >>= bits_in) parameters_of parameters e in
+    let y = bind-some (under (context 1) p) bits_in x.0 x.1 in
     let g = unguarded (ltb x.0.count 3) (three_bits x.0.octets) parameters x.2 in
-    blocks_of p y.0 x.0.octets x.0.count parameters (under_is (context 1) p y.0 y.1)
-    (bits_back y.0 x.0 y.2) (let n = ltb-false x.0.count 3 g.0 in omega arith) g.1
+    blocks-of p y.0 x.0.octets x.0.count parameters (under-is (context 1) p y.0 y.1)
+    (bits-back y.0 x.0 y.2) (let n = ltb-false x.0.count 3 g.0 in omega arith) g.1
 
-services_back : (p : Part) (b : BitString) → services_as p ≡ Some b
+services-back : (p : Part) (b : BitString) → services_as p ≡ Some b
     → (content : List ℕ) × (p ≡ value (context 2) content) × IsBits content b.octets b.count
 unfolding services_as
-services_back p b e =
-    let x = bind_some (under (context 2) p) bits_in b e in
-    (x.0, under_is (context 2) p x.0 x.1, bits_back x.0 b x.2)
+services-back p b e =
+    let x = bind-some (under (context 2) p) bits_in b e in
+    (x.0, under-is (context 2) p x.0 x.1, bits-back x.0 b x.2)
 
 -- The version, the blocks and the services.
 record Details (known : List Part) (parameters : ℕ) : Type 0 where
@@ -249,18 +249,18 @@ record Details (known : List Part) (parameters : ℕ) : Type 0 where
   is_version : IsInteger version number
   are_services : IsBits services held served
 
-details_of : (known : List Part) (parameters : ℕ) → detail_of known ≡ Some parameters
+details-of : (known : List Part) (parameters : ℕ) → detail_of known ≡ Some parameters
     → Details known parameters
-details_of [] parameters e = absurd cc
-details_of (p ∷ []) parameters e = absurd cc
-details_of (p ∷ q ∷ []) parameters e = absurd cc
-details_of (p ∷ q ∷ r ∷ []) parameters e =
-    let x = bind_some (integer_under (context 0) p) _ parameters e in
-    let y = bind_some (parameters_as q) _ parameters x.2 in
-    let z = bind_some (services_as r) _ parameters y.2 in
-    let version = number_back (context 0) p x.0 x.1 in
-    let blocks = blocks_back q parameters (y.1 ∙ z.2) in
-    let services = services_back r z.0 z.1 in
+details-of [] parameters e = absurd cc
+details-of (p ∷ []) parameters e = absurd cc
+details-of (p ∷ q ∷ []) parameters e = absurd cc
+details-of (p ∷ q ∷ r ∷ []) parameters e =
+    let x = bind-some (integer_under (context 0) p) _ parameters e in
+    let y = bind-some (parameters_as q) _ parameters x.2 in
+    let z = bind-some (services_as r) _ parameters y.2 in
+    let version = number-back (context 0) p x.0 x.1 in
+    let blocks = blocks-back q parameters (y.1 ∙ z.2) in
+    let services = services-back r z.0 z.1 in
     record {
       version = version.0;
       services = services.0;
@@ -276,16 +276,16 @@ details_of (p ∷ q ∷ r ∷ []) parameters e =
       is_version = version.2;
       are_services = services.2;
     }
-details_of (p ∷ q ∷ r ∷ s ∷ known) parameters e = absurd cc
+details-of (p ∷ q ∷ r ∷ s ∷ known) parameters e = absurd cc
 
-detail_back : (octets : List ℕ) (parameters : ℕ) → IsBytes octets
+detail-back : (octets : List ℕ) (parameters : ℕ) → IsBytes octets
     → detail_in octets ≡ Some parameters → IsDetail octets parameters
 unfolding detail_in
-detail_back octets parameters b e =
-    let x = bind_some (known_in (context 0 ∷ context 1 ∷ context 2 ∷ []) octets) detail_of
+detail-back octets parameters b e =
+    let x = bind-some (known_in (context 0 ∷ context 1 ∷ context 2 ∷ []) octets) detail_of
     parameters e in
-    let f = known_back (context 0 ∷ context 1 ∷ context 2 ∷ []) octets x.0 b x.1 in
-    let d = details_of x.0 parameters x.2 in
+    let f = known-back (context 0 ∷ context 1 ∷ context 2 ∷ []) octets x.0 b x.1 in
+    let d = details-of x.0 parameters x.2 in
     record {
       fields = f.fields;
       version = d.version;
@@ -322,7 +322,7 @@ record Proposed (parts : List Part) (p : Proposal) : Type 0 where
   is_nesting : IsNumber nesting p.nesting
   is_detail : IsDetail detail p.parameters
 
-fields_are : (first : Option Part) (second third : Part) (fourth : Option Part) (fifth : Part)
+fields-are : (first : Option Part) (second third : Part) (fourth : Option Part) (fifth : Part)
     (size : Option (List ℕ)) (calling called : List ℕ) (nesting : Option (List ℕ)) (detail : List ℕ)
     → given first ≡ field (context 0) size → second ≡ value (context 1) calling
     → third ≡ value (context 2) called → given fourth ≡ field (context 3) nesting
@@ -331,7 +331,7 @@ fields_are : (first : Option Part) (second third : Part) (fourth : Option Part) 
     ≡ field (context 0) size
     ++ (value (context 1) calling ∷ value (context 2) called
     ∷ (field (context 3) nesting ++ (value (constructed 4) detail ∷ [])))
-fields_are first second third fourth fifth size calling called nesting detail a b c d e =
+fields-are first second third fourth fifth size calling called nesting detail a b c d e =
     rw (a, b, c, d, e) refl
 
 proposed : (first : Option Part) (second third : Part) (fourth : Option Part) (fifth : Part)
@@ -339,12 +339,12 @@ proposed : (first : Option Part) (second third : Part) (fourth : Option Part) (f
     → Proposed (given first ++ (second ∷ third ∷ (given fourth ++ (fifth ∷ [])))) p
 unfolding proposal_of
 proposed first second third fourth fifth p b e =
-    let size = bind_some (size_of first) _ p e in
-    let calling = bind_some (outstanding_as (context 1) second) _ p size.2 in
-    let called = bind_some (outstanding_as (context 2) third) _ p calling.2 in
-    let nesting = bind_some (nesting_of fourth) _ p called.2 in
-    let octets = bind_some (under (constructed 4) fifth) _ p nesting.2 in
-    let parameters = bind_some (detail_in octets.0) _ p octets.2 in
+    let size = bind-some (size_of first) _ p e in
+    let calling = bind-some (outstanding_as (context 1) second) _ p size.2 in
+    let called = bind-some (outstanding_as (context 2) third) _ p calling.2 in
+    let nesting = bind-some (nesting_of fourth) _ p called.2 in
+    let octets = bind-some (under (constructed 4) fifth) _ p nesting.2 in
+    let parameters = bind-some (detail_in octets.0) _ p octets.2 in
     let made : Proposal =
     record {
       size = size.0;
@@ -353,50 +353,50 @@ proposed first second third fourth fifth p b e =
       nesting = nesting.0;
       parameters = parameters.0;
     } in
-    let s = size_back first size.0 size.1 in
-    let c = positive_back (context 1) second calling.0 calling.1 in
-    let d = positive_back (context 2) third called.0 called.1 in
-    let n = nesting_back fourth nesting.0 nesting.1 in
-    let u = under_is (constructed 4) fifth octets.0 octets.1 in
+    let s = size-back first size.0 size.1 in
+    let c = positive-back (context 1) second calling.0 calling.1 in
+    let d = positive-back (context 2) third called.0 called.1 in
+    let n = nesting-back fourth nesting.0 nesting.1 in
+    let u = under-is (constructed 4) fifth octets.0 octets.1 in
     subst (Proposed (given first ++ (second ∷ third ∷ (given fourth ++ (fifth ∷ [])))))
-    (some_is made p parameters.2) (record {
+    (some-is made p parameters.2) (record {
       size = s.0;
       calling = c.0;
       called = d.0;
       nesting = n.0;
       detail = octets.0;
-      are = fields_are first second third fourth fifth s.0 c.0 d.0 n.0 octets.0 s.1 c.1 d.1 n.1 u;
+      are = fields-are first second third fourth fifth s.0 c.0 d.0 n.0 octets.0 s.1 c.1 d.1 n.1 u;
       is_size = s.2;
       is_calling = c.2;
       is_called = d.2;
       is_nesting = n.2;
       is_detail =
-          detail_back octets.0 parameters.0 (subst IsBytes (ap (λ (q : Part). q.content) u) b)
+          detail-back octets.0 parameters.0 (subst IsBytes (ap (λ (q : Part). q.content) u) b)
           parameters.1;
     })
 
-proposed_of : (parts : List Part) (p : Proposal) → AllBytes parts → initiate_of parts ≡ Some p
+proposed-of : (parts : List Part) (p : Proposal) → AllBytes parts → initiate_of parts ≡ Some p
     → Proposed parts p
-proposed_of [] p b e = absurd cc
-proposed_of (a ∷ []) p b e = absurd cc
-proposed_of (a ∷ c ∷ []) p b e = absurd cc
-proposed_of (a ∷ c ∷ d ∷ []) p b e = proposed None a c None d p b.1.1.0 e
-proposed_of (a ∷ c ∷ d ∷ f ∷ []) p b e =
-    elim (by_tag (context 0) a (proposal_of (Some a) c d None f) (proposal_of None a c (Some d) f)
+proposed-of [] p b e = absurd cc
+proposed-of (a ∷ []) p b e = absurd cc
+proposed-of (a ∷ c ∷ []) p b e = absurd cc
+proposed-of (a ∷ c ∷ d ∷ []) p b e = proposed None a c None d p b.1.1.0 e
+proposed-of (a ∷ c ∷ d ∷ f ∷ []) p b e =
+    elim (by-tag (context 0) a (proposal_of (Some a) c d None f) (proposal_of None a c (Some d) f)
     (Some p) e) [
       | inl here ↦ proposed (Some a) c d None f p b.1.1.1.0 here.1
       | inr here ↦ proposed None a c (Some d) f p b.1.1.1.0 here.1
     ]
-proposed_of (a ∷ c ∷ d ∷ f ∷ g ∷ []) p b e = proposed (Some a) c d (Some f) g p b.1.1.1.1.0 e
-proposed_of (a ∷ c ∷ d ∷ f ∷ g ∷ h ∷ parts) p b e = absurd cc
+proposed-of (a ∷ c ∷ d ∷ f ∷ g ∷ []) p b e = proposed (Some a) c d (Some f) g p b.1.1.1.1.0 e
+proposed-of (a ∷ c ∷ d ∷ f ∷ g ∷ h ∷ parts) p b e = absurd cc
 
-pub initiate_with : (octets content : List ℕ) (p : Proposal)
+pub initiate-with : (octets content : List ℕ) (p : Proposal)
     → SpellAll octets (value (constructed 8) content ∷ []) → IsBytes content
     → proposal_in content ≡ Some p → IsInitiate octets p
-initiate_with octets content p whole b e =
-    let x = bind_some (few_in content) initiate_of p e in
-    let f = few_back content x.0 b x.1 in
-    let i = proposed_of x.0 p f.1 x.2 in
+initiate-with octets content p whole b e =
+    let x = bind-some (few_in content) initiate_of p e in
+    let f = few-back content x.0 b x.1 in
+    let i = proposed-of x.0 p f.1 x.2 in
     record {
       content = content;
       size = i.size;
@@ -413,10 +413,10 @@ initiate_with octets content p whole b e =
       is_detail = i.is_detail;
     }
 
-pub initiate_back : (octets : List ℕ) (p : Proposal) → IsBytes octets → initiate_in octets ≡ Some p
+pub initiate-back : (octets : List ℕ) (p : Proposal) → IsBytes octets → initiate_in octets ≡ Some p
     → IsInitiate octets p
 unfolding initiate_in
-initiate_back octets p b e =
-    let x = bind_some (value_in octets >>= under (constructed 8)) proposal_in p e in
-    let one = one_under (constructed 8) octets x.0 b x.1 in
-    initiate_with octets x.0 p one.0 one.1 x.2
+initiate-back octets p b e =
+    let x = bind-some (value_in octets >>= under (constructed 8)) proposal_in p e in
+    let one = one-under (constructed 8) octets x.0 b x.1 in
+    initiate-with octets x.0 p one.0 one.1 x.2

@@ -9,7 +9,7 @@ use Rattle.bay_mms.specs.Types.{type_text, components_text}
 use Rattle.bay_mms.specs.Data.{datum_text, data_text, leaf_datum}
 use Rattle.bay_tree.specs.declared.leaf.Leaf.{Leaf}
 use Rattle.bay_ber.specs.Writing.{element}
-use Rattle.bay_ber.specs.Sheets.{Sheet, put}
+use Rattle.bay_ber.specs.Sheets.{Sheet, sheet_with}
 use Rattle.bay_ber.proofs.SheetLemmas.{put_nil, put-put}
 use Rattle.bay_mms.specs.Tags.{context, constructed, sequence}
 use Rattle.bay_mms.specs.Nodes.{Nodes, no_nodes, node, node_of, nodes_in, node_at, node_datum, nodes_data, data_at, node_type, nodes_types, type_at}
@@ -20,9 +20,9 @@ nodes_since rows parent None = no_nodes
 nodes_since rows parent (Some k) =
     node (word_of (name_at rows k)) (node_at rows k) (nodes_in parent (drop (k + 1) rows))
 
-some_left : (rows xs : List Row) (start : ℕ) (row : Row) → drop start rows ≡ row ∷ xs
+some-left : (rows xs : List Row) (start : ℕ) (row : Row) → drop start rows ≡ row ∷ xs
     → start < length rows
-some_left rows xs start row is =
+some-left rows xs start row is =
     let n : length (drop start rows) ≡ suc (length xs) = ap length is in
     omega (arith, length-drop start rows)
 
@@ -30,20 +30,20 @@ head_or : Row → List Row → Row
 head_or d [] = d
 head_or d (x ∷ xs) = x
 
-next_drop : (rows : List Row) (start : ℕ) (row : Row) (xs : List Row) → drop start rows ≡ row ∷ xs
+next-drop : (rows : List Row) (start : ℕ) (row : Row) (xs : List Row) → drop start rows ≡ row ∷ xs
     → (row_at rows start ≡ row) × (drop (start + 1) rows ≡ xs)
 unfolding head_or
-next_drop rows start row xs is =
-    let h : start < length rows = some_left rows xs start row is in
+next-drop rows start row xs is =
+    let h : start < length rows = some-left rows xs start row is in
     let e : row_at rows start ∷ drop (start + 1) rows ≡ row ∷ xs =
     sym (drop_more rows start (record { name = []; leaf = None }) h) ∙ is in
     (ap (head_or row) e, ap (λ (l : List Row). drop 1 l) e)
 
-here_is : (parent : List ℕ) (rows : List Row) (start : ℕ) (row : Row) (xs : List Row)
+here-is : (parent : List ℕ) (rows : List Row) (start : ℕ) (row : Row) (xs : List Row)
     → row_at rows start ≡ row → drop (start + 1) rows ≡ xs
     → node (word_of row.name) (node_of row.leaf (nodes_in row.name xs)) (nodes_in parent xs)
     ≡ nodes_since rows parent (Some start)
-here_is parent rows start row xs at behind = rw (← at, ← behind) refl
+here-is parent rows start row xs at behind = rw (← at, ← behind) refl
 
 found : (parent : List ℕ) (rows : List Row) (start : ℕ) (row : Row) (xs : List Row) (here : Bool)
     → row_at rows start ≡ row → drop (start + 1) rows ≡ xs
@@ -51,67 +51,67 @@ found : (parent : List ℕ) (rows : List Row) (start : ℕ) (row : Row) (xs : Li
     → cond here (node (word_of row.name) (node_of row.leaf (nodes_in row.name xs))
     (nodes_in parent xs)) (nodes_in parent xs)
     ≡ nodes_since rows parent (cond here (Some start) (first_below_from (start + 1) xs parent))
-found parent rows start row xs true at behind later = here_is parent rows start row xs at behind
+found parent rows start row xs true at behind later = here-is parent rows start row xs at behind
 found parent rows start row xs false at behind later = later
 
-pub nodes_first : (parent : List ℕ) (rows : List Row) (start : ℕ) (xs : List Row)
+pub nodes-first : (parent : List ℕ) (rows : List Row) (start : ℕ) (xs : List Row)
     → drop start rows ≡ xs → nodes_in parent xs
     ≡ nodes_since rows parent (first_below_from start xs parent)
-nodes_first parent rows start [] is = refl
-nodes_first parent rows start (row ∷ xs) is =
-    let n = next_drop rows start row xs is in
+nodes-first parent rows start [] is = refl
+nodes-first parent rows start (row ∷ xs) is =
+    let n = next-drop rows start row xs is in
     found parent rows start row xs (is_below parent row.name) n.0 n.1
-    (nodes_first parent rows (start + 1) xs n.1)
+    (nodes-first parent rows (start + 1) xs n.1)
 
 -- ---- what a search finds
 
-own_is : (parent : List ℕ) (own : Option (List ℕ)) → is_parent parent own ≡ true → own ≡ Some parent
-own_is parent None h = absurd cc
-own_is parent (Some own) h = ap Some ((bytes_eq-Decides own parent).0 h)
+own-is : (parent : List ℕ) (own : Option (List ℕ)) → is_parent parent own ≡ true → own ≡ Some parent
+own-is parent None h = absurd cc
+own-is parent (Some own) h = ap Some ((bytes_eq-Decides own parent).0 h)
 
-found_either : (parent : List ℕ) (rows : List Row) (start k : ℕ) (row : Row) (xs : List Row)
+found-either : (parent : List ℕ) (rows : List Row) (start k : ℕ) (row : Row) (xs : List Row)
     (here : Bool) → is_below parent row.name ≡ here → row_at rows start ≡ row → start < length rows
     → (first_below_from (start + 1) xs parent ≡ Some k
     → (parent_of (name_at rows k) ≡ Some parent) × (k < length rows))
     → cond here (Some start) (first_below_from (start + 1) xs parent) ≡ Some k
     → (parent_of (name_at rows k) ≡ Some parent) × (k < length rows)
-found_either parent rows start k row xs true test at within later e =
+found-either parent rows start k row xs true test at within later e =
     let same : start ≡ k = cc in
     let p : parent_of (name_at rows start) ≡ Some parent =
     subst (λ (r : Row). parent_of r.name ≡ Some parent) (sym at)
-    (own_is parent (parent_of row.name) test) in
+    (own-is parent (parent_of row.name) test) in
     (subst (λ (j : ℕ). parent_of (name_at rows j) ≡ Some parent) same p, omega (arith, same))
-found_either parent rows start k row xs false test at within later e = later e
+found-either parent rows start k row xs false test at within later e = later e
 
 -- a row that is found has the parent's name before its last word
-pub found_below : (parent : List ℕ) (rows : List Row) (start k : ℕ) (xs : List Row)
+pub found-below : (parent : List ℕ) (rows : List Row) (start k : ℕ) (xs : List Row)
     → drop start rows ≡ xs → first_below_from start xs parent ≡ Some k
     → (parent_of (name_at rows k) ≡ Some parent) × (k < length rows)
-found_below parent rows start k [] is e = absurd cc
-found_below parent rows start k (row ∷ xs) is e =
-    let n = next_drop rows start row xs is in
-    found_either parent rows start k row xs (is_below parent row.name) refl n.0
-    (some_left rows xs start row is) (λ f. found_below parent rows (start + 1) k xs n.1 f) e
+found-below parent rows start k [] is e = absurd cc
+found-below parent rows start k (row ∷ xs) is e =
+    let n = next-drop rows start row xs is in
+    found-either parent rows start k row xs (is_below parent row.name) refl n.0
+    (some-left rows xs start row is) (λ f. found-below parent rows (start + 1) k xs n.1 f) e
 
-skip_either : (parent : List ℕ) (row : Row) (xs : List Row) (start past : ℕ) (o : Option ℕ)
+skip-either : (parent : List ℕ) (row : Row) (xs : List Row) (start past : ℕ) (o : Option ℕ)
     (here : Bool) → start < past → IfSome o (λ k. past ≤ k)
     → cond here (Some start) (first_below_from (start + 1) xs parent) ≡ o
     → first_below_from (start + 1) xs parent ≡ o
-skip_either parent row xs start past None true less behind e = absurd cc
-skip_either parent row xs start past (Some k) true less behind e = let same : start ≡ k =
+skip-either parent row xs start past None true less behind e = absurd cc
+skip-either parent row xs start past (Some k) true less behind e = let same : start ≡ k =
     cc in absurd (omega arith)
-skip_either parent row xs start past o false less behind e = e
+skip-either parent row xs start past o false less behind e = e
 
 -- a search that finds nothing before a place may begin there
-pub search_behind : (parent : List ℕ) (xs : List Row) (n start past : ℕ) (o : Option ℕ)
+pub search-behind : (parent : List ℕ) (xs : List Row) (n start past : ℕ) (o : Option ℕ)
     → past ≡ start + n → IfSome o (λ k. past ≤ k) → first_below_from start xs parent ≡ o
     → first_below_from past (drop n xs) parent ≡ o
-search_behind parent xs zero start past o is behind e = let same : past ≡ start =
+search-behind parent xs zero start past o is behind e = let same : past ≡ start =
     omega arith in rw same e
-search_behind parent [] (suc n) start past o is behind e = e
-search_behind parent (row ∷ xs) (suc n) start past o is behind e =
-    search_behind parent xs n (start + 1) past o (omega arith) behind
-    (skip_either parent row xs start past o (is_below parent row.name) (omega arith) behind e)
+search-behind parent [] (suc n) start past o is behind e = e
+search-behind parent (row ∷ xs) (suc n) start past o is behind e =
+    search-behind parent xs n (start + 1) past o (omega arith) behind
+    (skip-either parent row xs start past o (is_below parent row.name) (omega arith) behind e)
 
 -- ---- the loop over them
 
@@ -131,7 +131,7 @@ below_of : (rows : List Row) (handle start : ℕ) (o : Option ℕ) → handle < 
     → IfSome o (Below rows handle)
 below_of rows handle start None less after e = tt
 below_of rows handle start (Some k) less after e =
-    (after.0, after.1, (found_below (name_at rows handle) rows start k (drop start rows) refl e).0)
+    (after.0, after.1, (found-below (name_at rows handle) rows start k (drop start rows) refl e).0)
 
 weaker : (rows : List Row) (handle : ℕ) (o : Option ℕ)
     → IfSome o (λ k. (handle < k) × (k < length rows)) → IfSome o (λ k. handle + 1 ≤ k)
@@ -142,15 +142,15 @@ abbrev pub parts_at : List Row → ℕ → Nodes
 parts_at rows handle = nodes_in (name_at rows handle) (drop (handle + 1) rows)
 
 -- the first part of a structure
-pub first_part : (rows : List Row) (handle : ℕ) (next : Option ℕ) → next ≡ first_below rows handle
+pub first-part : (rows : List Row) (handle : ℕ) (next : Option ℕ) → next ≡ first_below rows handle
     → IfSome next (λ k. (handle < k) × (k < length rows))
     → (parts_at rows handle ≡ nodes_since rows (name_at rows handle) next)
     × IfSome next (Below rows handle)
-first_part rows handle next is after =
+first-part rows handle next is after =
     let e : first_below_from (handle + 1) (drop (handle + 1) rows) (name_at rows handle) ≡ next =
-    search_behind (name_at rows handle) rows (handle + 1) 0 (handle + 1) next (omega arith)
+    search-behind (name_at rows handle) rows (handle + 1) 0 (handle + 1) next (omega arith)
     (weaker rows handle next after) (sym is) in (
-      nodes_first (name_at rows handle) rows (handle + 1) (drop (handle + 1) rows) refl ∙ rw e refl,
+      nodes-first (name_at rows handle) rows (handle + 1) (drop (handle + 1) rows) refl ∙ rw e refl,
       below_of rows handle (handle + 1) next (omega arith) after e,
     )
 
@@ -161,14 +161,14 @@ after_part rows handle part None less h = tt
 after_part rows handle part (Some k) less h = (omega (arith, h.0), h.1)
 
 -- the part after a part
-pub next_part : (rows : List Row) (handle part : ℕ) (next : Option ℕ) → Below rows handle part
+pub next-part : (rows : List Row) (handle part : ℕ) (next : Option ℕ) → Below rows handle part
     → next ≡ next_beside rows part → IfSome next (λ k. (part < k) × (k < length rows))
     → (nodes_in (name_at rows handle) (drop (part + 1) rows)
     ≡ nodes_since rows (name_at rows handle) next) × IfSome next (Below rows handle)
-next_part rows handle part next below is after =
+next-part rows handle part next below is after =
     let e : next ≡ first_below_from (part + 1) (drop (part + 1) rows) (name_at rows handle) =
     is ∙ ap (next_below rows part) below.2 in (
-      nodes_first (name_at rows handle) rows (part + 1) (drop (part + 1) rows) refl ∙ rw (← e) refl,
+      nodes-first (name_at rows handle) rows (part + 1) (drop (part + 1) rows) refl ∙ rw (← e) refl,
       below_of rows handle (part + 1) next (omega (arith, below.0))
           (after_part rows handle part next below.0 after) (sym e),
     )
@@ -179,54 +179,54 @@ next_part rows handle part next below is after =
 -- the text of all parts.
 pub record Written (rows : List Row) (handle : ℕ) (text : Nodes → List ℕ) (octet : ℕ)
     (front writer : Sheet) (next : Option ℕ) : Type 0 where
-  pub is : put writer (text (nodes_since rows (name_at rows handle) next))
-      ≡ put front (octet ∷ 0 ∷ text (parts_at rows handle))
+  pub is : sheet_with writer (text (nodes_since rows (name_at rows handle) next))
+      ≡ sheet_with front (octet ∷ 0 ∷ text (parts_at rows handle))
   pub below : IfSome next (Below rows handle)
 
-pub written_first : (rows : List Row) (handle : ℕ) (text : Nodes → List ℕ) (octet : ℕ)
-    (front writer : Sheet) (next : Option ℕ) → writer ≡ put front (octet ∷ 0 ∷ [])
+pub written-first : (rows : List Row) (handle : ℕ) (text : Nodes → List ℕ) (octet : ℕ)
+    (front writer : Sheet) (next : Option ℕ) → writer ≡ sheet_with front (octet ∷ 0 ∷ [])
     → next ≡ first_below rows handle → IfSome next (λ k. (handle < k) × (k < length rows))
     → Written rows handle text octet front writer next
-written_first rows handle text octet front writer next opened is after =
-    let p = first_part rows handle next is after in
+written-first rows handle text octet front writer next opened is after =
+    let p = first-part rows handle next is after in
     record {
       is = rw opened
           (put-put front (octet ∷ 0 ∷ []) (text (nodes_since rows (name_at rows handle) next))
-          ∙ ap (λ (ps : Nodes). put front (octet ∷ 0 ∷ text ps)) (sym p.0));
+          ∙ ap (λ (ps : Nodes). sheet_with front (octet ∷ 0 ∷ text ps)) (sym p.0));
       below = p.1;
     }
 
-pub written_more : (rows : List Row) (handle part : ℕ) (text : Nodes → List ℕ) (octet : ℕ)
+pub written-more : (rows : List Row) (handle part : ℕ) (text : Nodes → List ℕ) (octet : ℕ)
     (front writer new : Sheet) (one : List ℕ) (next : Option ℕ)
     → text (nodes_since rows (name_at rows handle) (Some part))
     ≡ one ++ text (nodes_in (name_at rows handle) (drop (part + 1) rows))
     → Written rows handle text octet front writer (Some part)
-    → new ≡ put writer one → next ≡ next_beside rows part
+    → new ≡ sheet_with writer one → next ≡ next_beside rows part
     → IfSome next (λ k. (part < k) × (k < length rows))
     → Written rows handle text octet front new next
-written_more rows handle part text octet front writer new one next split w added is after =
-    let p = next_part rows handle part next w.below is after in
+written-more rows handle part text octet front writer new one next split w added is after =
+    let p = next-part rows handle part next w.below is after in
     let rest = text (nodes_since rows (name_at rows handle) next) in
     record {
-      is = ap (λ (s : Sheet). put s rest) added ∙ put-put writer one rest
-          ∙ ap (λ (ps : Nodes). put writer (one ++ text ps)) (sym p.0)
-          ∙ ap (λ (ys : List ℕ). put writer ys) (sym split) ∙ w.is;
+      is = ap (λ (s : Sheet). sheet_with s rest) added ∙ put-put writer one rest
+          ∙ ap (λ (ps : Nodes). sheet_with writer (one ++ text ps)) (sym p.0)
+          ∙ ap (λ (ys : List ℕ). sheet_with writer ys) (sym split) ∙ w.is;
       below = p.1;
     }
 
-pub written_end : (rows : List Row) (handle : ℕ) (text : Nodes → List ℕ) (octet : ℕ)
+pub written-end : (rows : List Row) (handle : ℕ) (text : Nodes → List ℕ) (octet : ℕ)
     (front writer : Sheet) → text no_nodes ≡ [] → Written rows handle text octet front writer None
-    → writer ≡ put front (octet ∷ 0 ∷ text (parts_at rows handle))
-written_end rows handle text octet front writer none w =
-    sym (put_nil writer) ∙ ap (λ (ys : List ℕ). put writer ys) (sym none) ∙ w.is
+    → writer ≡ sheet_with front (octet ∷ 0 ∷ text (parts_at rows handle))
+written-end rows handle text octet front writer none w =
+    sym (put_nil writer) ∙ ap (λ (ys : List ℕ). sheet_with writer ys) (sym none) ∙ w.is
 
 -- the text of the data of nodes
 abbrev pub nodes_text : Nodes → List ℕ
 nodes_text parts = data_text (nodes_data parts)
 
-pub structure_at : (rows : List Row) (handle : ℕ) → leaf_at rows handle ≡ None
+pub structure-at : (rows : List Row) (handle : ℕ) → leaf_at rows handle ≡ None
     → datum_text (data_at rows handle) ≡ element (constructed 2) (nodes_text (parts_at rows handle))
-structure_at rows handle none =
+structure-at rows handle none =
     ap (λ (o : Option Leaf). datum_text (node_datum (node_of o (parts_at rows handle)))) none
 
 pub leaf_data : (rows : List Row) (handle : ℕ) (leaf : Leaf) → leaf_at rows handle ≡ Some leaf
@@ -246,8 +246,8 @@ component_text rows place =
     element sequence (element (context 0) (word_of (name_at rows place))
     ++ element (constructed 1) (type_text (type_at rows place)))
 
-pub structure_type : (rows : List Row) (handle : ℕ) → leaf_at rows handle ≡ None
+pub structure-type : (rows : List Row) (handle : ℕ) → leaf_at rows handle ≡ None
     → type_text (type_at rows handle)
     ≡ element (constructed 2) (element (constructed 1) (nodes_types_text (parts_at rows handle)))
-structure_type rows handle none =
+structure-type rows handle none =
     ap (λ (o : Option Leaf). type_text (node_type (node_of o (parts_at rows handle)))) none

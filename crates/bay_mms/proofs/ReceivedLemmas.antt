@@ -8,17 +8,17 @@ use Rattle.bay_base.specs.Options.{◌>>=◌}
 use Rattle.bay_ber.specs.Tags.{same_tag}
 use Rattle.bay_ber.specs.Values.{Part, value, SpellAll, is_known, all_of, each_in}
 use Rattle.bay_ber.proofs.ReadLemmas.{IsBytes}
-use Rattle.bay_ber.proofs.ContentLemmas.{integer_again}
-use Rattle.bay_ber.proofs.ListingLemmas.{values_again}
-use Rattle.bay_ber.proofs.BackLemmas.{bind_some, some_is, AllBytes, integer_back, bits_back, bits_again, truth_back, truth_again, each_back}
+use Rattle.bay_ber.proofs.ContentLemmas.{integer-again}
+use Rattle.bay_ber.proofs.ListingLemmas.{values-again}
+use Rattle.bay_ber.proofs.BackLemmas.{bind-some, some-is, AllBytes, integer-back, bits-back, bits-again, truth-back, truth-again, each-back}
 use Rattle.bay_mms.specs.Data as mms
 use Rattle.bay_mms.specs.Data.{Datum, Data, structure, truth, bits, integer, unsigned, octets, text, utc, other, no_data, datum}
 use Rattle.bay_mms.specs.Tags.{context, constructed}
 use Rattle.bay_mms.specs.Views.{data_before}
 use Rattle.bay_mms.specs.Grammar.{utc_as, string_as, simple_as, datum_as}
 use Rattle.bay_mms.specs.SpelledData.{kinds, IsOther, IsDatum, AreData, depth_of, depth_in, AreWritten}
-use Rattle.bay_mms.proofs.AccessLemmas.{by_tag, either_false}
-use Rattle.bay_mms.proofs.RequestLemmas.{structure_is, simple_is}
+use Rattle.bay_mms.proofs.AccessLemmas.{by-tag, either-false}
+use Rattle.bay_mms.proofs.RequestLemmas.{structure-is, simple-is}
 
 -- ---- what is spelled is read
 
@@ -33,16 +33,16 @@ record IsUnlistedKind (part : Part) : Type 0 where
   no_text : same_tag part.tag (context 10) ≡ false
   no_utc : same_tag part.tag (context 17) ≡ false
 
-unlisted_kind : (part : Part) → is_known kinds part ≡ false → IsUnlistedKind part
-unlisted_kind part e =
-    let a = either_false _ _ e in
-    let b = either_false _ _ a.1 in
-    let c = either_false _ _ b.1 in
-    let d = either_false _ _ c.1 in
-    let f = either_false _ _ d.1 in
-    let g = either_false _ _ f.1 in
-    let h = either_false _ _ g.1 in
-    let i = either_false _ _ h.1 in
+unlisted-kind : (part : Part) → is_known kinds part ≡ false → IsUnlistedKind part
+unlisted-kind part e =
+    let a = either-false _ _ e in
+    let b = either-false _ _ a.1 in
+    let c = either-false _ _ b.1 in
+    let d = either-false _ _ c.1 in
+    let f = either-false _ _ d.1 in
+    let g = either-false _ _ f.1 in
+    let h = either-false _ _ g.1 in
+    let i = either-false _ _ h.1 in
     record {
       no_structure = a.0;
       no_truth = b.0;
@@ -54,136 +54,136 @@ unlisted_kind part e =
       no_utc = i.0;
     }
 
-other_simple : (part : Part) → IsUnlistedKind part
+other-simple : (part : Part) → IsUnlistedKind part
     → simple_as part ≡ Some (mms.other part.tag part.content)
 unfolding simple_as string_as
-other_simple part k =
+other-simple part k =
     rw (k.no_truth, k.no_bits, k.no_integer, k.no_unsigned, k.no_octets, k.no_text, k.no_utc) refl
 
 -- a moment that has not eight octets
-odd_utc : (content : List ℕ) → (length content ≡ 8 → ⊥)
+odd-utc : (content : List ℕ) → (length content ≡ 8 → ⊥)
     → simple_as (value (context 17) content) ≡ Some (mms.other (context 17) content)
 unfolding simple_as string_as utc_as
-odd_utc content differ = rw (ne_eqb (length content) 8 differ) refl
+odd-utc content differ = rw (ne_eqb (length content) 8 differ) refl
 
-other_read : (part : Part) (tag : Tag) (content : List ℕ) (n : ℕ) → 0 < n → part ≡ value tag content
+other-read : (part : Part) (tag : Tag) (content : List ℕ) (n : ℕ) → 0 < n → part ≡ value tag content
     → IsOther part → datum_as n part ≡ Some (mms.other tag content)
-other_read part tag content n some is (inl none) =
-    let k = unlisted_kind part none in
-    simple_is n part some k.no_structure ∙ other_simple part k
+other-read part tag content n some is (inl none) =
+    let k = unlisted-kind part none in
+    simple-is n part some k.no_structure ∙ other-simple part k
     ∙ ap (λ (p : Part). Some (mms.other p.tag p.content)) is
-other_read part tag content n some is (inr odd) =
+other-read part tag content n some is (inr odd) =
     let moment : part ≡ value (context 17) part.content =
     ap (λ (t : Tag). value t part.content) odd.0 in
-    ap (datum_as n) moment ∙ simple_is n (value (context 17) part.content) some refl
-    ∙ odd_utc part.content odd.1
+    ap (datum_as n) moment ∙ simple-is n (value (context 17) part.content) some refl
+    ∙ odd-utc part.content odd.1
     ∙ ap (λ (p : Part). Some (mms.other p.tag p.content)) (sym moment ∙ is)
 
 -- a simple kind under its tag
-simple_read : (part : Part) (tag : Tag) (content : List ℕ) (d : Datum) (n : ℕ) → 0 < n
+simple-read : (part : Part) (tag : Tag) (content : List ℕ) (d : Datum) (n : ℕ) → 0 < n
     → part ≡ value tag content → same_tag tag (constructed 2) ≡ false
     → simple_as (value tag content) ≡ Some d → datum_as n part ≡ Some d
-simple_read part tag content d n some is not e =
-    ap (datum_as n) is ∙ simple_is n (value tag content) some not ∙ e
+simple-read part tag content d n some is not e =
+    ap (datum_as n) is ∙ simple-is n (value tag content) some not ∙ e
 
-truth_simple : (content : List ℕ) (b : Bool) → IsTruth content b
+truth-simple : (content : List ℕ) (b : Bool) → IsTruth content b
     → simple_as (value (context 3) content) ≡ Some (mms.truth b)
 unfolding simple_as
-truth_simple content b is = rw (truth_again content b is) refl
+truth-simple content b is = rw (truth-again content b is) refl
 
-bits_simple : (content held : List ℕ) (count : ℕ) → IsBits content held count
+bits-simple : (content held : List ℕ) (count : ℕ) → IsBits content held count
     → simple_as (value (context 4) content) ≡ Some (mms.bits held count)
 unfolding simple_as
-bits_simple content held count is = rw (bits_again content held count is) refl
+bits-simple content held count is = rw (bits-again content held count is) refl
 
-integer_simple : (content : List ℕ) (z : ℤ) → IsInteger content z
+integer-simple : (content : List ℕ) (z : ℤ) → IsInteger content z
     → simple_as (value (context 5) content) ≡ Some (mms.integer z)
 unfolding simple_as
-integer_simple content z is = rw (integer_again content z is) refl
+integer-simple content z is = rw (integer-again content z is) refl
 
-unsigned_simple : (content : List ℕ) (z : ℤ) → IsInteger content z
+unsigned-simple : (content : List ℕ) (z : ℤ) → IsInteger content z
     → simple_as (value (context 6) content) ≡ Some (mms.unsigned z)
 unfolding simple_as
-unsigned_simple content z is = rw (integer_again content z is) refl
+unsigned-simple content z is = rw (integer-again content z is) refl
 
-octets_simple : (content : List ℕ)
+octets-simple : (content : List ℕ)
     → simple_as (value (context 9) content) ≡ Some (mms.octets content)
 unfolding simple_as string_as
-octets_simple content = refl
+octets-simple content = refl
 
-text_simple : (content : List ℕ) → simple_as (value (context 10) content) ≡ Some (mms.text content)
+text-simple : (content : List ℕ) → simple_as (value (context 10) content) ≡ Some (mms.text content)
 unfolding simple_as string_as
-text_simple content = refl
+text-simple content = refl
 
-utc_simple : (content : List ℕ) → length content ≡ 8
+utc-simple : (content : List ℕ) → length content ≡ 8
     → simple_as (value (context 17) content) ≡ Some (mms.utc content)
 unfolding simple_as string_as utc_as
-utc_simple content eight = rw (eq-eqb (length content) 8 eight) refl
+utc-simple content eight = rw (eq-eqb (length content) 8 eight) refl
 
-structure_read : (part : Part) (content : List ℕ) (pieces : List Part) (parts : Data)
+structure-read : (part : Part) (content : List ℕ) (pieces : List Part) (parts : Data)
     (ds : List Datum) (n : ℕ) → 0 < n → part ≡ value (constructed 2) content
     → SpellAll content pieces → all_of (datum_as (n - 1)) pieces ≡ Some ds
     → data_before ds no_data ≡ parts
     → datum_as n part ≡ Some (mms.structure parts)
-structure_read part content pieces parts ds n some is s all same =
-    ap (datum_as n) is ∙ structure_is n (value (constructed 2) content) some refl
+structure-read part content pieces parts ds n some is s all same =
+    ap (datum_as n) is ∙ structure-is n (value (constructed 2) content) some refl
     ∙ ap (λ (o : Option (List Part)). o >>= all_of (datum_as (n - 1))
-    >>= λ xs. Some (mms.structure (data_before xs no_data))) (values_again content pieces s)
+    >>= λ xs. Some (mms.structure (data_before xs no_data))) (values-again content pieces s)
     ∙ ap (λ (o : Option (List Datum)). o >>= λ xs. Some (mms.structure (data_before xs no_data)))
     all ∙ ap (λ (x : Data). Some (mms.structure x)) same
 
 mutual
-  pub datum_read : (d : Datum) (part : Part) (n : ℕ) → IsDatum part d → depth_of d ≤ n
+  pub datum-read : (d : Datum) (part : Part) (n : ℕ) → IsDatum part d → depth_of d ≤ n
       → datum_as n part ≡ Some d
-  datum_read (structure parts) part n is deep =
-      let more = data_read parts is.1 (n - 1) is.4 (omega arith) in
-      structure_read part is.0 is.1 parts more.0 n (omega arith) is.2 is.3 more.1 more.2
-  datum_read (truth b) part n is deep =
-      simple_read part (context 3) is.0 (mms.truth b) n (omega arith) is.1 refl
-      (truth_simple is.0 b is.2)
-  datum_read (bits held count) part n is deep =
-      simple_read part (context 4) is.0 (mms.bits held count) n (omega arith) is.1 refl
-      (bits_simple is.0 held count is.2)
-  datum_read (integer z) part n is deep =
-      simple_read part (context 5) is.0 (mms.integer z) n (omega arith) is.1 refl
-      (integer_simple is.0 z is.2)
-  datum_read (unsigned z) part n is deep =
-      simple_read part (context 6) is.0 (mms.unsigned z) n (omega arith) is.1 refl
-      (unsigned_simple is.0 z is.2)
-  datum_read (octets content) part n is deep =
-      simple_read part (context 9) content (mms.octets content) n (omega arith) is refl
-      (octets_simple content)
-  datum_read (text content) part n is deep =
-      simple_read part (context 10) content (mms.text content) n (omega arith) is refl
-      (text_simple content)
-  datum_read (utc content) part n is deep =
-      simple_read part (context 17) content (mms.utc content) n (omega arith) is.0 refl
-      (utc_simple content is.1)
-  datum_read (other tag content) part n is deep =
-      other_read part tag content n (omega arith) is.0 is.1
+  datum-read (structure parts) part n is deep =
+      let more = data-read parts is.1 (n - 1) is.4 (omega arith) in
+      structure-read part is.0 is.1 parts more.0 n (omega arith) is.2 is.3 more.1 more.2
+  datum-read (truth b) part n is deep =
+      simple-read part (context 3) is.0 (mms.truth b) n (omega arith) is.1 refl
+      (truth-simple is.0 b is.2)
+  datum-read (bits held count) part n is deep =
+      simple-read part (context 4) is.0 (mms.bits held count) n (omega arith) is.1 refl
+      (bits-simple is.0 held count is.2)
+  datum-read (integer z) part n is deep =
+      simple-read part (context 5) is.0 (mms.integer z) n (omega arith) is.1 refl
+      (integer-simple is.0 z is.2)
+  datum-read (unsigned z) part n is deep =
+      simple-read part (context 6) is.0 (mms.unsigned z) n (omega arith) is.1 refl
+      (unsigned-simple is.0 z is.2)
+  datum-read (octets content) part n is deep =
+      simple-read part (context 9) content (mms.octets content) n (omega arith) is refl
+      (octets-simple content)
+  datum-read (text content) part n is deep =
+      simple-read part (context 10) content (mms.text content) n (omega arith) is refl
+      (text-simple content)
+  datum-read (utc content) part n is deep =
+      simple-read part (context 17) content (mms.utc content) n (omega arith) is.0 refl
+      (utc-simple content is.1)
+  datum-read (other tag content) part n is deep =
+      other-read part tag content n (omega arith) is.0 is.1
 
-  data_read : (parts : Data) (pieces : List Part) (n : ℕ) → AreData pieces parts
+  data-read : (parts : Data) (pieces : List Part) (n : ℕ) → AreData pieces parts
       → depth_in parts ≤ n → (ds : List Datum) × (all_of (datum_as n) pieces ≡ Some ds)
       × (data_before ds no_data ≡ parts)
-  data_read no_data [] n are deep = ([], refl, refl)
-  data_read no_data (p ∷ pieces) n are deep = absurd are
-  data_read (datum first later) [] n are deep = absurd are
-  data_read (datum first later) (p ∷ pieces) n are deep =
+  data-read no_data [] n are deep = ([], refl, refl)
+  data-read no_data (p ∷ pieces) n are deep = absurd are
+  data-read (datum first later) [] n are deep = absurd are
+  data-read (datum first later) (p ∷ pieces) n are deep =
       let one =
-      datum_read first p n are.0 (omega (arith, le-max_left (depth_of first) (depth_in later)))
+      datum-read first p n are.0 (omega (arith, le-max_left (depth_of first) (depth_in later)))
       in
       let more =
-      data_read later pieces n are.1
+      data-read later pieces n are.1
       (omega (arith, le-max_right (depth_of first) (depth_in later))) in
       (first ∷ more.0, rw (one, more.1) refl, ap (λ (x : Data). mms.datum first x) more.2)
 
-pub written_read : (pieces : List Part) (ds : List Datum) → AreWritten pieces ds
+pub written-read : (pieces : List Part) (ds : List Datum) → AreWritten pieces ds
     → all_of (datum_as 10) pieces ≡ Some ds
-written_read [] [] are = refl
-written_read [] (d ∷ ds) are = absurd are
-written_read (p ∷ pieces) [] are = absurd are
-written_read (p ∷ pieces) (d ∷ ds) are =
-    rw (datum_read d p 10 are.0.0 are.0.1, written_read pieces ds are.1) refl
+written-read [] [] are = refl
+written-read [] (d ∷ ds) are = absurd are
+written-read (p ∷ pieces) [] are = absurd are
+written-read (p ∷ pieces) (d ∷ ds) are =
+    rw (datum-read d p 10 are.0.0 are.0.1, written-read pieces ds are.1) refl
 
 -- ---- what is read is spelled
 
@@ -191,10 +191,10 @@ written_read (p ∷ pieces) (d ∷ ds) are =
 abbrev IsWithin : ℕ → Part → Datum → Type 0
 IsWithin n part d = IsDatum part d × (depth_of d ≤ n)
 
-utc_back : (part : Part) (d : Datum) → part ≡ value (context 17) part.content
+utc-back : (part : Part) (d : Datum) → part ≡ value (context 17) part.content
     → Some (utc_as part) ≡ Some d → IsWithin 1 part d
 unfolding utc_as
-utc_back part d is e = pick (eqb (length part.content) 8) refl (some_is _ d e)
+utc-back part d is e = pick (eqb (length part.content) 8) refl (some-is _ d e)
   where
     pick : (b : Bool) → eqb (length part.content) 8 ≡ b
         → cond b (mms.utc part.content) (mms.other part.tag part.content) ≡ d → IsWithin 1 part d
@@ -206,32 +206,32 @@ utc_back part d is e = pick (eqb (length part.content) 8) refl (some_is _ d e)
           omega arith,
         )
 
-string_back : (part : Part) (d : Datum) → same_tag part.tag (constructed 2) ≡ false
+string-back : (part : Part) (d : Datum) → same_tag part.tag (constructed 2) ≡ false
     → same_tag part.tag (context 3) ≡ false → same_tag part.tag (context 4) ≡ false
     → same_tag part.tag (context 5) ≡ false → same_tag part.tag (context 6) ≡ false
     → Some (string_as part) ≡ Some d → IsWithin 1 part d
 unfolding string_as
-string_back part d n2 n3 n4 n5 n6 e =
+string-back part d n2 n3 n4 n5 n6 e =
     let last : Datum =
     cond (same_tag part.tag (context 17)) (utc_as part) (mms.other part.tag part.content) in
     let later : Datum = cond (same_tag part.tag (context 10)) (mms.text part.content) last in
-    elim (by_tag (context 9) part (mms.octets part.content) later d (some_is _ d e)) [
+    elim (by-tag (context 9) part (mms.octets part.content) later d (some-is _ d e)) [
       | inl here ↦ subst (IsWithin 1 part) here.1 (here.0, omega arith)
-      | inr next ↦ elim (by_tag (context 10) part (mms.text part.content) last d next.1) [
+      | inr next ↦ elim (by-tag (context 10) part (mms.text part.content) last d next.1) [
         | inl here ↦ subst (IsWithin 1 part) here.1 (here.0, omega arith)
-        | inr more ↦ elim (by_tag (context 17) part (utc_as part) (mms.other part.tag part.content)
+        | inr more ↦ elim (by-tag (context 17) part (utc_as part) (mms.other part.tag part.content)
             d more.1) [
-              | inl here ↦ utc_back part d here.0 (ap (λ (x : Datum). Some x) here.1)
+              | inl here ↦ utc-back part d here.0 (ap (λ (x : Datum). Some x) here.1)
               | inr none ↦ subst (IsWithin 1 part) none.1
                   ((refl, inl (rw (n2, n3, n4, n5, n6, next.0, more.0, none.0) refl)), omega arith)
             ]
       ]
     ]
 
-simple_back : (part : Part) (d : Datum) → same_tag part.tag (constructed 2) ≡ false
+simple-back : (part : Part) (d : Datum) → same_tag part.tag (constructed 2) ≡ false
     → simple_as part ≡ Some d → IsWithin 1 part d
 unfolding simple_as
-simple_back part d n2 e =
+simple-back part d n2 e =
     let strings : Option Datum = Some (string_as part) in
     let unsigneds : Option Datum = integer_in part.content >>= (λ z. Some (mms.unsigned z)) in
     let integers : Option Datum = integer_in part.content >>= (λ z. Some (mms.integer z)) in
@@ -241,27 +241,27 @@ simple_back part d n2 e =
     let from6 : Option Datum = cond (same_tag part.tag (context 6)) unsigneds strings in
     let from5 : Option Datum = cond (same_tag part.tag (context 5)) integers from6 in
     let from4 : Option Datum = cond (same_tag part.tag (context 4)) bit_strings from5 in
-    elim (by_tag (context 3) part truths from4 (Some d) e) [
+    elim (by-tag (context 3) part truths from4 (Some d) e) [
       | inl here ↦
-          let x = bind_some (truth_in part.content) _ d here.1 in
-          subst (IsWithin 1 part) (some_is (mms.truth x.0) d x.2)
-          ((part.content, here.0, truth_back part.content x.0 x.1), omega arith)
-      | inr n3 ↦ elim (by_tag (context 4) part bit_strings from5 (Some d) n3.1) [
+          let x = bind-some (truth_in part.content) _ d here.1 in
+          subst (IsWithin 1 part) (some-is (mms.truth x.0) d x.2)
+          ((part.content, here.0, truth-back part.content x.0 x.1), omega arith)
+      | inr n3 ↦ elim (by-tag (context 4) part bit_strings from5 (Some d) n3.1) [
         | inl here ↦
-            let x = bind_some (bits_in part.content) _ d here.1 in
-            subst (IsWithin 1 part) (some_is (mms.bits x.0.octets x.0.count) d x.2)
-            ((part.content, here.0, bits_back part.content x.0 x.1), omega arith)
-        | inr n4 ↦ elim (by_tag (context 5) part integers from6 (Some d) n4.1) [
+            let x = bind-some (bits_in part.content) _ d here.1 in
+            subst (IsWithin 1 part) (some-is (mms.bits x.0.octets x.0.count) d x.2)
+            ((part.content, here.0, bits-back part.content x.0 x.1), omega arith)
+        | inr n4 ↦ elim (by-tag (context 5) part integers from6 (Some d) n4.1) [
           | inl here ↦
-              let x = bind_some (integer_in part.content) _ d here.1 in
-              subst (IsWithin 1 part) (some_is (mms.integer x.0) d x.2)
-              ((part.content, here.0, integer_back part.content x.0 x.1), omega arith)
-          | inr n5 ↦ elim (by_tag (context 6) part unsigneds strings (Some d) n5.1) [
+              let x = bind-some (integer_in part.content) _ d here.1 in
+              subst (IsWithin 1 part) (some-is (mms.integer x.0) d x.2)
+              ((part.content, here.0, integer-back part.content x.0 x.1), omega arith)
+          | inr n5 ↦ elim (by-tag (context 6) part unsigneds strings (Some d) n5.1) [
             | inl here ↦
-                let x = bind_some (integer_in part.content) _ d here.1 in
-                subst (IsWithin 1 part) (some_is (mms.unsigned x.0) d x.2)
-                ((part.content, here.0, integer_back part.content x.0 x.1), omega arith)
-            | inr n6 ↦ string_back part d n2 n3.0 n4.0 n5.0 n6.0 n6.1
+                let x = bind-some (integer_in part.content) _ d here.1 in
+                subst (IsWithin 1 part) (some-is (mms.unsigned x.0) d x.2)
+                ((part.content, here.0, integer-back part.content x.0 x.1), omega arith)
+            | inr n6 ↦ string-back part d n2 n3.0 n4.0 n5.0 n6.0 n6.1
           ]
         ]
       ]
@@ -271,53 +271,53 @@ record Reads (n : ℕ) (pieces : List Part) (parts : Data) : Type 0 where
   are : AreData pieces parts
   deep : depth_in parts ≤ n
 
-data_back : (n : ℕ) → ((part : Part) (d : Datum) → IsBytes part.content → datum_as n part ≡ Some d
+data-back : (n : ℕ) → ((part : Part) (d : Datum) → IsBytes part.content → datum_as n part ≡ Some d
     → IsWithin n part d) → (pieces : List Part) (ds : List Datum) → AllBytes pieces
     → all_of (datum_as n) pieces ≡ Some ds → Reads n pieces (data_before ds no_data)
-data_back n one [] ds b e =
-    subst (λ (xs : List Datum). Reads n [] (data_before xs no_data)) (some_is [] ds e)
+data-back n one [] ds b e =
+    subst (λ (xs : List Datum). Reads n [] (data_before xs no_data)) (some-is [] ds e)
     (record { are = tt; deep = omega arith })
-data_back n one (p ∷ pieces) ds b e =
-    let x = bind_some (datum_as n p) (λ d. all_of (datum_as n) pieces >>= λ more. Some (d ∷ more))
+data-back n one (p ∷ pieces) ds b e =
+    let x = bind-some (datum_as n p) (λ d. all_of (datum_as n) pieces >>= λ more. Some (d ∷ more))
     ds e in
-    let y = bind_some (all_of (datum_as n) pieces) (λ more. Some (x.0 ∷ more)) ds x.2 in
+    let y = bind-some (all_of (datum_as n) pieces) (λ more. Some (x.0 ∷ more)) ds x.2 in
     let first = one p x.0 b.0 x.1 in
-    let more = data_back n one pieces y.0 b.1 y.1 in
+    let more = data-back n one pieces y.0 b.1 y.1 in
     subst (λ (xs : List Datum). Reads n (p ∷ pieces) (data_before xs no_data))
-    (some_is (x.0 ∷ y.0) ds y.2) (record {
+    (some-is (x.0 ∷ y.0) ds y.2) (record {
       are = (first.0, more.are);
       deep = max-le first.1 more.deep;
     })
 
-pub datum_back : (n : ℕ) (part : Part) (d : Datum) → IsBytes part.content → datum_as n part ≡ Some d
+pub datum-back : (n : ℕ) (part : Part) (d : Datum) → IsBytes part.content → datum_as n part ≡ Some d
     → IsWithin n part d
 unfolding datum_as
-datum_back zero part d b e = absurd cc
-datum_back (suc n) part d b e =
+datum-back zero part d b e = absurd cc
+datum-back (suc n) part d b e =
     let parted : Option Datum =
     each_in (datum_as n) part.content
     >>= (λ ds. Some (mms.structure (data_before ds no_data))) in
-    elim (by_tag (constructed 2) part parted (simple_as part) (Some d) e) [
+    elim (by-tag (constructed 2) part parted (simple_as part) (Some d) e) [
       | inl here ↦
-          let x = bind_some (each_in (datum_as n) part.content)
+          let x = bind-some (each_in (datum_as n) part.content)
           (λ ds. Some (mms.structure (data_before ds no_data))) d here.1 in
-          let each = each_back (datum_as n) part.content x.0 b x.1 in
-          let r = data_back n (datum_back n) each.parts x.0 each.bytes each.all in
-          subst (IsWithin (suc n) part) (some_is (mms.structure (data_before x.0 no_data)) d x.2) (
+          let each = each-back (datum_as n) part.content x.0 b x.1 in
+          let r = data-back n (datum-back n) each.parts x.0 each.bytes each.all in
+          subst (IsWithin (suc n) part) (some-is (mms.structure (data_before x.0 no_data)) d x.2) (
             (part.content, each.parts, here.0, each.spelled, r.are),
             (let deep = r.deep in omega arith),
           )
       | inr simple ↦ let r =
-          simple_back part d simple.0 simple.1 in (r.0, let one = r.1 in omega arith)
+          simple-back part d simple.0 simple.1 in (r.0, let one = r.1 in omega arith)
     ]
 
-pub written_back : (pieces : List Part) (ds : List Datum) → AllBytes pieces
+pub written-back : (pieces : List Part) (ds : List Datum) → AllBytes pieces
     → all_of (datum_as 10) pieces ≡ Some ds → AreWritten pieces ds
-written_back [] ds b e = subst (AreWritten []) (some_is [] ds e) tt
-written_back (p ∷ pieces) ds b e =
-    let x = bind_some (datum_as 10 p) (λ d. all_of (datum_as 10) pieces >>= λ more. Some (d ∷ more))
+written-back [] ds b e = subst (AreWritten []) (some-is [] ds e) tt
+written-back (p ∷ pieces) ds b e =
+    let x = bind-some (datum_as 10 p) (λ d. all_of (datum_as 10) pieces >>= λ more. Some (d ∷ more))
     ds e in
-    let y = bind_some (all_of (datum_as 10) pieces) (λ more. Some (x.0 ∷ more)) ds x.2 in
-    let first = datum_back 10 p x.0 b.0 x.1 in
-    subst (AreWritten (p ∷ pieces)) (some_is (x.0 ∷ y.0) ds y.2)
-    (first, written_back pieces y.0 b.1 y.1)
+    let y = bind-some (all_of (datum_as 10) pieces) (λ more. Some (x.0 ∷ more)) ds x.2 in
+    let first = datum-back 10 p x.0 b.0 x.1 in
+    subst (AreWritten (p ∷ pieces)) (some-is (x.0 ∷ y.0) ds y.2)
+    (first, written-back pieces y.0 b.1 y.1)

@@ -8,9 +8,9 @@ use Rattle.bay_mms.specs.Controls.{operate_datum}
 use Rattle.bay_mms.specs.ControlViews.{operating}
 use Rattle.bay_mms.specs.Reports.{variable_text, report_text, failure_name, item_name, failure_datum, failure_data, operate_text, failure_text, termination_text, failed_text}
 use Rattle.bay_mms.specs.Tags.{constructed}
-use Rattle.bay_ber.specs.Sheets.{Sheet, put, closed, IsEnd}
+use Rattle.bay_ber.specs.Sheets.{Sheet, sheet_with, close_sheet, IsEnd}
 use Rattle.bay_ber.specs.Writing.{element}
-use Rattle.bay_ber.proofs.SheetLemmas.{put_twice, long_value}
+use Rattle.bay_ber.proofs.SheetLemmas.{put-twice, long-value}
 
 -- the names of variables, and the data of these
 abbrev pub report_of : List ℕ → List ℕ → List ℕ
@@ -18,60 +18,63 @@ report_of names values =
     element (constructed 3) (element (constructed 0)
     (element (constructed 0) names ++ element (constructed 0) values))
 
-pub operate_is : (o : Operate) → datum_text (operate_datum (operating o)) ≡ operate_text o
-operate_is o = simp (append-nil, append_assoc)
+pub operate-is : (o : Operate) → datum_text (operate_datum (operating o)) ≡ operate_text o
+operate-is o = simp (append-nil, append_assoc)
 
-pub failure_is : (e : ControlError) → datum_text (failure_datum e) ≡ failure_data e
-failure_is e = simp (append-nil, append_assoc)
+pub failure-is : (e : ControlError) → datum_text (failure_datum e) ≡ failure_data e
+failure-is e = simp (append-nil, append_assoc)
 
-one_report : (name text : List ℕ) (d : Datum) → datum_text d ≡ text
+one-report : (name text : List ℕ) (d : Datum) → datum_text d ≡ text
     → report_text (name ∷ []) (datum d no_data) ≡ report_of (variable_text name) text
-one_report name text d is =
+one-report name text d is =
     let a : variable_text name ++ [] ≡ variable_text name = append-nil (variable_text name) in
     let b : datum_text d ++ [] ≡ text = append-nil (datum_text d) ∙ is in
     rw (a, b) refl
 
-two_reports : (name other first second : List ℕ) (d e : Datum) → datum_text d ≡ first
+two-reports : (name other first second : List ℕ) (d e : Datum) → datum_text d ≡ first
     → datum_text e ≡ second → report_text (name ∷ other ∷ []) (datum d (datum e no_data))
     ≡ report_of (variable_text name ++ variable_text other) (first ++ second)
-two_reports name other first second d e is then =
+two-reports name other first second d e is then =
     let a : variable_text other ++ [] ≡ variable_text other = append-nil (variable_text other) in
     let b : datum_text e ++ [] ≡ second = append-nil (datum_text e) ∙ then in
     rw (a, b, is) refl
 
-pub refused_is : (e : ControlError)
+pub refused-is : (e : ControlError)
     → report_of (variable_text failure_name) (failure_data e) ≡ failure_text e
-refused_is e = sym (one_report failure_name (failure_data e) (failure_datum e) (failure_is e))
+refused-is e = sym (one-report failure_name (failure_data e) (failure_datum e) (failure-is e))
 
-pub ended_is : (domain item : List ℕ) (o : Operate)
+pub ended-is : (domain item : List ℕ) (o : Operate)
     → report_of (variable_text (item_name domain item)) (operate_text o)
     ≡ termination_text domain item o
-ended_is domain item o =
-    sym (one_report (item_name domain item) (operate_text o) (operate_datum (operating o))
-    (operate_is o))
+ended-is domain item o =
+    sym (one-report (item_name domain item) (operate_text o) (operate_datum (operating o))
+    (operate-is o))
 
 pub failed_is : (e : ControlError) (domain item : List ℕ) (o : Operate)
     → report_of (variable_text failure_name ++ variable_text (item_name domain item))
     (failure_data e ++ operate_text o) ≡ failed_text e domain item o
 failed_is e domain item o =
-    sym (two_reports failure_name (item_name domain item) (failure_data e) (operate_text o)
-    (failure_datum e) (operate_datum (operating o)) (failure_is e) (operate_is o))
+    sym (two-reports failure_name (item_name domain item) (failure_data e) (operate_text o)
+    (failure_datum e) (operate_datum (operating o)) (failure-is e) (operate-is o))
 
 -- ---- a report that was opened, written and closed
 
 pub reported : (old a b d e f g h new : Sheet) (report information results : ℕ)
-    (names values : List ℕ) → IsEnd report old → a ≡ put old (0xA3 ∷ 0 ∷ [])
-    → IsEnd information a → b ≡ put a (0xA0 ∷ 0 ∷ []) → d ≡ put b (element (constructed 0) names)
-    → IsEnd results d → e ≡ put d (0xA0 ∷ 0 ∷ []) → f ≡ put e values → g ≡ closed f results
-    → h ≡ closed g information → new ≡ closed h report → new ≡ put old (report_of names values)
+    (names values : List ℕ) → IsEnd report old → a ≡ sheet_with old (0xA3 ∷ 0 ∷ [])
+    → IsEnd information a → b ≡ sheet_with a (0xA0 ∷ 0 ∷ [])
+    → d ≡ sheet_with b (element (constructed 0) names)
+    → IsEnd results d → e ≡ sheet_with d (0xA0 ∷ 0 ∷ []) → f ≡ sheet_with e values
+    → g ≡ close_sheet f results
+    → h ≡ close_sheet g information → new ≡ close_sheet h report
+    → new ≡ sheet_with old (report_of names values)
 reported old a b d e f g h new report information results names values at_report is_a at_information
     is_b is_d at_results is_e is_f is_g is_h is_new =
     let list = element (constructed 0) names in
     let told = element (constructed 0) values in
-    let inner : g ≡ put d told =
-    long_value d e f g (constructed 0) results values at_results is_e is_f is_g in
-    let both : g ≡ put b (list ++ told) = put_twice b d g list told is_d inner in
-    let outer : h ≡ put a (element (constructed 0) (list ++ told)) =
-    long_value a b g h (constructed 0) information (list ++ told) at_information is_b both is_h in
-    long_value old a h new (constructed 3) report (element (constructed 0) (list ++ told)) at_report
+    let inner : g ≡ sheet_with d told =
+    long-value d e f g (constructed 0) results values at_results is_e is_f is_g in
+    let both : g ≡ sheet_with b (list ++ told) = put-twice b d g list told is_d inner in
+    let outer : h ≡ sheet_with a (element (constructed 0) (list ++ told)) =
+    long-value a b g h (constructed 0) information (list ++ told) at_information is_b both is_h in
+    long-value old a h new (constructed 3) report (element (constructed 0) (list ++ told)) at_report
     is_a outer is_new

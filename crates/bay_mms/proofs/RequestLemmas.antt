@@ -8,21 +8,21 @@ use Rattle.bay_base.specs.Options.{◌>>=◌}
 use Rattle.bay_base.specs.Results.{◌>>=◌ as ◌>>◌}
 use Rattle.bay_ber.specs.Tags.{same_tag}
 use Rattle.bay_ber.specs.Values.{Part, values_in, onto, all_of, each_in}
-use Rattle.bay_ber.proofs.ListingLemmas.{Passed, passed_more, passed_end, bind_some, some_is}
+use Rattle.bay_ber.proofs.ListingLemmas.{Passed, passed-more, passed-end, bind-some, some-is}
 use Rattle.bay_mms.specs.Answers.{names_none}
 use Rattle.bay_mms.specs.Data as mms
 use Rattle.bay_mms.specs.Data.{Datum}
 use Rattle.bay_mms.specs.Tags.{constructed}
 use Rattle.bay_mms.specs.Views.{data_before, datum_of, data_in}
 use Rattle.bay_mms.specs.declared.data.Data as given
-use Rattle.bay_mms.specs.Spelled.{spelled}
+use Rattle.bay_mms.specs.Spelled.{or_misspelled}
 use Rattle.bay_mms.specs.Requests.{Naming, VariableSpecification, variables}
 use Rattle.bay_mms.specs.RequestViews.{naming, variable}
 use Rattle.bay_mms.specs.declared.access.VariableSpecification as code
 use Rattle.bay_mms.specs.declared.request.ObjectName.{ObjectName}
 use Rattle.bay_mms.specs.declared.fault.Refusal.{Refusal}
 use Rattle.bay_mms.specs.declared.fault.Refusal.TheVariants.{Bad, Unknown, Many, OutOfMemory}
-use Rattle.bay_mms.specs.Grammar.{variable_as, any_alternate, are_as_many, counted, judged, listed_in, datum_as, simple_as}
+use Rattle.bay_mms.specs.Grammar.{variable_as, any_alternate, are_as_many, counted_names, names_asked, listed_in, datum_as, simple_as}
 
 -- ---- lists of variables
 
@@ -34,66 +34,66 @@ pub record Listing (octets rest : List ℕ) (names : List ObjectName) (alternate
   pub are : map naming names ≡ map (λ v. v.name) vs
   pub any : alternate ≡ any_alternate vs
 
-pub listing_more : (octets rest new : List ℕ) (names more : List ObjectName) (alternate both : Bool)
+pub listing-more : (octets rest new : List ℕ) (names more : List ObjectName) (alternate both : Bool)
     (part : Part) (one : code.VariableSpecification) → Listing octets rest names alternate
     → values_in rest ≡ onto (part ∷ []) (values_in new) → variable_as part ≡ Some (variable one)
     → map naming more ≡ map naming names ++ naming one.name ∷ []
     → both ≡ (alternate || one.is_alternate) → Listing octets new more both
-listing_more octets rest new names more alternate both part one l step is are any = record {
+listing-more octets rest new names more alternate both part one l step is are any = record {
   vs = l.vs ++ variable one ∷ [];
-  passed = passed_more variable_as octets rest new l.vs part (variable one) l.passed step is;
+  passed = passed-more variable_as octets rest new l.vs part (variable one) l.passed step is;
   are = are ∙ ap (λ (ns : List Naming). ns ++ naming one.name ∷ []) l.are
       ∙ sym (map-append (λ (v : VariableSpecification). v.name) l.vs (variable one ∷ []));
   any = any ∙ ap (λ (b : Bool). b || one.is_alternate) l.any
       ∙ sym (list_any-append (λ (v : VariableSpecification). v.is_alternate) l.vs
-      (variable one ∷ []) ∙ one_any (any_alternate l.vs) one.is_alternate);
+      (variable one ∷ []) ∙ one-any (any_alternate l.vs) one.is_alternate);
 }
   where
-    one_any : (a b : Bool) → (a || (b || false)) ≡ (a || b)
-    one_any true b = refl
-    one_any false true = refl
-    one_any false false = refl
+    one-any : (a b : Bool) → (a || (b || false)) ≡ (a || b)
+    one-any true b = refl
+    one-any false true = refl
+    one-any false false = refl
 
-pub listing_end : (count : Option ℕ) (octets rest : List ℕ) (names : List ObjectName)
+pub listing-end : (count : Option ℕ) (octets rest : List ℕ) (names : List ObjectName)
     (alternate : Bool) → Listing octets rest names alternate → values_in rest ≡ Some []
-    → listed_in count octets ≡ counted count (map naming names) alternate
-listing_end count octets rest names alternate l last =
-    rw (passed_end variable_as octets rest l.vs l.passed last, l.are, l.any) refl
+    → listed_in count octets ≡ counted_names count (map naming names) alternate
+listing-end count octets rest names alternate l last =
+    rw (passed-end variable_as octets rest l.vs l.passed last, l.are, l.any) refl
 
-pub listing_bad : (count : Option ℕ) (octets : List ℕ) → each_in variable_as octets ≡ None
+pub listing-bad : (count : Option ℕ) (octets : List ℕ) → each_in variable_as octets ≡ None
     → listed_in count octets ≡ Err Bad
-listing_bad count octets bad = rw bad refl
+listing-bad count octets bad = rw bad refl
 
 pub counted_is : (count : Option ℕ) (names : List ObjectName) (alternate : Bool)
-    → counted count (map naming names) alternate
+    → counted_names count (map naming names) alternate
     ≡ cond (are_as_many count (length names)) (cond alternate (Err Unknown)
     (cond (ltb 32 (length names)) (Err Many) (Ok (map naming names)))) (Err Bad)
 counted_is count names alternate = rw (length-map names naming) refl
 
 -- where a value stands, no list of them is read as empty
-not_nil : {B : Type 0} (f : Part → Option B) (front : List Part) (part : Part)
+not-nil : {B : Type 0} (f : Part → Option B) (front : List Part) (part : Part)
     (o : Option (List Part)) → (onto front (onto (part ∷ []) o) >>= all_of f) ≡ Some [] → ⊥
-not_nil f front part None e = cc
-not_nil f [] part (Some later) e =
-    let x = bind_some (f part) _ [] e in
-    let y = bind_some (all_of f later) _ [] x.2 in
-    let no : x.0 ∷ y.0 ≡ [] = some_is _ _ y.2 in cc
-not_nil f (first ∷ front) part (Some later) e =
-    let x = bind_some (f first) _ [] e in
-    let y = bind_some (all_of f (front ++ part ∷ later)) _ [] x.2 in
-    let no : x.0 ∷ y.0 ≡ [] = some_is _ _ y.2 in cc
+not-nil f front part None e = cc
+not-nil f [] part (Some later) e =
+    let x = bind-some (f part) _ [] e in
+    let y = bind-some (all_of f later) _ [] x.2 in
+    let no : x.0 ∷ y.0 ≡ [] = some-is _ _ y.2 in cc
+not-nil f (first ∷ front) part (Some later) e =
+    let x = bind-some (f first) _ [] e in
+    let y = bind-some (all_of f (front ++ part ∷ later)) _ [] x.2 in
+    let no : x.0 ∷ y.0 ≡ [] = some-is _ _ y.2 in cc
 
-pub some_value : {B : Type 0} (f : Part → Option B) (whole rest new : List ℕ) (done : List B)
+pub some-value : {B : Type 0} (f : Part → Option B) (whole rest new : List ℕ) (done : List B)
     (part : Part) → Passed f whole rest done → values_in rest ≡ onto (part ∷ []) (values_in new)
     → each_in f whole ≡ Some [] → ⊥
-some_value f whole rest new done part p step e =
-    not_nil f p.front part (values_in new)
+some-value f whole rest new done part p step e =
+    not-nil f p.front part (values_in new)
     (sym (ap (λ (o : Option (List Part)). o >>= all_of f) (p.read ∙ ap (onto p.front) step)) ∙ e)
 
-names_some : (vs : List VariableSpecification) (count : Option ℕ) → (vs ≡ [] → ⊥)
-    → names_none (judged count (variables vs)) ≡ false
-names_some [] count some = absurd (some refl)
-names_some (v ∷ vs) count some = pick (are_as_many count (suc (length (map (λ w. w.name) vs))))
+names-some : (vs : List VariableSpecification) (count : Option ℕ) → (vs ≡ [] → ⊥)
+    → names_none (names_asked count (variables vs)) ≡ false
+names-some [] count some = absurd (some refl)
+names-some (v ∷ vs) count some = pick (are_as_many count (suc (length (map (λ w. w.name) vs))))
     (v.is_alternate || any_alternate vs) (ltb 32 (suc (length (map (λ w. w.name) vs))))
   where
     pick : (fits alternate many : Bool) → names_none (cond fits (cond alternate (Err Unknown)
@@ -103,85 +103,86 @@ names_some (v ∷ vs) count some = pick (are_as_many count (suc (length (map (λ
     pick true false true = refl
     pick true false false = refl
 
-pub listing_some : (count : Option ℕ) (octets : List ℕ)
+pub listing-some : (count : Option ℕ) (octets : List ℕ)
     → (each_in variable_as octets ≡ Some [] → ⊥) → names_none (listed_in count octets) ≡ false
-listing_some count octets some = pick (each_in variable_as octets) refl
+listing-some count octets some = pick (each_in variable_as octets) refl
   where
     pick : (o : Option (List VariableSpecification)) → each_in variable_as octets ≡ o
-        → names_none (spelled o >> λ vs. judged count (variables vs)) ≡ false
+        → names_none (or_misspelled o >> λ vs. names_asked count (variables vs)) ≡ false
     pick None e = refl
-    pick (Some vs) e = names_some vs count (λ none. some (e ∙ ap Some none))
+    pick (Some vs) e = names-some vs count (λ none. some (e ∙ ap Some none))
 
 -- ---- where a list of values stops
 
-pub gives_option : {A B : Type 0} (view : A → B) (r : Option A) (o : Option B)
-    → option_map view r ≡ o → Gives OutOfMemory view (ok_or r Bad) (spelled o)
-gives_option view None o is = inr (ap spelled (sym is))
-gives_option view (Some x) o is = ap spelled (sym is)
+pub gives-option : {A B : Type 0} (view : A → B) (r : Option A) (o : Option B)
+    → option_map view r ≡ o → Gives OutOfMemory view (ok_or r Bad) (or_misspelled o)
+gives-option view None o is = inr (ap or_misspelled (sym is))
+gives-option view (Some x) o is = ap or_misspelled (sym is)
 
-spelled_err : {A : Type 0} (o : Option A) (e : Refusal) → spelled o ≡ Err e → (o ≡ None) × (e ≡ Bad)
-spelled_err None e is = (refl, let same : Bad ≡ e = cc in sym same)
-spelled_err (Some x) e is = absurd cc
+spelled-err : {A : Type 0} (o : Option A) (e : Refusal) → or_misspelled o ≡ Err e
+    → (o ≡ None) × (e ≡ Bad)
+spelled-err None e is = (refl, let same : Bad ≡ e = cc in sym same)
+spelled-err (Some x) e is = absurd cc
 
-pub spelled_ok : {A : Type 0} (o : Option A) (x : A) → spelled o ≡ Ok x → o ≡ Some x
-spelled_ok None x is = absurd cc
-spelled_ok (Some y) x is = let same : y ≡ x = cc in ap Some same
+pub spelled-ok : {A : Type 0} (o : Option A) (x : A) → or_misspelled o ≡ Ok x → o ≡ Some x
+spelled-ok None x is = absurd cc
+spelled-ok (Some y) x is = let same : y ≡ x = cc in ap Some same
 
 -- one that is not read stops all
-pub gives_stop : {A B : Type 0} (e : Refusal) (one : Option A) (all : Option B)
-    → (e ≡ OutOfMemory) ⊎ (spelled one ≡ Err e) → (one ≡ None → all ≡ None)
-    → (e ≡ OutOfMemory) ⊎ (spelled all ≡ Err e)
-gives_stop e one all (inl memory) stop = inl memory
-gives_stop e one all (inr is) stop = let p = spelled_err one e is in inr (rw (stop p.0, p.1) refl)
+pub gives-stop : {A B : Type 0} (e : Refusal) (one : Option A) (all : Option B)
+    → (e ≡ OutOfMemory) ⊎ (or_misspelled one ≡ Err e) → (one ≡ None → all ≡ None)
+    → (e ≡ OutOfMemory) ⊎ (or_misspelled all ≡ Err e)
+gives-stop e one all (inl memory) stop = inl memory
+gives-stop e one all (inr is) stop = let p = spelled-err one e is in inr (rw (stop p.0, p.1) refl)
 
 -- ---- data
 
-pub datum_is : (depth : ℕ) (part : Part)
+pub datum-is : (depth : ℕ) (part : Part)
     → datum_as (suc depth) part
     ≡ cond (same_tag part.tag (constructed 2))
     (each_in (datum_as depth) part.content
     >>= (λ ds. Some (mms.structure (data_before ds mms.no_data)))) (simple_as part)
 unfolding datum_as
-datum_is depth part = refl
+datum-is depth part = refl
 
 before : (depth : ℕ) → 0 < depth → depth ≡ suc (depth - 1)
 before depth some = omega arith
 
-pub structure_is : (depth : ℕ) (part : Part) → 0 < depth → same_tag part.tag (constructed 2) ≡ true
+pub structure-is : (depth : ℕ) (part : Part) → 0 < depth → same_tag part.tag (constructed 2) ≡ true
     → datum_as depth part ≡ (each_in (datum_as (depth - 1)) part.content
     >>= (λ ds. Some (mms.structure (data_before ds mms.no_data))))
-structure_is depth part some is =
-    ap (λ (n : ℕ). datum_as n part) (before depth some) ∙ datum_is (depth - 1) part ∙ rw is refl
+structure-is depth part some is =
+    ap (λ (n : ℕ). datum_as n part) (before depth some) ∙ datum-is (depth - 1) part ∙ rw is refl
 
-pub simple_is : (depth : ℕ) (part : Part) → 0 < depth → same_tag part.tag (constructed 2) ≡ false
+pub simple-is : (depth : ℕ) (part : Part) → 0 < depth → same_tag part.tag (constructed 2) ≡ false
     → datum_as depth part ≡ simple_as part
-simple_is depth part some not =
-    ap (λ (n : ℕ). datum_as n part) (before depth some) ∙ datum_is (depth - 1) part ∙ rw not refl
+simple-is depth part some not =
+    ap (λ (n : ℕ). datum_as n part) (before depth some) ∙ datum-is (depth - 1) part ∙ rw not refl
 
-pub structure_ok : (depth : ℕ) (part : Part) (ds : List Datum) → 0 < depth
+pub structure-ok : (depth : ℕ) (part : Part) (ds : List Datum) → 0 < depth
     → same_tag part.tag (constructed 2) ≡ true
-    → spelled (each_in (datum_as (depth - 1)) part.content) ≡ Ok ds
-    → spelled (datum_as depth part) ≡ Ok (mms.structure (data_before ds mms.no_data))
-structure_ok depth part ds some is read =
-    ap spelled (structure_is depth part some is
+    → or_misspelled (each_in (datum_as (depth - 1)) part.content) ≡ Ok ds
+    → or_misspelled (datum_as depth part) ≡ Ok (mms.structure (data_before ds mms.no_data))
+structure-ok depth part ds some is read =
+    ap or_misspelled (structure-is depth part some is
     ∙ ap (λ (o : Option (List Datum)). o
-    >>= (λ xs. Some (mms.structure (data_before xs mms.no_data)))) (spelled_ok _ ds read))
+    >>= (λ xs. Some (mms.structure (data_before xs mms.no_data)))) (spelled-ok _ ds read))
 
-pub structure_err : (depth : ℕ) (part : Part) (e : Refusal) → 0 < depth
+pub structure-err : (depth : ℕ) (part : Part) (e : Refusal) → 0 < depth
     → same_tag part.tag (constructed 2) ≡ true
-    → (e ≡ OutOfMemory) ⊎ (spelled (each_in (datum_as (depth - 1)) part.content) ≡ Err e)
-    → (e ≡ OutOfMemory) ⊎ (spelled (datum_as depth part) ≡ Err e)
-structure_err depth part e some is given =
-    gives_stop e (each_in (datum_as (depth - 1)) part.content) (datum_as depth part) given
-    (λ none. structure_is depth part some is
+    → (e ≡ OutOfMemory) ⊎ (or_misspelled (each_in (datum_as (depth - 1)) part.content) ≡ Err e)
+    → (e ≡ OutOfMemory) ⊎ (or_misspelled (datum_as depth part) ≡ Err e)
+structure-err depth part e some is given =
+    gives-stop e (each_in (datum_as (depth - 1)) part.content) (datum_as depth part) given
+    (λ none. structure-is depth part some is
     ∙ ap (λ (o : Option (List Datum)). o
     >>= (λ xs. Some (mms.structure (data_before xs mms.no_data)))) none)
 
-pub view_structure : (parts : Vec given.Data Global)
+pub view-structure : (parts : Vec given.Data Global)
     → datum_of (given.Structure parts)
     ≡ mms.structure (data_before (data_in parts.items) mms.no_data)
-view_structure parts = search (rules, given.the_lemmas)
+view-structure parts = search (rules, given.the_lemmas)
 
-pub too_deep : (depth : ℕ) (part : Part) → depth ≡ 0 → spelled (datum_as depth part) ≡ Err Bad
+pub too_deep : (depth : ℕ) (part : Part) → depth ≡ 0 → or_misspelled (datum_as depth part) ≡ Err Bad
 unfolding datum_as
 too_deep depth part none = rw none refl

@@ -4,35 +4,35 @@ use Rattle.std.proofs.lemmas.Bool.{cases_lt}
 use Rattle.std.proofs.lemmas.List.{drop_all, drop_more, length-append}
 use Rattle.std.specs.Option.{option_map}
 use Rattle.bay_base.specs.Options.{◌>>=◌}
-use Rattle.bay_ber.specs.Sheets.{Sheet, within, joined, put, message, wrapped}
+use Rattle.bay_ber.specs.Sheets.{Sheet, within, text_with, sheet_with, message, value_around}
 use Rattle.bay_ber.specs.Writing.{element, element_length, integer_octets, truth_octets}
 use Rattle.bay_ber.specs.declared.tag.Tag.{Tag}
-use Rattle.bay_ber.proofs.SheetLemmas.{no_room, room, put_nil, put-put, heads_put, limit_put, message-front, within_longer}
+use Rattle.bay_ber.proofs.SheetLemmas.{no-room, room, put_nil, put-put, heads-put, limit-put, message-front, within-longer}
 use Rattle.bay_ber.proofs.SizeLemmas.{length-element, length-element-is, length-integer_octets}
 use Rattle.bay_mms.specs.declared.fault.EncodeFault.{EncodeFault}
 use Rattle.bay_mms.specs.declared.fault.EncodeFault.TheVariants.{TooLong, OutOfMemory}
 use Rattle.bay_mms.specs.Tags.{context, constructed, int_tag, visible_tag}
 use Rattle.bay_mms.specs.Responses.{names_text, page_text, read_text}
 use Rattle.bay_mms.specs.Writing.{Adds, Held, HoldsResults, octets_in}
-use Rattle.bay_ber.proofs.SheetLemmas.{content_less}
+use Rattle.bay_ber.proofs.SheetLemmas.{content-less}
 
 -- ---- a page
 
-truth_short : (more : Bool) → length (truth_octets more) ≡ 1
-truth_short true = refl
-truth_short false = refl
+truth-short : (more : Bool) → length (truth_octets more) ≡ 1
+truth-short true = refl
+truth-short false = refl
 
-pub page_is : (id : ℕ) (texts : List (List ℕ)) (more : Bool)
+pub page-is : (id : ℕ) (texts : List (List ℕ)) (more : Bool)
     → length (page_text id texts more)
     ≡ element_length (element_length (length (integer_octets (pos id)))
     + element_length (element_length (length (names_text texts)) + 3))
-page_is id texts more =
+page-is id texts more =
     let number : List ℕ = element int_tag (integer_octets (pos id)) in
     let list : List ℕ = element (constructed 0) (names_text texts) in
     let flag : List ℕ = element (context 1) (truth_octets more) in
     let service : List ℕ = element (constructed 1) (list ++ flag) in
     let three : length flag ≡ 3 =
-    length-element-is (context 1) (truth_octets more) ∙ ap element_length (truth_short more) in
+    length-element-is (context 1) (truth_octets more) ∙ ap element_length (truth-short more) in
     let whole : length (list ++ flag) ≡ element_length (length (names_text texts)) + 3 =
     length-append list flag
     ∙ ap (λ (n : ℕ). n + length flag) (length-element-is (constructed 0) (names_text texts))
@@ -47,43 +47,44 @@ page_is id texts more =
 
 -- ---- names, one behind another
 
-pub names_next : (writer new whole : Sheet) (names : List (List ℕ)) (i : ℕ) (name d : List ℕ)
-    → i < length names → name ≡ get_or names i d → new ≡ put writer (element visible_tag name)
-    → put writer (names_text (drop i names)) ≡ whole
-    → put new (names_text (drop (i + 1) names)) ≡ whole
-names_next writer new whole names i name d lt is added all =
+pub names-next : (writer new whole : Sheet) (names : List (List ℕ)) (i : ℕ) (name d : List ℕ)
+    → i < length names → name ≡ get_or names i d
+    → new ≡ sheet_with writer (element visible_tag name)
+    → sheet_with writer (names_text (drop i names)) ≡ whole
+    → sheet_with new (names_text (drop (i + 1) names)) ≡ whole
+names-next writer new whole names i name d lt is added all =
     let rest = names_text (drop (i + 1) names) in
-    ap (λ (s : Sheet). put s rest) added ∙ put-put writer (element visible_tag name) rest
-    ∙ ap (λ (ys : List ℕ). put writer ys)
+    ap (λ (s : Sheet). sheet_with s rest) added ∙ put-put writer (element visible_tag name) rest
+    ∙ ap (λ (ys : List ℕ). sheet_with writer ys)
     (rw is (ap names_text (sym (drop_more names i d lt)))) ∙ all
 
-pub names_end : (writer whole : Sheet) (names : List (List ℕ)) (i : ℕ) → length names ≤ i
-    → put writer (names_text (drop i names)) ≡ whole → writer ≡ whole
-names_end writer whole names i past all =
-    sym (put_nil writer) ∙ ap (λ (ns : List (List ℕ)). put writer (names_text ns))
+pub names-end : (writer whole : Sheet) (names : List (List ℕ)) (i : ℕ) → length names ≤ i
+    → sheet_with writer (names_text (drop i names)) ≡ whole → writer ≡ whole
+names-end writer whole names i past all =
+    sym (put_nil writer) ∙ ap (λ (ns : List (List ℕ)). sheet_with writer (names_text ns))
     (sym (drop_all i names past)) ∙ all
 
 -- ---- what a call adds to the results of a read
 
-text_is : (sheet : Sheet) (text : List ℕ)
-    → (put sheet text).text ≡ joined sheet.limit sheet.text text
-unfolding put
-text_is sheet text = refl
+text-is : (sheet : Sheet) (text : List ℕ)
+    → (sheet_with sheet text).text ≡ text_with sheet.limit sheet.text text
+unfolding sheet_with
+text-is sheet text = refl
 
-adds_by : (r : Result (Unit {0}) EncodeFault) (limit : ℕ) (old : Option (List ℕ))
+adds-by : (r : Result (Unit {0}) EncodeFault) (limit : ℕ) (old : Option (List ℕ))
     (middle new : Sheet) (text : List ℕ) → is_none old ≡ false
-    → middle.text ≡ joined limit old text → Held middle r new
+    → middle.text ≡ text_with limit old text → Held middle r new
     → Adds limit (octets_in old) r (octets_in new.text) text
-adds_by r limit None middle new text some at h = absurd cc
-adds_by (Ok done) limit (Some old) middle new text some at h =
+adds-by r limit None middle new text some at h = absurd cc
+adds-by (Ok done) limit (Some old) middle new text some at h =
     elim (cases_lt (limit - length old) (length text)) [
       | inl lt ↦
-          let no : is_none middle.text ≡ true = ap is_none (at ∙ no_room limit old text lt) in
+          let no : is_none middle.text ≡ true = ap is_none (at ∙ no-room limit old text lt) in
           let both : true ≡ false = sym no ∙ h.0 in
           absurd cc
       | inr le ↦ ap octets_in (ap (λ (s : Sheet). s.text) h.1 ∙ at ∙ room limit old text le)
     ]
-adds_by (Err TooLong) limit (Some old) middle new text some at h =
+adds-by (Err TooLong) limit (Some old) middle new text some at h =
     elim (cases_lt (limit - length old) (length text)) [
       | inl lt ↦ omega (arith, length-append old text)
       | inr le ↦
@@ -91,86 +92,86 @@ adds_by (Err TooLong) limit (Some old) middle new text some at h =
           let both : false ≡ true = sym no ∙ h.0 in
           absurd cc
     ]
-adds_by (Err OutOfMemory) limit (Some old) middle new text some at h = tt
+adds-by (Err OutOfMemory) limit (Some old) middle new text some at h = tt
 
-pub adds_held : (r : Result (Unit {0}) EncodeFault) (old middle new : Sheet) (text : List ℕ)
-    → HoldsResults old → middle ≡ put old text → Held middle r new
+pub adds-held : (r : Result (Unit {0}) EncodeFault) (old middle new : Sheet) (text : List ℕ)
+    → HoldsResults old → middle ≡ sheet_with old text → Held middle r new
     → Adds old.limit (octets_in old.text) r (octets_in new.text) text
-adds_held r old middle new text holds is h =
-    adds_by r old.limit old.text middle new text holds.held
-    (ap (λ (s : Sheet). s.text) is ∙ text_is old text) h
+adds-held r old middle new text holds is h =
+    adds-by r old.limit old.text middle new text holds.held
+    (ap (λ (s : Sheet). s.text) is ∙ text-is old text) h
 
-pub holds_held : (r : Result (Unit {0}) EncodeFault) (old middle new : Sheet) (text : List ℕ)
-    → HoldsResults old → middle ≡ put old text → Held middle r new → HoldsResults new
-holds_held (Ok done) old middle new text holds is h =
+pub holds-held : (r : Result (Unit {0}) EncodeFault) (old middle new : Sheet) (text : List ℕ)
+    → HoldsResults old → middle ≡ sheet_with old text → Held middle r new → HoldsResults new
+holds-held (Ok done) old middle new text holds is h =
     record {
-      none = ap (λ (s : Sheet). s.heads) (h.1 ∙ is) ∙ heads_put old text ∙ holds.none;
+      none = ap (λ (s : Sheet). s.heads) (h.1 ∙ is) ∙ heads-put old text ∙ holds.none;
       held = ap (λ (s : Sheet). is_none s.text) h.1 ∙ h.0;
     }
-holds_held (Err TooLong) old middle new text holds is h =
+holds-held (Err TooLong) old middle new text holds is h =
     record {
       none = ap (λ (s : Sheet). s.heads) h.1;
       held = ap (λ (s : Sheet). is_none s.text) h.1;
     }
-holds_held (Err OutOfMemory) old middle new text holds is h = absurd h
+holds-held (Err OutOfMemory) old middle new text holds is h = absurd h
 
-pub size_held : (r : Result (Unit {0}) EncodeFault) (old middle new : Sheet) (text : List ℕ)
-    → middle ≡ put old text → Held middle r new → new.limit ≡ old.limit
-size_held (Ok done) old middle new text is h =
-    ap (λ (s : Sheet). s.limit) (h.1 ∙ is) ∙ limit_put old text
-size_held (Err TooLong) old middle new text is h =
-    ap (λ (s : Sheet). s.limit) h.1 ∙ ap (λ (s : Sheet). s.limit) is ∙ limit_put old text
-size_held (Err OutOfMemory) old middle new text is h = absurd h
+pub size-held : (r : Result (Unit {0}) EncodeFault) (old middle new : Sheet) (text : List ℕ)
+    → middle ≡ sheet_with old text → Held middle r new → new.limit ≡ old.limit
+size-held (Ok done) old middle new text is h =
+    ap (λ (s : Sheet). s.limit) (h.1 ∙ is) ∙ limit-put old text
+size-held (Err TooLong) old middle new text is h =
+    ap (λ (s : Sheet). s.limit) h.1 ∙ ap (λ (s : Sheet). s.limit) is ∙ limit-put old text
+size-held (Err OutOfMemory) old middle new text is h = absurd h
 
 -- ---- the response around them
 
-message_held : (heads : List ℕ) (text : Option (List ℕ)) (limit : ℕ) → heads ≡ []
+message-held : (heads : List ℕ) (text : Option (List ℕ)) (limit : ℕ) → heads ≡ []
     → is_none text ≡ false
     → message (record { limit = limit; heads = heads; text = text }) ≡ Some (octets_in text)
 unfolding message
-message_held heads None limit none some = absurd cc
-message_held heads (Some text) limit none some = rw none refl
+message-held heads None limit none some = absurd cc
+message-held heads (Some text) limit none some = rw none refl
 
-pub is_held : (sheet : Sheet) → HoldsResults sheet → message sheet ≡ Some (octets_in sheet.text)
-is_held sheet holds = message_held sheet.heads sheet.text sheet.limit holds.none holds.held
+pub is-held : (sheet : Sheet) → HoldsResults sheet → message sheet ≡ Some (octets_in sheet.text)
+is-held sheet holds = message-held sheet.heads sheet.text sheet.limit holds.none holds.held
 
-map_then : (g : List ℕ → List ℕ) (f : List ℕ → Option (List ℕ)) (m : Option (List ℕ))
+map-then : (g : List ℕ → List ℕ) (f : List ℕ → Option (List ℕ)) (m : Option (List ℕ))
     → (option_map g m >>= f) ≡ (m >>= λ t. f (g t))
-map_then g f None = refl
-map_then g f (Some t) = refl
+map-then g f None = refl
+map-then g f (Some t) = refl
 
 longer : (id : ℕ) (text : List ℕ)
     → length text
     ≤ length (element (constructed 1) (element int_tag (integer_octets (pos id)) ++ text))
 longer id text =
     let number = element int_tag (integer_octets (pos id)) in
-    omega (arith, content_less (constructed 1) (number ++ text), length-append number text)
+    omega (arith, content-less (constructed 1) (number ++ text), length-append number text)
 
-pub read_is : (id size : ℕ) (octets : List ℕ) (first second third last : Option (List ℕ))
-    → first ≡ wrapped (constructed 1) size (Some octets)
-    → second ≡ wrapped (constructed 4) size first
+pub read-is : (id size : ℕ) (octets : List ℕ) (first second third last : Option (List ℕ))
+    → first ≡ value_around (constructed 1) size (Some octets)
+    → second ≡ value_around (constructed 4) size first
     → third ≡ option_map (λ t. element int_tag (integer_octets (pos id)) ++ t) second
-    → last ≡ wrapped (constructed 1) size third
+    → last ≡ value_around (constructed 1) size third
     → last ≡ within size (read_text id octets)
-read_is id size octets first second third last f s t l =
+read-is id size octets first second third last f s t l =
     let list = element (constructed 1) octets in
     let service = element (constructed 4) list in
     let number = element int_tag (integer_octets (pos id)) in
-    let less = content_less (constructed 4) list in
+    let less = content-less (constructed 4) list in
     let two : second ≡ within size service =
-    s ∙ rw f (within_longer (element (constructed 4)) size list (omega arith)) in
-    l ∙ rw (t, two) (map_then (λ u. number ++ u) (λ u. within size (element (constructed 1) u))
+    s ∙ rw f (within-longer (element (constructed 4)) size list (omega arith)) in
+    l ∙ rw (t, two) (map-then (λ u. number ++ u) (λ u. within size (element (constructed 1) u))
     (within size service)
-    ∙ within_longer (λ u. element (constructed 1) (number ++ u)) size service (longer id service))
+    ∙ within-longer (λ u. element (constructed 1) (number ++ u)) size service (longer id service))
 
-pub number_few : (old new : Sheet) (tag : Tag) (value : ℤ)
+pub number-few : (old new : Sheet) (tag : Tag) (value : ℤ)
     → new ≡ record {
       limit = old.limit;
       heads = element tag (integer_octets value) ++ old.heads;
       text = old.text;
     }
     → length new.heads ≤ length old.heads + 14
-number_few old new tag value is =
+number-few old new tag value is =
     let number = element tag (integer_octets value) in
     rw is (omega (
       arith,
@@ -179,24 +180,24 @@ number_few old new tag value is =
       length-integer_octets value,
     ))
 
-pub response_is : (id : ℕ) (old one four numbered whole : Sheet) → HoldsResults old
-    → one.limit ≡ old.limit → message one ≡ wrapped (constructed 1) old.limit (message old)
-    → four.limit ≡ one.limit → message four ≡ wrapped (constructed 4) one.limit (message one)
+pub response-is : (id : ℕ) (old one four numbered whole : Sheet) → HoldsResults old
+    → one.limit ≡ old.limit → message one ≡ value_around (constructed 1) old.limit (message old)
+    → four.limit ≡ one.limit → message four ≡ value_around (constructed 4) one.limit (message one)
     → numbered ≡ record {
       limit = four.limit;
       heads = element int_tag (integer_octets (pos id)) ++ four.heads;
       text = four.text;
     }
-    → message whole ≡ wrapped (constructed 1) numbered.limit (message numbered)
+    → message whole ≡ value_around (constructed 1) numbered.limit (message numbered)
     → message whole ≡ within old.limit (read_text id (octets_in old.text))
-response_is id old one four numbered whole holds one_limit is_one four_limit is_four is_numbered
+response-is id old one four numbered whole holds one_limit is_one four_limit is_four is_numbered
     is_whole =
     let number = element int_tag (integer_octets (pos id)) in
     let limit : numbered.limit ≡ old.limit =
     ap (λ (s : Sheet). s.limit) is_numbered ∙ four_limit ∙ one_limit in
-    read_is id old.limit (octets_in old.text) (message one) (message four) (message numbered)
+    read-is id old.limit (octets_in old.text) (message one) (message four) (message numbered)
     (message whole)
-    (is_one ∙ ap (wrapped (constructed 1) old.limit) (is_held old holds))
-    (is_four ∙ ap (λ (n : ℕ). wrapped (constructed 4) n (message one)) one_limit)
+    (is_one ∙ ap (value_around (constructed 1) old.limit) (is-held old holds))
+    (is_four ∙ ap (λ (n : ℕ). value_around (constructed 4) n (message one)) one_limit)
     (ap message is_numbered ∙ message-front four number)
-    (is_whole ∙ ap (λ (n : ℕ). wrapped (constructed 1) n (message numbered)) limit)
+    (is_whole ∙ ap (λ (n : ℕ). value_around (constructed 1) n (message numbered)) limit)

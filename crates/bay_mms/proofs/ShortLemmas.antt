@@ -13,13 +13,13 @@ use Rattle.bay_mms.specs.declared.response.ErrorClass.TheVariants.{NoSuchObject,
 use Rattle.bay_mms.specs.declared.response.RejectReason.{RejectReason}
 use Rattle.bay_mms.specs.declared.response.RejectReason.TheVariants.{UnrecognizedService, InvalidPdu}
 
-number_short : (tag : Tag) (value : ℤ) → length (element tag (integer_octets value)) ≤ 14
-number_short tag value =
+number-short : (tag : Tag) (value : ℤ) → length (element tag (integer_octets value)) ≤ 14
+number-short tag value =
     omega (arith, length-element tag (integer_octets value), length-integer_octets value)
 
-class_short : (class : ErrorClass) → length (class_text class) ≤ 14
-class_short NoSuchObject = number_short (context 7) (pos 2)
-class_short Resource = number_short (context 3) (pos 0)
+class-short : (class : ErrorClass) → length (class_text class) ≤ 14
+class-short NoSuchObject = number-short (context 7) (pos 2)
+class-short Resource = number-short (context 3) (pos 0)
 
 pub error_short : (id : ℕ) (class : ErrorClass) → length (error_text id class) ≤ 60
 error_short id class =
@@ -32,17 +32,17 @@ error_short id class =
       length-append number reason,
       length-element (constructed 2) inner,
       length-element (constructed 0) (class_text class),
-      class_short class,
-      number_short (context 0) (pos id),
+      class-short class,
+      number-short (context 0) (pos id),
     )
 
-id_short : (id : Option ℕ) → length (id_text id) ≤ 14
-id_short None = omega arith
-id_short (Some id) = number_short (context 0) (pos id)
+id-short : (id : Option ℕ) → length (id_text id) ≤ 14
+id-short None = omega arith
+id-short (Some id) = number-short (context 0) (pos id)
 
-reason_short : (reason : RejectReason) → length (reason_text reason) ≤ 14
-reason_short UnrecognizedService = number_short (context 1) (pos 1)
-reason_short InvalidPdu = number_short (context 5) (pos 1)
+reason-short : (reason : RejectReason) → length (reason_text reason) ≤ 14
+reason-short UnrecognizedService = number-short (context 1) (pos 1)
+reason-short InvalidPdu = number-short (context 5) (pos 1)
 
 pub reject_short : (id : Option ℕ) (reason : RejectReason) → length (reject_text id reason) ≤ 60
 reject_short id reason =
@@ -50,8 +50,8 @@ reject_short id reason =
       arith,
       length-element (constructed 4) (id_text id ++ reason_text reason),
       length-append (id_text id) (reason_text reason),
-      id_short id,
-      reason_short reason,
+      id-short id,
+      reason-short reason,
     )
 
 -- ---- so they are held

@@ -48,6 +48,6 @@ shaping s =
     }
 
 -- a result, seen through a view
-abbrev pub seen : {A B : Type 0} → (A → B) → Result A ControlFault → Result B ControlFault
-seen view (Ok x) = Ok (view x)
-seen view (Err fault) = Err fault
+abbrev pub result_view : {A B : Type 0} → (A → B) → Result A ControlFault → Result B ControlFault
+result_view view (Ok x) = Ok (view x)
+result_view view (Err fault) = Err fault

@@ -15,7 +15,7 @@ use Rattle.bay_mms.specs.Data.{Datum}
 use Rattle.bay_mms.specs.Views.{data_before}
 use Rattle.bay_mms.specs.Tags.{context, constructed, sequence, int_tag, visible_tag}
 use Rattle.bay_base.specs.Results.{◌>>=◌ as ◌>>◌}
-use Rattle.bay_mms.specs.Spelled.{spelled}
+use Rattle.bay_mms.specs.Spelled.{or_misspelled}
 use Rattle.bay_mms.specs.Requests.{Naming, vmd, domain, association, Place, whole_vmd, in_domain, of_association, VariableSpecification, Access, variables, named_list, Asking, identify, names, attributes, read, write, Message, initiate, conclude, confirmed}
 use Rattle.bay_mms.specs.declared.request.Proposal.{Proposal}
 use Rattle.bay_mms.specs.declared.fault.Refusal.{Refusal}
@@ -79,31 +79,32 @@ are_as_many None number = true
 are_as_many (Some count) number = number == count
 
 -- Of names, with whether only a part of a variable is asked for: at most 32, each as a whole.
-abbrev pub served : List Naming → Bool → Result (List Naming) Refusal
-served ns alternate =
+abbrev pub served_names : List Naming → Bool → Result (List Naming) Refusal
+served_names ns alternate =
     if alternate then Err Unknown else (if nat_lt 32 (length ns) then Err Many else Ok ns)
 
 -- the same, and as many as there are to be
-abbrev pub counted : Option ℕ → List Naming → Bool → Result (List Naming) Refusal
-counted count ns alternate =
-    if are_as_many count (length ns) then served ns alternate else Err Bad
+abbrev pub counted_names : Option ℕ → List Naming → Bool → Result (List Naming) Refusal
+counted_names count ns alternate =
+    if are_as_many count (length ns) then served_names ns alternate else Err Bad
 
 -- Which names are asked for, as many as there are to be; how many a list by its name has is not
 -- known.
-abbrev pub judged : Option ℕ → Access → Result (List Naming) Refusal
-judged count named_list = Err Unknown
-judged count (variables vs) = counted count (map (λ v. v.name) vs) (any_alternate vs)
+abbrev pub names_asked : Option ℕ → Access → Result (List Naming) Refusal
+names_asked count named_list = Err Unknown
+names_asked count (variables vs) = counted_names count (map (λ v. v.name) vs) (any_alternate vs)
 
 -- the names of the variables that octets are
 abbrev pub listed_in : Option ℕ → List ℕ → Result (List Naming) Refusal
-listed_in count octets = spelled (each_in variable_as octets) >> λ vs. judged count (variables vs)
+listed_in count octets =
+    or_misspelled (each_in variable_as octets) >> λ vs. names_asked count (variables vs)
 
 -- the names that a list of variables asks for, or the name of a list
 unfoldable pub names_as : Option ℕ → Part → Result (List Naming) Refusal
 names_as count part =
     if same_tag part.tag (constructed 0) then listed_in count part.content
     else (if same_tag part.tag (constructed 1)
-    then spelled (name_in part.content) >> (λ n. judged count named_list)
+    then or_misspelled (name_in part.content) >> (λ n. names_asked count named_list)
     else Err Bad)
 
 -- ---- data
@@ -186,22 +187,22 @@ listing_in octets = few_in octets >>= names_of
 unfoldable pub attributes_as : Part → Result Asking Refusal
 attributes_as part =
     if same_tag part.tag (constructed 0)
-    then spelled (name_in part.content) >> (λ n. Ok (attributes n))
+    then or_misspelled (name_in part.content) >> (λ n. Ok (attributes n))
     else (if same_tag part.tag (constructed 1)
-    then spelled (name_in part.content) >> (λ n. Err Unknown)
+    then or_misspelled (name_in part.content) >> (λ n. Err Unknown)
     else Err Bad)
 
 -- a read by its specification of access
 unfoldable pub read_as : Part → Result Asking Refusal
 read_as part =
-    spelled (under (constructed 1) part >>= value_in) >> λ spec.
+    or_misspelled (under (constructed 1) part >>= value_in) >> λ spec.
     names_as None spec >> λ ns.
     Ok (read ns)
 
 -- whether results are asked for with their specification, which is not looked at, and the variables
 abbrev pub read_of : Part → Option Part → Result Asking Refusal
 read_of spec None = read_as spec
-read_of flag (Some spec) = spelled (under (context 0) flag) >> λ ignored. read_as spec
+read_of flag (Some spec) = or_misspelled (under (context 0) flag) >> λ ignored. read_as spec
 
 -- the octets of the data that are written
 abbrev pub data_octets : Option Part → Option (List ℕ)
@@ -210,8 +211,8 @@ data_octets list = list >>= under (constructed 0)
 -- the variables, and as many data, at most 10 deep
 abbrev pub write_of : Part → Option Part → Result Asking Refusal
 write_of spec list =
-    spelled (data_octets list) >> λ octets.
-    spelled (each_in (datum_as 10) octets) >> λ ds.
+    or_misspelled (data_octets list) >> λ octets.
+    or_misspelled (each_in (datum_as 10) octets) >> λ ds.
     names_as (Some (length ds)) spec >> λ ns.
     Ok (write ns ds)
 
@@ -229,13 +230,14 @@ other_as part = if is_unlisted part.tag then Err Unknown else Err Bad
 -- the service that a value is, by its tag
 unfoldable pub service_as : Part → Result Asking Refusal
 service_as part =
-    if same_tag part.tag (constructed 1) then spelled (listing_in part.content)
-    else (if same_tag part.tag (context 2) then spelled (nothing part.content identify)
-    else (if same_tag part.tag (constructed 4) then spelled (one_or_two_in part.content)
+    if same_tag part.tag (constructed 1) then or_misspelled (listing_in part.content)
+    else (if same_tag part.tag (context 2) then or_misspelled (nothing part.content identify)
+    else (if same_tag part.tag (constructed 4) then or_misspelled (one_or_two_in part.content)
     >> (λ parts. read_of parts.0 parts.1)
-    else (if same_tag part.tag (constructed 5) then spelled (one_or_two_in part.content)
+    else (if same_tag part.tag (constructed 5) then or_misspelled (one_or_two_in part.content)
     >> (λ parts. write_of parts.0 parts.1)
-    else (if same_tag part.tag (constructed 6) then spelled (value_in part.content) >> attributes_as
+    else (if same_tag part.tag (constructed 6)
+    then or_misspelled (value_in part.content) >> attributes_as
     else other_as part))))
 
 -- ---- the initiate

@@ -1,3 +1,28 @@
+-- MMS requests and answers (ISO 9506-2, with the profile of IEC 61850-8-1). Requests are plain
+-- data; how they are spelled is said twice, and laws say that the two agree, so bytes ask at most
+-- one request.
+--
+-- `Requests`: what a client asks, which is an initiate, a conclude, or a service under an invoke
+-- id. `Grammar` is the function: it works on the values that bytes are (`Values` of bay_ber), part
+-- by part: a value's tag says what it is, and its content is read as values again. `Asks` is the
+-- relation: a request, a service that is not served, too many variables, the invoke id in front, or
+-- none of these. Its parts are `SpelledNames`, `SpelledData`, `SpelledInitiate` and
+-- `SpelledServices`; `Spelled` has their common words.
+--
+-- `Answers` joins them: the request that some bytes ask, or their fault. Memory may run out only
+-- for a read or a write that names a variable or has data.
+--
+-- `Data`, `Types` and `Utc`: data and types of named variables as trees with their canonical texts,
+-- and the eight bytes of a time. `Nodes`: what stands below a row of the tree, as data and as a
+-- type. `Controls`: what Oper, SBOw and Cancel ask for, the data that this is, and the ranges; laws
+-- say that its text reads back.
+--
+-- `Responses`: the one text of each response, error and reject. `Pages`: the greatest number of
+-- names, up to 100, whose response fits a PDU. `Reports`: LastApplError and CommandTermination.
+-- `Writing`: what a call that writes answers. `Laws`: data whose text stands as it is. `Tags`:
+-- tags. `Code` numbers the faults; `Views`, `RequestViews` and `ControlViews` map the code's values
+-- to plain data.
+
 -- What public clauses cite of the crates below.
 pub use Rattle.bay_base.specs.Exact
 pub use Rattle.bay_ber.specs.Octets

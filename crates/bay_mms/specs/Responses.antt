@@ -16,8 +16,8 @@ use Rattle.bay_mms.specs.Types.{type_text}
 use Rattle.bay_mms.specs.Nodes.{type_at}
 
 -- a confirmed response: the invoke id and the service
-abbrev pub confirmed : ℕ → List ℕ → List ℕ
-confirmed id service =
+abbrev pub confirmed_response : ℕ → List ℕ → List ℕ
+confirmed_response id service =
     element (constructed 1) (element int_tag (integer_octets (pos id)) ++ service)
 
 -- the vendor, the model and the revision of an identify response
@@ -50,11 +50,12 @@ result_text (Some cause) = failure_result cause
 
 -- the response to a read of variables with these results
 abbrev pub read_text : ℕ → List ℕ → List ℕ
-read_text id results = confirmed id (element (constructed 4) (element (constructed 1) results))
+read_text id results =
+    confirmed_response id (element (constructed 4) (element (constructed 1) results))
 
 -- the response to a write of variables with these results
 abbrev pub write_text : ℕ → List ℕ → List ℕ
-write_text id results = confirmed id (element (constructed 5) results)
+write_text id results = confirmed_response id (element (constructed 5) results)
 
 -- no such object is 2 of the class access, another want of resources 0 of the class resource
 abbrev pub class_text : ErrorClass → List ℕ
@@ -92,7 +93,7 @@ listing_text names more =
 
 -- the response with a page of names
 abbrev pub page_text : ℕ → List (List ℕ) → Bool → List ℕ
-page_text id names more = confirmed id (element (constructed 1) (listing_text names more))
+page_text id names more = confirmed_response id (element (constructed 1) (listing_text names more))
 
 -- ---- services
 
@@ -155,7 +156,7 @@ agreed_text a =
 abbrev pub response_text : Response → List ℕ
 response_text (response.Initiate agreed) = agreed_text agreed
 response_text response.Conclude = concluded_text
-response_text (response.Confirmed id s) = confirmed id (service_text s)
+response_text (response.Confirmed id s) = confirmed_response id (service_text s)
 response_text (response.Error id class) = error_text id class
 response_text (response.Reject id reason) = reject_text id reason
 

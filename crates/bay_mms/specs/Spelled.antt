@@ -4,9 +4,9 @@ use Rattle.bay_mms.specs.declared.fault.Refusal.{Refusal}
 use Rattle.bay_mms.specs.declared.fault.Refusal.TheVariants.{Bad}
 
 -- what is not there is badly spelled
-abbrev pub spelled : {A : Type 0} → Option A → Result A Refusal
-spelled (Some x) = Ok x
-spelled None = Err Bad
+abbrev pub or_misspelled : {A : Type 0} → Option A → Result A Refusal
+or_misspelled (Some x) = Ok x
+or_misspelled None = Err Bad
 
 -- Each of the one list spells what stands at its place in the other.
 abbrev pub AreEach : {A B : Type 0} → (A → B → Type 0) → List A → List B → Type 0

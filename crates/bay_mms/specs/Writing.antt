@@ -10,8 +10,8 @@ or_long None = Err TooLong
 or_long (Some text) = Ok text
 
 -- A text of at most so many octets is written.
-abbrev pub written : ℕ → List ℕ → Result (List ℕ) EncodeFault
-written size text = or_long (within size text)
+abbrev pub text_within : ℕ → List ℕ → Result (List ℕ) EncodeFault
+text_within size text = or_long (within size text)
 
 -- The text was appended; or there are more octets than the size, or memory was wanting.
 abbrev pub Adds : ℕ → List ℕ → Result (Unit {0}) EncodeFault → List ℕ → List ℕ → Type 0

@@ -122,7 +122,7 @@ fn counted<'a>(
     is_alternate: bool,
 ) -> Result<Vec<ObjectName<'a>>, Refusal>
     ensures { IsRead (λ v. map naming v.items) result
-        (spec.counted count (map naming names.entry.items) is_alternate) }
+        (spec.counted_names count (map naming names.entry.items) is_alternate) }
 {
     if !are_as_many(count, names.len()) {
         Err(Refusal::Bad)

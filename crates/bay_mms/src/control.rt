@@ -3,7 +3,7 @@
 ghost use Rattle.std.specs.Prelude.{◌≡◌, option_map, Some, None, if◌then◌else◌};
 ghost use Rattle.bay_mms.specs.Views.{datum_of};
 ghost use Rattle.bay_mms.specs.Controls.{is_in_range, operate_in, cancel_in};
-ghost use Rattle.bay_mms.specs.ControlViews.{cancelling, operating, shaping, seen};
+ghost use Rattle.bay_mms.specs.ControlViews.{cancelling, operating, shaping, result_view};
 
 use crate::data::Data;
 use crate::fault::ControlFault;
@@ -75,7 +75,7 @@ fn in_range<'a>(shape: &Shape<'a>) -> Option<Cancel<'a>>
 /// bits. Then OutOfRange, where ctlNum is outside 0 to 255, orCat outside -128 to 127, or orIdent
 /// longer than 64 octets.
 pub fn operate_of<'a>(given: &Data<'a>) -> Result<Operate<'a>, ControlFault>
-    ensures { seen operating result ≡ operate_in (datum_of given.now) }
+    ensures { result_view operating result ≡ operate_in (datum_of given.now) }
 {
     let (shape, check) = operate_as(given).ok_or(ControlFault::WrongShape)?;
     let control = in_range(&shape).ok_or(ControlFault::OutOfRange)?;
@@ -92,7 +92,7 @@ pub fn operate_of<'a>(given: &Data<'a>) -> Result<Operate<'a>, ControlFault>
 /// The cancel that data are; with the faults of `operate_of`, over five parts, since a cancel has
 /// no Check.
 pub fn cancel_of<'a>(given: &Data<'a>) -> Result<Cancel<'a>, ControlFault>
-    ensures { seen cancelling result ≡ cancel_in (datum_of given.now) }
+    ensures { result_view cancelling result ≡ cancel_in (datum_of given.now) }
 {
     let shape = cancel_as(given).ok_or(ControlFault::WrongShape)?;
     in_range(&shape).ok_or(ControlFault::OutOfRange)

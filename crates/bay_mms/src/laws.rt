@@ -5,7 +5,7 @@ ghost use Rattle.bay_ber.specs.Spelling.{Spells};
 ghost use Rattle.bay_mms.specs.Data.{Datum, Data, datum_text};
 ghost use Rattle.bay_mms.specs.Types.{TypeSpec, type_text};
 ghost use Rattle.bay_mms.specs.Reports.{report_text};
-ghost use Rattle.bay_mms.specs.Responses.{confirmed, response_text};
+ghost use Rattle.bay_mms.specs.Responses.{confirmed_response, response_text};
 ghost use Rattle.bay_mms.specs.Tags.{constructed};
 ghost use Rattle.bay_base.specs.Exact.{Gives};
 ghost use Rattle.bay_mms.specs.Answers.{IsAnswer};
@@ -35,8 +35,9 @@ pub fn written_is_read()
         → IsDatum (value (datum_tag datum) (datum_content datum)) datum }
     ensures response { (response : Response) → length (response_text response) < 4294967296
         → IsOneValue (response_text response) (response_tag response) }
-    ensures confirmed { (id : ℕ) (service : List ℕ) → length (confirmed id service) < 4294967296
-        → IsOneValue (confirmed id service) (constructed 1) }
+    ensures confirmed { (id : ℕ) (service : List ℕ)
+        → length (confirmed_response id service) < 4294967296
+        → IsOneValue (confirmed_response id service) (constructed 1) }
     ensures report { (names : List (List ℕ)) (values : Data)
         → length (report_text names values) < 4294967296
         → IsOneValue (report_text names values) (constructed 3) }

@@ -1,6 +1,6 @@
 // The data and the type of a leaf.
 ghost use Rattle.std.specs.Prelude.{[], ◌∷◌, ◌≡◌};
-ghost use Rattle.bay_ber.specs.Sheets.{put};
+ghost use Rattle.bay_ber.specs.Sheets.{sheet_with};
 ghost use Rattle.bay_mms.specs.Utc as spec;
 ghost use Rattle.bay_mms.specs.Data.{bits, utc, position_octet, quality_octet, datum_text, leaf_datum};
 ghost use Rattle.bay_mms.specs.Types.{type_text, leaf_type_spec};
@@ -79,14 +79,15 @@ fn utc_text(ms: u64) -> [u8; 10]
 
 /// Writes the data of a position.
 pub(crate) fn put_position(writer: &mut Writer, position: Dbpos)
-    ensures { writer.new ≡ put writer.old (datum_text (bits (position_octet position ∷ []) 2)) }
+    ensures { writer.new ≡ sheet_with writer.old
+        (datum_text (bits (position_octet position ∷ []) 2)) }
 {
     writer.append(position_text(position));
 }
 
 /// Writes the data of a leaf.
 pub(crate) fn put_leaf(writer: &mut Writer, leaf: &Leaf)
-    ensures { writer.new ≡ put writer.old (datum_text (leaf_datum leaf.now)) }
+    ensures { writer.new ≡ sheet_with writer.old (datum_text (leaf_datum leaf.now)) }
 {
     match leaf {
         Leaf::Truth(value) => writer.boolean(Tag::context(3), *value),
@@ -106,7 +107,7 @@ pub(crate) fn put_leaf(writer: &mut Writer, leaf: &Leaf)
 /// Writes the type of a leaf.
 #[tactic(auto, unfolding(bay_ber::specs::Writing::element, bay_ber::specs::Writing::length_octets))]
 pub(crate) fn put_leaf_type(writer: &mut Writer, leaf: &Leaf)
-    ensures { writer.new ≡ put writer.old (type_text (leaf_type_spec leaf.now)) }
+    ensures { writer.new ≡ sheet_with writer.old (type_text (leaf_type_spec leaf.now)) }
 {
     match leaf {
         Leaf::Truth(_) => writer.append(&[0x83, 0]),

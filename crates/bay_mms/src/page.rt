@@ -1,7 +1,7 @@
 // Pages of names, written straight from the tree (ISO 9506-2, GetNameList).
 ghost use Rattle.std.specs.Prelude.{Err, ◌≡◌, ◌^◌, ◌+◌, ◌<◌, ◌≤◌, ◌↔◌, pos, IsTrue, IfOk, IfSome, length, take, nat_lt};
 ghost use Rattle.std.specs.Option.{option_copied};
-ghost use Rattle.bay_ber.specs.Sheets.{put};
+ghost use Rattle.bay_ber.specs.Sheets.{sheet_with};
 ghost use Rattle.bay_ber.specs.Writing.{element, integer_octets};
 ghost use Rattle.bay_tree.specs.Page.{rows_after, IsUnknown};
 ghost use Rattle.bay_tree.specs.Rows.{IsHandle, names_of};
@@ -62,7 +62,7 @@ fn put_fitting(writer: &mut Writer, tree: &Tree, first: Option<Handle>, id: u32,
     requires there { IfSome first (IsHandle tree.now) }
     requires size { size < 2 ^ 31 }
     ensures names { let names = names_from tree.now first in
-        writer.new ≡ put writer.old (names_text (take (page_count id size names) names)) }
+        writer.new ≡ sheet_with writer.old (names_text (take (page_count id size names) names)) }
     ensures more { let names = names_from tree.now first in
         result ≡ nat_lt (page_count id size names) (length names) }
 {
@@ -90,7 +90,7 @@ fn put_fitting(writer: &mut Writer, tree: &Tree, first: Option<Handle>, id: u32,
 fn put_page(writer: &mut Writer, tree: &Tree, first: Option<Handle>, id: u32, size: u32)
     requires there { IfSome first (IsHandle tree.now) }
     requires size { size < 2 ^ 31 }
-    ensures { writer.new ≡ put writer.old (first_page id size (names_from tree.now first)) }
+    ensures { writer.new ≡ sheet_with writer.old (first_page id size (names_from tree.now first)) }
 {
     let start = writer.open(Tag::context_constructed(1));
     put_id(writer, id);

@@ -1,10 +1,10 @@
 // The reports of controls (IEC 61850-8-1, LastApplError and CommandTermination).
 ghost use Rattle.std.specs.Prelude.{◌≡◌, ◌++◌, codes};
-ghost use Rattle.bay_ber.specs.Sheets.{put};
+ghost use Rattle.bay_ber.specs.Sheets.{sheet_with};
 ghost use Rattle.bay_ber.specs.Writing.{element};
 ghost use Rattle.bay_mms.specs.Tags.{constructed};
 ghost use Rattle.bay_mms.specs.Reports.{variable_text, origin_text, operate_front, operate_back, operate_text, failure_front, failure_back, failure_data, failure_name, item_name, failure_text, termination_text, failed_text};
-ghost use Rattle.bay_mms.specs.Writing.{written};
+ghost use Rattle.bay_mms.specs.Writing.{text_within};
 ghost use Rattle.bay_base.specs.Exact.{Gives};
 
 use crate::control::{Operate, Origin};
@@ -30,7 +30,7 @@ pub struct ControlError<'a> {
 // Writes an originator, a structure of its category and its identity.
 #[tactic(auto, using(bay_ber::proofs::SheetLemmas::sheet_rules))]
 fn put_origin(writer: &mut Writer, origin: &Origin<'_>)
-    ensures { writer.new ≡ put writer.old (origin_text origin.now) }
+    ensures { writer.new ≡ sheet_with writer.old (origin_text origin.now) }
 {
     let start = writer.open(Tag::context_constructed(2));
     writer.int(Tag::context(5), i64::from(origin.or_cat));
@@ -41,7 +41,7 @@ fn put_origin(writer: &mut Writer, origin: &Origin<'_>)
 // Writes what is asked for, the originator and the control number.
 #[tactic(auto, using(bay_ber::proofs::SheetLemmas::sheet_rules))]
 fn put_operate_front(writer: &mut Writer, operate: &Operate<'_>)
-    ensures { writer.new ≡ put writer.old (operate_front operate.now) }
+    ensures { writer.new ≡ sheet_with writer.old (operate_front operate.now) }
 {
     writer.boolean(Tag::context(3), operate.ctl_val);
     put_origin(writer, &operate.origin);
@@ -51,7 +51,7 @@ fn put_operate_front(writer: &mut Writer, operate: &Operate<'_>)
 // Writes the moment, whether it is a test, and the checks.
 #[tactic(auto, using(bay_ber::proofs::SheetLemmas::sheet_rules))]
 fn put_operate_back(writer: &mut Writer, operate: &Operate<'_>)
-    ensures { writer.new ≡ put writer.old (operate_back operate.now) }
+    ensures { writer.new ≡ sheet_with writer.old (operate_back operate.now) }
 {
     writer.octets(Tag::context(17), &operate.t);
     writer.boolean(Tag::context(3), operate.test);
@@ -61,7 +61,7 @@ fn put_operate_back(writer: &mut Writer, operate: &Operate<'_>)
 // Writes the data of an operate.
 #[tactic(auto, using(bay_ber::proofs::SheetLemmas::sheet_rules))]
 fn put_operate(writer: &mut Writer, operate: &Operate<'_>)
-    ensures { writer.new ≡ put writer.old (operate_text operate.now) }
+    ensures { writer.new ≡ sheet_with writer.old (operate_text operate.now) }
 {
     let start = writer.open(Tag::context_constructed(2));
     put_operate_front(writer, operate);
@@ -72,7 +72,7 @@ fn put_operate(writer: &mut Writer, operate: &Operate<'_>)
 // Writes the object that was refused, and the error, which is 0 for none.
 #[tactic(auto, using(bay_ber::proofs::SheetLemmas::sheet_rules))]
 fn put_failure_front(writer: &mut Writer, failure: &ControlError<'_>)
-    ensures { writer.new ≡ put writer.old (failure_front failure.now) }
+    ensures { writer.new ≡ sheet_with writer.old (failure_front failure.now) }
 {
     writer.octets(Tag::context(10), failure.object.as_bytes());
     writer.int(Tag::context(5), 0);
@@ -81,7 +81,7 @@ fn put_failure_front(writer: &mut Writer, failure: &ControlError<'_>)
 // Writes the originator, the control number and the cause (IEC 61850-7-2, AddCause).
 #[tactic(auto, using(bay_ber::proofs::SheetLemmas::sheet_rules))]
 fn put_failure_back(writer: &mut Writer, failure: &ControlError<'_>)
-    ensures { writer.new ≡ put writer.old (failure_back failure.now) }
+    ensures { writer.new ≡ sheet_with writer.old (failure_back failure.now) }
 {
     put_origin(writer, &failure.origin);
     writer.int(Tag::context(6), i64::from(failure.ctl_num));
@@ -91,7 +91,7 @@ fn put_failure_back(writer: &mut Writer, failure: &ControlError<'_>)
 // Writes the data of a failure.
 #[tactic(auto, using(bay_ber::proofs::SheetLemmas::sheet_rules))]
 fn put_failure(writer: &mut Writer, failure: &ControlError<'_>)
-    ensures { writer.new ≡ put writer.old (failure_data failure.now) }
+    ensures { writer.new ≡ sheet_with writer.old (failure_data failure.now) }
 {
     let start = writer.open(Tag::context_constructed(2));
     put_failure_front(writer, failure);
@@ -109,7 +109,7 @@ fn failure_object() -> &'static str
 // Writes the variable of that name, which is in no domain.
 #[tactic(auto, using(bay_ber::proofs::SheetLemmas::sheet_rules))]
 fn put_failure_name(writer: &mut Writer)
-    ensures { writer.new ≡ put writer.old (variable_text failure_name) }
+    ensures { writer.new ≡ sheet_with writer.old (variable_text failure_name) }
 {
     let start = writer.open(Tag::sequence());
     let inner = writer.open(Tag::context_constructed(0));
@@ -121,7 +121,7 @@ fn put_failure_name(writer: &mut Writer)
 // Writes a name in a domain.
 #[tactic(auto, using(bay_ber::proofs::SheetLemmas::sheet_rules))]
 fn put_item(writer: &mut Writer, domain: &str, item: &str)
-    ensures { writer.new ≡ put writer.old (item_name domain.now item.now) }
+    ensures { writer.new ≡ sheet_with writer.old (item_name domain.now item.now) }
 {
     let start = writer.open(Tag::context_constructed(1));
     writer.octets(Tag::universal(26), domain.as_bytes());
@@ -132,7 +132,7 @@ fn put_item(writer: &mut Writer, domain: &str, item: &str)
 // Writes the variable of a name in a domain.
 #[tactic(auto, using(bay_ber::proofs::SheetLemmas::sheet_rules))]
 fn put_item_name(writer: &mut Writer, domain: &str, item: &str)
-    ensures { writer.new ≡ put writer.old (variable_text (item_name domain.now item.now)) }
+    ensures { writer.new ≡ sheet_with writer.old (variable_text (item_name domain.now item.now)) }
 {
     let start = writer.open(Tag::sequence());
     let inner = writer.open(Tag::context_constructed(0));
@@ -144,7 +144,8 @@ fn put_item_name(writer: &mut Writer, domain: &str, item: &str)
 // Writes a list of the variable of a control that was refused.
 #[tactic(auto, using(bay_ber::proofs::SheetLemmas::sheet_rules))]
 fn put_failure_list(writer: &mut Writer)
-    ensures { writer.new ≡ put writer.old (element (constructed 0) (variable_text failure_name)) }
+    ensures { writer.new ≡ sheet_with writer.old
+        (element (constructed 0) (variable_text failure_name)) }
 {
     let start = writer.open(Tag::context_constructed(0));
     put_failure_name(writer);
@@ -154,7 +155,7 @@ fn put_failure_list(writer: &mut Writer)
 // Writes a list of the variable of a control that ended.
 #[tactic(auto, using(bay_ber::proofs::SheetLemmas::sheet_rules))]
 fn put_item_list(writer: &mut Writer, domain: &str, item: &str)
-    ensures { writer.new ≡ put writer.old
+    ensures { writer.new ≡ sheet_with writer.old
         (element (constructed 0) (variable_text (item_name domain.now item.now))) }
 {
     let start = writer.open(Tag::context_constructed(0));
@@ -165,7 +166,7 @@ fn put_item_list(writer: &mut Writer, domain: &str, item: &str)
 // Writes the list of both.
 #[tactic(auto, using(bay_ber::proofs::SheetLemmas::sheet_rules))]
 fn put_both_list(writer: &mut Writer, domain: &str, item: &str)
-    ensures { writer.new ≡ put writer.old
+    ensures { writer.new ≡ sheet_with writer.old
         (element (constructed 0)
         (variable_text failure_name ++ variable_text (item_name domain.now item.now))) }
 {
@@ -178,7 +179,7 @@ fn put_both_list(writer: &mut Writer, domain: &str, item: &str)
 // Writes the report of a control that was refused.
 #[tactic(auto, using(bay_ber::proofs::SheetLemmas::sheet_rules))]
 fn put_refused(writer: &mut Writer, failure: &ControlError<'_>)
-    ensures { writer.new ≡ put writer.old (failure_text failure.now) }
+    ensures { writer.new ≡ sheet_with writer.old (failure_text failure.now) }
 {
     let report = writer.open(Tag::context_constructed(3));
     let information = writer.open(Tag::context_constructed(0));
@@ -193,7 +194,7 @@ fn put_refused(writer: &mut Writer, failure: &ControlError<'_>)
 // Writes the report of a control that ended.
 #[tactic(auto, using(bay_ber::proofs::SheetLemmas::sheet_rules))]
 fn put_ended(writer: &mut Writer, domain: &str, item: &str, operate: &Operate<'_>)
-    ensures { writer.new ≡ put writer.old
+    ensures { writer.new ≡ sheet_with writer.old
         (termination_text domain.now item.now operate.now) }
 {
     let report = writer.open(Tag::context_constructed(3));
@@ -215,7 +216,7 @@ fn put_failed(
     item: &str,
     operate: &Operate<'_>,
 )
-    ensures { writer.new ≡ put writer.old
+    ensures { writer.new ≡ sheet_with writer.old
         (failed_text failure.now domain.now item.now operate.now) }
 {
     let report = writer.open(Tag::context_constructed(3));
@@ -238,7 +239,7 @@ pub fn write_failure(
     size: u32,
 ) -> Result<Outgoing, EncodeFault>
     ensures { Gives EncodeFault.OutOfMemory (λ octets. octets) result
-        (written size (failure_text failure.now)) }
+        (text_within size (failure_text failure.now)) }
 {
     let mut writer = Writer::new(alloc, size)?;
     put_refused(&mut writer, failure);
@@ -257,7 +258,7 @@ pub fn write_termination(
     size: u32,
 ) -> Result<Outgoing, EncodeFault>
     ensures { Gives EncodeFault.OutOfMemory (λ octets. octets) result
-        (written size (termination_text domain.now item.now operate.now)) }
+        (text_within size (termination_text domain.now item.now operate.now)) }
 {
     let mut writer = Writer::new(alloc, size)?;
     put_ended(&mut writer, domain, item, operate);
@@ -277,7 +278,7 @@ pub fn write_failed_termination(
     size: u32,
 ) -> Result<Outgoing, EncodeFault>
     ensures { Gives EncodeFault.OutOfMemory (λ octets. octets) result
-        (written size (failed_text failure.now domain.now item.now operate.now)) }
+        (text_within size (failed_text failure.now domain.now item.now operate.now)) }
 {
     let mut writer = Writer::new(alloc, size)?;
     put_failed(&mut writer, failure, domain, item, operate);

@@ -1,14 +1,14 @@
 // Responses, and their canonical texts.
 ghost use Rattle.std.specs.Prelude.{◌≡◌, ◌≤◌, ◌<◌, ◌++◌, false, length, pos, IfOk};
 ghost use Rattle.bay_base.specs.Exact.{Gives};
-ghost use Rattle.bay_ber.specs.Sheets.{put};
+ghost use Rattle.bay_ber.specs.Sheets.{sheet_with};
 ghost use Rattle.bay_ber.specs.Writing.{element, integer_octets, truth_octets};
 ghost use Rattle.bay_tree.specs.Rows.{IsHandle};
 ghost use Rattle.bay_mms.specs.Tags.{context, constructed, int_tag};
 ghost use Rattle.bay_mms.specs.Types.{type_text};
 ghost use Rattle.bay_mms.specs.Nodes.{type_at};
-ghost use Rattle.bay_mms.specs.Responses.{nesting_text, parameters_text, services_text, limits_text, detail_text, agreed_text, confirmed, error_text, identity_text, names_text, listing_text, class_text, id_text, reason_text, reject_text, concluded_text, service_text, response_text, IsOfTree, IsAnswerable};
-ghost use Rattle.bay_mms.specs.Writing.{written};
+ghost use Rattle.bay_mms.specs.Responses.{nesting_text, parameters_text, services_text, limits_text, detail_text, agreed_text, confirmed_response, error_text, identity_text, names_text, listing_text, class_text, id_text, reason_text, reject_text, concluded_text, service_text, response_text, IsOfTree, IsAnswerable};
+ghost use Rattle.bay_mms.specs.Writing.{text_within};
 
 use crate::fault::EncodeFault;
 use crate::put::finish;
@@ -102,7 +102,7 @@ pub enum Response<'a> {
 // Writes who made the device, its model and its revision (ISO 9506-2, Identify).
 #[tactic(auto, using(bay_ber::proofs::SheetLemmas::sheet_rules))]
 fn put_identity(writer: &mut Writer, vendor: &str, model: &str, revision: &str)
-    ensures { writer.new ≡ put writer.old
+    ensures { writer.new ≡ sheet_with writer.old
         (element (constructed 2) (identity_text vendor.now model.now revision.now)) }
 {
     let start = writer.open(Tag::context_constructed(2));
@@ -114,7 +114,7 @@ fn put_identity(writer: &mut Writer, vendor: &str, model: &str, revision: &str)
 
 // Writes names, one behind the other.
 fn put_names(writer: &mut Writer, names: &[Text])
-    ensures { writer.new ≡ put writer.old (names_text names.now) }
+    ensures { writer.new ≡ sheet_with writer.old (names_text names.now) }
 {
     for name in names {
         writer.octets(Tag::universal(26), name.as_str().as_bytes());
@@ -124,7 +124,8 @@ fn put_names(writer: &mut Writer, names: &[Text])
 // Writes names, and whether more follow (ISO 9506-2, GetNameList).
 #[tactic(auto, using(bay_ber::proofs::SheetLemmas::sheet_rules))]
 fn put_listing(writer: &mut Writer, names: &[Text], more: bool)
-    ensures { writer.new ≡ put writer.old (element (constructed 1) (listing_text names.now more)) }
+    ensures { writer.new ≡ sheet_with writer.old
+        (element (constructed 1) (listing_text names.now more)) }
 {
     let start = writer.open(Tag::context_constructed(1));
     let list = writer.open(Tag::context_constructed(0));
@@ -138,7 +139,7 @@ fn put_listing(writer: &mut Writer, names: &[Text], more: bool)
 #[tactic(auto, using(bay_ber::proofs::SheetLemmas::sheet_rules))]
 fn put_attributes(writer: &mut Writer, tree: &Tree, handle: &Handle)
     requires { IsHandle tree.now handle.now }
-    ensures { writer.new ≡ put writer.old
+    ensures { writer.new ≡ sheet_with writer.old
         (element (constructed 6)
         (element (context 0) (truth_octets false)
         ++ element (constructed 2) (type_text (type_at tree.now handle.now)))) }
@@ -153,7 +154,7 @@ fn put_attributes(writer: &mut Writer, tree: &Tree, handle: &Handle)
 
 /// Writes an invoke id.
 pub(crate) fn put_id(writer: &mut Writer, id: u32)
-    ensures { writer.new ≡ put writer.old (element int_tag (integer_octets (pos id))) }
+    ensures { writer.new ≡ sheet_with writer.old (element int_tag (integer_octets (pos id))) }
 {
     writer.int(Tag::universal(2), i64::from(id));
 }
@@ -161,7 +162,7 @@ pub(crate) fn put_id(writer: &mut Writer, id: u32)
 // Writes a number under a context-specific tag.
 fn put_number(writer: &mut Writer, number: u8, value: u32)
     requires { number < 31 }
-    ensures { writer.new ≡ put writer.old
+    ensures { writer.new ≡ sheet_with writer.old
         (element (context number) (integer_octets (pos value))) }
 {
     writer.int(Tag::context(number), i64::from(value));
@@ -170,7 +171,7 @@ fn put_number(writer: &mut Writer, number: u8, value: u32)
 // Writes what answers a confirmed request.
 fn put_service(writer: &mut Writer, service: &Service<'_>)
     requires { IsOfTree service.now }
-    ensures { writer.new ≡ put writer.old (service_text service.now) }
+    ensures { writer.new ≡ sheet_with writer.old (service_text service.now) }
 {
     match service {
         Service::Identify {
@@ -187,7 +188,8 @@ fn put_service(writer: &mut Writer, service: &Service<'_>)
 #[tactic(auto, using(bay_ber::proofs::SheetLemmas::sheet_rules))]
 fn put_confirmed(writer: &mut Writer, id: u32, service: &Service<'_>)
     requires { IsOfTree service.now }
-    ensures { writer.new ≡ put writer.old (confirmed id (service_text service.now)) }
+    ensures { writer.new ≡ sheet_with writer.old
+        (confirmed_response id (service_text service.now)) }
 {
     let start = writer.open(Tag::context_constructed(1));
     put_id(writer, id);
@@ -209,7 +211,7 @@ fn error_octets(class: ErrorClass) -> &'static [u8]
 // Writes the PDU of an error.
 #[tactic(auto, using(bay_ber::proofs::SheetLemmas::sheet_rules))]
 fn put_error(writer: &mut Writer, id: u32, class: ErrorClass)
-    ensures { writer.new ≡ put writer.old (error_text id class) }
+    ensures { writer.new ≡ sheet_with writer.old (error_text id class) }
 {
     let start = writer.open(Tag::context_constructed(2));
     put_number(writer, 0, id);
@@ -220,7 +222,7 @@ fn put_error(writer: &mut Writer, id: u32, class: ErrorClass)
 // Writes an invoke id, where it is known.
 #[tactic(auto, using(bay_ber::proofs::SheetLemmas::put_nil))]
 fn put_known(writer: &mut Writer, id: Option<u32>)
-    ensures { writer.new ≡ put writer.old (id_text id) }
+    ensures { writer.new ≡ sheet_with writer.old (id_text id) }
 {
     if let Some(id) = id {
         put_number(writer, 0, id);
@@ -230,7 +232,7 @@ fn put_known(writer: &mut Writer, id: Option<u32>)
 // Writes the reason of a reject.
 #[tactic(auto, unfolding(bay_ber::specs::Writing::element, bay_ber::specs::Writing::length_octets))]
 fn put_reason(writer: &mut Writer, reason: RejectReason)
-    ensures { writer.new ≡ put writer.old (reason_text reason) }
+    ensures { writer.new ≡ sheet_with writer.old (reason_text reason) }
 {
     match reason {
         RejectReason::UnrecognizedService => writer.append(&[0x81, 1, 1]),
@@ -241,7 +243,7 @@ fn put_reason(writer: &mut Writer, reason: RejectReason)
 // Writes the PDU of a reject, with the invoke id where it is known.
 #[tactic(auto, using(bay_ber::proofs::SheetLemmas::sheet_rules))]
 fn put_reject(writer: &mut Writer, id: Option<u32>, reason: RejectReason)
-    ensures { writer.new ≡ put writer.old (reject_text id reason) }
+    ensures { writer.new ≡ sheet_with writer.old (reject_text id reason) }
 {
     let start = writer.open(Tag::context_constructed(4));
     put_known(writer, id);
@@ -252,7 +254,7 @@ fn put_reject(writer: &mut Writer, id: Option<u32>, reason: RejectReason)
 // Writes the PDU that answers a conclude.
 #[tactic(auto, unfolding(bay_ber::specs::Writing::element, bay_ber::specs::Writing::length_octets))]
 fn put_concluded(writer: &mut Writer)
-    ensures { writer.new ≡ put writer.old concluded_text }
+    ensures { writer.new ≡ sheet_with writer.old concluded_text }
 {
     writer.append(&[0x8C, 0]);
 }
@@ -260,7 +262,7 @@ fn put_concluded(writer: &mut Writer)
 // Writes the agreed nesting, if one was proposed.
 #[tactic(auto, using(bay_ber::proofs::SheetLemmas::put_nil))]
 fn put_nesting(writer: &mut Writer, nesting: Option<i64>)
-    ensures { writer.new ≡ put writer.old (nesting_text nesting) }
+    ensures { writer.new ≡ sheet_with writer.old (nesting_text nesting) }
 {
     if let Some(nesting) = nesting {
         writer.int(Tag::context(3), nesting);
@@ -270,7 +272,7 @@ fn put_nesting(writer: &mut Writer, nesting: Option<i64>)
 // Writes the first parameter conformance blocks, of eleven.
 #[tactic(auto, unfolding(bay_ber::specs::Writing::element, bay_ber::specs::Writing::length_octets))]
 fn put_parameters(writer: &mut Writer, parameters: u8)
-    ensures { writer.new ≡ put writer.old (parameters_text parameters) }
+    ensures { writer.new ≡ sheet_with writer.old (parameters_text parameters) }
 {
     writer.append(&[0x81, 3, 5, parameters / 32 * 32, 0]);
 }
@@ -278,7 +280,7 @@ fn put_parameters(writer: &mut Writer, parameters: u8)
 // Writes the services that are offered.
 #[tactic(auto, unfolding(bay_ber::specs::Writing::element, bay_ber::specs::Writing::length_octets))]
 fn put_services(writer: &mut Writer)
-    ensures { writer.new ≡ put writer.old services_text }
+    ensures { writer.new ≡ sheet_with writer.old services_text }
 {
     writer.append(&[0x82, 12, 3, 0x6E, 0, 0, 0, 0, 0, 0, 0, 0, 0x01, 0x10]);
 }
@@ -286,7 +288,7 @@ fn put_services(writer: &mut Writer)
 // Writes the agreed size, how many requests are outstanding either way, and the nesting.
 #[tactic(auto, using(bay_ber::proofs::SheetLemmas::sheet_rules))]
 fn put_limits(writer: &mut Writer, agreed: Agreed)
-    ensures { writer.new ≡ put writer.old (limits_text agreed) }
+    ensures { writer.new ≡ sheet_with writer.old (limits_text agreed) }
 {
     put_number(writer, 0, agreed.size);
     put_number(writer, 1, agreed.calling);
@@ -297,7 +299,7 @@ fn put_limits(writer: &mut Writer, agreed: Agreed)
 // The version, the parameters and the services (ISO 9506-2, InitResponseDetail).
 #[tactic(auto, using(bay_ber::proofs::SheetLemmas::sheet_rules))]
 fn put_detail(writer: &mut Writer, parameters: u8)
-    ensures { writer.new ≡ put writer.old (detail_text parameters) }
+    ensures { writer.new ≡ sheet_with writer.old (detail_text parameters) }
 {
     put_number(writer, 0, 1);
     put_parameters(writer, parameters);
@@ -307,7 +309,7 @@ fn put_detail(writer: &mut Writer, parameters: u8)
 // Writes the PDU of an initiate's response.
 #[tactic(auto, using(bay_ber::proofs::SheetLemmas::sheet_rules))]
 fn put_agreed(writer: &mut Writer, agreed: Agreed)
-    ensures { writer.new ≡ put writer.old (agreed_text agreed) }
+    ensures { writer.new ≡ sheet_with writer.old (agreed_text agreed) }
 {
     let start = writer.open(Tag::context_constructed(9));
     put_limits(writer, agreed);
@@ -320,7 +322,7 @@ fn put_agreed(writer: &mut Writer, agreed: Agreed)
 // Writes a response.
 fn put_response(writer: &mut Writer, response: &Response<'_>)
     requires { IsAnswerable response.now }
-    ensures { writer.new ≡ put writer.old (response_text response.now) }
+    ensures { writer.new ≡ sheet_with writer.old (response_text response.now) }
 {
     match response {
         Response::Initiate(agreed) => put_agreed(writer, *agreed),
@@ -341,7 +343,7 @@ pub fn write_response(
 ) -> Result<Outgoing, EncodeFault>
     requires { IsAnswerable response.now }
     ensures { Gives EncodeFault.OutOfMemory (λ octets. octets) result
-        (written size (response_text response.now)) }
+        (text_within size (response_text response.now)) }
 {
     let mut writer = Writer::new(alloc, size)?;
     put_response(&mut writer, response);

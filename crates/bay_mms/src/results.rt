@@ -4,13 +4,13 @@ ghost use Rattle.std.specs.Prelude.{◌≡◌, ◌+◌, ◌≤◌, ◌++◌, [],
 ghost use Rattle.std.specs.List.{flat_map};
 ghost use Rattle.bay_base.specs.Exact.{Gives};
 ghost use Rattle.bay_tree.specs.Rows.{IsHandle};
-ghost use Rattle.bay_ber.specs.Sheets.{put};
+ghost use Rattle.bay_ber.specs.Sheets.{sheet_with};
 ghost use Rattle.bay_ber.specs.Writing.{element, integer_octets};
 ghost use Rattle.bay_mms.specs.Tags.{constructed, int_tag};
 ghost use Rattle.bay_mms.specs.Data.{datum_text};
 ghost use Rattle.bay_mms.specs.Nodes.{data_at};
 ghost use Rattle.bay_mms.specs.Responses.{text_result, failure_result, success_result, result_text, read_text, write_text};
-ghost use Rattle.bay_mms.specs.Writing.{Adds, Held, no_results, written};
+ghost use Rattle.bay_mms.specs.Writing.{Adds, Held, no_results, text_within};
 
 use crate::fault::EncodeFault;
 use crate::put::finish;
@@ -85,7 +85,7 @@ impl ReadResponse {
     /// The response under an invoke id; TooLong where it has more octets than the size.
     pub fn finish(self, id: u32) -> Result<Outgoing, EncodeFault>
         ensures { Gives EncodeFault.OutOfMemory (λ octets. octets) result
-            (written self.size (read_text id self.octets)) }
+            (text_within self.size (read_text id self.octets)) }
     {
         let ReadResponse { mut results } = self;
         results.wrap(Tag::context_constructed(1));
@@ -118,7 +118,7 @@ fn held(results: &mut Writer) -> Result<(), EncodeFault>
 
 // Writes the result of one variable.
 fn put_result(writer: &mut Writer, outcome: Option<u8>)
-    ensures { writer.new ≡ put writer.old (result_text outcome) }
+    ensures { writer.new ≡ sheet_with writer.old (result_text outcome) }
 {
     match outcome {
         Some(cause) => writer.int(Tag::context(0), i64::from(cause)),
@@ -129,7 +129,7 @@ fn put_result(writer: &mut Writer, outcome: Option<u8>)
 // Writes the results of variables.
 #[tactic(auto, using(bay_ber::proofs::SheetLemmas::sheet_rules))]
 fn put_results(writer: &mut Writer, results: &[Option<u8>])
-    ensures { writer.new ≡ put writer.old
+    ensures { writer.new ≡ sheet_with writer.old
         (element (constructed 5) (flat_map result_text results.now)) }
 {
     let start = writer.open(Tag::context_constructed(5));
@@ -189,7 +189,7 @@ impl WriteResponse {
     #[tactic(auto, using(bay_ber::proofs::SheetLemmas::sheet_rules, bay_ber::proofs::SheetLemmas::message_put))]
     pub fn finish(self, id: u32, size: u32) -> Result<Outgoing, EncodeFault>
         ensures { Gives EncodeFault.OutOfMemory (λ octets. octets) result
-            (written size (write_text id self)) }
+            (text_within size (write_text id self)) }
     {
         let WriteResponse { alloc, results } = self;
         let mut writer = Writer::new(alloc, size)?;

@@ -1,12 +1,12 @@
 // The data and the type of a row of the tree, written as they stand.
 ghost use Rattle.std.specs.Prelude.{◌≡◌};
 ghost use Rattle.bay_base.specs.Exact.{Gives};
-ghost use Rattle.bay_ber.specs.Sheets.{put};
+ghost use Rattle.bay_ber.specs.Sheets.{sheet_with};
 ghost use Rattle.bay_tree.specs.Rows.{IsHandle};
 ghost use Rattle.bay_mms.specs.Data.{datum_text};
 ghost use Rattle.bay_mms.specs.Types.{type_text};
 ghost use Rattle.bay_mms.specs.Nodes.{data_at, type_at};
-ghost use Rattle.bay_mms.specs.Writing.{written};
+ghost use Rattle.bay_mms.specs.Writing.{text_within};
 
 use crate::fault::EncodeFault;
 use crate::leaf::{put_leaf, put_leaf_type};
@@ -20,7 +20,7 @@ use std::alloc::Global;
 /// Writes the data of a row.
 pub(crate) fn put_value(writer: &mut Writer, tree: &Tree, handle: Handle)
     requires { IsHandle tree.now handle }
-    ensures { writer.new ≡ put writer.old (datum_text (data_at tree.now handle)) }
+    ensures { writer.new ≡ sheet_with writer.old (datum_text (data_at tree.now handle)) }
 {
     match tree.get(handle) {
         Some(leaf) => put_leaf(writer, leaf),
@@ -39,7 +39,7 @@ pub(crate) fn put_value(writer: &mut Writer, tree: &Tree, handle: Handle)
 /// Writes the type of a row.
 pub(crate) fn put_type(writer: &mut Writer, tree: &Tree, handle: Handle)
     requires { IsHandle tree.now handle }
-    ensures { writer.new ≡ put writer.old (type_text (type_at tree.now handle)) }
+    ensures { writer.new ≡ sheet_with writer.old (type_text (type_at tree.now handle)) }
 {
     match tree.get(handle) {
         Some(leaf) => put_leaf_type(writer, leaf),
@@ -73,7 +73,7 @@ pub fn write_value(
 ) -> Result<Outgoing, EncodeFault>
     requires { IsHandle tree.now handle }
     ensures { Gives EncodeFault.OutOfMemory (λ octets. octets) result
-        (written size (datum_text (data_at tree.now handle))) }
+        (text_within size (datum_text (data_at tree.now handle))) }
 {
     let mut writer = Writer::new(alloc, size)?;
     put_value(&mut writer, tree, handle);
@@ -91,7 +91,7 @@ pub fn write_type(
 ) -> Result<Outgoing, EncodeFault>
     requires { IsHandle tree.now handle }
     ensures { Gives EncodeFault.OutOfMemory (λ octets. octets) result
-        (written size (type_text (type_at tree.now handle))) }
+        (text_within size (type_text (type_at tree.now handle))) }
 {
     let mut writer = Writer::new(alloc, size)?;
     put_type(&mut writer, tree, handle);

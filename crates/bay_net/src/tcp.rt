@@ -3,7 +3,7 @@ ghost use Rattle.std.specs.Prelude.{◌≡◌, ◌+◌, ◌-◌, ◌<◌, min};
 ghost use Rattle.std.specs.Io.{ReadsAtMost, WritesAtMost};
 
 use crate::readiness::{Readiness, add_listener, add_stream};
-use bay_serve::link::{Got, Link, LinkFault};
+use bay_serve::link::{Arrival, Link, LinkFault};
 use mio::Registry;
 use std::io;
 use std::io::{ErrorKind, Read, Write};
@@ -105,8 +105,8 @@ impl<'a, C: Clock> TcpLink<'a, C> {
         self.failures
     }
 
-    /// A connection that waits; neither its reads nor its writes do, and what is written goes out at
-    /// once.
+    /// A connection that waits; neither its reads nor its writes do, and what is written goes out
+    /// at once.
     fn accept_one(&self) -> io::Result<Peer> {
         let (stream, _) = self.listener.accept()?;
         stream.set_nonblocking(true)?;
@@ -159,15 +159,15 @@ impl<C: Clock> Link for TcpLink<'_, C> {
         }
     }
 
-    fn read(&mut self, association: u16, room: &mut [u8]) -> Result<Got, LinkFault> {
+    fn read(&mut self, association: u16, room: &mut [u8]) -> Result<Arrival, LinkFault> {
         let place = association as usize - 1;
         match read_some(&self.peers[place], room) {
-            Ok(0) => Ok(Got::End),
+            Ok(0) => Ok(Arrival::End),
             Ok(n) => {
                 self.hear(place);
-                Ok(Got::Bytes(n))
+                Ok(Arrival::Bytes(n))
             }
-            Err(error) if would_wait(&error) && !self.is_idle(place) => Ok(Got::Nothing),
+            Err(error) if would_wait(&error) && !self.is_idle(place) => Ok(Arrival::Nothing),
             Err(_) => Err(self.failed()),
         }
     }

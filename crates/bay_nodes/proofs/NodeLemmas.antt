@@ -14,50 +14,50 @@ use Rattle.bay_nodes.specs.Node.{Part, Parts, Node, row, rows_of, rows_of_parts,
 use Rattle.bay_nodes.specs.NodeRows.{line_row, under, table_rows, status_group, type_rows, position_model, command_rows, control_group, control_model}
 
 -- one line more of a table
-pub table_turn : (n : Nameplate) (node : List ℕ) (table : List (Bor (List ℕ) × InitialValue))
+pub table-turn : (n : Nameplate) (node : List ℕ) (table : List (Bor (List ℕ) × InitialValue))
     (i : ℕ) (line : Bor (List ℕ) × InitialValue) (done : List Row) → i < length table
     → line ≡ get_or table i line
     → done ++ table_rows n node (drop i table)
     ≡ (done ++ under node (line_row n line) ∷ []) ++ table_rows n node (drop (i + 1) table)
-table_turn n node table i line done h at =
+table-turn n node table i line done h at =
     ap (λ ls. done ++ table_rows n node ls)
     (drop_more table i line h ∙ ap (λ l. l ∷ drop (i + 1) table) (sym at))
     ∙ sym (append_assoc done (under node (line_row n line) ∷ [])
     (table_rows n node (drop (i + 1) table)))
 
 -- a node's own row, and the rows of its table
-pub node_appended : (n : Nameplate) (node : List ℕ) (table : List (Bor (List ℕ) × InitialValue))
+pub node-appended : (n : Nameplate) (node : List ℕ) (table : List (Bor (List ℕ) × InitialValue))
     (parts : Parts) → map (line_row n) table ≡ rows_of_parts [] parts
     → row node None ∷ table_rows n node table ≡ node_rows (record { name = node; parts = parts })
-node_appended n node table parts same = ap (λ rs. row node None ∷ map (under node) rs) same
+node-appended n node table parts same = ap (λ rs. row node None ∷ map (under node) rs) same
 
 -- what is appended for the device itself makes its nodes
-pub device_appended : (n : Nameplate) (old : List Row)
+pub device-appended : (n : Nameplate) (old : List Row)
     (device physical : List (Bor (List ℕ) × InitialValue))
     → map (line_row n) device ≡ rows_of_parts [] (device_parts n)
     → map (line_row n) physical ≡ rows_of_parts [] (physical_parts n)
     → (old ++ row (codes "LLN0") None ∷ table_rows n (codes "LLN0") device)
     ++ row (codes "LPHD1") None ∷ table_rows n (codes "LPHD1") physical
     ≡ old ++ flat_map node_rows (device_node n ∷ physical_node n ∷ [])
-device_appended n old device physical d p =
+device-appended n old device physical d p =
     let first = node_rows (device_node n) in
     let second = node_rows (physical_node n) in
     ap (λ rs. (old ++ rs) ++ row (codes "LPHD1") None ∷ table_rows n (codes "LPHD1") physical)
-    (node_appended n (codes "LLN0") device (device_parts n) d)
+    (node-appended n (codes "LLN0") device (device_parts n) d)
     ∙ ap (λ rs. (old ++ first) ++ rs)
-    (node_appended n (codes "LPHD1") physical (physical_parts n) p)
+    (node-appended n (codes "LPHD1") physical (physical_parts n) p)
     ∙ append_assoc old first second
     ∙ ap (λ rs. old ++ (first ++ rs)) (sym (append-nil second))
 
 -- groups of rows that are appended one after another
-pub two_groups : (node : List ℕ) (old a b : List Row)
+pub two-groups : (node : List ℕ) (old a b : List Row)
     → (old ++ map (under node) a) ++ map (under node) b ≡ old ++ map (under node) (a ++ b)
-two_groups node old a b = simp (append_assoc, map-append)
+two-groups node old a b = simp (append_assoc, map-append)
 
-pub four_groups : (node : List ℕ) (old a b c d : List Row)
+pub four-groups : (node : List ℕ) (old a b c d : List Row)
     → (((old ++ map (under node) a) ++ map (under node) b) ++ map (under node) c)
     ++ map (under node) d ≡ old ++ map (under node) (a ++ (b ++ (c ++ d)))
-four_groups node old a b c d = simp (append_assoc, map-append)
+four-groups node old a b c d = simp (append_assoc, map-append)
 
 -- and behind a node's own row
 node-groups : (node : List ℕ) (old a b c d : List Row)
@@ -67,11 +67,11 @@ node-groups : (node : List ℕ) (old a b c d : List Row)
 node-groups node old a b c d = simp (append_assoc, append-nil, map-append)
 
 -- what is appended for a switch's position makes its node
-pub position_appended : (old : List Row) (node : List ℕ) (kind : SwitchKind)
+pub position-appended : (old : List Row) (node : List ℕ) (kind : SwitchKind)
     → (((old ++ row (node ++ []) None ∷ []) ++ map (under node) status_group)
     ++ map (under node) (type_rows kind)) ++ map (under node) position_model
     ≡ old ++ node_rows (record { name = node; parts = position_parts kind })
-position_appended old node kind =
+position-appended old node kind =
     sym (append-nil _) ∙ node-groups node old status_group (type_rows kind) position_model []
 
 -- the rows of the first parts, and then those of the others
@@ -136,21 +136,21 @@ positions-at breakers ss i n s b h at e =
     ∙ positions-cons breakers n s (drop (i + 1) ss) b e
 
 -- one turn: a switch that has a node here, and one that has none
-pub position_turn : (breakers : Bool) (ss : List Switch) (i n : ℕ) (s : Switch) (done : List Row)
+pub position-turn : (breakers : Bool) (ss : List Switch) (i n : ℕ) (s : Switch) (done : List Row)
     → i < length ss → s ≡ get_or ss i s → is_of breakers s ≡ true
     → done ++ positions_from breakers n (drop i ss)
     ≡ (done ++ node_rows (position_node (n, s)))
     ++ positions_from breakers (n + 1) (drop (i + 1) ss)
-position_turn breakers ss i n s done h at e =
+position-turn breakers ss i n s done h at e =
     ap (λ rows. done ++ rows) (positions-at breakers ss i n s true h at e)
     ∙ sym (append_assoc done (node_rows (position_node (n, s)))
     (positions_from breakers (n + 1) (drop (i + 1) ss)))
 
-pub position_passed : (breakers : Bool) (ss : List Switch) (i n : ℕ) (s : Switch) (done : List Row)
+pub position-passed : (breakers : Bool) (ss : List Switch) (i n : ℕ) (s : Switch) (done : List Row)
     → i < length ss → s ≡ get_or ss i s → is_of breakers s ≡ false
     → done ++ positions_from breakers n (drop i ss)
     ≡ done ++ positions_from breakers n (drop (i + 1) ss)
-position_passed breakers ss i n s done h at e =
+position-passed breakers ss i n s done h at e =
     ap (λ rows. done ++ rows) (positions-at breakers ss i n s false h at e)
 
 -- the rows of nodes that are numbered one after the other from n
@@ -158,11 +158,11 @@ abbrev pub numbered_from : {T : Type 0} → (ℕ × T → Node) → ℕ → List
 numbered_from make n ts = flat_map node_rows (map make (enumerate_from n ts))
 
 -- one turn of them
-pub numbered_turn : {T : Type 0} (make : ℕ × T → Node) (ts : List T) (i : ℕ) (t : T)
+pub numbered-turn : {T : Type 0} (make : ℕ × T → Node) (ts : List T) (i : ℕ) (t : T)
     (done : List Row) → i < length ts → t ≡ get_or ts i t
     → done ++ numbered_from make (i + 1) (drop i ts)
     ≡ (done ++ node_rows (make (i + 1, t))) ++ numbered_from make (i + 1 + 1) (drop (i + 1) ts)
-numbered_turn make ts i t done h at =
+numbered-turn make ts i t done h at =
     ap (λ us. done ++ numbered_from make (i + 1) us)
     (drop_more ts i t h ∙ ap (λ u. u ∷ drop (i + 1) ts) (sym at))
     ∙ sym (append_assoc done (node_rows (make (i + 1, t)))
@@ -174,11 +174,11 @@ first-of-drop [] i h = absurd (omega arith)
 first-of-drop (t ∷ ts) i h = (get_or (t ∷ ts) i t, drop_more (t ∷ ts) i t h)
 
 -- one turn of nodes that are the same but for their numbers
-pub alike_turn : {T : Type 0} (make : ℕ × T → Node) (node : ℕ → Node) (ts : List T) (i : ℕ)
+pub alike-turn : {T : Type 0} (make : ℕ × T → Node) (node : ℕ → Node) (ts : List T) (i : ℕ)
     (done : List Row) → i < length ts → ((t : T) → make (i + 1, t) ≡ node (i + 1))
     → done ++ numbered_from make (i + 1) (drop i ts)
     ≡ (done ++ node_rows (node (i + 1))) ++ numbered_from make (i + 1 + 1) (drop (i + 1) ts)
-alike_turn make node ts i done h alike =
+alike-turn make node ts i done h alike =
     let t = first-of-drop ts i h in
     ap (λ us. done ++ numbered_from make (i + 1) us) t.1
     ∙ sym (append_assoc done (node_rows (make (i + 1, t.0)))

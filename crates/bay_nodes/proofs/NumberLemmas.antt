@@ -17,7 +17,7 @@ use Rattle.bay_nodes.specs.declared.switch.SwitchKind.{SwitchKind}
 use Rattle.bay_nodes.specs.declared.switch.SwitchKind.TheVariants.{Breaker, Disconnector, Earthing}
 use Rattle.bay_nodes.specs.declared.nameplate.Nameplate.{Nameplate}
 use Rattle.bay_nodes.specs.Node.{Node, node_name, class_of, is_breaker, is_of, device_node, physical_node, position_node, position_nodes, position_parts, control_node, control_nodes, control_parts, interlocking_node, interlocking_nodes, meter_node, meter_nodes, nodes_of, rows_of_all}
-use Rattle.bay_nodes.proofs.PathLemmas.{IsPlain, IsGood, IsApart, AllDiffer, stands, paths, weaker, both, nodes_follow}
+use Rattle.bay_nodes.proofs.PathLemmas.{IsPlain, IsGood, IsApart, AllDiffer, stands, paths, weaker, both, nodes-follow}
 use Rattle.bay_nodes.proofs.TreeLemmas.{IsTree-follow}
 
 not-dollar : (c : ℕ) → digit_value c < 10 → nat_eq c 36 ≡ false
@@ -335,9 +335,9 @@ all-apart [] = tt
 all-apart (node ∷ nodes) = (tt, all-apart nodes)
 
 -- the rows of a bay make a tree
-pub rows_make_tree : (n : Nameplate) (ss : List Switch) (ms : List (List ℕ)) → length ss < 2 ^ 32
+pub rows-make-tree : (n : Nameplate) (ss : List Switch) (ms : List (List ℕ)) → length ss < 2 ^ 32
     → length ms < 2 ^ 32 → IsTree (rows_of_all n ss ms)
-rows_make_tree n ss ms few fewer =
+rows-make-tree n ss ms few fewer =
     IsTree-follow (rows_of_all n ss ms)
-    (nodes_follow [] (nodes_of n ss ms) (nodes-good n ss ms few fewer)
+    (nodes-follow [] (nodes_of n ss ms) (nodes-good n ss ms few fewer)
     (all-apart (nodes_of n ss ms)) (nodes-differ n ss ms few fewer))

@@ -84,9 +84,9 @@ none-from : (o : Option Leaf) → is_none o ≡ true → o ≡ None
 none-from None h = refl
 none-from (Some x) h = cc
 
-or_cases : (a b : Bool) → (a || b) ≡ true → (a ≡ true) ⊎ (b ≡ true)
-or_cases true b h = inl refl
-or_cases false b h = inr h
+or-cases : (a b : Bool) → (a || b) ≡ true → (a ≡ true) ⊎ (b ≡ true)
+or-cases true b h = inl refl
+or-cases false b h = inr h
 
 -- a structure that is found
 found : (done : List Row) (p : List ℕ)
@@ -94,7 +94,7 @@ found : (done : List Row) (p : List ℕ)
     → (k : ℕ) × (q : Row) × (k < length done) × (get_or done k q ≡ q) × IsStructureNamed p q
 found [] p h = absurd (cc)
 found (q ∷ qs) p h =
-    elim (or_cases (bytes_eq q.name p && is_none q.leaf)
+    elim (or-cases (bytes_eq q.name p && is_none q.leaf)
     (list_any (λ x. bytes_eq x.name p && is_none x.leaf) qs) h) [
       | inl here ↦
           let parts = and_parts (bytes_eq q.name p) (is_none q.leaf) here in (
@@ -267,12 +267,12 @@ still-apart node earlier (m ∷ ms) good apart other = (
 )
 
 -- nodes of different names follow one another
-pub nodes_follow : (earlier : List Row) (nodes : List Node) → AllByRecursion IsGood nodes
+pub nodes-follow : (earlier : List Row) (nodes : List Node) → AllByRecursion IsGood nodes
     → AllByRecursion (λ m. IsApart earlier m.name) nodes → AllDiffer (map (λ m. m.name) nodes)
     → Follow earlier (flat_map node_rows nodes)
-nodes_follow earlier [] good apart differ = tt
-nodes_follow earlier (node ∷ nodes) good apart differ =
+nodes-follow earlier [] good apart differ = tt
+nodes-follow earlier (node ∷ nodes) good apart differ =
     Follow-append earlier (node_rows node) (flat_map node_rows nodes)
     (node-follows node earlier good.0 apart.0)
-    (nodes_follow (earlier ++ node_rows node) nodes good.1
+    (nodes-follow (earlier ++ node_rows node) nodes good.1
     (still-apart node earlier nodes good.0 apart.1 differ.0) differ.1)

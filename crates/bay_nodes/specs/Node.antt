@@ -184,8 +184,8 @@ abbrev pub magnitude : Part
 magnitude = inside (codes "mag") (value (codes "i") (Int32 (pos 0)) ∷ [])
 
 -- a measured value, and that of a phase (IEC 61850-7-3, MV and CMV)
-abbrev pub measured : List ℕ → Part
-measured name = inside name (magnitude ∷ stamp Invalid)
+abbrev pub measured_value : List ℕ → Part
+measured_value name = inside name (magnitude ∷ stamp Invalid)
 
 abbrev pub phase : List ℕ → Part
 phase name = inside name (inside (codes "cVal") (magnitude ∷ []) ∷ stamp Invalid)
@@ -195,7 +195,7 @@ abbrev pub meter_parts : Parts
 meter_parts =
     parts_of
     (inside (codes "MX")
-    (measured (codes "TotW") ∷ measured (codes "TotVAr") ∷ measured (codes "Hz")
+    (measured_value (codes "TotW") ∷ measured_value (codes "TotVAr") ∷ measured_value (codes "Hz")
     ∷ inside (codes "A") (phase (codes "phsA") ∷ phase (codes "phsB") ∷ phase (codes "phsC")
     ∷ []) ∷ [])
     ∷ [])

@@ -4,8 +4,8 @@ use Rattle.std.proofs.lemmas.Bool.Decides.{nat_tests}
 use Rattle.std.specs.List.{position}
 use Rattle.bay_lines.specs.Fronts.{Overlong, Waiting, front, front_at, is_end}
 use Rattle.bay_serve.proofs.TalkLemmas.{Talks-append}
-use Rattle.bay_port.specs.Attending.{Attended, Attends, Does, Leads, Part, Script, attended, attended_here, behind, checked, left_in, offered, offered_of, on_taken, read_by, taken_in, talked, told_to}
-use Rattle.bay_serve.specs.Calls.{Call, Closes, Heard, Octets, Silence, Reads, Writes, Talks}
+use Rattle.bay_port.specs.Attending.{Attended, Attends, Does, Leads, Part, Script, attendance, attended_here, behind, line_part, left_in, offer_part, offered_of, on_taken, read_by, taken_in, talk_part, told_to}
+use Rattle.bay_serve.specs.Calls.{Call, Closes, ReadOutcome, Octets, Silence, Reads, Writes, Talks}
 use Rattle.bay_port.specs.Fit.{is_waiting, is_wrong}
 use Rattle.bay_port.specs.Ports.{PortData, bare}
 use Rattle.bay_device.specs.Device.{State}
@@ -14,41 +14,41 @@ use Rattle.bay_port.specs.Telling.{fits_in}
 use Rattle.bay_port.specs.declared.news.News.{News}
 use Rattle.bay_port.specs.declared.news.News.TheVariants.{Closed}
 use Rattle.bay_port.specs.declared.news.Parting.{Parting}
-use Rattle.bay_port.specs.declared.port.Standing.TheVariants.{Leaving, Here}
+use Rattle.bay_port.specs.declared.port.Presence.TheVariants.{Leaving, Here}
 
 -- ---- the parts
 
 -- octets without a whole line are few
 pub waiting-short : (xs : List ℕ) → is_waiting (front xs) ≡ true → length xs ≤ 256
-waiting-short xs e = by_place (position is_end (take 257 xs)) e
+waiting-short xs e = by-place (position is_end (take 257 xs)) e
   where
-    by_long : (v : Bool) → nat_lt 256 (length xs) ≡ v
+    by-long : (v : Bool) → nat_lt 256 (length xs) ≡ v
         → is_waiting (if v then Overlong else Waiting) ≡ true → length xs ≤ 256
-    by_long true is e = absurd cc
-    by_long false is e = grind (arith, nat_tests)
+    by-long true is e = absurd cc
+    by-long false is e = grind (arith, nat_tests)
 
-    by_place : (o : Option ℕ) → is_waiting (front_at xs o) ≡ true → length xs ≤ 256
-    by_place None e = by_long (nat_lt 256 (length xs)) refl e
-    by_place (Some k) e = absurd cc
+    by-place : (o : Option ℕ) → is_waiting (front_at xs o) ≡ true → length xs ≤ 256
+    by-place None e = by-long (nat_lt 256 (length xs)) refl e
+    by-place (Some k) e = absurd cc
 
-offered_some : (xs : List ℕ) (taken : Option ℕ) (p : PortData) → (length xs == 0) ≡ false
+offered-some : (xs : List ℕ) (taken : Option ℕ) (p : PortData) → (length xs == 0) ≡ false
     → offered_of xs taken p ≡ on_taken taken p (Writes 1 xs taken ∷ [])
-offered_some [] taken p e = absurd cc
-offered_some (b ∷ bs) taken p e = refl
+offered-some [] taken p e = absurd cc
+offered-some (b ∷ bs) taken p e = refl
 
 told-calls : (text : List ℕ) (p : PortData) → (told_to text p).calls ≡ []
-told-calls text p = by_room (fits_in p.queue text) refl
+told-calls text p = by-room (fits_in p.queue text) refl
   where
-    by_room : (v : Bool) → fits_in p.queue text ≡ v → (told_to text p).calls ≡ []
-    by_room true e = rw e refl
-    by_room false e = rw e refl
+    by-room : (v : Bool) → fits_in p.queue text ≡ v → (told_to text p).calls ≡ []
+    by-room true e = rw e refl
+    by-room false e = rw e refl
 
-checked-calls : (p : PortData) → (checked p).calls ≡ []
-checked-calls p = by_front (is_wrong (front p.kept)) refl
+checked-calls : (p : PortData) → (line_part p).calls ≡ []
+checked-calls p = by-front (is_wrong (front p.kept)) refl
   where
-    by_front : (v : Bool) → is_wrong (front p.kept) ≡ v → (checked p).calls ≡ []
-    by_front true e = rw e refl
-    by_front false e = rw e refl
+    by-front : (v : Bool) → is_wrong (front p.kept) ≡ v → (line_part p).calls ≡ []
+    by-front true e = rw e refl
+    by-front false e = rw e refl
 
 module _ {L : Type 0} (step : L → Call → L → Type 0) where
   -- what waits was offered
@@ -56,9 +56,9 @@ module _ {L : Type 0} (step : L → Call → L → Type 0) where
       (answer : Result (Unit {0}) Parting) → (length before.queue == 0) ≡ false
       → Leads (on_taken taken before (Writes 1 before.queue taken ∷ [])).after after answer
       → Talks step old (on_taken taken before (Writes 1 before.queue taken ∷ [])).calls new
-      → Does step offered old new before after answer
+      → Does step offer_part old new before after answer
   offers-some old new before after taken answer some leads talks =
-      let is = offered_some before.queue taken before some in
+      let is = offered-some before.queue taken before some in
       record {
         answers = taken;
         talks = subst (λ (part : Part). Talks step old part.calls new) (sym is) talks;
@@ -66,7 +66,7 @@ module _ {L : Type 0} (step : L → Call → L → Type 0) where
       }
 
   -- octets came
-  pub reads-some : (old new : L) (before after : PortData) (octets : List ℕ) (heard : Heard)
+  pub reads-some : (old new : L) (before after : PortData) (octets : List ℕ) (heard : ReadOutcome)
       (fits : Bool) → is_waiting (front before.kept) ≡ true
       → heard ≡ Octets octets → step old (Reads 1 4096 heard) new → length octets ≤ 4096
       → fits ≡ nat_le (length before.kept + length octets) 4352
@@ -93,7 +93,8 @@ module _ {L : Type 0} (step : L → Call → L → Type 0) where
 
   ran-on : (old mid new : L) (result : Result PortData Parting) (calls : List Call)
       (between after : PortData) (f : PortData → Part) (answer : Result (Unit {0}) Parting)
-      → Talks step old calls mid → Leads result between (Ok tt) → Ran mid new (f between) after answer
+      → Talks step old calls mid → Leads result between (Ok tt)
+      → Ran mid new (f between) after answer
       → Ran old new (behind (record { after = result; calls = calls }) f) after answer
   ran-on old mid new (Ok p) calls between after f answer talks leads rest =
       let next : Ran mid new (f p) after answer =
@@ -132,43 +133,45 @@ module _ {L : Type 0} (step : L → Call → L → Type 0) where
   module _ (text : List ℕ) (old : L) (before told : PortData) where
     -- it could not be told
     pub talks-untold : (why : Parting) → Leads (told_to text before).after told (Err why)
-        → Does step (talked text) old old before told (Err why)
+        → Does step (talk_part text) old old before told (Err why)
     talks-untold why tells =
         let t = ran-told text old before told (Err why) tells in
-        let r = ran-out2 old old (told_to text before) told (offered None) (read_by Silence) why t
+        let r = ran-out2 old old (told_to text before) told (offer_part None) (read_by Silence) why
+        t
         in
-        let b = behind (behind (told_to text before) (offered None)) (read_by Silence) in
-        let last = ran-out old old b.after b.calls told checked why r.talks r.leads in
+        let b = behind (behind (told_to text before) (offer_part None)) (read_by Silence) in
+        let last = ran-out old old b.after b.calls told line_part why r.talks r.leads in
         record { answers = (None, Silence); talks = last.talks; leads = last.leads }
 
     module _ (tells : Leads (told_to text before).after told (Ok tt)) where
       ran-offered : (new : L) (after : PortData) (answer : Result (Unit {0}) Parting)
-          → (does : Does step offered old new told after answer)
-          → Ran old new (behind (told_to text before) (offered does.answers)) after answer
+          → (does : Does step offer_part old new told after answer)
+          → Ran old new (behind (told_to text before) (offer_part does.answers)) after answer
       ran-offered new after answer does =
           let a = told_to text before in
           let t = ran-told text old before told (Ok tt) tells in
-          ran-on old old new a.after a.calls told after (offered does.answers) answer t.talks
+          ran-on old old new a.after a.calls told after (offer_part does.answers) answer t.talks
           t.leads (record { talks = does.talks; leads = does.leads })
 
       -- it could not be offered
       pub talks-unoffered : (new : L) (after : PortData) (why : Parting)
-          → Does step offered old new told after (Err why)
-          → Does step (talked text) old new before after (Err why)
+          → Does step offer_part old new told after (Err why)
+          → Does step (talk_part text) old new before after (Err why)
       talks-unoffered new after why does =
           let r = ran-offered new after (Err why) does in
-          let a = behind (told_to text before) (offered does.answers) in
-          let last = ran-out2 old new a after (read_by Silence) checked why r in
+          let a = behind (told_to text before) (offer_part does.answers) in
+          let last = ran-out2 old new a after (read_by Silence) line_part why r in
           record { answers = (does.answers, Silence); talks = last.talks; leads = last.leads }
 
-      module _ (mid : L) (between : PortData) (offers : Does step offered old mid told between (Ok tt))
+      module _ (mid : L) (between : PortData)
+          (offers : Does step offer_part old mid told between (Ok tt))
         where
           ran-read : (new : L) (after : PortData) (answer : Result (Unit {0}) Parting)
               → (does : Does step read_by mid new between after answer)
-              → Ran old new (behind (behind (told_to text before) (offered offers.answers))
+              → Ran old new (behind (behind (told_to text before) (offer_part offers.answers))
               (read_by does.answers)) after answer
           ran-read new after answer does =
-              let a = behind (told_to text before) (offered offers.answers) in
+              let a = behind (told_to text before) (offer_part offers.answers) in
               let r = ran-offered mid between (Ok tt) offers in
               ran-on old mid new a.after a.calls between after (read_by does.answers) answer r.talks
               r.leads (record { talks = does.talks; leads = does.leads })
@@ -176,12 +179,12 @@ module _ {L : Type 0} (step : L → Call → L → Type 0) where
           -- it could not be read
           pub talks-unread : (new : L) (after : PortData) (why : Parting)
               → Does step read_by mid new between after (Err why)
-              → Does step (talked text) old new before after (Err why)
+              → Does step (talk_part text) old new before after (Err why)
           talks-unread new after why does =
               let r = ran-read new after (Err why) does in
-              let b = behind (behind (told_to text before) (offered offers.answers))
+              let b = behind (behind (told_to text before) (offer_part offers.answers))
               (read_by does.answers) in
-              let last = ran-out old new b.after b.calls after checked why r.talks r.leads in
+              let last = ran-out old new b.after b.calls after line_part why r.talks r.leads in
               record {
                 answers = (offers.answers, does.answers);
                 talks = last.talks;
@@ -191,14 +194,14 @@ module _ {L : Type 0} (step : L → Call → L → Type 0) where
           -- it was told, offered and read, and its line was looked at
           pub talks-whole : (new : L) (read after : PortData) (answer : Result (Unit {0}) Parting)
               → Does step read_by mid new between read (Ok tt)
-              → Leads (checked read).after after answer
-              → Does step (talked text) old new before after answer
+              → Leads (line_part read).after after answer
+              → Does step (talk_part text) old new before after answer
           talks-whole new read after answer does checks =
               let r = ran-read new read (Ok tt) does in
-              let b = behind (behind (told_to text before) (offered offers.answers))
+              let b = behind (behind (told_to text before) (offer_part offers.answers))
               (read_by does.answers) in
               let last =
-              ran-on old new new b.after b.calls read after checked answer r.talks r.leads
+              ran-on old new new b.after b.calls read after line_part answer r.talks r.leads
               (record {
                 talks = subst (λ cs. Talks step new cs new) (sym (checked-calls read)) refl;
                 leads = checks;
@@ -239,75 +242,77 @@ module _ {L : Type 0} (step : L → Call → L → Type 0) where
 
   module _ (text : List ℕ) (s : State) (old mid : L) (before after : PortData) where
     attended-here : (script : Script) → before.standing ≡ Here
-        → attended text s script before
-        ≡ attended_here (talked text (script.taken, script.heard) before)
+        → attendance text s script before
+        ≡ attended_here (talk_part text (script.taken, script.heard) before)
     attended-here script here = rw here refl
 
     -- a process stays
     pub attends-kept : before.standing ≡ Here
-        → Does step (talked text) old mid before after (Ok tt)
-        → Attends step (λ script. attended text s script before) old mid after None
+        → Does step (talk_part text) old mid before after (Ok tt)
+        → Attends step (λ script. attendance text s script before) old mid after None
     attends-kept here does =
-        attends-as (λ script. attended text s script before)
-        (λ script. attended_here (talked text (script.taken, script.heard) before)) old mid after
+        attends-as (λ script. attendance text s script before)
+        (λ script. attended_here (talk_part text (script.taken, script.heard) before)) old mid after
         None (λ script. attended-here script here)
-        (by_part (talked text does.answers before) refl does.talks does.leads)
+        (by-part (talk_part text does.answers before) refl does.talks does.leads)
       where
         script : Script
         script =
             record { accepted = None; taken = does.answers.0; heard = does.answers.1 }
 
-        by_part : (part : Part) → talked text does.answers before ≡ part
+        by-part : (part : Part) → talk_part text does.answers before ≡ part
             → Talks step old part.calls mid → Leads part.after after (Ok tt)
             → Attends step
-            (λ script. attended_here (talked text (script.taken, script.heard) before)) old mid
+            (λ script. attended_here (talk_part text (script.taken, script.heard) before)) old mid
             after None
-        by_part part is talks leads = by_after part.after part.calls is talks leads
+        by-part part is talks leads = by-after part.after part.calls is talks leads
           where
-            by_after : (r : Result PortData Parting) (calls : List Call)
-                → talked text does.answers before ≡ record { after = r; calls = calls }
+            by-after : (r : Result PortData Parting) (calls : List Call)
+                → talk_part text does.answers before ≡ record { after = r; calls = calls }
                 → Talks step old calls mid → Leads r after (Ok tt)
                 → Attends step
-                (λ script. attended_here (talked text (script.taken, script.heard) before)) old mid
+                (λ script. attended_here (talk_part text (script.taken, script.heard) before)) old
+                mid
                 after None
-            by_after (Ok p) calls is talks leads = record {
+            by-after (Ok p) calls is talks leads = record {
               script = script;
               talks = rw is talks;
               port = rw is leads;
               news_is = rw is refl;
             }
-            by_after (Err why) calls is talks leads = absurd leads
+            by-after (Err why) calls is talks leads = absurd leads
 
     -- or it is closed
     pub attends-closed : (new : L) (why : Parting) → before.standing ≡ Here
-        → Does step (talked text) old mid before after (Err why) → step mid (Closes 1) new
-        → Attends step (λ script. attended text s script before) old new (bare Leaving)
+        → Does step (talk_part text) old mid before after (Err why) → step mid (Closes 1) new
+        → Attends step (λ script. attendance text s script before) old new (bare Leaving)
         (Some (Closed why))
     attends-closed new why here does closes =
-        attends-as (λ script. attended text s script before)
-        (λ script. attended_here (talked text (script.taken, script.heard) before)) old new
+        attends-as (λ script. attendance text s script before)
+        (λ script. attended_here (talk_part text (script.taken, script.heard) before)) old new
         (bare Leaving) (Some (Closed why)) (λ script. attended-here script here)
-        (by_part (talked text does.answers before) refl does.talks does.leads)
+        (by-part (talk_part text does.answers before) refl does.talks does.leads)
       where
         script : Script
         script =
             record { accepted = None; taken = does.answers.0; heard = does.answers.1 }
 
-        by_part : (part : Part) → talked text does.answers before ≡ part
+        by-part : (part : Part) → talk_part text does.answers before ≡ part
             → Talks step old part.calls mid → Leads part.after after (Err why)
             → Attends step
-            (λ script. attended_here (talked text (script.taken, script.heard) before)) old new
+            (λ script. attended_here (talk_part text (script.taken, script.heard) before)) old new
             (bare Leaving) (Some (Closed why))
-        by_part part is talks leads = by_after part.after part.calls is talks leads
+        by-part part is talks leads = by-after part.after part.calls is talks leads
           where
-            by_after : (r : Result PortData Parting) (calls : List Call)
-                → talked text does.answers before ≡ record { after = r; calls = calls }
+            by-after : (r : Result PortData Parting) (calls : List Call)
+                → talk_part text does.answers before ≡ record { after = r; calls = calls }
                 → Talks step old calls mid → Leads r after (Err why)
                 → Attends step
-                (λ script. attended_here (talked text (script.taken, script.heard) before)) old new
+                (λ script. attended_here (talk_part text (script.taken, script.heard) before)) old
+                new
                 (bare Leaving) (Some (Closed why))
-            by_after (Ok p) calls is talks leads = absurd leads
-            by_after (Err w) calls is talks leads = record {
+            by-after (Ok p) calls is talks leads = absurd leads
+            by-after (Err w) calls is talks leads = record {
               script = script;
               talks =
                   rw is (Talks-append step old mid new calls (Closes 1 ∷ []) talks
@@ -319,9 +324,9 @@ module _ {L : Type 0} (step : L → Call → L → Type 0) where
     -- a process that has gone
     pub attends-leaving : before.standing ≡ Leaving
         → after ≡ (left_in (is_none (first_sound s)) before).port
-        → Attends step (λ script. attended text s script before) old old after None
+        → Attends step (λ script. attendance text s script before) old old after None
     attends-leaving leaving is =
-        attends-as (λ script. attended text s script before)
+        attends-as (λ script. attendance text s script before)
         (λ script. left_in (is_none (first_sound s)) before) old old after None
         (λ script. rw leaving refl)
         (record {

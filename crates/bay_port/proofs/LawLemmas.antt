@@ -4,7 +4,7 @@ use Rattle.bay_tree.specs.declared.row.Row.{Row}
 use Rattle.bay_nodes.specs.declared.switch.Switch.{Switch}
 use Rattle.bay_device.specs.Device.{State}
 use Rattle.bay_lines.specs.Fronts.{Front, Waiting, Overlong, Whole, front}
-use Rattle.bay_port.specs.Attending.{Attended, Part, Script, attended, attended_here, behind, checked, closed_or_kept, attended_as, left_in, offered, offered_of, on_heard, read_by, taken_in, talked, told_to}
+use Rattle.bay_port.specs.Attending.{Attended, Part, Script, attendance, attended_here, behind, line_part, closed_or_kept, attended_as, left_in, offer_part, offered_of, on_heard, read_by, taken_in, talk_part, told_to}
 use Rattle.bay_port.specs.Fit.{bad_line, bad_or_none, is_told, is_waiting, is_wrong, line_or_none}
 use Rattle.bay_port.specs.Laws.{AreBad, IsReadable, IsSilent, TellsInOrder, taken_of}
 use Rattle.bay_port.specs.Ports.{PortData, bare, taken_as, taken_front}
@@ -12,20 +12,20 @@ use Rattle.bay_port.specs.Sound.{first_sound, sound_from, tells_bad}
 use Rattle.bay_port.specs.Telling.{fits_in}
 use Rattle.bay_port.specs.declared.news.News.TheVariants.{Closed}
 use Rattle.bay_port.specs.declared.news.Parting.{Parting}
-use Rattle.bay_port.specs.declared.port.Standing.{Standing}
-use Rattle.bay_port.specs.declared.port.Standing.TheVariants.{Away, Leaving, Here}
-use Rattle.bay_serve.specs.Calls.{Call, Accepts, Reads, Writes, Closes, Heard, Octets, Silence, Over, Broken}
+use Rattle.bay_port.specs.declared.port.Presence.{Presence}
+use Rattle.bay_port.specs.declared.port.Presence.TheVariants.{Away, Leaving, Here}
+use Rattle.bay_serve.specs.Calls.{Call, Accepts, Reads, Writes, Closes, ReadOutcome, Octets, Silence, Over, Broken}
 use Rattle.bay_trace.specs.Trace.{NamedData}
 use Rattle.bay_serve.specs.Served.{line_of, refusal_at, refusal_of}
 
 -- ---- lines that are not refused
 
 told-right : (line : List ℕ) → is_told line ≡ true → refusal_at (Some line) false ≡ None
-told-right line e = by_line (line_of line) e
+told-right line e = by-line (line_of line) e
   where
-    by_line : (o : Option NamedData) → is_some o ≡ true → refusal_of o false ≡ None
-    by_line None e = absurd cc
-    by_line (Some told) e = refl
+    by-line : (o : Option NamedData) → is_some o ≡ true → refusal_of o false ≡ None
+    by-line None e = absurd cc
+    by-line (Some told) e = refl
 
 some-right : (line found : List ℕ) → line_or_none line ≡ Some found
     → refusal_at (Some found) false ≡ None
@@ -40,12 +40,12 @@ some-right line found e = by_test (is_told line) refl
 
 bad-right : (id found : List ℕ) → bad_or_none id ≡ Some found
     → refusal_at (Some found) false ≡ None
-bad-right id found e = by_room (nat_le (length (bad_line id)) 256) refl
+bad-right id found e = by-room (nat_le (length (bad_line id)) 256) refl
   where
-    by_room : (v : Bool) → nat_le (length (bad_line id)) 256 ≡ v
+    by-room : (v : Bool) → nat_le (length (bad_line id)) 256 ≡ v
         → refusal_at (Some found) false ≡ None
-    by_room true is = some-right (bad_line id) found (rw is at e)
-    by_room false is = let none : None ≡ Some found = rw is at e in absurd cc
+    by-room true is = some-right (bad_line id) found (rw is at e)
+    by-room false is = let none : None ≡ Some found = rw is at e in absurd cc
 
 sound-right : (o : Option (List ℕ)) (found : List ℕ)
     → option_and_then bad_or_none o ≡ Some found → refusal_at (Some found) false ≡ None
@@ -58,7 +58,7 @@ front-right Waiting p found e = absurd cc
 front-right Overlong p found e = absurd cc
 front-right (Whole line rest) p found e = some-right line found e
 
-taken-right : (standing : Standing) (s : State) (p : PortData) (found : List ℕ)
+taken-right : (standing : Presence) (s : State) (p : PortData) (found : List ℕ)
     → (taken_as standing s p).line ≡ Some found → refusal_at (Some found) false ≡ None
 taken-right Away s p found e = absurd cc
 taken-right Leaving s p found e = sound-right (first_sound s) found e
@@ -109,13 +109,13 @@ left-bad : (v : Bool) (p : PortData) → p.standing ≡ Leaving
 left-bad true p leaving other = refl
 left-bad false p leaving other = absurd (other leaving)
 
-closed-as : (standing : Standing) (text : List ℕ) (s : State) (script : Script) (p : PortData)
+closed-as : (standing : Presence) (text : List ℕ) (s : State) (script : Script) (p : PortData)
     (why : Parting) → (attended_as standing text s script p).news ≡ Some (Closed why)
     → (attended_as standing text s script p).port ≡ bare Leaving
 closed-as Away text s script p why e = accepted-bare script.accepted p why e
 closed-as Leaving text s script p why e = absurd cc
 closed-as Here text s script p why e =
-    let part = talked text (script.taken, script.heard) p in
+    let part = talk_part text (script.taken, script.heard) p in
     closed-bare part.after part.calls why e
 
 pub is-silent : (text : List ℕ) (s : State) (script : Script) (p : PortData)
@@ -166,16 +166,17 @@ tells-behind all (Ok p) calls f t next =
     }
 
 tells-told : (text : List ℕ) (p : PortData) → Tells (p.queue ++ text) (told_to text p)
-tells-told text p = by_room (fits_in p.queue text) refl
+tells-told text p = by-room (fits_in p.queue text) refl
   where
-    by_room : (v : Bool) → fits_in p.queue text ≡ v → Tells (p.queue ++ text) (told_to text p)
-    by_room true e = rw e (record {
+    by-room : (v : Bool) → fits_in p.queue text ≡ v → Tells (p.queue ++ text) (told_to text p)
+    by-room true e = rw e (record {
       rest = p.queue ++ text;
       whole = refl;
       waits = λ q is. let same : record p { queue = p.queue ++ text } ≡ q = cc in
           ap (λ (d : PortData). d.queue) (sym same);
     })
-    by_room false e = rw e (record { rest = p.queue ++ text; whole = refl; waits = λ q is. absurd cc })
+    by-room false e =
+        rw e (record { rest = p.queue ++ text; whole = refl; waits = λ q is. absurd cc })
 
 tells-taken : (queue : List ℕ) (taken : Option ℕ) (p : PortData) → p.queue ≡ queue
     → Tells queue (offered_of queue taken p)
@@ -196,61 +197,61 @@ tells-taken (b ∷ bs) (Some n) p is =
           ap (λ (d : PortData). d.queue) (sym same) ∙ ap (drop n) is;
     }
 
-tells-read : (heard : Heard) (p : PortData) → Tells p.queue (read_by heard p)
-tells-read heard p = by_front (is_waiting (front p.kept)) refl
+tells-read : (heard : ReadOutcome) (p : PortData) → Tells p.queue (read_by heard p)
+tells-read heard p = by-front (is_waiting (front p.kept)) refl
   where
-    by_heard : (h : Heard) → Tells p.queue (on_heard h p (Reads 1 4096 h ∷ []))
-    by_heard (Octets octets) = record {
+    by-heard : (h : ReadOutcome) → Tells p.queue (on_heard h p (Reads 1 4096 h ∷ []))
+    by-heard (Octets octets) = record {
       rest = p.queue;
       whole = refl;
       waits = λ q e. let same : record p { kept = p.kept ++ octets } ≡ q = cc in
           ap (λ (d : PortData). d.queue) (sym same);
     }
-    by_heard Silence = record {
+    by-heard Silence = record {
       rest = p.queue;
       whole = refl;
       waits = λ q e. let same : p ≡ q = cc in ap (λ (d : PortData). d.queue) (sym same);
     }
-    by_heard Over = record { rest = p.queue; whole = refl; waits = λ q e. absurd cc }
-    by_heard Broken = record { rest = p.queue; whole = refl; waits = λ q e. absurd cc }
+    by-heard Over = record { rest = p.queue; whole = refl; waits = λ q e. absurd cc }
+    by-heard Broken = record { rest = p.queue; whole = refl; waits = λ q e. absurd cc }
 
-    by_front : (v : Bool) → is_waiting (front p.kept) ≡ v → Tells p.queue (read_by heard p)
-    by_front true e = rw e (by_heard heard)
-    by_front false e = rw e (record {
+    by-front : (v : Bool) → is_waiting (front p.kept) ≡ v → Tells p.queue (read_by heard p)
+    by-front true e = rw e (by-heard heard)
+    by-front false e = rw e (record {
       rest = p.queue;
       whole = refl;
       waits = λ q e. let same : p ≡ q = cc in ap (λ (d : PortData). d.queue) (sym same);
     })
 
-tells-checked : (p : PortData) → Tells p.queue (checked p)
-tells-checked p = by_front (is_wrong (front p.kept)) refl
+tells-checked : (p : PortData) → Tells p.queue (line_part p)
+tells-checked p = by-front (is_wrong (front p.kept)) refl
   where
-    by_front : (v : Bool) → is_wrong (front p.kept) ≡ v → Tells p.queue (checked p)
-    by_front true e = rw e (record { rest = p.queue; whole = refl; waits = λ q e. absurd cc })
-    by_front false e = rw e (record {
+    by-front : (v : Bool) → is_wrong (front p.kept) ≡ v → Tells p.queue (line_part p)
+    by-front true e = rw e (record { rest = p.queue; whole = refl; waits = λ q e. absurd cc })
+    by-front false e = rw e (record {
       rest = p.queue;
       whole = refl;
       waits = λ q e. let same : p ≡ q = cc in ap (λ (d : PortData). d.queue) (sym same);
     })
 
-tells-talked : (text : List ℕ) (answers : Option ℕ × Heard) (p : PortData)
-    → Tells (p.queue ++ text) (talked text answers p)
+tells-talked : (text : List ℕ) (answers : Option ℕ × ReadOutcome) (p : PortData)
+    → Tells (p.queue ++ text) (talk_part text answers p)
 tells-talked text answers p =
     let all = p.queue ++ text in
     let a = told_to text p in
-    let ta = tells-behind all a.after a.calls (offered answers.0)
+    let ta = tells-behind all a.after a.calls (offer_part answers.0)
     (record {
       rest = (tells-told text p).rest;
       whole = (tells-told text p).whole;
       waits = (tells-told text p).waits;
     })
     (λ q. tells-taken q.queue answers.0 q refl) in
-    let b = behind a (offered answers.0) in
+    let b = behind a (offer_part answers.0) in
     let tb = tells-behind all b.after b.calls (read_by answers.1)
     (record { rest = ta.rest; whole = ta.whole; waits = ta.waits })
     (λ q. tells-read answers.1 q) in
     let c = behind b (read_by answers.1) in
-    tells-behind all c.after c.calls checked
+    tells-behind all c.after c.calls line_part
     (record { rest = tb.rest; whole = tb.whole; waits = tb.waits }) tells-checked
 
 closed-tells : (all : List ℕ) (r : Result PortData Parting) (calls : List Call) (rest : List ℕ)
@@ -269,9 +270,9 @@ kept-waits (Err why) calls rest waits e = absurd cc
 pub tells-in-order : (text : List ℕ) (s : State) (script : Script) (p : PortData)
     → p.standing ≡ Here → TellsInOrder text s script p
 tells-in-order text s script p here =
-    let part = talked text (script.taken, script.heard) p in
+    let part = talk_part text (script.taken, script.heard) p in
     let t = tells-talked text (script.taken, script.heard) p in
-    let is : attended text s script p ≡ attended_here part =
+    let is : attendance text s script p ≡ attended_here part =
     ap (λ standing. attended_as standing text s script p) here in
     record {
       rest = t.rest;

@@ -10,8 +10,8 @@ use Rattle.bay_tree.specs.declared.row.Row.{Row}
 use Rattle.bay_nodes.specs.declared.switch.Switch.{Switch}
 use Rattle.bay_port.specs.Sound.{sound_from, tells_bad}
 
-other_text : (xs ys : List ℕ) → xs ≢ ys → bytes_eq xs ys ≡ false
-other_text xs ys other = by_test (bytes_eq xs ys) refl
+other-text : (xs ys : List ℕ) → xs ≢ ys → bytes_eq xs ys ≡ false
+other-text xs ys other = by_test (bytes_eq xs ys) refl
   where
     by_test : (v : Bool) → bytes_eq xs ys ≡ v → v ≡ false
     by_test true e = absurd (other ((bytes_eq-Decides xs ys).0 e))
@@ -23,7 +23,7 @@ leaf-none name [] none = refl
 leaf-none name (row ∷ rows) none =
     ap (λ b. option_and_then (λ (r : Row). r.leaf)
     (cond b (Some row) (find (λ (r : Row). bytes_eq r.name name) rows)))
-    (other_text row.name name (All-head (λ (r : Row). r.name ≢ name) row rows none))
+    (other-text row.name name (All-head (λ (r : Row). r.name ≢ name) row rows none))
     ∙ leaf-none name rows (All-tail (λ (r : Row). r.name ≢ name) row rows none)
 
 -- where no row is found there is no value
@@ -31,11 +31,11 @@ pub not-found : (name : List ℕ) (rows : List Row) (r : Result ℕ TreeFault) (
     → r ≡ Err fault → r ≡ ok_or (place_of rows name) NoSuchName
     → (r ≡ Err NoSuchName → All (λ row. row.name ≢ name) rows) → leaf_of name rows ≡ None
 not-found name rows r fault failed is none =
-    leaf-none name rows (none (by_place (place_of rows name) is))
+    leaf-none name rows (none (by-place (place_of rows name) is))
   where
-    by_place : (o : Option ℕ) → r ≡ ok_or o NoSuchName → r ≡ Err NoSuchName
-    by_place None e = e
-    by_place (Some k) e = absurd cc
+    by-place : (o : Option ℕ) → r ≡ ok_or o NoSuchName → r ≡ Err NoSuchName
+    by-place None e = e
+    by-place (Some k) e = absurd cc
 
 -- the first switch that is not bad, from a place on
 pub sound-turn : (rows : List Row) (j k : ℕ) (switches : List Switch) → j < length switches

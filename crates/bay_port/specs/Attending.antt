@@ -11,16 +11,16 @@ use Rattle.bay_port.specs.declared.news.News.{News}
 use Rattle.bay_port.specs.declared.news.News.TheVariants.{Opened, Closed}
 use Rattle.bay_port.specs.declared.news.Parting.{Parting}
 use Rattle.bay_port.specs.declared.news.Parting.TheVariants.{Ended, BadLine, QueueFull, LinkFailed}
-use Rattle.bay_port.specs.declared.port.Standing.{Standing}
-use Rattle.bay_port.specs.declared.port.Standing.TheVariants.{Away, Leaving, Here}
-use Rattle.bay_serve.specs.Calls.{Call, Accepts, Reads, Writes, Closes, Heard, Octets, Silence, Over, Broken, Talks}
+use Rattle.bay_port.specs.declared.port.Presence.{Presence}
+use Rattle.bay_port.specs.declared.port.Presence.TheVariants.{Away, Leaving, Here}
+use Rattle.bay_serve.specs.Calls.{Call, Accepts, Reads, Writes, Closes, ReadOutcome, Octets, Silence, Over, Broken, Talks}
 
 -- what the link answered: whether a connection was taken, how many octets of a write, and what a
 -- read brought
 pub record Script : Type 0 where
   pub accepted : Option Bool
   pub taken : Option ℕ
-  pub heard : Heard
+  pub heard : ReadOutcome
 
 -- a part of what is done with a process that is there: the port behind it, or why the connection is
 -- closed; and the calls on the link, in which it is association 1
@@ -52,39 +52,39 @@ abbrev pub offered_of : List ℕ → Option ℕ → PortData → Part
 offered_of [] taken p = going p []
 offered_of (b ∷ bs) taken p = on_taken taken p (Writes 1 (b ∷ bs) taken ∷ [])
 
-abbrev pub offered : Option ℕ → PortData → Part
-offered taken p = offered_of p.queue taken p
+abbrev pub offer_part : Option ℕ → PortData → Part
+offer_part taken p = offered_of p.queue taken p
 
 -- what a read brought
-abbrev pub on_heard : Heard → PortData → List Call → Part
+abbrev pub on_heard : ReadOutcome → PortData → List Call → Part
 on_heard (Octets octets) p calls = going (record p { kept = p.kept ++ octets }) calls
 on_heard Silence p calls = going p calls
 on_heard Over p calls = parting Ended calls
 on_heard Broken p calls = parting LinkFailed calls
 
 -- where no whole line is kept the process is read once, up to 4,096 octets
-abbrev pub read_by : Heard → PortData → Part
+abbrev pub read_by : ReadOutcome → PortData → Part
 read_by heard p =
     if is_waiting (front p.kept) then on_heard heard p (Reads 1 4096 heard ∷ []) else going p []
 
 -- a line that can't be taken ends the connection
-abbrev pub checked : PortData → Part
-checked p = if is_wrong (front p.kept) then parting BadLine [] else going p []
+abbrev pub line_part : PortData → Part
+line_part p = if is_wrong (front p.kept) then parting BadLine [] else going p []
 
 -- ---- one after the other
 
-abbrev pub followed : Result PortData Parting → List Call → (PortData → Part) → Part
-followed (Err why) calls next = parting why calls
-followed (Ok p) calls next =
+abbrev pub part_then : Result PortData Parting → List Call → (PortData → Part) → Part
+part_then (Err why) calls next = parting why calls
+part_then (Ok p) calls next =
     record { after = (next p).after; calls = calls ++ (next p).calls }
 
 abbrev pub behind : Part → (PortData → Part) → Part
-behind part next = followed part.after part.calls next
+behind part next = part_then part.after part.calls next
 
 -- the process is told, it is offered what waits, it is read, and its line is looked at
-abbrev pub talked : List ℕ → Option ℕ × Heard → PortData → Part
-talked text answers p =
-    behind (behind (behind (told_to text p) (offered answers.0)) (read_by answers.1)) checked
+abbrev pub talk_part : List ℕ → Option ℕ × ReadOutcome → PortData → Part
+talk_part text answers p =
+    behind (behind (behind (told_to text p) (offer_part answers.0)) (read_by answers.1)) line_part
 
 -- ---- behind a turn
 
@@ -115,14 +115,14 @@ abbrev pub left_in : Bool → PortData → Attended
 left_in all_bad p =
     record { port = if all_bad then bare Away else p; news = None; calls = [] }
 
-abbrev pub attended_as : Standing → List ℕ → State → Script → PortData → Attended
+abbrev pub attended_as : Presence → List ℕ → State → Script → PortData → Attended
 attended_as Away text s script p = taken_in script.accepted p
 attended_as Leaving text s script p = left_in (is_none (first_sound s)) p
-attended_as Here text s script p = attended_here (talked text (script.taken, script.heard) p)
+attended_as Here text s script p = attended_here (talk_part text (script.taken, script.heard) p)
 
 -- What is done behind a turn that told this text, by the device after it.
-abbrev pub attended : List ℕ → State → Script → PortData → Attended
-attended text s script p = attended_as p.standing text s script p
+abbrev pub attendance : List ℕ → State → Script → PortData → Attended
+attendance text s script p = attended_as p.standing text s script p
 
 -- ---- as code does it
 

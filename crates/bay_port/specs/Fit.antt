@@ -38,5 +38,5 @@ bad_or_none id =
     if nat_le (length (bad_line id)) 256 then line_or_none (bad_line id) else None
 
 -- a line, if there is one
-abbrev pub said : Bool → List ℕ → Option (List ℕ)
-said is_line line = if is_line then Some line else None
+abbrev pub line_if : Bool → List ℕ → Option (List ℕ)
+line_if is_line line = if is_line then Some line else None

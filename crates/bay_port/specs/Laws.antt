@@ -1,13 +1,13 @@
 -- What holds of the port of a process, turn after turn.
 use Rattle.std.specs.Prelude.{◌≡◌, ◌≢◌, ℕ, ◌<◌, true, false, List, [], ◌∷◌, ◌++◌, length, take, None, Some, option_and_then}
 use Rattle.bay_device.specs.Device.{State}
-use Rattle.bay_port.specs.Attending.{Script, attended}
+use Rattle.bay_port.specs.Attending.{Script, attendance}
 use Rattle.bay_port.specs.Fit.{bad_or_none}
 use Rattle.bay_port.specs.Ports.{PortData, bare, taken_line}
 use Rattle.bay_port.specs.Sound.{first_sound, is_bad}
 use Rattle.bay_port.specs.declared.news.News.TheVariants.{Closed}
 use Rattle.bay_port.specs.declared.news.Parting.{Parting}
-use Rattle.bay_port.specs.declared.port.Standing.TheVariants.{Leaving}
+use Rattle.bay_port.specs.declared.port.Presence.TheVariants.{Leaving}
 use Rattle.bay_serve.specs.Calls.{Call, Accepts, Reads, Writes, Closes}
 use Rattle.bay_serve.specs.Served.{refusal_at}
 
@@ -18,12 +18,12 @@ AreBad s = (k : ℕ) → k < length s.switches → is_bad s k ≡ true
 -- Behind a closing nothing is kept. Then a turn has no line of the port but that the first switch
 -- which is not bad is so; the link is not asked; and that ends only where each switch is bad.
 pub record IsSilent (text : List ℕ) (s : State) (script : Script) (p : PortData) : Type 0 where
-  pub closed : (why : Parting) → (attended text s script p).news ≡ Some (Closed why)
-      → (attended text s script p).port ≡ bare Leaving
+  pub closed : (why : Parting) → (attendance text s script p).news ≡ Some (Closed why)
+      → (attendance text s script p).port ≡ bare Leaving
   pub lines : p.standing ≡ Leaving
       → (taken_line s p).line ≡ option_and_then bad_or_none (first_sound s)
-  pub calls : p.standing ≡ Leaving → (attended text s script p).calls ≡ []
-  pub ends : p.standing ≡ Leaving → (attended text s script p).port.standing ≢ Leaving → AreBad s
+  pub calls : p.standing ≡ Leaving → (attendance text s script p).calls ≡ []
+  pub ends : p.standing ≡ Leaving → (attendance text s script p).port.standing ≢ Leaving → AreBad s
 
 -- a line that the port has is not refused
 abbrev pub IsReadable : State → PortData → Type 0
@@ -44,6 +44,6 @@ taken_of (Closes a ∷ calls) = taken_of calls
 pub record TellsInOrder (text : List ℕ) (s : State) (script : Script) (p : PortData)
     : Type 0 where
   pub rest : List ℕ
-  pub whole : p.queue ++ text ≡ taken_of (attended text s script p).calls ++ rest
-  pub waits : (attended text s script p).news ≡ None
-      → (attended text s script p).port.queue ≡ rest
+  pub whole : p.queue ++ text ≡ taken_of (attendance text s script p).calls ++ rest
+  pub waits : (attendance text s script p).news ≡ None
+      → (attendance text s script p).port.queue ≡ rest

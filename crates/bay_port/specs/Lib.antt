@@ -1,3 +1,16 @@
+-- The process behind a server: one connection that sends lines and is told of turns.
+--
+-- `Ports` is the main file: what is kept of the process, what waits to be sent, and the line that
+-- the port has for a turn. `Fit`: lines that a turn can take, and the line that makes a switch bad
+-- once the process has gone. `Sound`: the first switch that is not bad, as its control tells.
+-- `Telling`: what the process is told of a turn. `Attending`: what is done with the connection
+-- after a turn, by what the link answered.
+--
+-- `Laws`, turn after turn: after a closing nothing is kept and the link is not asked; the port's
+-- lines then only make switches bad, until each is. No line of the port is refused. While the
+-- connection stands, the link takes what the process is told in order; what it does not take waits,
+-- or is lost if the connection is closed. `Code` numbers the reasons for closing.
+
 -- What public clauses cite of the crates below.
 pub use Rattle.bay_lines.specs.Fronts
 pub use Rattle.bay_report.specs.Lines

@@ -4,22 +4,22 @@ use Rattle.bay_device.specs.Device.{State}
 use Rattle.bay_lines.specs.Fronts.{Front, Waiting, Overlong, Whole, front}
 use Rattle.bay_port.specs.Fit.{bad_or_none, line_or_none}
 use Rattle.bay_port.specs.Sound.{first_sound}
-use Rattle.bay_port.specs.declared.port.Standing.{Standing}
-use Rattle.bay_port.specs.declared.port.Standing.TheVariants.{Away, Leaving, Here}
+use Rattle.bay_port.specs.declared.port.Presence.{Presence}
+use Rattle.bay_port.specs.declared.port.Presence.TheVariants.{Away, Leaving, Here}
 
 -- how the process stands, what it has sent that no turn has taken, and what is still to be told to
 -- it
 pub record PortData : Type 0 where
-  pub standing : Standing
+  pub standing : Presence
   pub kept : List ℕ
   pub queue : List ℕ
 
 -- a port with nothing in it
-abbrev pub bare : Standing → PortData
+abbrev pub bare : Presence → PortData
 bare standing = record { standing = standing; kept = []; queue = [] }
 
 -- it has gone, and there may be switches that are not bad yet
-abbrev pub is_leaving : Standing → Bool
+abbrev pub is_leaving : Presence → Bool
 is_leaving Away = false
 is_leaving Leaving = true
 is_leaving Here = false
@@ -39,7 +39,7 @@ taken_front Overlong p = nothing_of p
 taken_front (Whole line rest) p =
     record { line = line_or_none line; port = record p { kept = rest } }
 
-abbrev pub taken_as : Standing → State → PortData → Taken
+abbrev pub taken_as : Presence → State → PortData → Taken
 taken_as Away s p = nothing_of p
 taken_as Leaving s p = record { line = option_and_then bad_or_none (first_sound s); port = p }
 taken_as Here s p = taken_front (front p.kept) p

@@ -1,12 +1,12 @@
 // What is done with the connection of the process behind a turn.
 ghost use Rattle.std.specs.Prelude.{◌≡◌, is_none};
 ghost use Rattle.bay_serve.specs.Calls.{Called};
-ghost use Rattle.bay_port.specs.Attending.{Attends, Does, attended, left_in, taken_in, talked};
+ghost use Rattle.bay_port.specs.Attending.{Attends, Does, attendance, left_in, taken_in, talk_part};
 ghost use Rattle.bay_port.specs.Sound.{first_sound};
 ghost use Rattle.bay_port.specs.Telling.{told_text};
 
 use crate::news::{News, Parting};
-use crate::port::{PROCESS, Port, Standing};
+use crate::port::{PROCESS, Port, Presence};
 use crate::sound::first_sound;
 use bay_device::device::Device;
 use bay_serve::link::Link;
@@ -21,7 +21,7 @@ fn talk<L: Link>(
     moment: u64,
     turn: &Turn,
 ) -> Result<(), Parting>
-    ensures { Does (Called L.does L.failures) (talked (told_text moment turn.now device.now))
+    ensures { Does (Called L.does L.failures) (talk_part (told_text moment turn.now device.now))
         link.old link.new port.old port.new result }
 {
     port.tell(device, moment, turn)?;
@@ -37,7 +37,7 @@ fn accept<L: Link>(port: &mut Port, link: &mut L) -> Option<News>
 {
     match link.accept(PROCESS) {
         Ok(true) => {
-            port.stand(Standing::Here);
+            port.stand(Presence::Here);
             Some(News::Opened)
         }
         Ok(false) => None,
@@ -50,7 +50,7 @@ fn leave(port: &mut Port, device: &Device)
     ensures { port.new ≡ (left_in (is_none (first_sound device.now)) port.old).port }
 {
     if first_sound(device).is_none() {
-        port.stand(Standing::Away);
+        port.stand(Presence::Away);
     }
 }
 
@@ -69,20 +69,20 @@ pub fn attend<L: Link>(
     turn: &Turn,
 ) -> Option<News>
     ensures { Attends (Called L.does L.failures)
-        (λ script. attended (told_text moment turn.now device.now) device.now script port.old)
+        (λ script. attendance (told_text moment turn.now device.now) device.now script port.old)
         link.old link.new port.new result }
 {
     match port.standing() {
-        Standing::Away => accept(port, link),
-        Standing::Leaving => {
+        Presence::Away => accept(port, link),
+        Presence::Leaving => {
             leave(port, device);
             None
         }
-        Standing::Here => match talk(port, link, device, moment, turn) {
+        Presence::Here => match talk(port, link, device, moment, turn) {
             Ok(()) => None,
             Err(why) => {
                 link.close(PROCESS);
-                port.stand(Standing::Leaving);
+                port.stand(Presence::Leaving);
                 Some(News::Closed(why))
             }
         },

@@ -1,7 +1,7 @@
 // The line that a turn can take.
 ghost use Rattle.std.specs.Prelude.{◌≡◌, ◌≤◌, length, option_and_then, option_map};
 ghost use Rattle.bay_lines.specs.Fronts.{front};
-ghost use Rattle.bay_port.specs.Fit.{bad_or_none, is_waiting, is_wrong, line_or_none, said};
+ghost use Rattle.bay_port.specs.Fit.{bad_or_none, is_waiting, is_wrong, line_or_none, line_if};
 ghost use Rattle.bay_port.specs.Fit as spec;
 
 use arrayvec::ArrayVec;
@@ -31,7 +31,7 @@ fn is_fit(line: &[u8]) -> bool
 /// Puts a line of a turn, and answers whether it tells anything.
 pub fn put_line(line: &mut Line, text: &[u8]) -> bool
     requires { length text.now ≤ 256 }
-    ensures { said result line.new.items ≡ line_or_none text.now }
+    ensures { line_if result line.new.items ≡ line_or_none text.now }
 {
     if !is_told(text) {
         return false;
@@ -43,7 +43,7 @@ pub fn put_line(line: &mut Line, text: &[u8]) -> bool
 /// Puts the line that tells that the switch with this id is bad, and answers whether it can be
 /// taken.
 fn put_bad(line: &mut Line, id: &str) -> bool
-    ensures { said result line.new.items ≡ bad_or_none id.now }
+    ensures { line_if result line.new.items ≡ bad_or_none id.now }
 {
     line.clear();
     let _ = line.try_extend_from_slice(b"0 contact ");
@@ -58,7 +58,7 @@ fn put_bad(line: &mut Line, id: &str) -> bool
 
 /// The same, if there is such a switch.
 pub fn put_bad_line(line: &mut Line, id: Option<&str>) -> bool
-    ensures { said result line.new.items
+    ensures { line_if result line.new.items
         ≡ option_and_then bad_or_none (option_map (λ s. s.now) id.entry) }
 {
     match id {

@@ -4,11 +4,11 @@ ghost use Rattle.bay_device.specs.Device.{State};
 ghost use Rattle.bay_port.specs.Attending.{Script};
 ghost use Rattle.bay_port.specs.Laws.{IsReadable, IsSilent, TellsInOrder};
 ghost use Rattle.bay_port.specs.Ports.{PortData};
-ghost use Rattle.bay_port.specs.declared.port.Standing.TheVariants.{Here};
+ghost use Rattle.bay_port.specs.declared.port.Presence.TheVariants.{Here};
 
-/// A process that has gone tells nothing: behind a closing nothing of what it sent is kept, the next
-/// lines tell that switches are bad, one a turn, in the order of the bay file, and until each switch
-/// is bad the link is not asked and no process comes.
+/// A process that has gone tells nothing: behind a closing nothing of what it sent is kept, the
+/// next lines tell that switches are bad, one a turn, in the order of the bay file, and until each
+/// switch is bad the link is not asked and no process comes.
 pub fn a_process_that_has_gone_tells_nothing()
     ensures { (text : List ℕ) (s : State) (script : Script) (p : PortData)
         → IsSilent text s script p }

@@ -1,9 +1,9 @@
 // What is kept of the process.
 ghost use Rattle.std.specs.Prelude.{◌≡◌, [], false, not, IfOk, if◌then◌else◌};
 ghost use Rattle.bay_serve.specs.Calls.{Called};
-ghost use Rattle.bay_port.specs.Attending.{Does, Leads, checked, offered, read_by, told_to};
+ghost use Rattle.bay_port.specs.Attending.{Does, Leads, line_part, offer_part, read_by, told_to};
 ghost use Rattle.bay_port.specs.Ports.{bare, taken_front, taken_line};
-ghost use Rattle.bay_port.specs.Fit.{said};
+ghost use Rattle.bay_port.specs.Fit.{line_if};
 ghost use Rattle.bay_lines.specs.Fronts.{front};
 ghost use Rattle.bay_port.specs.Ports as spec;
 ghost use Rattle.bay_port.specs.Telling.{told_text};
@@ -15,7 +15,7 @@ use crate::telling::{Queue, put_told};
 use bay_device::device::Device;
 use bay_lines::front::{Found, line_in_front};
 use bay_lines::kept::Kept;
-use bay_serve::link::{Got, Link};
+use bay_serve::link::{Arrival, Link};
 use bay_serve::told::Turn;
 use std::alloc::{AllocError, Global};
 use std::marker::Model;
@@ -31,7 +31,7 @@ pub const PROCESS: u16 = 1;
 
 /// How the process stands.
 #[derive(Clone, Copy, Debug, PartialEq, Eq)]
-pub enum Standing {
+pub enum Presence {
     /// It is not there, and may come.
     Away,
     /// It has gone, and there may be switches that are not bad yet.
@@ -44,7 +44,7 @@ pub enum Standing {
 /// to be told to it.
 #[derive(Drop)]
 pub struct Port {
-    standing: Standing,
+    standing: Presence,
     kept: Kept<ROOM>,
     queue: Queue,
 }
@@ -60,19 +60,19 @@ impl Model for Port {
 impl Port {
     /// A port to which a process may come. It takes the room for what is kept.
     pub fn new(alloc: Global) -> Result<Self, AllocError>
-        ensures { IfOk result (λ port. port ≡ bare Standing.Away) }
+        ensures { IfOk result (λ port. port ≡ bare Presence.Away) }
     {
         let kept = Kept::new(alloc)?;
         let queue = Kept::new(alloc)?;
         Ok(Port {
-            standing: Standing::Away,
+            standing: Presence::Away,
             kept,
             queue,
         })
     }
 
     /// How the process stands.
-    pub fn standing(&self) -> Standing
+    pub fn standing(&self) -> Presence
         ensures { result ≡ self.now.standing }
     {
         self.standing
@@ -82,7 +82,7 @@ impl Port {
     pub fn is_leaving(&self) -> bool
         ensures { result ≡ spec.is_leaving self.now.standing }
     {
-        self.standing == Standing::Leaving
+        self.standing == Presence::Leaving
     }
 
     /// How many octets are kept, and how many wait to be told.
@@ -91,7 +91,7 @@ impl Port {
     }
 
     /// Nothing is kept any more.
-    pub(crate) fn stand(&mut self, standing: Standing)
+    pub(crate) fn stand(&mut self, standing: Presence)
         ensures { self.new ≡ bare standing }
     {
         self.standing = standing;
@@ -101,7 +101,7 @@ impl Port {
 
     /// The line that stands in front of what was sent, if there is one.
     fn take_front(&mut self, line: &mut Line) -> bool
-        ensures line { said result line.new.items
+        ensures line { line_if result line.new.items
             ≡ (taken_front (front self.old.kept) self.old).line }
         ensures port { self.new ≡ (taken_front (front self.old.kept) self.old).port }
     {
@@ -118,13 +118,13 @@ impl Port {
 
     /// Takes the line that the port has for a turn, and answers whether there is one.
     pub fn take_line(&mut self, device: &Device, line: &mut Line) -> bool
-        ensures line { said result line.new.items ≡ (taken_line device.now self.old).line }
+        ensures line { line_if result line.new.items ≡ (taken_line device.now self.old).line }
         ensures port { self.new ≡ (taken_line device.now self.old).port }
     {
         match self.standing {
-            Standing::Away => false,
-            Standing::Leaving => put_bad_line(line, first_sound(device)),
-            Standing::Here => self.take_front(line),
+            Presence::Away => false,
+            Presence::Leaving => put_bad_line(line, first_sound(device)),
+            Presence::Here => self.take_front(line),
         }
     }
 
@@ -142,7 +142,7 @@ impl Port {
 
     /// Offers what waits to be told, if there is anything.
     pub(crate) fn offer<L: Link>(&mut self, link: &mut L) -> Result<(), Parting>
-        ensures { Does (Called L.does L.failures) offered link.old link.new self.old self.new
+        ensures { Does (Called L.does L.failures) offer_part link.old link.new self.old self.new
             result }
     {
         if self.queue.as_slice().is_empty() {
@@ -167,19 +167,19 @@ impl Port {
         }
         let mut room = [0; PIECE];
         match link.read(PROCESS, &mut room) {
-            Ok(Got::Bytes(count)) => {
+            Ok(Arrival::Bytes(count)) => {
                 self.kept.put(&room[..count]);
                 Ok(())
             }
-            Ok(Got::Nothing) => Ok(()),
-            Ok(Got::End) => Err(Parting::Ended),
+            Ok(Arrival::Nothing) => Ok(()),
+            Ok(Arrival::End) => Err(Parting::Ended),
             Err(_) => Err(Parting::LinkFailed),
         }
     }
 
     /// Whether the line in front can be taken, if there is one.
     pub(crate) fn check(&self) -> Result<(), Parting>
-        ensures { Leads (checked self.now).after self.now result }
+        ensures { Leads (line_part self.now).after self.now result }
     {
         if is_wrong_in_front(self.kept.as_slice()) {
             Err(Parting::BadLine)

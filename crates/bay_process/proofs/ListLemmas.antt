@@ -39,14 +39,14 @@ get-snoc (z ∷ xs) x (suc k) y h =
     (λ (r : (k ≡ length xs) × (x ≡ y)). inr (ap suc r.0, r.1)) (get-snoc xs x k y h)
 
 -- the place of the first item whose image passes
-position_from_mapped : {X Y : Type 0} (f : X → Y) (p : Y → Bool) (xs : List X) (i : ℕ)
+position-from-mapped : {X Y : Type 0} (f : X → Y) (p : Y → Bool) (xs : List X) (i : ℕ)
     → position_from p i (map f xs) ≡ position_from (λ x. p (f x)) i xs
-position_from_mapped f p [] i = refl
-position_from_mapped f p (x ∷ xs) i =
-    ap (λ o. cond (p (f x)) (Some i) o) (position_from_mapped f p xs (i + 1))
+position-from-mapped f p [] i = refl
+position-from-mapped f p (x ∷ xs) i =
+    ap (λ o. cond (p (f x)) (Some i) o) (position-from-mapped f p xs (i + 1))
 
-pub position_mapped : {X Y : Type 0} (f : X → Y) (p : Y → Bool) (xs : List X)
+pub position-mapped : {X Y : Type 0} (f : X → Y) (p : Y → Bool) (xs : List X)
     → position (λ x. p (f x)) xs ≡ position p (map f xs)
-position_mapped f p xs =
-    position_from-zero (λ x. p (f x)) xs ∙ sym (position_from_mapped f p xs 0)
+position-mapped f p xs =
+    position_from-zero (λ x. p (f x)) xs ∙ sym (position-from-mapped f p xs 0)
     ∙ sym (position_from-zero p (map f xs))

@@ -124,16 +124,16 @@ are-there rows names leaf_type h = record {
   time_there = there rows names.time _ h.time_leaf;
 }
 
-other_text : (b : Bool) → (b ≡ true → ⊥) → b ≡ false
-other_text true f = absurd (f refl)
-other_text false f = refl
+other-text : (b : Bool) → (b ≡ true → ⊥) → b ≡ false
+other-text true f = absurd (f refl)
+other-text false f = refl
 
 pub lacking-leaf : (rows : List Row) (name : List ℕ) → All (λ (r : Row). r.name ≢ name) rows
     → leaf_of name rows ≡ None
 lacking-leaf [] name lacks = refl
 lacking-leaf (row ∷ rows) name lacks =
     let apart : bytes_eq row.name name ≡ false =
-    other_text (bytes_eq row.name name)
+    other-text (bytes_eq row.name name)
     (λ t. lacks zero row (omega arith) ((bytes_eq-Decides row.name name).0 t)) in
     ap (λ b. option_and_then (λ (r : Row). r.leaf)
     (cond b (Some row) (find (λ (r : Row). bytes_eq r.name name) rows))) apart

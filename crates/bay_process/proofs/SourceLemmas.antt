@@ -11,7 +11,7 @@ use Rattle.bay_config.specs.declared.bay.Point.{Point}
 use Rattle.bay_nodes.specs.declared.switch.Switch.{Switch}
 use Rattle.il_image.specs.Images.{Each}
 use Rattle.il_image.specs.declared.image.ImagePoint.{ImagePoint}
-use Rattle.il_image.proofs.KindLemmas.{same_is}
+use Rattle.il_image.proofs.KindLemmas.{same-is}
 use Rattle.il_image.specs.Images.{Image}
 use Rattle.il_verify.specs.Binding.{are_points, fits, is_point}
 use Rattle.il_scan.specs.Scans.{read_only, type_of_point}
@@ -76,7 +76,7 @@ second false b e = absurd cc
 
 kind-is : (p : ImagePoint) (q : Point) → is_point p q ≡ true → p.elementary ≡ q.kind
 kind-is p q e =
-    same_is p.elementary q.kind
+    same-is p.elementary q.kind
     (first (same_type p.elementary q.kind) _ (second (same_name p.name q.name) _ e))
 
 -- the points that may only be read stand for what has their types

@@ -25,7 +25,7 @@ use Rattle.bay_config.specs.declared.bay.MeterField.TheVariants.{TotW, TotVAr, H
 use Rattle.bay_nodes.specs.declared.switch.Switch.{Switch}
 use Rattle.bay_nodes.specs.declared.switch.SwitchKind.{SwitchKind}
 use Rattle.bay_nodes.specs.declared.switch.SwitchKind.TheVariants.{Breaker, Disconnector, Earthing}
-use Rattle.bay_process.specs.Values.{is_truth, is_quality, with_status, with_enabled, with_output, counted, operation_counted, is_operation, tells, position_quality, rows_after_change, rows_after_contact, tells_measure, rows_after_measure}
+use Rattle.bay_process.specs.Values.{is_truth, is_quality, with_status, with_enabled, with_output, with_count, operation_counted, is_operation, tells, position_quality, rows_after_change, rows_after_contact, tells_measure, rows_after_measure}
 use Rattle.bay_nodes.specs.Names.{StatusNames, SwitchNames, switch_names, node_of, meter_names, interlocking_of, opening_of, closing_of}
 use Rattle.bay_process.specs.Names.{field_names}
 use Rattle.bay_process.specs.declared.switch.Enabled.{Enabled}
@@ -159,7 +159,7 @@ keeps-if true rows x y p q = p
 keeps-if false rows x y p q = q
 
 keeps-counted : (names : StatusNames) (o : Option Leaf) (now : ℕ) (rows : List Row) → AreAway names
-    → Keeps rows (counted names o now rows)
+    → Keeps rows (with_count names o now rows)
 keeps-counted names (Some (leaf.Int32 n)) now rows away k s =
     keeps-if (int_lt n (pos 2147483647)) rows
     (with_leaf_of names.time (leaf.Utc now)
@@ -205,11 +205,11 @@ keeps-contact switches j switch position now rows =
     let both : Keeps rows after =
     then-keeps rows told after (keeps-status names.position _ _ now rows places)
     (keeps-status names.control _ _ now told controls) in
-    let counted = operation_counted names.operations now after in
+    let with_count = operation_counted names.operations now after in
     keeps-if (tells names.position position rows) rows rows
     (rows_after_change names position now rows) (λ k s. refl)
-    (keeps-if (is_operation position (leaf_of names.position.value rows)) rows counted after
-    (then-keeps rows after counted both
+    (keeps-if (is_operation position (leaf_of names.position.value rows)) rows with_count after
+    (then-keeps rows after with_count both
     (keeps-counted names.operations (leaf_of names.operations.value after) now after counts))
     both)
 

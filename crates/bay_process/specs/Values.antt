@@ -73,13 +73,13 @@ is_truth b (Some (leaf.Truth c)) = beq b c
 is_truth b other = false
 
 -- one operation more, up to the greatest value
-abbrev pub counted : StatusNames → Option Leaf → ℕ → List Row → List Row
-counted names (Some (leaf.Int32 n)) now rows =
+abbrev pub with_count : StatusNames → Option Leaf → ℕ → List Row → List Row
+with_count names (Some (leaf.Int32 n)) now rows =
     if int_lt n (pos 2147483647)
     then with_leaf_of names.time (leaf.Utc now)
     (with_leaf_of names.value (leaf.Int32 (n +ℤ pos 1)) rows)
     else rows
-counted names other now rows = rows
+with_count names other now rows = rows
 
 -- a contact counts where it moves the switch to an end position
 abbrev pub is_operation : Dbpos → Option Leaf → Bool
@@ -87,7 +87,7 @@ is_operation position before = is_end_position position && not (is_position posi
 
 -- the count of a switch's operations with one more
 abbrev pub operation_counted : StatusNames → ℕ → List Row → List Row
-operation_counted names now rows = counted names (leaf_of names.value rows) now rows
+operation_counted names now rows = with_count names (leaf_of names.value rows) now rows
 
 -- the rows tell this position already
 abbrev pub tells : StatusNames → Dbpos → List Row → Bool

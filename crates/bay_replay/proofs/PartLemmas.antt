@@ -19,17 +19,17 @@ after-after : (xs ys : List ℕ) (parts : Option (List ℕ × List ℕ))
 after-after xs ys None = refl
 after-after xs ys (Some p) = ap (λ l. Some (l, p.1)) (sym (append_assoc xs ys p.0))
 
-separator_first : (before piece rest : List ℕ) → is_separator (content piece) ≡ true
+separator-first : (before piece rest : List ℕ) → is_separator (content piece) ≡ true
     → after before (part_of (piece ∷ pieces rest)) ≡ Some (before, rest)
-separator_first before piece rest e =
+separator-first before piece rest e =
     ap (λ w. after before (cond w (Some ([], concat (pieces rest)))
     (after piece (part_of (pieces rest))))) e
     ∙ ap (λ l. Some (before ++ [], l)) (concat-pieces rest)
     ∙ ap (λ l. Some (l, rest)) (append-nil before)
 
-other_line_first : (before piece rest : List ℕ) → is_separator (content piece) ≡ false
+other-line-first : (before piece rest : List ℕ) → is_separator (content piece) ≡ false
     → after before (part_of (piece ∷ pieces rest)) ≡ after (before ++ piece) (part_of (pieces rest))
-other_line_first before piece rest e =
+other-line-first before piece rest e =
     ap (λ w. after before (cond w (Some ([], concat (pieces rest)))
     (after piece (part_of (pieces rest))))) e
     ∙ after-after before piece (part_of (pieces rest))
@@ -61,7 +61,7 @@ PartSoFar-step text rest line next taken p c e =
             length-append c.piece next,
           );
       parts = p.parts ∙ ap (λ ps. after p.before (part_of ps)) c.first
-          ∙ other_line_first p.before c.piece next (ap is_separator (sym c.line_is) ∙ e);
+          ∙ other-line-first p.before c.piece next (ap is_separator (sym c.line_is) ∙ e);
     }
 
 pub PartSoFar-end : (text rest line next : List ℕ) (taken : ℕ) → PartSoFar text rest taken
@@ -72,7 +72,7 @@ PartSoFar-end text rest line next taken p c e =
     ap (λ n. take n text) (sym p.counted) ∙ ap (take (length p.before)) p.whole
     ∙ take-append_seam p.before rest in
     p.parts ∙ ap (λ ps. after p.before (part_of ps)) c.first
-    ∙ separator_first p.before c.piece next (ap is_separator (sym c.line_is) ∙ e)
+    ∙ separator-first p.before c.piece next (ap is_separator (sym c.line_is) ∙ e)
     ∙ ap (λ l. Some (l, next)) (sym front)
 
 pub PartSoFar-none : (text rest : List ℕ) (taken : ℕ) → PartSoFar text rest taken → length rest ≡ 0

@@ -49,21 +49,21 @@ pub record Told (s : Replaying) (k : ℕ) (lines : List (List ℕ)) : Type 0 whe
   pub status : ℕ
   pub told : TraceReport s k lines text status
 
-pub told_trace : (s : Replaying) (k : ℕ) (lines : List (List ℕ)) → Told s k lines
-told_trace s k [] = record { text = []; status = 0; told = (refl, refl) }
-told_trace s k (line ∷ lines) =
-    by_last (line_answer (heard None) k (trace_line_of line) s).is_last refl
-    (told_trace (line_answer (heard None) k (trace_line_of line) s).after (k + 1) lines)
+pub told-trace : (s : Replaying) (k : ℕ) (lines : List (List ℕ)) → Told s k lines
+told-trace s k [] = record { text = []; status = 0; told = (refl, refl) }
+told-trace s k (line ∷ lines) =
+    by-last (line_answer (heard None) k (trace_line_of line) s).is_last refl
+    (told-trace (line_answer (heard None) k (trace_line_of line) s).after (k + 1) lines)
   where
-    by_last : (b : Bool) → (line_answer (heard None) k (trace_line_of line) s).is_last ≡ b
+    by-last : (b : Bool) → (line_answer (heard None) k (trace_line_of line) s).is_last ≡ b
         → Told (line_answer (heard None) k (trace_line_of line) s).after (k + 1) lines
         → Told s k (line ∷ lines)
-    by_last true is rest = record {
+    by-last true is rest = record {
       text = (line_answer (heard None) k (trace_line_of line) s).text;
       status = 3;
       told = (heard None, when_true _ _ _ is (refl, refl));
     }
-    by_last false is rest = record {
+    by-last false is rest = record {
       text = (line_answer (heard None) k (trace_line_of line) s).text ++ rest.text;
       status = rest.status;
       told = (heard None, when_false _ _ _ is (rest.text, refl, rest.told));
@@ -85,7 +85,7 @@ module _ {W : Type 0} {contents : W → Option (List ℕ)} {asks : W → WriteCa
   pub Progress-cut : (fault : WriteFault) → mid.has_failed ≡ true
       → Prints contents asks May old mid (Err fault)
   Progress-cut fault failed =
-      let more = told_trace s k rest in
+      let more = told-trace s k rest in
       Prints-cut May more.text more.status fault (p.continues more.text more.status more.told) p.put
       failed
 

@@ -1,3 +1,14 @@
+-- The report of a scenario. `Replay` is the main file: what is printed for a scenario, and its
+-- status. It is a relation, since memory may run out while a scenario is read or loaded, and at a
+-- line with bytes: for each line there is a choice whose answer is printed. `fault 121` stands
+-- alone exactly if a read failed.
+--
+-- `Scenario`: the three parts, between the first two lines that are `%%`, and how many bytes it may
+-- have. `LineAnswers`: what is printed for a line, as a function of a choice: memory was refused
+-- for the bytes of the line (only if they are more than in any line before), or in the device.
+-- `Answering` is private to how a line is answered: with which choice, and by which steps.
+-- `ScenarioView` maps the code's slices to plain data.
+
 -- What public clauses cite of the crates below.
 pub use Rattle.bay_report.specs.Lines
 pub use Rattle.bay_report.specs.Load

@@ -9,9 +9,9 @@ use Rattle.bay_report.specs.TextLines.{is_line_feed}
 abbrev NoFeed : List ℕ → ℕ → ℕ → Type 0
 NoFeed xs i j = (k : ℕ) → i ≤ k → k < j → is_line_feed (slice_index xs k) ≡ false
 
-no_feed_here : (xs : List ℕ) (i j : ℕ) → is_line_feed (slice_index xs i) ≡ false
+no-feed-here : (xs : List ℕ) (i j : ℕ) → is_line_feed (slice_index xs i) ≡ false
     → NoFeed xs (i + 1) j → NoFeed xs i j
-no_feed_here xs i j here later k low high = by_test (nat_lt i k) refl
+no-feed-here xs i j here later k low high = by_test (nat_lt i k) refl
   where
     by_test : (v : Bool) → nat_lt i k ≡ v → is_line_feed (slice_index xs k) ≡ false
     by_test true e = later k (grind (arith, nat_tests)) high
@@ -24,12 +24,12 @@ pub record IsFirstFeed (xs : List ℕ) (i n k : ℕ) : Type 0 where
   pub before : NoFeed xs i k
   pub at : is_line_feed (slice_index xs k) ≡ true
 
-pub first_feed : (xs : List ℕ) (i n k : ℕ) (rest : List ℕ)
+pub first-feed : (xs : List ℕ) (i n k : ℕ) (rest : List ℕ)
     → places_from (is_byte 10) xs i n ≡ k ∷ rest → IsFirstFeed xs i n k
 unfolding places_from
-first_feed xs i zero k rest e = absurd cc
-first_feed xs i (suc n) k rest e =
-    by_test (first_feed xs (i + 1) n k rest) (is_line_feed (slice_index xs i)) refl
+first-feed xs i zero k rest e = absurd cc
+first-feed xs i (suc n) k rest e =
+    by_test (first-feed xs (i + 1) n k rest) (is_line_feed (slice_index xs i)) refl
   where
     by_test : (places_from (is_byte 10) xs (i + 1) n ≡ k ∷ rest → IsFirstFeed xs (i + 1) n k)
         → (v : Bool) → is_line_feed (slice_index xs i) ≡ v → IsFirstFeed xs i (suc n) k
@@ -46,18 +46,18 @@ first_feed xs i (suc n) k rest e =
         let first = more (rw h at e) in
         record {
           high = omega (arith, first.high);
-          before = no_feed_here xs i k h first.before;
+          before = no-feed-here xs i k h first.before;
           at = first.at;
         }
 
-pub no_feed : (xs : List ℕ) (i n : ℕ) → places_from (is_byte 10) xs i n ≡ [] → NoFeed xs i (i + n)
+pub no-feed : (xs : List ℕ) (i n : ℕ) → places_from (is_byte 10) xs i n ≡ [] → NoFeed xs i (i + n)
 unfolding places_from
-no_feed xs i zero e = λ k low high. absurd (omega (arith, low, high))
-no_feed xs i (suc n) e = by_test (no_feed xs (i + 1) n) (is_line_feed (slice_index xs i)) refl
+no-feed xs i zero e = λ k low high. absurd (omega (arith, low, high))
+no-feed xs i (suc n) e = by_test (no-feed xs (i + 1) n) (is_line_feed (slice_index xs i)) refl
   where
     by_test : (places_from (is_byte 10) xs (i + 1) n ≡ [] → NoFeed xs (i + 1) (i + 1 + n))
         → (v : Bool) → is_line_feed (slice_index xs i) ≡ v → NoFeed xs i (i + suc n)
     by_test more true h = let here : i ∷ places_from (is_byte 10) xs (i + 1) n ≡ [] =
         rw h at e in absurd cc
     by_test more false h =
-        no_feed_here xs i (i + suc n) h (λ k low high. more (rw h at e) k low (omega (arith, high)))
+        no-feed-here xs i (i + suc n) h (λ k low high. more (rw h at e) k low (omega (arith, high)))

@@ -7,41 +7,41 @@ use Rattle.std.proofs.lemmas.Slice.Eq.{bytes_eq-Decides}
 use Rattle.std.specs.List.{onto_first, concat}
 use Rattle.bay_report.specs.TextLines.{is_line_feed, pieces, ends_with, without_end, content, CutsLine, lines_of}
 
-feed_first : (b : ℕ) (bs : List ℕ) → is_line_feed b ≡ true → pieces (b ∷ bs) ≡ (b ∷ []) ∷ pieces bs
-feed_first b bs e = ap (λ v. cond v ((b ∷ []) ∷ pieces bs) (onto_first b (pieces bs))) e
+feed-first : (b : ℕ) (bs : List ℕ) → is_line_feed b ≡ true → pieces (b ∷ bs) ≡ (b ∷ []) ∷ pieces bs
+feed-first b bs e = ap (λ v. cond v ((b ∷ []) ∷ pieces bs) (onto_first b (pieces bs))) e
 
-other_first : (b : ℕ) (bs : List ℕ) → is_line_feed b ≡ false
+other-first : (b : ℕ) (bs : List ℕ) → is_line_feed b ≡ false
     → pieces (b ∷ bs) ≡ onto_first b (pieces bs)
-other_first b bs e = ap (λ v. cond v ((b ∷ []) ∷ pieces bs) (onto_first b (pieces bs))) e
+other-first b bs e = ap (λ v. cond v ((b ∷ []) ∷ pieces bs) (onto_first b (pieces bs))) e
 
-last_alone : (b : ℕ) (v : Bool) → cond v ((b ∷ []) ∷ []) (onto_first b []) ≡ (b ∷ []) ∷ []
-last_alone b true = refl
-last_alone b false = refl
+last-alone : (b : ℕ) (v : Bool) → cond v ((b ∷ []) ∷ []) (onto_first b []) ≡ (b ∷ []) ∷ []
+last-alone b true = refl
+last-alone b false = refl
 
 -- the first line feed, or the end, closes the first line
-pub pieces_at : (xs : List ℕ) (n : ℕ) → suc n ≤ length xs
+pub pieces-at : (xs : List ℕ) (n : ℕ) → suc n ≤ length xs
     → ((k : ℕ) → k < n → is_line_feed (get_or xs k 0) ≡ false)
     → (suc n < length xs → is_line_feed (get_or xs n 0) ≡ true)
     → pieces xs ≡ take (suc n) xs ∷ pieces (drop (suc n) xs)
-pieces_at [] n w f t = absurd (omega arith)
-pieces_at (b ∷ []) zero w f t = last_alone b (is_line_feed b)
-pieces_at (b ∷ c ∷ cs) zero w f t = feed_first b (c ∷ cs) (t (omega arith))
-pieces_at (b ∷ []) (suc n) w f t = absurd (omega arith)
-pieces_at (b ∷ c ∷ cs) (suc n) w f t =
-    other_first b (c ∷ cs) (f 0 (omega arith))
-    ∙ ap (onto_first b) (pieces_at (c ∷ cs) n (omega arith) (λ k h. f (suc k) (omega arith))
+pieces-at [] n w f t = absurd (omega arith)
+pieces-at (b ∷ []) zero w f t = last-alone b (is_line_feed b)
+pieces-at (b ∷ c ∷ cs) zero w f t = feed-first b (c ∷ cs) (t (omega arith))
+pieces-at (b ∷ []) (suc n) w f t = absurd (omega arith)
+pieces-at (b ∷ c ∷ cs) (suc n) w f t =
+    other-first b (c ∷ cs) (f 0 (omega arith))
+    ∙ ap (onto_first b) (pieces-at (c ∷ cs) n (omega arith) (λ k h. f (suc k) (omega arith))
     (λ h. t (omega arith)))
 
-pub cuts_line : (xs line : List ℕ) (n : ℕ) → 0 < n → n ≤ length xs
+pub cuts-line : (xs line : List ℕ) (n : ℕ) → 0 < n → n ≤ length xs
     → ((k : ℕ) → k + 1 < n → is_line_feed (get_or xs k 0) ≡ false)
     → (n < length xs → is_line_feed (get_or xs (n - 1) 0) ≡ true)
     → line ≡ content (take n xs) → CutsLine xs line (drop n xs)
-cuts_line xs line zero some w f t e = absurd (omega arith)
-cuts_line xs line (suc n) some w f t e =
+cuts-line xs line zero some w f t e = absurd (omega arith)
+cuts-line xs line (suc n) some w f t e =
     record {
       piece = take (suc n) xs;
       whole = sym (take-append-drop (suc n) xs);
-      first = pieces_at xs n w (λ k h. f k (omega arith))
+      first = pieces-at xs n w (λ k h. f k (omega arith))
           (λ h. let same : suc n - 1 ≡ n = omega arith in
           ap (λ m. is_line_feed (get_or xs m 0)) (sym same) ∙ t h);
       line_is = e;
@@ -82,43 +82,43 @@ content-unfed xs some none = by_test (ends_with (10 ∷ []) xs) refl
     by_test false e = rw e refl
 
 -- what stands before the first line feed is the first line, and what follows it the rest
-pub cuts_fed : (xs line : List ℕ) (at : ℕ) → at < length xs
+pub cuts-fed : (xs line : List ℕ) (at : ℕ) → at < length xs
     → ((k : ℕ) → k < at → is_line_feed (get_or xs k 0) ≡ false)
     → is_line_feed (get_or xs at 0) ≡ true
     → line ≡ without_end (13 ∷ []) (take at xs) → CutsLine xs line (drop (at + 1) xs)
-cuts_fed xs line at lt before is e =
+cuts-fed xs line at lt before is e =
     let next : at + 1 ≡ suc at = omega arith in
     let front : take (at + 1) xs ≡ take at xs ++ (get_or xs at 0 ∷ []) =
     ap (λ n. take n xs) next ∙ take-suc xs at 0 lt in
     let same : at + 1 - 1 ≡ at = omega arith in
-    cuts_line xs line (at + 1) (omega arith) (omega (arith, lt))
+    cuts-line xs line (at + 1) (omega arith) (omega (arith, lt))
     (λ k h. before k (omega (arith, h))) (λ h. ap (λ m. is_line_feed (get_or xs m 0)) same ∙ is)
     (e ∙ sym (ap content front ∙ content-fed (take at xs) (get_or xs at 0) is))
 
 -- without a line feed there is one line
-pub cuts_unfed : (xs : List ℕ) → 0 < length xs
+pub cuts-unfed : (xs : List ℕ) → 0 < length xs
     → ((k : ℕ) → k < length xs → is_line_feed (get_or xs k 0) ≡ false)
     → CutsLine xs xs (drop (length xs) xs)
-cuts_unfed xs some none =
+cuts-unfed xs some none =
     let whole : take (length xs) xs ≡ xs = take_all (length xs) xs (omega arith) in
     let last : is_line_feed (get_or xs (length xs - 1) 0) ≡ false =
     none (length xs - 1) (omega (arith, some)) in
-    cuts_line xs xs (length xs) some (omega arith) (λ k h. none k (omega (arith, h)))
+    cuts-line xs xs (length xs) some (omega arith) (λ k h. none k (omega (arith, h)))
     (λ h. absurd (omega (arith, h))) (sym (ap content whole ∙ content-unfed xs some last))
 
 concat-onto_first : (b : ℕ) (ps : List (List ℕ)) → concat (onto_first b ps) ≡ b ∷ concat ps
 concat-onto_first b [] = refl
 concat-onto_first b (p ∷ ps) = refl
 
-concat_step : (b : ℕ) (bs : List ℕ) (v : Bool) → concat (pieces bs) ≡ bs
+concat-step : (b : ℕ) (bs : List ℕ) (v : Bool) → concat (pieces bs) ≡ bs
     → concat (cond v ((b ∷ []) ∷ pieces bs) (onto_first b (pieces bs))) ≡ b ∷ bs
-concat_step b bs true h = ap (λ l. b ∷ l) h
-concat_step b bs false h = concat-onto_first b (pieces bs) ∙ ap (λ l. b ∷ l) h
+concat-step b bs true h = ap (λ l. b ∷ l) h
+concat-step b bs false h = concat-onto_first b (pieces bs) ∙ ap (λ l. b ∷ l) h
 
 -- the lines with their ends are the text
 pub concat-pieces : (bs : List ℕ) → concat (pieces bs) ≡ bs
 concat-pieces [] = refl
-concat-pieces (b ∷ bs) = concat_step b bs (is_line_feed b) (concat-pieces bs)
+concat-pieces (b ∷ bs) = concat-step b bs (is_line_feed b) (concat-pieces bs)
 
 pub lines-cut : (xs line rest : List ℕ) → CutsLine xs line rest
     → lines_of xs ≡ line ∷ lines_of rest

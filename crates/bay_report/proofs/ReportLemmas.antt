@@ -68,18 +68,18 @@ commands-turn now s commands k d lt =
     rw (add-one, drop-cons commands k d) refl in
     ap (commands_text now s) next
 
-pub nil_from_length : (xs : List ℕ) → length xs ≡ 0 → xs ≡ []
-nil_from_length [] e = refl
-nil_from_length (x ∷ xs) e = absurd (omega arith)
+pub nil-from-length : (xs : List ℕ) → length xs ≡ 0 → xs ≡ []
+nil-from-length [] e = refl
+nil-from-length (x ∷ xs) e = absurd (omega arith)
 
 -- ---- what becomes of a text that may be printed
 
 module _ {W : Type 0} {contents : W → Option (List ℕ)} {asks : W → WriteCall → W → Type 0}
     (May : List ℕ → ℕ → Type 0) where
-  last_printed : {old mid : Writing W} {text : List ℕ} (new : Writing W) (status : ℕ)
+  last-printed : {old mid : Writing W} {text : List ℕ} (new : Writing W) (status : ℕ)
       (r : Result ℕ WriteFault) → May text status → Puts contents asks old text mid
       → Ends contents mid new r → IfOk r (λ s. s ≡ status) → Printed contents May old new r
-  last_printed {old} {mid} {text} new status (Ok s) told put ends is = by_failed mid.has_failed
+  last-printed {old} {mid} {text} new status (Ok s) told put ends is = by_failed mid.has_failed
       refl put.sent
     where
       by_failed : (b : Bool) → mid.has_failed ≡ b
@@ -96,7 +96,7 @@ module _ {W : Type 0} {contents : W → Option (List ℕ)} {asks : W → WriteCa
         },
         (ends.2, ends.3.0, ends.3.1),
       )
-  last_printed {old} {mid} {text} new status (Err fault) told put ends is = (
+  last-printed {old} {mid} {text} new status (Err fault) told put ends is = (
     record {
       text = text;
       status = status;
@@ -123,7 +123,7 @@ module _ {W : Type 0} {contents : W → Option (List ℕ)} {asks : W → WriteCa
       → Finishes contents asks mid new r → IfOk r (λ s. s ≡ status)
       → Prints contents asks May old new r
   Prints-last {old} {mid} {text} new status r told put f is = record {
-    printed = last_printed new status r told put f.ends is;
+    printed = last-printed new status r told put f.ends is;
     asked = Asked-then old.inner mid.inner new.inner old.has_failed mid.has_failed new.has_failed
         put.asked f.asked;
   }

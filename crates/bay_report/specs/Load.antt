@@ -10,7 +10,7 @@ use Rattle.il_text.specs.Listing.{PlainProgram}
 use Rattle.il_text.specs.Reading.{program_of}
 use Rattle.il_text.specs.declared.fault.TextFault.{TextFault}
 use Rattle.il_text.specs.declared.fault.TextFault.TheVariants.{BadToken}
-use Rattle.il_image.specs.Decoding.{decoded}
+use Rattle.il_image.specs.Decoding.{image_spelled}
 use Rattle.bay_device.specs.Device.{State}
 use Rattle.bay_device.specs.Load.{of_bay, Loads}
 use Rattle.bay_device.specs.declared.fault.LoadFault.{LoadFault}
@@ -32,4 +32,4 @@ load_of bay logic = of_bay (file_of bay) (text_of logic)
 -- the octets of a bay file and of a program or an image load to this device, or are refused so
 abbrev pub LoadsTo : List ℕ → Form → List ℕ → Result State LoadFault → Type 0
 LoadsTo bay Logic program loaded = load_of bay program ≡ loaded
-LoadsTo bay Image program loaded = Loads (file_of bay) (decoded program) loaded
+LoadsTo bay Image program loaded = Loads (file_of bay) (image_spelled program) loaded

@@ -3,7 +3,7 @@ ghost use Rattle.std.specs.Prelude.{◌≡◌, ◌≢◌, Ok, Err, IfOk, IfErr};
 ghost use Rattle.bay_base.specs.Exact.{Gives};
 ghost use Rattle.bay_config.specs.Bay.{bay_of};
 ghost use Rattle.bay_services.specs.Released.{AreTimed};
-ghost use Rattle.il_image.specs.Decoding.{decoded};
+ghost use Rattle.il_image.specs.Decoding.{image_spelled};
 ghost use Rattle.bay_device.specs.Entries.{IsIdle};
 ghost use Rattle.bay_device.specs.Load.{of_bay, Loads};
 ghost use Rattle.bay_device.specs.declared.fault.LoadFault.TheVariants.{OutOfMemory};
@@ -74,9 +74,10 @@ pub fn load_octets(alloc: Global, bay: &[u8], logic: &[u8]) -> Result<Device, Lo
 
 /// The device of the octets of a bay file and of an image.
 fn load_image_octets(alloc: Global, bay: &[u8], image: &[u8]) -> Result<Device, LoadFault>
-    ensures ok { IfOk result (λ device. Loads (file_of bay.now) (decoded image.now) (Ok device)) }
+    ensures ok { IfOk result
+        (λ device. Loads (file_of bay.now) (image_spelled image.now) (Ok device)) }
     ensures refused { IfErr result
-        (λ e. e ≢ OutOfMemory → Loads (file_of bay.now) (decoded image.now) (Err e)) }
+        (λ e. e ≢ OutOfMemory → Loads (file_of bay.now) (image_spelled image.now) (Err e)) }
     // Nothing is selected, and no association is open; each switch that can be operated takes some
     // time.
     ensures idle { IfOk result IsIdle }

@@ -2,7 +2,7 @@
 use Rattle.std.proofs.Common.{◌≡◌, ℕ, zero, suc, ◌+◌, ◌<◌, ◌≤◌, ◌≢◌, Bool, true, false, Some, None, if◌then◌else◌, List, [], ◌∷◌, ◌++◌, length, drop, refl, ap, sym, ◌∙◌, subst, arith, append_assoc, append-nil, add-one}
 use Rattle.std.proofs.lemmas.List.{drop_all, drop-drop}
 use Rattle.bay_serve.specs.Calls.{Call, Writes, Talks}
-use Rattle.bay_serve.specs.Offers.{Offered, offered, last_write, after_call, after_calls}
+use Rattle.bay_serve.specs.Offers.{Offered, offering_of, last_write, after_call, after_calls}
 use Rattle.bay_serve.specs.Served.{Offers, Offering}
 use Rattle.bay_serve.proofs.TalkLemmas.{Talks-one, Talks-append}
 
@@ -15,17 +15,17 @@ after_calls-twice xs ys o =
 
 -- a write that takes something
 offered-more : (a : ℕ) (xs : List ℕ) (n : ℕ) (later : List ℕ) (fails : Bool) → 0 < length xs → n ≢ 0
-    → offered a xs (n ∷ later) fails
-    ≡ after_calls (Writes a xs (Some n) ∷ []) (offered a (drop n xs) later fails)
+    → offering_of a xs (n ∷ later) fails
+    ≡ after_calls (Writes a xs (Some n) ∷ []) (offering_of a (drop n xs) later fails)
 offered-more a [] n later fails h p = absurd (omega arith)
 offered-more a (x ∷ xs) zero later fails h p = absurd (p refl)
 offered-more a (x ∷ xs) (suc n) later fails h p =
-    ap (λ k. after_call (Writes a (x ∷ xs) (Some k)) (offered a (drop n xs) later fails))
+    ap (λ k. after_call (Writes a (x ∷ xs) (Some k)) (offering_of a (drop n xs) later fails))
     (add-one n)
 
 -- the last one
 offered-last : (a : ℕ) (xs : List ℕ) (fails : Bool) → 0 < length xs
-    → offered a xs [] fails ≡ last_write a xs fails
+    → offering_of a xs [] fails ≡ last_write a xs fails
 offered-last a [] fails h = absurd (omega arith)
 offered-last a (x ∷ xs) fails h = refl
 
@@ -48,12 +48,12 @@ module _ {L : Type 0} (step : L → Call → L → Type 0) where
         talks = Talks-append step old mid new so_far.calls (write ∷ []) so_far.talks
             (Talks-one step mid write new s);
         goes = λ later fails.
-            ap (λ l. offered a octets l fails) (append_assoc so_far.takes (n ∷ []) later)
+            ap (λ l. offering_of a octets l fails) (append_assoc so_far.takes (n ∷ []) later)
             ∙ so_far.goes (n ∷ later) fails
             ∙ ap (after_calls so_far.calls) (offered-more a (drop done octets) n later fails h p)
             ∙ after_calls-twice so_far.calls (write ∷ [])
-            (offered a (drop n (drop done octets)) later fails)
-            ∙ ap (λ l. after_calls (so_far.calls ++ write ∷ []) (offered a l later fails))
+            (offering_of a (drop n (drop done octets)) later fails)
+            ∙ ap (λ l. after_calls (so_far.calls ++ write ∷ []) (offering_of a l later fails))
             (drop-drop n done octets);
       }
 
@@ -63,9 +63,9 @@ module _ {L : Type 0} (step : L → Call → L → Type 0) where
       → Offers step old new a octets done false
   Offers-all old new a octets done so_far h =
       let none : drop done octets ≡ [] = drop_all done octets h in
-      let whole : offered a octets (so_far.takes ++ []) false
-      ≡ after_calls so_far.calls (offered a [] [] false) =
-      so_far.goes [] false ∙ ap (λ l. after_calls so_far.calls (offered a l [] false)) none in
+      let whole : offering_of a octets (so_far.takes ++ []) false
+      ≡ after_calls so_far.calls (offering_of a [] [] false) =
+      so_far.goes [] false ∙ ap (λ l. after_calls so_far.calls (offering_of a l [] false)) none in
       record {
         takes = so_far.takes ++ [];
         fails = false;
@@ -83,7 +83,7 @@ module _ {L : Type 0} (step : L → Call → L → Type 0) where
       → Offers step old new a octets done fails
   Offers-last old mid new a octets done fails so_far h s =
       let write = Writes a (drop done octets) (if fails then None else Some 0) in
-      let whole : offered a octets (so_far.takes ++ []) fails
+      let whole : offering_of a octets (so_far.takes ++ []) fails
       ≡ after_calls so_far.calls (last_write a (drop done octets) fails) =
       so_far.goes [] fails ∙ ap (after_calls so_far.calls)
       (offered-last a (drop done octets) fails h) in

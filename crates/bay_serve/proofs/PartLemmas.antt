@@ -1,23 +1,24 @@
 -- The parts of a turn.
 use Rattle.std.proofs.Common.{◌≡◌, ℕ, ◌+◌, Bool, true, false, Option, Some, None, Result, Ok, Err, List, [], ◌∷◌, ◌++◌, drop, refl, ap, sym, ◌∙◌, subst}
 use Rattle.bay_trace.specs.Trace.{NamedData}
-use Rattle.bay_serve.specs.Calls.{Call, Accepts, Reads, Closes, Talks, Heard, Silence, Octets, Over, Broken, heard}
+use Rattle.bay_serve.specs.Calls.{Call, Accepts, Reads, Closes, Talks, ReadOutcome, Silence, Octets, Over, Broken, heard_of}
 use Rattle.bay_serve.specs.Offers.{Offer}
 use Rattle.bay_serve.specs.Served.{Goes, GoesEach, Offers, Serves, TakesIn}
 use Rattle.bay_serve.specs.Standings.{is_leaving}
-use Rattle.bay_serve.specs.Turns.{Held, Noted, Script, Turning, accept_calls, accept_calls_at, accepted, after_accept, after_each, after_line, after_reads, after_scan, begun, calls_of_each, cut_off, free_place, heard_calls, hung_up, is_up, line_calls, lined, offer_calls, offer_end, offer_of, offer_one, on_accept, on_heard, opened, parted, queue_of, read_calls, read_one, scan_calls, scanned, settled, settling, standing_of, turned, turning, with_queue}
-use Rattle.bay_serve.specs.declared.link.Got.{Got}
+use Rattle.bay_serve.specs.Turns.{Held, Noted, Script, Turning, accept_calls, accept_calls_at, with_accept, after_accept, after_each, after_line, after_reads, after_scan, turn_begin, calls_of_each, cut_off, free_place, heard_calls, hung_up, is_up, line_calls, with_line, offer_calls, offer_end, offer_of, offer_one, on_accept, on_heard, after_opening, after_parting, queue_of, read_calls, read_one, scan_calls, after_turn_scan, after_settling, settling, standing_of, after_turn, turning, with_queue}
+use Rattle.bay_serve.specs.declared.link.Arrival.{Arrival}
 use Rattle.bay_serve.specs.declared.told.Closing.TheVariants.{LinkFailed}
 use Rattle.bay_serve.specs.declared.told.Turn.{Turn}
 use Rattle.bay_serve.proofs.TalkLemmas.{Talks-one, Talks-append}
 
-pub heard_as : {E : Type 0} (r : Result Got E) (got same : Got) (room : List ℕ) → r ≡ Ok got
-    → got ≡ same → heard r room ≡ heard {E = E} (Ok same) room
-heard_as {E} r got same room p q = ap (λ x. heard x room) p ∙ ap (λ x. heard {E = E} (Ok x) room) q
+pub heard-as : {E : Type 0} (r : Result Arrival E) (got same : Arrival) (room : List ℕ) → r ≡ Ok got
+    → got ≡ same → heard_of r room ≡ heard_of {E = E} (Ok same) room
+heard-as {E} r got same room p q =
+    ap (λ x. heard_of x room) p ∙ ap (λ x. heard_of {E = E} (Ok x) room) q
 
-pub heard_broken : {E : Type 0} (r : Result Got E) (e : E) (room : List ℕ) → r ≡ Err e
-    → heard r room ≡ Broken
-heard_broken r e room p = ap (λ x. heard x room) p
+pub heard-broken : {E : Type 0} (r : Result Arrival E) (e : E) (room : List ℕ) → r ≡ Err e
+    → heard_of r room ≡ Broken
+heard-broken r e room p = ap (λ x. heard_of x room) p
 
 pub turning-as : (s t : Held) (n m : Noted) → s ≡ t → n ≡ m → turning s n ≡ turning t m
 turning-as s t n m p q = ap (λ x. turning x n) p ∙ ap (λ x. turning t x) q
@@ -29,7 +30,7 @@ module _ {L : Type 0} (step : L → Call → L → Type 0) where
       → free_place before.server ≡ Some place
       → Talks step old (accept_calls_at now (Some place) taken before) new
       → after ≡ on_accept now (Some place) taken before
-      → Goes step (accepted now) (accept_calls now) old new before after
+      → Goes step (with_accept now) (accept_calls now) old new before after
   accepts old new now place taken before after e talks is =
       record {
         choice = taken;
@@ -37,105 +38,107 @@ module _ {L : Type 0} (step : L → Call → L → Type 0) where
         is = is ∙ ap (λ o. on_accept now o taken before) (sym e);
       }
 
-  pub accepts_none : (l : L) (now : ℕ) (before : Turning) → free_place before.server ≡ None
-      → Goes step (accepted now) (accept_calls now) l l before before
-  accepts_none l now before e = record {
+  pub accepts-none : (l : L) (now : ℕ) (before : Turning) → free_place before.server ≡ None
+      → Goes step (with_accept now) (accept_calls now) l l before before
+  accepts-none l now before e = record {
     choice = None;
     talks = subst (λ o. Talks step l (accept_calls_at now o None before) l) (sym e) refl;
     is = ap (λ o. on_accept now o None before) (sym e);
   }
 
-  pub accepts_true : (old mid new : L) (now place : ℕ) (taken : Bool)
+  pub accepts-true : (old mid new : L) (now place : ℕ) (taken : Bool)
       (before between after : Turning) → free_place before.server ≡ Some place
       → taken ≡ true → step old (Accepts (place + 1) (Some taken)) mid
-      → between ≡ opened now place before
-      → Talks step mid (settling now between) new → after ≡ settled now between
-      → Goes step (accepted now) (accept_calls now) old new before after
-  accepts_true old mid new now place taken before between after e t s is talks settles =
+      → between ≡ after_opening now place before
+      → Talks step mid (settling now between) new → after ≡ after_settling now between
+      → Goes step (with_accept now) (accept_calls now) old new before after
+  accepts-true old mid new now place taken before between after e t s is talks settles =
       let call : step old (Accepts (place + 1) (Some true)) mid =
       subst (λ b. step old (Accepts (place + 1) (Some b)) mid) t s in
-      let rest : Talks step mid (settling now (opened now place before)) new =
+      let rest : Talks step mid (settling now (after_opening now place before)) new =
       subst (λ x. Talks step mid (settling now x) new) is talks in
       accepts old new now place (Some true) before after e (mid, call, rest)
-      (settles ∙ ap (settled now) is)
+      (settles ∙ ap (after_settling now) is)
 
-  pub accepts_false : (old new : L) (now place : ℕ) (taken : Bool) (before : Turning)
+  pub accepts-false : (old new : L) (now place : ℕ) (taken : Bool) (before : Turning)
       → free_place before.server ≡ Some place → taken ≡ false
       → step old (Accepts (place + 1) (Some taken)) new
-      → Goes step (accepted now) (accept_calls now) old new before before
-  accepts_false old new now place taken before e t s =
+      → Goes step (with_accept now) (accept_calls now) old new before before
+  accepts-false old new now place taken before e t s =
       accepts old new now place (Some false) before before e
       (new, subst (λ b. step old (Accepts (place + 1) (Some b)) new) t s, refl) refl
 
-  pub accepts_failed : (old new : L) (now place : ℕ) (before : Turning)
+  pub accepts-failed : (old new : L) (now place : ℕ) (before : Turning)
       → free_place before.server ≡ Some place
       → step old (Accepts (place + 1) None) new
-      → Goes step (accepted now) (accept_calls now) old new before before
-  accepts_failed old new now place before e s =
+      → Goes step (with_accept now) (accept_calls now) old new before before
+  accepts-failed old new now place before e s =
       accepts old new now place None before before e (new, s, refl) refl
 
   -- ---- what is read
 
-  pub reads_not : (l : L) (now place : ℕ) (before : Turning) → is_up place before ≡ false
+  pub reads-not : (l : L) (now place : ℕ) (before : Turning) → is_up place before ≡ false
       → Goes step (read_one now place) (read_calls now place) l l before before
-  reads_not l now place before e =
+  reads-not l now place before e =
       record {
         choice = record { heard = Silence; choice = None };
         talks = rw e refl;
         is = rw e refl;
       }
 
-  reads : (old mid new : L) (now place : ℕ) (choice : Option ℕ) (what heard : Heard)
+  reads : (old mid new : L) (now place : ℕ) (choice : Option ℕ) (what heard_of : ReadOutcome)
       (before after : Turning) → is_up place before ≡ true
-      → what ≡ heard → step old (Reads (place + 1) 4096 what) mid
-      → Talks step mid (heard_calls now place choice heard before) new
-      → after ≡ on_heard now place choice heard before
+      → what ≡ heard_of → step old (Reads (place + 1) 4096 what) mid
+      → Talks step mid (heard_calls now place choice heard_of before) new
+      → after ≡ on_heard now place choice heard_of before
       → Goes step (read_one now place) (read_calls now place) old new before after
-  reads old mid new now place choice what heard before after e h s t is =
+  reads old mid new now place choice what heard_of before after e h s t is =
       record {
-        choice = record { heard = heard; choice = choice };
+        choice = record { heard = heard_of; choice = choice };
         talks = rw e (mid, subst (λ w. step old (Reads (place + 1) 4096 w) mid) h s, t);
         is = rw e is;
       }
 
-  pub reads_octets : (old mid new : L) (now place : ℕ) (octets : List ℕ) (what : Heard)
+  pub reads-octets : (old mid new : L) (now place : ℕ) (octets : List ℕ) (what : ReadOutcome)
       (before between after : Turning) → is_up place before ≡ true
       → what ≡ Octets octets → step old (Reads (place + 1) 4096 what) mid
       → TakesIn now place octets before between
-      → Talks step mid (settling now between) new → after ≡ settled now between
+      → Talks step mid (settling now between) new → after ≡ after_settling now between
       → Goes step (read_one now place) (read_calls now place) old new before after
-  reads_octets old mid new now place octets what before between after e h s taken talks is =
+  reads-octets old mid new now place octets what before between after e h s taken talks is =
       reads old mid new now place taken.choice what (Octets octets) before after e h s
       (subst (λ x. Talks step mid (settling now x) new) taken.is talks)
-      (is ∙ ap (settled now) taken.is)
+      (is ∙ ap (after_settling now) taken.is)
 
-  pub reads_silence : (old new : L) (now place : ℕ) (what : Heard) (before : Turning)
+  pub reads-silence : (old new : L) (now place : ℕ) (what : ReadOutcome) (before : Turning)
       → is_up place before ≡ true → what ≡ Silence
       → step old (Reads (place + 1) 4096 what) new
       → Goes step (read_one now place) (read_calls now place) old new before before
-  reads_silence old new now place what before e h s =
+  reads-silence old new now place what before e h s =
       reads old new new now place None what Silence before before e h s refl refl
 
-  pub reads_over : (old mid new : L) (now place : ℕ) (what : Heard) (before between after : Turning)
+  pub reads-over : (old mid new : L) (now place : ℕ) (what : ReadOutcome)
+      (before between after : Turning)
       → is_up place before ≡ true → what ≡ Over
       → step old (Reads (place + 1) 4096 what) mid → between ≡ hung_up now place before
       → Talks step mid (settling now between) new
-      → after ≡ settled now between
+      → after ≡ after_settling now between
       → Goes step (read_one now place) (read_calls now place) old new before after
-  reads_over old mid new now place what before between after e h s hung talks is =
+  reads-over old mid new now place what before between after e h s hung talks is =
       reads old mid new now place None what Over before after e h s
-      (subst (λ x. Talks step mid (settling now x) new) hung talks) (is ∙ ap (settled now) hung)
+      (subst (λ x. Talks step mid (settling now x) new) hung talks)
+      (is ∙ ap (after_settling now) hung)
 
-  pub reads_broken : (old mid cut new : L) (now place : ℕ) (what : Heard)
+  pub reads-broken : (old mid cut new : L) (now place : ℕ) (what : ReadOutcome)
       (before between after : Turning) → is_up place before ≡ true → what ≡ Broken
       → step old (Reads (place + 1) 4096 what) mid → step mid (Closes (place + 1)) cut
       → between ≡ cut_off now LinkFailed place before
-      → Talks step cut (settling now between) new → after ≡ settled now between
+      → Talks step cut (settling now between) new → after ≡ after_settling now between
       → Goes step (read_one now place) (read_calls now place) old new before after
-  reads_broken old mid cut new now place what before between after e h s close off talks is =
+  reads-broken old mid cut new now place what before between after e h s close off talks is =
       reads old mid new now place None what Broken before after e h s
       (cut, close, subst (λ x. Talks step cut (settling now x) new) off talks)
-      (is ∙ ap (settled now) off)
+      (is ∙ ap (after_settling now) off)
 
   -- ---- what is offered
 
@@ -146,22 +149,22 @@ module _ {L : Type 0} (step : L → Call → L → Type 0) where
       subst (λ b. Offers step old new a ys done b) q
       (subst (λ l. Offers step old new a l done failed) p o)
 
-  pub offers_not : (l : L) (now place : ℕ) (before : Turning)
+  pub offers-not : (l : L) (now place : ℕ) (before : Turning)
       → is_leaving (standing_of place before) ≡ false → is_up place before ≡ false
       → Goes step (offer_one now place) (offer_calls now place) l l before before
-  offers_not l now place before e f =
+  offers-not l now place before e f =
       record {
         choice = record { takes = []; fails = false };
         talks = rw (e, f) refl;
         is = rw (e, f) refl;
       }
 
-  pub offers_leaving : (old mid new : L) (now place done : ℕ) (failed : Bool)
+  pub offers-leaving : (old mid new : L) (now place done : ℕ) (failed : Bool)
       (before after : Turning) → is_leaving (standing_of place before) ≡ true
       → Offers step old mid (place + 1) (queue_of place before) done failed
-      → step mid (Closes (place + 1)) new → after ≡ parted place before
+      → step mid (Closes (place + 1)) new → after ≡ after_parting place before
       → Goes step (offer_one now place) (offer_calls now place) old new before after
-  offers_leaving old mid new now place done failed before after e o s is =
+  offers-leaving old mid new now place done failed before after e o s is =
       let offer : Offer = record { takes = o.takes; fails = o.fails } in
       record {
         choice = offer;
@@ -170,13 +173,13 @@ module _ {L : Type 0} (step : L → Call → L → Type 0) where
         is = rw e is;
       }
 
-  pub offers_cut : (old mid cut new : L) (now place done : ℕ) (before between after : Turning)
+  pub offers-cut : (old mid cut new : L) (now place done : ℕ) (before between after : Turning)
       → is_leaving (standing_of place before) ≡ false → is_up place before ≡ true
       → Offers step old mid (place + 1) (queue_of place before) done true
       → step mid (Closes (place + 1)) cut → between ≡ cut_off now LinkFailed place before
-      → Talks step cut (settling now between) new → after ≡ settled now between
+      → Talks step cut (settling now between) new → after ≡ after_settling now between
       → Goes step (offer_one now place) (offer_calls now place) old new before after
-  offers_cut old mid cut new now place done before between after e f o s off talks is =
+  offers-cut old mid cut new now place done before between after e f o s off talks is =
       let offer : Offer = record { takes = o.takes; fails = o.fails } in
       let ends : offer_end now place (offer_of place offer before).failed before
       ≡ Closes (place + 1) ∷ settling now (cut_off now LinkFailed place before) =
@@ -189,15 +192,15 @@ module _ {L : Type 0} (step : L → Call → L → Type 0) where
         talks = rw (e, f) (subst
             (λ l. Talks step old ((offer_of place offer before).calls ++ l) new) (sym ends)
             (Talks-append step old mid new (offer_of place offer before).calls _ o.talks behind));
-        is = rw (e, f, o.failed_is) (is ∙ ap (settled now) off);
+        is = rw (e, f, o.failed_is) (is ∙ ap (after_settling now) off);
       }
 
-  pub offers_kept : (old new : L) (now place done : ℕ) (before after : Turning)
+  pub offers-kept : (old new : L) (now place done : ℕ) (before after : Turning)
       → is_leaving (standing_of place before) ≡ false → is_up place before ≡ true
       → Offers step old new (place + 1) (queue_of place before) done false
       → after ≡ with_queue place (drop done (queue_of place before)) before
       → Goes step (offer_one now place) (offer_calls now place) old new before after
-  offers_kept old new now place done before after e f o is =
+  offers-kept old new now place done before after e f o is =
       let offer : Offer = record { takes = o.takes; fails = o.fails } in
       let kept : offer_end now place (offer_of place offer before).failed before ≡ [] =
       ap (λ b. offer_end now place b before) o.failed_is in
@@ -213,10 +216,10 @@ module _ {L : Type 0} (step : L → Call → L → Type 0) where
 
   serves : (old l m p q new : L) (now : ℕ) (line : Option NamedData) (before after : Held)
       (noted : Noted) (s t u v : Turning) (turn : Turn)
-      → Goes step (accepted now) (accept_calls now) old l (begun before) s
+      → Goes step (with_accept now) (accept_calls now) old l (turn_begin before) s
       → GoesEach step (read_one now) (read_calls now) l m 8 s t
-      → Talks step m (line_calls now line t) p → u ≡ lined now line t
-      → Talks step p (scan_calls now u) q → v ≡ scanned now u
+      → Talks step m (line_calls now line t) p → u ≡ with_line now line t
+      → Talks step p (scan_calls now u) q → v ≡ after_turn_scan now u
       → GoesEach step (offer_one now) (offer_calls now) q new 8 v (turning after noted)
       → turn ≡ record {
         refused = noted.refused;
@@ -232,9 +235,11 @@ module _ {L : Type 0} (step : L → Call → L → Type 0) where
       let first : s ≡ after_accept now script before = a.is in
       let second : t ≡ after_reads now script before =
       r.is ∙ ap (after_each (read_one now) 0 r.choices) first in
-      let third : u ≡ after_line now line script before = line_is ∙ ap (lined now line) second in
-      let fourth : v ≡ after_scan now line script before = scan_is ∙ ap (scanned now) third in
-      let whole : turning after noted ≡ turned now line script before =
+      let third : u ≡ after_line now line script before =
+      line_is ∙ ap (with_line now line) second in
+      let fourth : v ≡ after_scan now line script before =
+      scan_is ∙ ap (after_turn_scan now) third in
+      let whole : turning after noted ≡ after_turn now line script before =
       o.is ∙ ap (after_each (offer_one now) 0 o.choices) fourth in
       let read_talks : Talks step l
       (calls_of_each (read_one now) (read_calls now) 0 r.choices
@@ -267,13 +272,13 @@ module _ {L : Type 0} (step : L → Call → L → Type 0) where
       }
 
   -- with what the code has in hand
-  pub serves_with : (old l m p q new : L) (now : ℕ) (line : Option NamedData) (before after : Held)
+  pub serves-with : (old l m p q new : L) (now : ℕ) (line : Option NamedData) (before after : Held)
       (first noted : Noted) (s t u v : Turning) (turn : Turn)
-      → turning before first ≡ begun before
-      → Goes step (accepted now) (accept_calls now) old l (turning before first) s
+      → turning before first ≡ turn_begin before
+      → Goes step (with_accept now) (accept_calls now) old l (turning before first) s
       → GoesEach step (read_one now) (read_calls now) l m 8 s t
-      → Talks step m (line_calls now line t) p → u ≡ lined now line t
-      → Talks step p (scan_calls now u) q → v ≡ scanned now u
+      → Talks step m (line_calls now line t) p → u ≡ with_line now line t
+      → Talks step p (scan_calls now u) q → v ≡ after_turn_scan now u
       → GoesEach step (offer_one now) (offer_calls now) q new 8 v (turning after noted)
       → turn ≡ record {
         refused = noted.refused;
@@ -282,15 +287,15 @@ module _ {L : Type 0} (step : L → Call → L → Type 0) where
         memory = noted.memory;
       }
       → Serves step old new now line before after turn
-  serves_with old l m p q new now line before after first noted s t u v turn e a r lt li st si o
+  serves-with old l m p q new now line before after first noted s t u v turn e a r lt li st si o
       told =
       serves old l m p q new now line before after noted s t u v turn
-      (subst (λ x. Goes step (accepted now) (accept_calls now) old l x s) e a) r lt li st si o
+      (subst (λ x. Goes step (with_accept now) (accept_calls now) old l x s) e a) r lt li st si o
       told
 
-  pub serves_as : (old new : L) (now same : ℕ) (line told : Option NamedData) (before after : Held)
+  pub serves-as : (old new : L) (now same : ℕ) (line told : Option NamedData) (before after : Held)
       (turn : Turn) → Serves step old new now line before after turn
       → now ≡ same → line ≡ told → Serves step old new same told before after turn
-  serves_as old new now same line told before after turn serves p q =
+  serves-as old new now same line told before after turn serves p q =
       subst (λ n. Serves step old new n told before after turn) p
       (subst (λ l. Serves step old new now l before after turn) q serves)

@@ -51,7 +51,7 @@ pub taken : (now place : ℕ) (octets : List ℕ) (h after : Held) (noted left :
     → commands ≡ step.commands → v ≡ with_commands commands u
     → TakesIn now place octets (turning h noted) v
 taken now place octets h after noted left e result step sends commands t u v is steps ok queues
-    leaves put all_sent puts all_told tells =
+    leaves put all_sent puts all-told tells =
     let choice : Option ℕ = steps.choice in
     let o : Outcome = outcome choice now (Recv (place + 1) (lying octets)) h.device in
     let same : outcome choice now e h.device ≡ o =
@@ -67,7 +67,7 @@ taken now place octets h after noted left e result step sends commands t u v is 
     let whole : v ≡ with_commands step.commands
     (put_all step.sent (put_ended step.ended
     (left_by place step.closed (with_device o.after (turning h noted))))) =
-    tells ∙ ap (λ (cs : List Command). with_commands cs u) all_told
+    tells ∙ ap (λ (cs : List Command). with_commands cs u) all-told
     ∙ ap (λ (x : Turning). with_commands step.commands x)
     (puts ∙ ap (λ (xs : List Sent). put_all xs t) all_sent
     ∙ ap (λ (x : Turning). put_all step.sent x)

@@ -1,40 +1,40 @@
 -- What a link is asked, and what it answers.
 use Rattle.std.specs.Prelude.{◌≡◌, ℕ, ◌+◌, ◌≤◌, Bool, true, false, if◌then◌else◌, min, List, [], ◌∷◌, length, take, Option, is_none, Result, Ok, Err}
-use Rattle.bay_serve.specs.declared.link.Got.{Got}
-use Rattle.bay_serve.specs.declared.link.Got.TheVariants.{Bytes, Nothing, End}
+use Rattle.bay_serve.specs.declared.link.Arrival.{Arrival}
+use Rattle.bay_serve.specs.declared.link.Arrival.TheVariants.{Bytes, Nothing, End}
 
 -- what a read brought: octets, nothing yet, the end, or a failure
-pub data Heard : Type 0 where
-  Octets : List ℕ → Heard
-  Silence : Heard
-  Over : Heard
-  Broken : Heard
+pub data ReadOutcome : Type 0 where
+  Octets : List ℕ → ReadOutcome
+  Silence : ReadOutcome
+  Over : ReadOutcome
+  Broken : ReadOutcome
 
 -- one call, with the number of an association: whether a connection was taken for it; how many
 -- octets were asked for, and what came; the octets offered, and how many of them were taken; a
 -- closing. None stands for a failure
 pub data Call : Type 0 where
   Accepts : ℕ → Option Bool → Call
-  Reads : ℕ → ℕ → Heard → Call
+  Reads : ℕ → ℕ → ReadOutcome → Call
   Writes : ℕ → List ℕ → Option ℕ → Call
   Closes : ℕ → Call
 
 -- what a read's answer says, with the octets that were put into its room
-abbrev pub heard : {E : Type 0} → Result Got E → List ℕ → Heard
-heard (Ok (Bytes n)) room = Octets (take n room)
-heard (Ok Nothing) room = Silence
-heard (Ok End) room = Over
-heard (Err e) room = Broken
+abbrev pub heard_of : {E : Type 0} → Result Arrival E → List ℕ → ReadOutcome
+heard_of (Ok (Bytes n)) room = Octets (take n room)
+heard_of (Ok Nothing) room = Silence
+heard_of (Ok End) room = Over
+heard_of (Err e) room = Broken
 
 -- a read brings no more octets than there is room for
-abbrev pub FitsIn : {E : Type 0} → List ℕ → Result Got E → Type 0
+abbrev pub FitsIn : {E : Type 0} → List ℕ → Result Arrival E → Type 0
 FitsIn room (Ok (Bytes n)) = n ≤ length room
 FitsIn room (Ok Nothing) = Unit {0}
 FitsIn room (Ok End) = Unit {0}
 FitsIn room (Err e) = Unit {0}
 
 -- the link failed
-abbrev pub is_broken : Heard → Bool
+abbrev pub is_broken : ReadOutcome → Bool
 is_broken (Octets xs) = false
 is_broken Silence = false
 is_broken Over = false

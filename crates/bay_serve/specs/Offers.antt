@@ -33,9 +33,9 @@ last_write a octets fails =
 
 -- Octets are offered until none is left, until a write takes none, or until one fails. The link
 -- takes so many at each write.
-abbrev pub offered : ℕ → List ℕ → List ℕ → Bool → Offered
-offered a [] takes fails = record { left = []; failed = false; calls = [] }
-offered a (x ∷ xs) [] fails = last_write a (x ∷ xs) fails
-offered a (x ∷ xs) (zero ∷ takes) fails = last_write a (x ∷ xs) false
-offered a (x ∷ xs) (suc n ∷ takes) fails =
-    after_call (Writes a (x ∷ xs) (Some (n + 1))) (offered a (drop n xs) takes fails)
+abbrev pub offering_of : ℕ → List ℕ → List ℕ → Bool → Offered
+offering_of a [] takes fails = record { left = []; failed = false; calls = [] }
+offering_of a (x ∷ xs) [] fails = last_write a (x ∷ xs) fails
+offering_of a (x ∷ xs) (zero ∷ takes) fails = last_write a (x ∷ xs) false
+offering_of a (x ∷ xs) (suc n ∷ takes) fails =
+    after_call (Writes a (x ∷ xs) (Some (n + 1))) (offering_of a (drop n xs) takes fails)

@@ -4,8 +4,8 @@ use Rattle.std.specs.Borrow.{Bor}
 use Rattle.bay_device.specs.Outcomes.{last_moment}
 use Rattle.bay_trace.specs.Trace.{NamedData, process_of, trace_line_of}
 use Rattle.bay_serve.specs.Calls.{Call, Talks}
-use Rattle.bay_serve.specs.Offers.{offered, after_calls}
-use Rattle.bay_serve.specs.Turns.{Held, Script, Turning, after_each, calls_of_each, moment_at, taken_in, turned, turn_calls}
+use Rattle.bay_serve.specs.Offers.{offering_of, after_calls}
+use Rattle.bay_serve.specs.Turns.{Held, Script, Turning, after_each, calls_of_each, moment_at, taken_in, after_turn, turn_calls}
 use Rattle.bay_serve.specs.declared.fault.ServeFault.{ServeFault}
 use Rattle.bay_serve.specs.declared.fault.ServeFault.TheVariants.{BadLine, MomentTooLarge, OutOfMemory}
 use Rattle.bay_serve.specs.declared.told.Turn.{Turn}
@@ -75,9 +75,9 @@ module _ {L : Type 0} (step : L → Call → L → Type 0) where
       : Type 0 where
     pub takes : List ℕ
     pub fails : Bool
-    pub talks : Talks step old (offered a octets takes fails).calls new
-    pub left : (offered a octets takes fails).left ≡ drop done octets
-    pub failed_is : (offered a octets takes fails).failed ≡ failed
+    pub talks : Talks step old (offering_of a octets takes fails).calls new
+    pub left : (offering_of a octets takes fails).left ≡ drop done octets
+    pub failed_is : (offering_of a octets takes fails).failed ≡ failed
 
   -- octets are being offered: so many were taken up to here
   pub record Offering (old new : L) (a : ℕ) (octets : List ℕ) (done : ℕ) : Type 0 where
@@ -85,8 +85,8 @@ module _ {L : Type 0} (step : L → Call → L → Type 0) where
     pub calls : List Call
     pub talks : Talks step old calls new
     pub goes : (later : List ℕ) (fails : Bool)
-        → offered a octets (takes ++ later) fails
-        ≡ after_calls calls (offered a (drop done octets) later fails)
+        → offering_of a octets (takes ++ later) fails
+        ≡ after_calls calls (offering_of a (drop done octets) later fails)
 
   -- ---- a turn
 
@@ -99,8 +99,8 @@ module _ {L : Type 0} (step : L → Call → L → Type 0) where
     pub all_read : length script.readings ≡ 8
     pub all_offered : length script.offers ≡ 8
     pub talks : Talks step old (turn_calls now line script before) new
-    pub server : after ≡ (turned now line script before).server
-    pub refused : turn.refused ≡ (turned now line script before).noted.refused
-    pub commands : turn.commands ≡ (turned now line script before).noted.commands
-    pub closed : turn.closed ≡ (turned now line script before).noted.closed
-    pub memory : turn.memory ≡ (turned now line script before).noted.memory
+    pub server : after ≡ (after_turn now line script before).server
+    pub refused : turn.refused ≡ (after_turn now line script before).noted.refused
+    pub commands : turn.commands ≡ (after_turn now line script before).noted.commands
+    pub closed : turn.closed ≡ (after_turn now line script before).noted.closed
+    pub memory : turn.memory ≡ (after_turn now line script before).noted.memory

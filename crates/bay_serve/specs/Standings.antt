@@ -36,9 +36,9 @@ takes_replies LeavingFull is_open = false
 takes_replies Gone is_open = false
 
 -- after a reply that did not fit
-abbrev pub filled : Standing → Standing
-filled Steady = Full
-filled Full = Full
-filled Leaving = LeavingFull
-filled LeavingFull = LeavingFull
-filled Gone = Gone
+abbrev pub after_full : Standing → Standing
+after_full Steady = Full
+after_full Full = Full
+after_full Leaving = LeavingFull
+after_full LeavingFull = LeavingFull
+after_full Gone = Gone

@@ -14,9 +14,9 @@ use Rattle.bay_device.specs.declared.event.Why.TheVariants.{Ended, Fault, Memory
 use Rattle.bay_device.specs.declared.fault.StepFault.{StepFault}
 use Rattle.bay_trace.specs.Placing.{lying, placed_event}
 use Rattle.bay_trace.specs.Trace.{NamedData}
-use Rattle.bay_serve.specs.Calls.{Call, Accepts, Reads, Closes, Heard, Octets, Silence, Over, Broken}
-use Rattle.bay_serve.specs.Offers.{Offer, Offered, offered}
-use Rattle.bay_serve.specs.Standings.{filled, is_full, is_leaving, is_told, takes_replies}
+use Rattle.bay_serve.specs.Calls.{Call, Accepts, Reads, Closes, ReadOutcome, Octets, Silence, Over, Broken}
+use Rattle.bay_serve.specs.Offers.{Offer, Offered, offering_of}
+use Rattle.bay_serve.specs.Standings.{after_full, is_full, is_leaving, is_told, takes_replies}
 use Rattle.bay_serve.specs.declared.standing.Standing.{Standing}
 use Rattle.bay_serve.specs.declared.standing.Standing.TheVariants.{Steady, Leaving, Gone}
 use Rattle.bay_serve.specs.declared.told.Closing.{Closing}
@@ -85,8 +85,8 @@ with_noted noted s = record { server = s.server; noted = noted }
 -- ---- what is told
 
 -- that an association was closed, once
-abbrev pub told : ℕ → Closing → Noted → Noted
-told place closing n =
+abbrev pub with_closing : ℕ → Closing → Noted → Noted
+with_closing place closing n =
     if is_told (standing_in place n) then n
     else record n { closed = n.closed ++ (place + 1, closing) ∷ [] }
 
@@ -97,8 +97,8 @@ told_memory place n =
 
 -- that the device closed it
 abbrev pub told_why : ℕ → Why → Noted → Noted
-told_why place Ended n = told place closing.Ended n
-told_why place (Fault code) n = told place (closing.Fault code) n
+told_why place Ended n = with_closing place closing.Ended n
+told_why place (Fault code) n = with_closing place (closing.Fault code) n
 told_why place Memory n = told_memory place n
 
 -- an association was closed, and its queue is to be offered once more
@@ -107,7 +107,7 @@ leaves place why n = stands place Leaving (told_why place why n)
 
 -- it was closed, and nothing is left to send
 abbrev pub goes : ℕ → Closing → Noted → Noted
-goes place closing n = stands place Gone (told place closing n)
+goes place closing n = stands place Gone (with_closing place closing n)
 
 -- ---- what is sent
 
@@ -119,7 +119,7 @@ has_room queue octets = nat_le (length queue + length octets) 262144
 abbrev pub put_whole : ℕ → List ℕ → Turning → Turning
 put_whole place octets s =
     if has_room (queue_of place s) octets then with_queue place (queue_of place s ++ octets) s
-    else with_noted (stands place (filled (standing_of place s)) s.noted) s
+    else with_noted (stands place (after_full (standing_of place s)) s.noted) s
 
 -- one that is open, and not leaving, takes replies
 abbrev pub put_at : Option ℕ → List ℕ → Turning → Turning
@@ -153,13 +153,13 @@ abbrev pub quiet_after : Outcome → Turning → Turning
 quiet_after o s = put_quiet o.answer (with_device o.after s)
 
 -- an event at a turn's moment
-abbrev pub stepped : ℕ → Event → Turning → Turning
-stepped now event s = quiet_after (outcome None now event s.server.device) s
+abbrev pub after_event : ℕ → Event → Turning → Turning
+after_event now event s = quiet_after (outcome None now event s.server.device) s
 
 -- An association is closed at once, and what is left in its queue is lost.
 unfoldable pub cut_off : ℕ → Closing → ℕ → Turning → Turning
 cut_off now closing place s =
-    let t = stepped now (Close (place + 1)) s in
+    let t = after_event now (Close (place + 1)) s in
     with_noted (goes place closing t.noted) (with_queue place [] t)
 
 -- the lowest association to which a reply did not fit
@@ -188,8 +188,8 @@ settling_in now zero s = []
 settling_in now (suc count) s = settling_next now (first_full s.noted) s (settling_in now count)
 
 -- none is left after eight
-unfoldable pub settled : ℕ → Turning → Turning
-settled now s = settled_in now 8 s
+unfoldable pub after_settling : ℕ → Turning → Turning
+after_settling now s = settled_in now 8 s
 
 -- the calls of all eight
 unfoldable pub settling : ℕ → Turning → List Call
@@ -201,15 +201,15 @@ settling now s = settling_in now 8 s
 abbrev pub free_place : Held → Option ℕ
 free_place h = position is_none h.device.connections
 
-abbrev pub opened : ℕ → ℕ → Turning → Turning
-opened now place s = stepped now (Open (place + 1)) s
+abbrev pub after_opening : ℕ → ℕ → Turning → Turning
+after_opening now place s = after_event now (Open (place + 1)) s
 
 -- a connection that was taken is opened
 abbrev pub on_accept : ℕ → Option ℕ → Option Bool → Turning → Turning
 on_accept now None taken s = s
 on_accept now (Some place) None s = s
 on_accept now (Some place) (Some false) s = s
-on_accept now (Some place) (Some true) s = settled now (opened now place s)
+on_accept now (Some place) (Some true) s = after_settling now (after_opening now place s)
 
 -- the calls on the link for it: where no association is free the link is not asked
 abbrev pub accept_calls_at : ℕ → Option ℕ → Option Bool → Turning → List Call
@@ -217,11 +217,11 @@ accept_calls_at now None taken s = []
 accept_calls_at now (Some place) None s = Accepts (place + 1) None ∷ []
 accept_calls_at now (Some place) (Some false) s = Accepts (place + 1) (Some false) ∷ []
 accept_calls_at now (Some place) (Some true) s =
-    Accepts (place + 1) (Some true) ∷ settling now (opened now place s)
+    Accepts (place + 1) (Some true) ∷ settling now (after_opening now place s)
 
 -- One connection that waits is taken, under the lowest free number.
-abbrev pub accepted : ℕ → Option Bool → Turning → Turning
-accepted now taken s = on_accept now (free_place s.server) taken s
+abbrev pub with_accept : ℕ → Option Bool → Turning → Turning
+with_accept now taken s = on_accept now (free_place s.server) taken s
 
 abbrev pub accept_calls : ℕ → Option Bool → Turning → List Call
 accept_calls now taken s = accept_calls_at now (free_place s.server) taken s
@@ -231,7 +231,7 @@ accept_calls now taken s = accept_calls_at now (free_place s.server) taken s
 -- What came from an association: what the link brought, and where the device's memory was refused
 -- for it, if it was.
 pub record Reading : Type 0 where
-  pub heard : Heard
+  pub heard : ReadOutcome
   pub choice : Option ℕ
 
 -- the device has closed it, or not
@@ -263,17 +263,19 @@ taken_in now place choice octets s =
 
 -- the client sends no more
 abbrev pub hung_up : ℕ → ℕ → Turning → Turning
-hung_up now place s = stepped now (Close (place + 1)) (with_noted (leaves place Ended s.noted) s)
+hung_up now place s =
+    after_event now (Close (place + 1)) (with_noted (leaves place Ended s.noted) s)
 
 -- what the link brought
-abbrev pub on_heard : ℕ → ℕ → Option ℕ → Heard → Turning → Turning
-on_heard now place choice (Octets octets) s = settled now (taken_in now place choice octets s)
+abbrev pub on_heard : ℕ → ℕ → Option ℕ → ReadOutcome → Turning → Turning
+on_heard now place choice (Octets octets) s =
+    after_settling now (taken_in now place choice octets s)
 on_heard now place choice Silence s = s
-on_heard now place choice Over s = settled now (hung_up now place s)
-on_heard now place choice Broken s = settled now (cut_off now closing.LinkFailed place s)
+on_heard now place choice Over s = after_settling now (hung_up now place s)
+on_heard now place choice Broken s = after_settling now (cut_off now closing.LinkFailed place s)
 
 -- the calls on the link that follow
-abbrev pub heard_calls : ℕ → ℕ → Option ℕ → Heard → Turning → List Call
+abbrev pub heard_calls : ℕ → ℕ → Option ℕ → ReadOutcome → Turning → List Call
 heard_calls now place choice (Octets octets) s = settling now (taken_in now place choice octets s)
 heard_calls now place choice Silence s = []
 heard_calls now place choice Over s = settling now (hung_up now place s)
@@ -305,42 +307,43 @@ told_of now named s =
     told_after (outcome None now (placed_event s.server.device named) s.server.device) s
 
 -- a turn has a line, or none
-abbrev pub lined : ℕ → Option NamedData → Turning → Turning
-lined now None s = s
-lined now (Some named) s = settled now (told_of now named s)
+abbrev pub with_line : ℕ → Option NamedData → Turning → Turning
+with_line now None s = s
+with_line now (Some named) s = after_settling now (told_of now named s)
 
 abbrev pub line_calls : ℕ → Option NamedData → Turning → List Call
 line_calls now None s = []
 line_calls now (Some named) s = settling now (told_of now named s)
 
 -- the program runs once
-abbrev pub scanned : ℕ → Turning → Turning
-scanned now s = settled now (stepped now Scan s)
+abbrev pub after_turn_scan : ℕ → Turning → Turning
+after_turn_scan now s = after_settling now (after_event now Scan s)
 
 abbrev pub scan_calls : ℕ → Turning → List Call
-scan_calls now s = settling now (stepped now Scan s)
+scan_calls now s = settling now (after_event now Scan s)
 
 -- ---- what is offered
 
 -- what the link takes of a queue
 abbrev pub offer_of : ℕ → Offer → Turning → Offered
-offer_of place o s = offered (place + 1) (queue_of place s) o.takes o.fails
+offer_of place o s = offering_of (place + 1) (queue_of place s) o.takes o.fails
 
 -- what it did not take stays, unless it failed
 abbrev pub after_offer : ℕ → ℕ → Offered → Turning → Turning
 after_offer now place o s =
-    if o.failed then settled now (cut_off now closing.LinkFailed place s)
+    if o.failed then after_settling now (cut_off now closing.LinkFailed place s)
     else with_queue place o.left s
 
 -- it is closed now, and its queue empty
-abbrev pub parted : ℕ → Turning → Turning
-parted place s = record { server = put_queue place [] s.server; noted = stands place Gone s.noted }
+abbrev pub after_parting : ℕ → Turning → Turning
+after_parting place s =
+    record { server = put_queue place [] s.server; noted = stands place Gone s.noted }
 
 -- What is still to be sent to an association is offered. Of one that is leaving what is not taken
 -- is lost.
 abbrev pub offer_one : ℕ → ℕ → Offer → Turning → Turning
 offer_one now place o s =
-    if is_leaving (standing_of place s) then parted place s
+    if is_leaving (standing_of place s) then after_parting place s
     else (if is_up place s then after_offer now place (offer_of place o s) s else s)
 
 abbrev pub offer_end : ℕ → ℕ → Bool → Turning → List Call
@@ -392,31 +395,32 @@ nothing_noted =
     }
 
 -- a turn begins
-abbrev pub begun : Held → Turning
-begun h = turning h nothing_noted
+abbrev pub turn_begin : Held → Turning
+turn_begin h = turning h nothing_noted
 
 -- after each of its parts
 abbrev pub after_accept : ℕ → Script → Held → Turning
-after_accept now script h = accepted now script.accepted (begun h)
+after_accept now script h = with_accept now script.accepted (turn_begin h)
 
 abbrev pub after_reads : ℕ → Script → Held → Turning
 after_reads now script h = after_each (read_one now) 0 script.readings (after_accept now script h)
 
 abbrev pub after_line : ℕ → Option NamedData → Script → Held → Turning
-after_line now line script h = lined now line (after_reads now script h)
+after_line now line script h = with_line now line (after_reads now script h)
 
 abbrev pub after_scan : ℕ → Option NamedData → Script → Held → Turning
-after_scan now line script h = scanned now (after_line now line script h)
+after_scan now line script h = after_turn_scan now (after_line now line script h)
 
 -- A turn: one connection is taken, each association is read, the line is told, the program runs
 -- once, and each queue is offered.
-abbrev pub turned : ℕ → Option NamedData → Script → Held → Turning
-turned now line script h = after_each (offer_one now) 0 script.offers (after_scan now line script h)
+abbrev pub after_turn : ℕ → Option NamedData → Script → Held → Turning
+after_turn now line script h =
+    after_each (offer_one now) 0 script.offers (after_scan now line script h)
 
 -- the calls on the link, in their order
 abbrev pub turn_calls : ℕ → Option NamedData → Script → Held → List Call
 turn_calls now line script h =
-    accept_calls now script.accepted (begun h)
+    accept_calls now script.accepted (turn_begin h)
     ++ calls_of_each (read_one now) (read_calls now) 0 script.readings (after_accept now script h)
     ++ line_calls now line (after_reads now script h)
     ++ scan_calls now (after_line now line script h)

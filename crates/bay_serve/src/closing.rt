@@ -1,7 +1,7 @@
 // Associations are closed at once.
 ghost use Rattle.std.specs.Prelude.{◌≡◌, ◌+◌, ◌<◌};
 ghost use Rattle.bay_serve.specs.Calls.{Called, Closes, Talks};
-ghost use Rattle.bay_serve.specs.Turns.{settled, settled_in, settling, settling_in, turning};
+ghost use Rattle.bay_serve.specs.Turns.{after_settling, settled_in, settling, settling_in, turning};
 ghost use Rattle.bay_serve.specs.Turns as spec;
 
 use crate::link::Link;
@@ -60,7 +60,8 @@ fn settle_some<L: Link>(
 pub fn settle<L: Link>(server: &mut Server, notes: &mut Notes, link: &mut L, now: u64)
     ensures talks { Talks (Called L.does L.failures) link.old
         (settling now (turning server.old notes.old)) link.new }
-    ensures after { turning server.new notes.new ≡ settled now (turning server.old notes.old) }
+    ensures after { turning server.new notes.new
+        ≡ after_settling now (turning server.old notes.old) }
     ensures commands { notes.new.commands ≡ notes.old.commands }
 {
     settle_some(server, notes, link, now, ASSOCIATIONS);

@@ -1,7 +1,7 @@
 // The connections of the clients.
 ghost use Rattle.std.specs.Prelude.{◌≡◌, ℕ, ◌<◌, ◌≤◌, length, IfOk};
 ghost use Rattle.std.specs.Result.{result_ok};
-ghost use Rattle.bay_serve.specs.Calls.{Call, Accepts, Reads, Writes, Closes, Called, heard, FitsIn};
+ghost use Rattle.bay_serve.specs.Calls.{Call, Accepts, Reads, Writes, Closes, Called, heard_of, FitsIn};
 
 use thiserror::Error;
 
@@ -12,7 +12,7 @@ pub struct LinkFault;
 
 /// What a read brought.
 #[derive(Clone, Copy, Debug, PartialEq, Eq)]
-pub enum Got {
+pub enum Arrival {
     /// So many octets, one at least.
     Bytes(usize),
     /// Nothing yet.
@@ -41,11 +41,11 @@ pub trait Link {
             self.new };
 
     /// Reads at most as many octets of a client as there is room for.
-    fn read(&mut self, association: u16, room: &mut [u8]) -> Result<Got, LinkFault>
+    fn read(&mut self, association: u16, room: &mut [u8]) -> Result<Arrival, LinkFault>
         requires low { 0 < association }
         requires high { association ≤ 8 }
         ensures call { Called does failures self.old
-            (Reads association (length room.old) (heard result room.new)) self.new }
+            (Reads association (length room.old) (heard_of result room.new)) self.new }
         ensures within { FitsIn room.new result };
 
     /// Sends a front of the octets to a client, and answers how many; 0 where none can be taken

@@ -1,6 +1,6 @@
 // What a turn has to remember.
 ghost use Rattle.std.specs.Prelude.{◌≡◌, ◌+◌, ◌<◌, ◌++◌, ◌∷◌, [], Some, true, length, IfOk, IfSome};
-ghost use Rattle.bay_serve.specs.Standings.{filled, is_leaving};
+ghost use Rattle.bay_serve.specs.Standings.{after_full, is_leaving};
 ghost use Rattle.bay_serve.specs.Turns.{goes, leaves, left_noted, nothing_noted, standing_in, stands};
 ghost use Rattle.bay_serve.specs.Turns as spec;
 ghost use Rattle.bay_serve.specs.declared.standing.Standing.TheVariants.{Gone};
@@ -79,7 +79,7 @@ impl Notes {
     /// A reply to the association at a place did not fit its queue.
     pub fn fill(&mut self, place: usize)
         requires { place < 8 }
-        ensures { self.new ≡ stands place (filled (standing_in place self.old)) self.old }
+        ensures { self.new ≡ stands place (after_full (standing_in place self.old)) self.old }
     {
         self.standings[place] = self.standings[place].filled();
     }

@@ -2,11 +2,11 @@
 ghost use Rattle.std.specs.Prelude.{◌≡◌, ◌+◌, ◌<◌, ◌≤◌, length};
 ghost use Rattle.bay_serve.specs.Calls.{Called};
 ghost use Rattle.bay_serve.specs.Served.{Goes, GoesEach, TakesIn};
-ghost use Rattle.bay_serve.specs.Turns.{accept_calls, accepted, read_calls, turning};
+ghost use Rattle.bay_serve.specs.Turns.{accept_calls, with_accept, read_calls, turning};
 ghost use Rattle.bay_serve.specs.Turns as spec;
 
 use crate::closing::{cut_off, settle};
-use crate::link::{Got, Link};
+use crate::link::{Arrival, Link};
 use crate::notes::Notes;
 use crate::sending::{put_all, put_ended, step_quietly, tell_commands};
 use crate::server::Server;
@@ -18,7 +18,7 @@ const PIECE: usize = 4096;
 
 /// Takes a connection that waits, if there is one and a number is free.
 pub fn accept_one<L: Link>(server: &mut Server, notes: &mut Notes, link: &mut L, now: u64)
-    ensures goes { Goes (Called L.does L.failures) (accepted now) (accept_calls now) link.old
+    ensures goes { Goes (Called L.does L.failures) (with_accept now) (accept_calls now) link.old
         link.new (turning server.old notes.old) (turning server.new notes.new) }
     ensures commands { notes.new.commands ≡ notes.old.commands }
 {
@@ -74,12 +74,12 @@ fn read_one<L: Link>(server: &mut Server, notes: &mut Notes, link: &mut L, now: 
     let association = place as u16 + 1;
     let mut room = [0; PIECE];
     match link.read(association, &mut room) {
-        Ok(Got::Bytes(count)) => {
+        Ok(Arrival::Bytes(count)) => {
             take_in(server, notes, now, place, &room[..count]);
             settle(server, notes, link, now);
         }
-        Ok(Got::Nothing) => {}
-        Ok(Got::End) => {
+        Ok(Arrival::Nothing) => {}
+        Ok(Arrival::End) => {
             notes.leave(place, Why::Ended);
             step_quietly(server, notes, now, Event::Close { association });
             settle(server, notes, link, now);

@@ -2,7 +2,7 @@
 ghost use Rattle.std.specs.Prelude.{◌≡◌, ◌+◌, ◌≤◌, ◌<◌, length};
 ghost use Rattle.bay_device.specs.Outcomes.{outcome};
 ghost use Rattle.bay_device.specs.Steps.{IsWithoutOctets};
-ghost use Rattle.bay_serve.specs.Turns.{put_at, stepped, turning, with_commands};
+ghost use Rattle.bay_serve.specs.Turns.{put_at, after_event, turning, with_commands};
 ghost use Rattle.bay_serve.specs.Turns as spec;
 
 use crate::notes::Notes;
@@ -62,7 +62,7 @@ pub fn put_ended(server: &mut Server, notes: &mut Notes, ended: &Option<Sent>)
 pub fn step_quietly(server: &mut Server, notes: &mut Notes, now: u64, event: Event<'_>)
     requires { IsWithoutOctets event }
     ensures after { turning server.new notes.new
-        ≡ stepped now event.entry (turning server.old notes.old) }
+        ≡ after_event now event.entry (turning server.old notes.old) }
     ensures commands { notes.new.commands ≡ notes.old.commands }
 {
     if let Ok(step) = server.step(now, event) {

@@ -61,7 +61,7 @@ impl Standing {
 
     /// After a reply that did not fit.
     pub fn filled(self) -> Standing
-        ensures { result ≡ spec.filled self }
+        ensures { result ≡ spec.after_full self }
     {
         match self {
             Standing::Steady | Standing::Full => Standing::Full,

@@ -4,7 +4,7 @@ ghost use Rattle.bay_trace.specs.Placing.{AreOctets};
 ghost use Rattle.bay_trace.specs.TraceView.{named_view};
 ghost use Rattle.bay_serve.specs.Calls.{Called, Talks};
 ghost use Rattle.bay_serve.specs.Served.{IsRefused, Serves, line_in, text_in, turn_refusal};
-ghost use Rattle.bay_serve.specs.Turns.{line_calls, lined, moment_at, scan_calls, scanned, told_of, turning};
+ghost use Rattle.bay_serve.specs.Turns.{line_calls, with_line, moment_at, scan_calls, after_turn_scan, told_of, turning};
 
 use crate::closing::settle;
 use crate::fault::ServeFault;
@@ -47,7 +47,7 @@ fn tell_line<L: Link>(
         (line_calls now (option_map named_view line.entry) (turning server.old notes.old))
         link.new }
     ensures after { turning server.new notes.new
-        ≡ lined now (option_map named_view line.entry) (turning server.old notes.old) }
+        ≡ with_line now (option_map named_view line.entry) (turning server.old notes.old) }
 {
     if let Some(event) = line {
         tell(server, notes, now, event);
@@ -59,7 +59,8 @@ fn tell_line<L: Link>(
 fn scan<L: Link>(server: &mut Server, notes: &mut Notes, link: &mut L, now: u64)
     ensures talks { Talks (Called L.does L.failures) link.old
         (scan_calls now (turning server.old notes.old)) link.new }
-    ensures after { turning server.new notes.new ≡ scanned now (turning server.old notes.old) }
+    ensures after { turning server.new notes.new
+        ≡ after_turn_scan now (turning server.old notes.old) }
 {
     step_quietly(server, notes, now, Event::Scan);
     settle(server, notes, link, now);

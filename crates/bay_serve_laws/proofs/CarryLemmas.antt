@@ -7,7 +7,7 @@ use Rattle.bay_device.specs.Outcomes.{place_of}
 use Rattle.bay_device.specs.declared.event.Sent.{Sent}
 use Rattle.bay_device.specs.declared.event.Step.{Step}
 use Rattle.bay_device.specs.declared.fault.StepFault.{StepFault}
-use Rattle.bay_serve.specs.Standings.{filled, takes_replies}
+use Rattle.bay_serve.specs.Standings.{after_full, takes_replies}
 use Rattle.bay_serve.specs.Turns.{Turning, has_room, is_up, put_all, put_at, put_ended, put_quiet, put_sent, put_told, put_whole, queue_of, standing_of, stands, with_device, with_noted, with_queue}
 use Rattle.bay_serve.specs.declared.standing.Standing.{Standing}
 use Rattle.bay_serve.specs.declared.standing.Standing.TheVariants.{Steady, Full, Leaving, LeavingFull, Gone}
@@ -89,7 +89,7 @@ may-take Gone u q lost e m = absurd (cc)
 
 may-fill : (x : Standing) (u : Bool) (q lost : List ℕ) → takes_replies x u ≡ true
     → MayLose x u q lost → (more : List ℕ) → 262144 < length q + length more
-    → MayLose (filled x) u q more
+    → MayLose (after_full x) u q more
 may-fill Steady true q lost e m more over = over
 may-fill Steady false q lost e m more over = absurd (cc)
 may-fill Full u q lost e m more over = absurd (cc)
@@ -126,7 +126,7 @@ put-here_if : (b r : Bool) (now p : ℕ) (held taken sent octets : List ℕ) (s 
     → Carried now p held taken sent s
     → Carried now p held taken (sent ++ octets)
     (if b then (if r then with_queue p (queue_of p s ++ octets) s
-    else with_noted (stands p (filled (standing_of p s)) s.noted) s) else s)
+    else with_noted (stands p (after_full (standing_of p s)) s.noted) s) else s)
 put-here_if true true now p held taken sent octets s h e room c =
     let q = queue_of p s in
     let f = c.carries in
@@ -152,9 +152,9 @@ put-here_if true false now p held taken sent octets s h e room c =
     let q = queue_of p s in
     let x = standing_of p s in
     let f = c.carries in
-    let here : get_or (set s.noted.standings p (filled x)) p Steady ≡ filled x =
-    get_or-set_same s.noted.standings p (filled x) Steady (omega (arith, c.sound.standings)) in
-    let put : Carries taken held (sent ++ octets) (filled x) (is_up p s) q =
+    let here : get_or (set s.noted.standings p (after_full x)) p Steady ≡ after_full x =
+    get_or-set_same s.noted.standings p (after_full x) Steady (omega (arith, c.sound.standings)) in
+    let put : Carries taken held (sent ++ octets) (after_full x) (is_up p s) q =
     record {
       lost = f.lost ++ octets;
       is = also-lost taken held sent q f.lost octets f.is;
@@ -168,7 +168,7 @@ put-here_if true false now p held taken sent octets s h e room c =
     record {
       sound = record {
         queues = c.sound.queues;
-        standings = length-set s.noted.standings p (filled x) ∙ c.sound.standings;
+        standings = length-set s.noted.standings p (after_full x) ∙ c.sound.standings;
         moment = c.sound.moment;
       };
       carries = Carries-as taken held (sent ++ octets) _ _ _ _ _ _ put here refl refl;
@@ -234,7 +234,7 @@ put-there : (now p : ℕ) (held taken sent octets : List ℕ) (o : Option ℕ) (
 put-there now p held taken sent octets None s n c = c
 put-there now p held taken sent octets (Some i) s n c =
     let q = queue_of i s ++ octets in
-    let x = filled (standing_of i s) in
+    let x = after_full (standing_of i s) in
     let far : i ≢ p = λ e. n (ap (λ k. Some k) e) in
     Carried-if now p held taken sent (takes_replies (standing_of i s) (is_up i s))
     (put_whole i octets s) s
@@ -245,14 +245,14 @@ put-there now p held taken sent octets (Some i) s n c =
 
 -- ---- what is sent
 
-sent_if : (b : Bool) (now p a : ℕ) (held taken sent octets : List ℕ) (s : Turning) → p < 8
+sent-if : (b : Bool) (now p a : ℕ) (held taken sent octets : List ℕ) (s : Turning) → p < 8
     → (a == p + 1) ≡ b → Carried now p held taken sent s
     → Carried now p held taken (sent ++ (if b then octets else [])) (put_at (place_of a) octets s)
-sent_if true now p a held taken sent octets s h e c =
+sent-if true now p a held taken sent octets s h e c =
     let place : place_of a ≡ Some p = ap place_of (eqb-true a (p + 1) e) ∙ place-of p h in
     subst (λ o. Carried now p held taken (sent ++ octets) (put_at o octets s)) (sym place)
     (put-here now p held taken sent octets s h c)
-sent_if false now p a held taken sent octets s h e c =
+sent-if false now p a held taken sent octets s h e c =
     let other : place_of a ≡ Some p → ⊥ = λ q. let same : (a == p + 1) ≡ true =
     eq-eqb a (p + 1) (number-of a p q) in cc in
     Carried-sent now p held taken sent (sent ++ []) _
@@ -262,7 +262,7 @@ put_sent-carried : (now p : ℕ) (held taken sent : List ℕ) (x : Sent) (s : Tu
     → Carried now p held taken sent s
     → Carried now p held taken (sent ++ octets_to (p + 1) x) (put_sent x s)
 put_sent-carried now p held taken sent x s h c =
-    sent_if (x.association == p + 1) now p x.association held taken sent x.octets s h refl c
+    sent-if (x.association == p + 1) now p x.association held taken sent x.octets s h refl c
 
 pub put_all-carried : (now p : ℕ) (held taken sent : List ℕ) (xs : List Sent) (s : Turning) → p < 8
     → Carried now p held taken sent s
@@ -284,9 +284,9 @@ put_ended-carried now p held taken sent (Some x) s h c =
     put_sent-carried now p held taken sent x s h c
 
 -- nothing is sent but what tells of an end
-only_end : (a : ℕ) (step : Step) → step.sent ≡ []
+only-end : (a : ℕ) (step : Step) → step.sent ≡ []
     → end_to a step.ended ≡ end_to a step.ended ++ all_to a step.sent
-only_end a step e =
+only-end a step e =
     sym (append-nil (end_to a step.ended)) ∙ ap (λ l. end_to a step.ended ++ all_to a l) (sym e)
 
 pub put_quiet-carried : (now p : ℕ) (held taken sent : List ℕ) (answer : Result Step StepFault)
@@ -298,7 +298,7 @@ put_quiet-carried now p held taken sent (Ok step) s h q c =
     Carried-sent now p held taken _
     (sent ++ (end_to (p + 1) step.ended ++ all_to (p + 1) step.sent)) _
     (put_ended-carried now p held taken sent step.ended s h c)
-    (ap (λ l. sent ++ l) (only_end (p + 1) step q.sent))
+    (ap (λ l. sent ++ l) (only-end (p + 1) step q.sent))
 
 pub put_told-carried : (now p : ℕ) (held taken sent : List ℕ) (answer : Result Step StepFault)
     (s : Turning) → p < 8 → IsQuiet answer → Carried now p held taken sent s

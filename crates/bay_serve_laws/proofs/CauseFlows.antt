@@ -11,28 +11,28 @@ use Rattle.bay_device.specs.declared.event.Why.TheVariants.{Ended}
 use Rattle.bay_device.specs.declared.fault.StepFault.{StepFault}
 use Rattle.bay_trace.specs.Placing.{lying}
 use Rattle.bay_trace.specs.Trace.{NamedData}
-use Rattle.bay_serve.specs.Calls.{Call, Reads, Closes, Heard, Octets, Silence, Over, Broken}
-use Rattle.bay_serve.specs.Offers.{Offer, offered}
+use Rattle.bay_serve.specs.Calls.{Call, Reads, Closes, ReadOutcome, Octets, Silence, Over, Broken}
+use Rattle.bay_serve.specs.Offers.{Offer, offering_of}
 use Rattle.bay_serve.specs.Standings.{is_leaving, is_told}
-use Rattle.bay_serve.specs.Turns.{Held, Reading, Script, Turning, turn_calls, accept_calls, accept_calls_at, after_accept, after_each, after_line, after_offer, after_reads, after_scan, begun, calls_of_each, cut_off, first_full, free_place, heard_calls, hung_up, is_up, leaves, left_by, line_calls, offer_calls, offer_end, offer_of, offer_one, on_heard, opened, parted, put_answer, queue_at, queue_of, read_calls, read_one, scan_calls, settled, settling, settling_in, settling_next, standing_of, stepped, taken_in, told_of, turned, with_device, with_noted, with_queue}
+use Rattle.bay_serve.specs.Turns.{Held, Reading, Script, Turning, turn_calls, accept_calls, accept_calls_at, after_accept, after_each, after_line, after_offer, after_reads, after_scan, turn_begin, calls_of_each, cut_off, first_full, free_place, heard_calls, hung_up, is_up, leaves, left_by, line_calls, offer_calls, offer_end, offer_of, offer_one, on_heard, after_opening, after_parting, put_answer, queue_at, queue_of, read_calls, read_one, scan_calls, after_settling, settling, settling_in, settling_next, standing_of, after_event, taken_in, told_of, after_turn, with_device, with_noted, with_queue}
 use Rattle.bay_serve.specs.declared.told.Closing.TheVariants as closing
 use Rattle.bay_serve_laws.specs.Causes.{HasItsCause, closes_for, ends_for, fails_for, has_some, is_named}
 use Rattle.bay_serve_laws.specs.Events.{ChosenEvent, HasNoOctets, turn_events, accept_events, done_at, events_of_each, failed_events, heard_events, line_events, offer_events, read_events, scan_events, settled_events}
 use Rattle.bay_serve_laws.specs.Flows.{IsInTime, IsOfProcess, IsTidy}
 use Rattle.bay_serve_laws.specs.Telling.{closed_in}
-use Rattle.bay_serve_laws.proofs.CauseLemmas.{Knows, Ready, Still, Still-refl, and_no, ended-knows, failed-knows, knows-as, left-knows, nothing-known, parted-knows, ready-filled, still-knows, still-kept}
+use Rattle.bay_serve_laws.proofs.CauseLemmas.{Knows, Ready, Still, Still-refl, and-no, ended-knows, failed-knows, knows-as, left-knows, nothing-known, parted-knows, ready-filled, still-knows, still-kept}
 use Rattle.bay_serve_laws.proofs.ClosingLemmas.{AllQuiet, IsOwn, accept-quiet, line-quiet, offer-quiet, outcome-own, settled-quiet, up-untold}
 use Rattle.bay_serve_laws.proofs.CutLemmas.{Well}
 use Rattle.bay_serve_laws.proofs.DoneLemmas.{IsBoth, done-append}
-use Rattle.bay_serve_laws.proofs.KeepLemmas.{keep_line, keep_offer, keep_on_accept, keep_read, keep_rest, keep_scan, keep_settled, keep_stepped}
+use Rattle.bay_serve_laws.proofs.KeepLemmas.{keep-line, keep-offer, keep-on-accept, keep-read, keep-rest, keep-scan, keep-settled, keep-stepped}
 use Rattle.bay_serve_laws.proofs.LineLemmas.{process-quiet}
 use Rattle.bay_serve_laws.proofs.MoveLemmas.{Moves}
 use Rattle.bay_serve_laws.proofs.OfferFlows.{offer-moves}
 use Rattle.bay_serve_laws.proofs.PartLemmas.{Part-accept, Part-line, Part-offer, Part-read, Part-scan}
 use Rattle.bay_serve_laws.proofs.QuietLemmas.{IsQuiet, outcome-quiet}
 use Rattle.bay_serve_laws.proofs.ReadFlows.{accept-moves, begun-fresh, line-moves, read-moves, scan-moves}
-use Rattle.bay_serve_laws.proofs.TellingLemmas.{other_number, same_number}
-use Rattle.bay_serve_laws.proofs.TellsLemmas.{or_none, some-append}
+use Rattle.bay_serve_laws.proofs.TellingLemmas.{other-number, same-number}
+use Rattle.bay_serve_laws.proofs.TellsLemmas.{or-none, some-append}
 
 -- ---- calls that say nothing of it
 
@@ -79,13 +79,13 @@ plain-accept a now None taken s = plain-nil a
 plain-accept a now (Some place) None s = record { fails = refl; ends = refl }
 plain-accept a now (Some place) (Some false) s = record { fails = refl; ends = refl }
 plain-accept a now (Some place) (Some true) s =
-    plain-call a _ _ refl refl (plain-settling a now (opened now place s))
+    plain-call a _ _ refl refl (plain-settling a now (after_opening now place s))
 
 plain-line : (a now : ℕ) (line : Option NamedData) (s : Turning) → IsPlain a (line_calls now line s)
 plain-line a now None s = plain-nil a
 plain-line a now (Some named) s = plain-settling a now (told_of now named s)
 
-plain-heard : (a now place : ℕ) (choice : Option ℕ) (heard : Heard) (s : Turning)
+plain-heard : (a now place : ℕ) (choice : Option ℕ) (heard : ReadOutcome) (s : Turning)
     → IsPlain a (heard_calls now place choice heard s)
 plain-heard a now place choice (Octets octets) s =
     plain-settling a now (taken_in now place choice octets s)
@@ -102,35 +102,36 @@ plain-end a now place false s = plain-nil a
 
 -- an offer to it fails where it says so
 offer-fails : (p : ℕ) (q takes : List ℕ) (fails : Bool)
-    → has_some (fails_for (p + 1)) (offered (p + 1) q takes fails).calls
-    ≡ (offered (p + 1) q takes fails).failed
+    → has_some (fails_for (p + 1)) (offering_of (p + 1) q takes fails).calls
+    ≡ (offering_of (p + 1) q takes fails).failed
 offer-fails p [] takes fails = refl
-offer-fails p (x ∷ xs) [] true = ap (λ b. (b && true) || false) (same_number p)
-offer-fails p (x ∷ xs) [] false = ap (λ b. b || false) (and_no (p + 1 == p + 1))
-offer-fails p (x ∷ xs) (zero ∷ takes) fails = ap (λ b. b || false) (and_no (p + 1 == p + 1))
+offer-fails p (x ∷ xs) [] true = ap (λ b. (b && true) || false) (same-number p)
+offer-fails p (x ∷ xs) [] false = ap (λ b. b || false) (and-no (p + 1 == p + 1))
+offer-fails p (x ∷ xs) (zero ∷ takes) fails = ap (λ b. b || false) (and-no (p + 1 == p + 1))
 offer-fails p (x ∷ xs) (suc n ∷ takes) fails =
-    ap (λ b. b || has_some (fails_for (p + 1)) (offered (p + 1) (drop n xs) takes fails).calls)
-    (and_no (p + 1 == p + 1))
+    ap (λ b. b || has_some (fails_for (p + 1)) (offering_of (p + 1) (drop n xs) takes fails).calls)
+    (and-no (p + 1 == p + 1))
     ∙ offer-fails p (drop n xs) takes fails
 
 -- an offer brings no end
 offer-ends : (a b : ℕ) (q takes : List ℕ) (fails : Bool)
-    → has_some (ends_for a) (offered b q takes fails).calls ≡ false
+    → has_some (ends_for a) (offering_of b q takes fails).calls ≡ false
 offer-ends a b [] takes fails = refl
 offer-ends a b (x ∷ xs) [] fails = refl
 offer-ends a b (x ∷ xs) (zero ∷ takes) fails = refl
 offer-ends a b (x ∷ xs) (suc n ∷ takes) fails = offer-ends a b (drop n xs) takes fails
 
 offer-far : (p place : ℕ) (q takes : List ℕ) (fails : Bool) → place ≢ p
-    → has_some (fails_for (p + 1)) (offered (place + 1) q takes fails).calls ≡ false
+    → has_some (fails_for (p + 1)) (offering_of (place + 1) q takes fails).calls ≡ false
 offer-far p place [] takes fails ne = refl
-offer-far p place (x ∷ xs) [] true ne = ap (λ b. (b && true) || false) (other_number place p ne)
-offer-far p place (x ∷ xs) [] false ne = ap (λ b. b || false) (and_no (place + 1 == p + 1))
+offer-far p place (x ∷ xs) [] true ne = ap (λ b. (b && true) || false) (other-number place p ne)
+offer-far p place (x ∷ xs) [] false ne = ap (λ b. b || false) (and-no (place + 1 == p + 1))
 offer-far p place (x ∷ xs) (zero ∷ takes) fails ne =
-    ap (λ b. b || false) (and_no (place + 1 == p + 1))
+    ap (λ b. b || false) (and-no (place + 1 == p + 1))
 offer-far p place (x ∷ xs) (suc n ∷ takes) fails ne =
-    ap (λ b. b || has_some (fails_for (p + 1)) (offered (place + 1) (drop n xs) takes fails).calls)
-    (and_no (place + 1 == p + 1))
+    ap (λ b. b || has_some (fails_for (p + 1))
+    (offering_of (place + 1) (drop n xs) takes fails).calls)
+    (and-no (place + 1 == p + 1))
     ∙ offer-far p place (drop n xs) takes fails ne
 
 -- ---- answers that say nothing of it
@@ -153,9 +154,9 @@ other-named : (p place : ℕ) (o : Option (ℕ × Why)) → place ≢ p → IsOw
     → is_named (p + 1) o ≡ false
 other-named p place None ne own = refl
 other-named p place (Some c) ne own =
-    ap (λ a. a == p + 1) own ∙ other_number place p ne
+    ap (λ a. a == p + 1) own ∙ other-number place p ne
 
-other-closes : (p now place : ℕ) (choice : Option ℕ) (heard : Heard) (s : Turning) → place ≢ p
+other-closes : (p now place : ℕ) (choice : Option ℕ) (heard : ReadOutcome) (s : Turning) → place ≢ p
     → has_some (closes_for (p + 1))
     (done_at now (heard_events now place choice heard s) s.server.device).answers ≡ false
 other-closes p now place choice (Octets octets) s ne =
@@ -218,114 +219,114 @@ module _ (now p : ℕ) (low : p < 8) where
   Learns-still s t calls events device plain closes still = record {
     device = device;
     learns = λ x y z k.
-        knows-as p x y z _ _ _ t.noted (or_none x _ plain.fails) (or_none y _ plain.ends)
-        (or_none z _ closes) (still-knows p x y z s.noted t.noted (still k.sized) k);
+        knows-as p x y z _ _ _ t.noted (or-none x _ plain.fails) (or-none y _ plain.ends)
+        (or-none z _ closes) (still-knows p x y z s.noted t.noted (still k.sized) k);
   }
 
   abbrev Others : ℕ → Type 0
   Others place = place ≢ p
 
   -- what did not fit is dealt with
-  settled_still : (t : Turning) → length t.noted.standings ≡ 8
-      → Still p t.noted (settled now t).noted
-  settled_still t sized =
-      keep_settled Others (Still p t.noted) (still-kept p low t.noted) now t
+  settled-still : (t : Turning) → length t.noted.standings ≡ 8
+      → Still p t.noted (after_settling now t).noted
+  settled-still t sized =
+      keep-settled Others (Still p t.noted) (still-kept p low t.noted) now t
       (Still-refl p t.noted sized)
 
-  settled_knows : (x y z : Bool) (t : Turning) → Knows p x y z t.noted
-      → Knows p x y z (settled now t).noted
-  settled_knows x y z t k =
-      still-knows p x y z t.noted (settled now t).noted (settled_still t k.sized) k
+  settled-knows : (x y z : Bool) (t : Turning) → Knows p x y z t.noted
+      → Knows p x y z (after_settling now t).noted
+  settled-knows x y z t k =
+      still-knows p x y z t.noted (after_settling now t).noted (settled-still t k.sized) k
 
   -- ---- what is heard
 
-  answer_knows : (x y z : Bool) (answer : Result Step StepFault) (s : Turning)
+  answer-knows : (x y z : Bool) (answer : Result Step StepFault) (s : Turning)
       → IsOwn (p + 1) (closed_in answer) → Ready p low x y z s.noted
       → Knows p x y (z || closes_for (p + 1) answer) (put_answer p answer s).noted
-  answer_knows x y z (Err fault) s own r =
-      knows-as p x y z x y (z || false) s.noted refl refl (or_none z false refl) r.knows
-  answer_knows x y z (Ok step) s own r =
+  answer-knows x y z (Err fault) s own r =
+      knows-as p x y z x y (z || false) s.noted refl refl (or-none z false refl) r.knows
+  answer-knows x y z (Ok step) s own r =
       let left : Turning = left_by p step.closed s in
       let k = left-knows p low x y z step.closed s.noted r.untold own r.knows in
       still-knows p x y (z || is_named (p + 1) step.closed) left.noted
       (put_answer p (Ok step) s).noted
-      (keep_rest Others (Still p left.noted) (still-kept p low left.noted) now p step s
+      (keep-rest Others (Still p left.noted) (still-kept p low left.noted) now p step s
       (Still-refl p left.noted k.sized)) k
 
-  cut_knows : (x y z : Bool) (s : Turning) → Ready p low x y z s.noted
+  cut-knows : (x y z : Bool) (s : Turning) → Ready p low x y z s.noted
       → Knows p (x || true) y z (cut_off now closing.LinkFailed p s).noted
   unfolding cut_off
-  cut_knows x y z s r =
-      let t : Turning = stepped now (Close (p + 1)) s in
-      let then = keep_stepped (Ready p low x y z) (ready-filled p low x y z) now (Close (p + 1)) s r
+  cut-knows x y z s r =
+      let t : Turning = after_event now (Close (p + 1)) s in
+      let then = keep-stepped (Ready p low x y z) (ready-filled p low x y z) now (Close (p + 1)) s r
       in
       failed-knows p low x y z t.noted then.untold then.knows
 
-  hung_knows : (x y z : Bool) (s : Turning) → Ready p low x y z s.noted
+  hung-knows : (x y z : Bool) (s : Turning) → Ready p low x y z s.noted
       → Knows p x (y || true) z (hung_up now p s).noted
-  hung_knows x y z s r =
+  hung-knows x y z s r =
       let left : Turning = with_noted (leaves p Ended s.noted) s in
       let k = ended-knows p low x y z s.noted r.untold r.knows in
       still-knows p x (y || true) z left.noted (hung_up now p s).noted
-      (keep_stepped (Still p left.noted) (still-kept p low left.noted).fills now (Close (p + 1))
+      (keep-stepped (Still p left.noted) (still-kept p low left.noted).fills now (Close (p + 1))
       left (Still-refl p left.noted k.sized)) k
 
-  abbrev calls_heard : ℕ → Option ℕ → Heard → Turning → List Call
+  abbrev calls_heard : ℕ → Option ℕ → ReadOutcome → Turning → List Call
   calls_heard place choice heard s =
       Reads (place + 1) 4096 heard ∷ heard_calls now place choice heard s
 
-  heard_knows : (x y z : Bool) (choice : Option ℕ) (heard : Heard) (s : Turning)
+  heard-knows : (x y z : Bool) (choice : Option ℕ) (heard : ReadOutcome) (s : Turning)
       → Ready p low x y z s.noted
       → Knows p (x || has_some (fails_for (p + 1)) (calls_heard p choice heard s))
       (y || has_some (ends_for (p + 1)) (calls_heard p choice heard s))
       (z || has_some (closes_for (p + 1))
       (done_at now (heard_events now p choice heard s) s.server.device).answers)
       (on_heard now p choice heard s).noted
-  heard_knows x y z choice (Octets octets) s r =
+  heard-knows x y z choice (Octets octets) s r =
       let o = outcome choice now (Recv (p + 1) (lying octets)) s.server.device in
       let t : Turning = taken_in now p choice octets s in
       let plain = plain-call (p + 1) (Reads (p + 1) 4096 (Octets octets)) (settling now t)
-      (and_no (p + 1 == p + 1)) (and_no (p + 1 == p + 1)) (plain-settling (p + 1) now t) in
+      (and-no (p + 1 == p + 1)) (and-no (p + 1 == p + 1)) (plain-settling (p + 1) now t) in
       let b = closes_for (p + 1) o.answer in
-      let k = answer_knows x y z o.answer (with_device o.after s)
+      let k = answer-knows x y z o.answer (with_device o.after s)
       (outcome-own choice now (p + 1) octets s.server.device)
       (record { untold = r.untold; knows = r.knows }) in
-      knows-as p x y (z || b) _ _ _ (settled now t).noted (or_none x _ plain.fails)
-      (or_none y _ plain.ends)
-      (ap (λ v. z || v) (or_none b _
+      knows-as p x y (z || b) _ _ _ (after_settling now t).noted (or-none x _ plain.fails)
+      (or-none y _ plain.ends)
+      (ap (λ v. z || v) (or-none b _
       (none-closes (p + 1) now (settled_events now t) o.after (settled-quiet now t))))
-      (settled_knows x y (z || b) t k)
-  heard_knows x y z choice Silence s r =
-      let none = and_no (p + 1 == p + 1) in
-      knows-as p x y z _ _ _ s.noted (or_none x _ (ap (λ b. b || false) none))
-      (or_none y _ (ap (λ b. b || false) none)) (or_none z false refl) r.knows
-  heard_knows x y z choice Over s r =
+      (settled-knows x y (z || b) t k)
+  heard-knows x y z choice Silence s r =
+      let none = and-no (p + 1 == p + 1) in
+      knows-as p x y z _ _ _ s.noted (or-none x _ (ap (λ b. b || false) none))
+      (or-none y _ (ap (λ b. b || false) none)) (or-none z false refl) r.knows
+  heard-knows x y z choice Over s r =
       let t : Turning = hung_up now p s in
       let plain = plain-settling (p + 1) now t in
-      knows-as p x (y || true) z _ _ _ (settled now t).noted
-      (or_none x _
-      (ap (λ b. b || has_some (fails_for (p + 1)) (settling now t)) (and_no (p + 1 == p + 1))
+      knows-as p x (y || true) z _ _ _ (after_settling now t).noted
+      (or-none x _
+      (ap (λ b. b || has_some (fails_for (p + 1)) (settling now t)) (and-no (p + 1 == p + 1))
       ∙ plain.fails))
       (ap (λ b. y || ((b && true) || has_some (ends_for (p + 1)) (settling now t)))
-      (sym (same_number p)))
-      (or_none z _ (none-closes (p + 1) now (heard_events now p choice Over s) s.server.device
+      (sym (same-number p)))
+      (or-none z _ (none-closes (p + 1) now (heard_events now p choice Over s) s.server.device
       (tt, settled-quiet now t)))
-      (settled_knows x (y || true) z t (hung_knows x y z s r))
-  heard_knows x y z choice Broken s r =
+      (settled-knows x (y || true) z t (hung-knows x y z s r))
+  heard-knows x y z choice Broken s r =
       let t : Turning = cut_off now closing.LinkFailed p s in
       let plain = plain-call (p + 1) (Closes (p + 1)) (settling now t) refl refl
       (plain-settling (p + 1) now t) in
-      knows-as p (x || true) y z _ _ _ (settled now t).noted
+      knows-as p (x || true) y z _ _ _ (after_settling now t).noted
       (ap (λ b. x || ((b && true)
-      || has_some (fails_for (p + 1)) (Closes (p + 1) ∷ settling now t))) (sym (same_number p)))
-      (or_none y _
+      || has_some (fails_for (p + 1)) (Closes (p + 1) ∷ settling now t))) (sym (same-number p)))
+      (or-none y _
       (ap (λ b. b || has_some (ends_for (p + 1)) (Closes (p + 1) ∷ settling now t))
-      (and_no (p + 1 == p + 1)) ∙ plain.ends))
-      (or_none z _ (none-closes (p + 1) now (heard_events now p choice Broken s) s.server.device
+      (and-no (p + 1 == p + 1)) ∙ plain.ends))
+      (or-none z _ (none-closes (p + 1) now (heard_events now p choice Broken s) s.server.device
       (tt, settled-quiet now t)))
-      (settled_knows (x || true) y z t (cut_knows x y z s r))
+      (settled-knows (x || true) y z t (cut-knows x y z s r))
 
-  read_own : (up : Bool) (x y z : Bool) (r : Reading) (s : Turning)
+  read-own : (up : Bool) (x y z : Bool) (r : Reading) (s : Turning)
       → (up ≡ true → is_told (standing_of p s) ≡ false) → Knows p x y z s.noted
       → Knows p
       (x || has_some (fails_for (p + 1)) (cond up (calls_heard p r.choice r.heard s) []))
@@ -333,51 +334,51 @@ module _ (now p : ℕ) (low : p < 8) where
       (z || has_some (closes_for (p + 1))
       (done_at now (cond up (heard_events now p r.choice r.heard s) []) s.server.device).answers)
       (cond up (on_heard now p r.choice r.heard s) s).noted
-  read_own true x y z r s untold k =
-      heard_knows x y z r.choice r.heard s (record { untold = untold refl; knows = k })
-  read_own false x y z r s untold k =
-      knows-as p x y z _ _ _ s.noted (or_none x false refl) (or_none y false refl)
-      (or_none z false refl) k
+  read-own true x y z r s untold k =
+      heard-knows x y z r.choice r.heard s (record { untold = untold refl; knows = k })
+  read-own false x y z r s untold k =
+      knows-as p x y z _ _ _ s.noted (or-none x false refl) (or-none y false refl)
+      (or-none z false refl) k
 
-  plain_read : (place : ℕ) (r : Reading) (s : Turning) → place ≢ p
+  plain-read : (place : ℕ) (r : Reading) (s : Turning) → place ≢ p
       → IsPlain (p + 1) (read_calls now place r s)
-  plain_read place r s ne = by_up (is_up place s)
+  plain-read place r s ne = by-up (is_up place s)
     where
       far : (b : Bool) → (place + 1 == p + 1 && b) ≡ false
-      far b = ap (λ v. v && b) (other_number place p ne)
+      far b = ap (λ v. v && b) (other-number place p ne)
 
-      by_up : (up : Bool) → IsPlain (p + 1) (cond up (calls_heard place r.choice r.heard s) [])
-      by_up true = plain-call (p + 1) _ _ (far _) (far _)
+      by-up : (up : Bool) → IsPlain (p + 1) (cond up (calls_heard place r.choice r.heard s) [])
+      by-up true = plain-call (p + 1) _ _ (far _) (far _)
           (plain-heard (p + 1) now place r.choice r.heard s)
-      by_up false = plain-nil (p + 1)
+      by-up false = plain-nil (p + 1)
 
   -- the events of a read, by whether the association is open
   abbrev read_by : Bool → ℕ → Reading → Turning → List ChosenEvent
   read_by up place r s = cond up (heard_events now place r.choice r.heard s) []
 
-  read_closes : (place : ℕ) (r : Reading) (s : Turning) → place ≢ p
+  read-closes : (place : ℕ) (r : Reading) (s : Turning) → place ≢ p
       → has_some (closes_for (p + 1))
       (done_at now (read_events now place r s) s.server.device).answers ≡ false
-  read_closes place r s ne = by_up (is_up place s)
+  read-closes place r s ne = by-up (is_up place s)
     where
-      by_up : (up : Bool) → has_some (closes_for (p + 1))
+      by-up : (up : Bool) → has_some (closes_for (p + 1))
           (done_at now (read_by up place r s) s.server.device).answers ≡ false
-      by_up true = other-closes p now place r.choice r.heard s ne
-      by_up false = refl
+      by-up true = other-closes p now place r.choice r.heard s ne
+      by-up false = refl
 
-  read_learns : (place : ℕ) (r : Reading) (s : Turning) → place < 8
+  read-learns : (place : ℕ) (r : Reading) (s : Turning) → place < 8
       → (is_up p s ≡ true → is_told (standing_of p s) ≡ false)
       → Learns s (read_calls now place r s) (read_events now place r s) (read_one now place r s)
-  read_learns place r s small untold = elim (cases_eq place p) [
+  read-learns place r s small untold = elim (cases_eq place p) [
     | inl e ↦ subst (λ q. Learns s (read_calls now q r s) (read_events now q r s)
         (read_one now q r s)) (sym e) (record {
           device = (Part-read ⊥ now p r s).device;
-          learns = λ x y z k. read_own (is_up p s) x y z r s untold k;
+          learns = λ x y z k. read-own (is_up p s) x y z r s untold k;
         })
     | inr ne ↦ Learns-still s (read_one now place r s) (read_calls now place r s)
-        (read_events now place r s) (Part-read ⊥ now place r s).device (plain_read place r s ne)
-        (read_closes place r s ne)
-        (λ sized. keep_read Others (Still p s.noted) (still-kept p low s.noted) now place r s small
+        (read_events now place r s) (Part-read ⊥ now place r s).device (plain-read place r s ne)
+        (read-closes place r s ne)
+        (λ sized. keep-read Others (Still p s.noted) (still-kept p low s.noted) now place r s small
         ne (Still-refl p s.noted sized))
   ]
 
@@ -389,72 +390,72 @@ module _ (now p : ℕ) (low : p < 8) where
       (cond up ((offer_of place o s).calls ++ offer_end now place (offer_of place o s).failed s) [])
 
   -- what the calls of an offer say, and what comes behind them
-  behind_fails : (o : Offer) (s : Turning) (calls : List Call) → IsPlain (p + 1) calls
+  behind-fails : (o : Offer) (s : Turning) (calls : List Call) → IsPlain (p + 1) calls
       → (offer_of p o s).failed
       ≡ has_some (fails_for (p + 1)) ((offer_of p o s).calls ++ calls)
-  behind_fails o s calls plain =
+  behind-fails o s calls plain =
       let made = offer_of p o s in
       sym (offer-fails p (queue_of p s) o.takes o.fails)
-      ∙ or_none (has_some (fails_for (p + 1)) made.calls) _ plain.fails
+      ∙ or-none (has_some (fails_for (p + 1)) made.calls) _ plain.fails
       ∙ sym (some-append (fails_for (p + 1)) made.calls calls)
 
-  behind_ends : (o : Offer) (s : Turning) (calls : List Call) → IsPlain (p + 1) calls
+  behind-ends : (o : Offer) (s : Turning) (calls : List Call) → IsPlain (p + 1) calls
       → has_some (ends_for (p + 1)) ((offer_of p o s).calls ++ calls) ≡ false
-  behind_ends o s calls plain =
+  behind-ends o s calls plain =
       some-append (ends_for (p + 1)) (offer_of p o s).calls calls
       ∙ ap (λ b. b || has_some (ends_for (p + 1)) calls)
       (offer-ends (p + 1) (p + 1) (queue_of p s) o.takes o.fails)
       ∙ plain.ends
 
-  failed_own : (failed : Bool) (x y z : Bool) (o : Offer) (s : Turning)
+  failed-own : (failed : Bool) (x y z : Bool) (o : Offer) (s : Turning)
       → (offer_of p o s).failed ≡ failed → Ready p low x y z s.noted
       → Knows p
       (x || has_some (fails_for (p + 1)) ((offer_of p o s).calls ++ offer_end now p failed s))
       (y || has_some (ends_for (p + 1)) ((offer_of p o s).calls ++ offer_end now p failed s))
       (z || has_some (closes_for (p + 1))
       (done_at now (failed_events now p failed s) s.server.device).answers)
-      (cond failed (settled now (cut_off now closing.LinkFailed p s))
+      (cond failed (after_settling now (cut_off now closing.LinkFailed p s))
       (with_queue p (offer_of p o s).left s)).noted
-  failed_own true x y z o s is r =
+  failed-own true x y z o s is r =
       let t : Turning = cut_off now closing.LinkFailed p s in
       let plain = plain-end (p + 1) now p true s in
-      knows-as p (x || true) y z _ _ _ (settled now t).noted
-      (ap (λ b. x || b) (sym is ∙ behind_fails o s (offer_end now p true s) plain))
-      (or_none y _ (behind_ends o s (offer_end now p true s) plain))
-      (or_none z _ (none-closes (p + 1) now (failed_events now p true s) s.server.device
+      knows-as p (x || true) y z _ _ _ (after_settling now t).noted
+      (ap (λ b. x || b) (sym is ∙ behind-fails o s (offer_end now p true s) plain))
+      (or-none y _ (behind-ends o s (offer_end now p true s) plain))
+      (or-none z _ (none-closes (p + 1) now (failed_events now p true s) s.server.device
       (tt, settled-quiet now t)))
-      (settled_knows (x || true) y z t (cut_knows x y z s r))
-  failed_own false x y z o s is r =
+      (settled-knows (x || true) y z t (cut-knows x y z s r))
+  failed-own false x y z o s is r =
       let plain = plain-end (p + 1) now p false s in
       knows-as p x y z _ _ _ s.noted
-      (or_none x _ (sym (behind_fails o s (offer_end now p false s) plain) ∙ is))
-      (or_none y _ (behind_ends o s (offer_end now p false s) plain)) (or_none z false refl)
+      (or-none x _ (sym (behind-fails o s (offer_end now p false s) plain) ∙ is))
+      (or-none y _ (behind-ends o s (offer_end now p false s) plain)) (or-none z false refl)
       r.knows
 
-  offer_own : (leaving up : Bool) (x y z : Bool) (o : Offer) (s : Turning)
+  offer-own : (leaving up : Bool) (x y z : Bool) (o : Offer) (s : Turning)
       → is_leaving (standing_of p s) ≡ leaving
       → (up ≡ true → is_told (standing_of p s) ≡ false) → Knows p x y z s.noted
       → Knows p (x || has_some (fails_for (p + 1)) (calls_offered p leaving up o s))
       (y || has_some (ends_for (p + 1)) (calls_offered p leaving up o s))
       (z || has_some (closes_for (p + 1)) (done_at now (cond leaving []
       (cond up (failed_events now p (offer_of p o s).failed s) [])) s.server.device).answers)
-      (cond leaving (parted p s) (cond up (after_offer now p (offer_of p o s) s) s)).noted
-  offer_own true up x y z o s is untold k =
+      (cond leaving (after_parting p s) (cond up (after_offer now p (offer_of p o s) s) s)).noted
+  offer-own true up x y z o s is untold k =
       let calls = (offer_of p o s).calls ++ Closes (p + 1) ∷ [] in
-      knows-as p _ y z _ _ _ (parted p s).noted refl
-      (or_none y _ (behind_ends o s (Closes (p + 1) ∷ []) (record { fails = refl; ends = refl })))
-      (or_none z false refl)
+      knows-as p _ y z _ _ _ (after_parting p s).noted refl
+      (or-none y _ (behind-ends o s (Closes (p + 1) ∷ []) (record { fails = refl; ends = refl })))
+      (or-none z false refl)
       (parted-knows p low x y z (has_some (fails_for (p + 1)) calls) s.noted is k)
-  offer_own false true x y z o s is untold k =
-      failed_own (offer_of p o s).failed x y z o s refl
+  offer-own false true x y z o s is untold k =
+      failed-own (offer_of p o s).failed x y z o s refl
       (record { untold = untold refl; knows = k })
-  offer_own false false x y z o s is untold k =
-      knows-as p x y z _ _ _ s.noted (or_none x false refl) (or_none y false refl)
-      (or_none z false refl) k
+  offer-own false false x y z o s is untold k =
+      knows-as p x y z _ _ _ s.noted (or-none x false refl) (or-none y false refl)
+      (or-none z false refl) k
 
-  plain_offer : (place : ℕ) (o : Offer) (s : Turning) → place ≢ p
+  plain-offer : (place : ℕ) (o : Offer) (s : Turning) → place ≢ p
       → IsPlain (p + 1) (offer_calls now place o s)
-  plain_offer place o s ne = by_leaving (is_leaving (standing_of place s)) (is_up place s)
+  plain-offer place o s ne = by-leaving (is_leaving (standing_of place s)) (is_up place s)
     where
       made : IsPlain (p + 1) (offer_of place o s).calls
       made = record {
@@ -462,29 +463,29 @@ module _ (now p : ℕ) (low : p < 8) where
         ends = offer-ends (p + 1) (place + 1) (queue_of place s) o.takes o.fails;
       }
 
-      by_leaving : (leaving up : Bool) → IsPlain (p + 1) (calls_offered place leaving up o s)
-      by_leaving true up = plain-both (p + 1) (offer_of place o s).calls (Closes (place + 1) ∷ [])
+      by-leaving : (leaving up : Bool) → IsPlain (p + 1) (calls_offered place leaving up o s)
+      by-leaving true up = plain-both (p + 1) (offer_of place o s).calls (Closes (place + 1) ∷ [])
           made (record { fails = refl; ends = refl })
-      by_leaving false true = plain-both (p + 1) (offer_of place o s).calls
+      by-leaving false true = plain-both (p + 1) (offer_of place o s).calls
           (offer_end now place (offer_of place o s).failed s) made
           (plain-end (p + 1) now place (offer_of place o s).failed s)
-      by_leaving false false = plain-nil (p + 1)
+      by-leaving false false = plain-nil (p + 1)
 
-  offer_learns : (place : ℕ) (o : Offer) (s : Turning) → place < 8
+  offer-learns : (place : ℕ) (o : Offer) (s : Turning) → place < 8
       → (is_up p s ≡ true → is_told (standing_of p s) ≡ false)
       → Learns s (offer_calls now place o s) (offer_events now place o s) (offer_one now place o s)
-  offer_learns place o s small untold = elim (cases_eq place p) [
+  offer-learns place o s small untold = elim (cases_eq place p) [
     | inl e ↦ subst (λ q. Learns s (offer_calls now q o s) (offer_events now q o s)
         (offer_one now q o s)) (sym e) (record {
           device = (Part-offer ⊥ now p o s).device;
           learns = λ x y z k.
-              offer_own (is_leaving (standing_of p s)) (is_up p s) x y z o s refl untold k;
+              offer-own (is_leaving (standing_of p s)) (is_up p s) x y z o s refl untold k;
         })
     | inr ne ↦ Learns-still s (offer_one now place o s) (offer_calls now place o s)
-        (offer_events now place o s) (Part-offer ⊥ now place o s).device (plain_offer place o s ne)
+        (offer_events now place o s) (Part-offer ⊥ now place o s).device (plain-offer place o s ne)
         (none-closes (p + 1) now (offer_events now place o s) s.server.device
         (offer-quiet now place o s))
-        (λ sized. keep_offer Others (Still p s.noted) (still-kept p low s.noted) now place o s
+        (λ sized. keep-offer Others (Still p s.noted) (still-kept p low s.noted) now place o s
         small ne (Still-refl p s.noted sized))
   ]
 
@@ -497,13 +498,13 @@ module _ (now p : ℕ) (low : p < 8) (held : List ℕ) (past : now ≤ last_mome
     sent : List ℕ
     well : Well now p held taken sent s
 
-  kept_after : (s t : Turning) (calls : List Call) (events : List ChosenEvent)
+  kept-after : (s t : Turning) (calls : List Call) (events : List ChosenEvent)
       → Moves (Well now p held) (Well now p held) now p s calls events t → Kept s → Kept t
-  kept_after s t calls events m k =
+  kept-after s t calls events m k =
       record { taken = _; sent = _; well = m.goes k.taken k.sent k.well }
 
-  untold_of : (s : Turning) → Kept s → is_up p s ≡ true → is_told (standing_of p s) ≡ false
-  untold_of s k =
+  untold-of : (s : Turning) → Kept s → is_up p s ≡ true → is_told (standing_of p s) ≡ false
+  untold-of s k =
       let c = k.well.carried.carries in
       up-untold (standing_of p s) (is_up p s) (queue_of p s) c.lost c.may
 
@@ -512,7 +513,7 @@ module _ (now p : ℕ) (low : p < 8) (held : List ℕ) (past : now ≤ last_mome
     learns : Learns now p low s calls events t
     kept : Kept t
 
-  each_both : {C : Type 0} (f : ℕ → C → Turning → Turning)
+  each-both : {C : Type 0} (f : ℕ → C → Turning → Turning)
       (calls : ℕ → C → Turning → List Call) (events : ℕ → C → Turning → List ChosenEvent)
       → ((place : ℕ) (c : C) (s : Turning) → place < 8
       → (is_up p s ≡ true → is_told (standing_of p s) ≡ false)
@@ -522,21 +523,21 @@ module _ (now p : ℕ) (low : p < 8) (held : List ℕ) (past : now ≤ last_mome
       (f place c s))
       → (i : ℕ) (cs : List C) (s : Turning) → i + length cs ≤ 8 → Kept s
       → Both s (calls_of_each f calls i cs s) (events_of_each f events i cs s) (after_each f i cs s)
-  each_both f calls events step moves i [] s few k = record {
+  each-both f calls events step moves i [] s few k = record {
     learns = Learns-still now p low s s [] [] refl (plain-nil (p + 1)) refl
         (λ sized. Still-refl p s.noted sized);
     kept = k;
   }
-  each_both f calls events step moves i (c ∷ cs) s few k =
+  each-both f calls events step moves i (c ∷ cs) s few k =
       let t : Turning = f i c s in
       let later =
-      each_both f calls events step moves (i + 1) cs t (omega arith)
-      (kept_after s t (calls i c s) (events i c s) (moves i c s) k) in
+      each-both f calls events step moves (i + 1) cs t (omega arith)
+      (kept-after s t (calls i c s) (events i c s) (moves i c s) k) in
       record {
         learns = Learns-trans now p low s t (after_each f (i + 1) cs t) (calls i c s)
             (calls_of_each f calls (i + 1) cs t) (events i c s)
             (events_of_each f events (i + 1) cs t)
-            (step i c s (omega arith) (untold_of s k)) later.learns;
+            (step i c s (omega arith) (untold-of s k)) later.learns;
         kept = later.kept;
       }
 
@@ -546,7 +547,7 @@ KnowsTurn now line script h p =
     Knows p (has_some (fails_for (p + 1)) (turn_calls now line script h))
     (has_some (ends_for (p + 1)) (turn_calls now line script h))
     (has_some (closes_for (p + 1)) (done_at now (turn_events now line script h) h.device).answers)
-    (turned now line script h).noted
+    (after_turn now line script h).noted
 
 pub knows-turn : (now : ℕ) (line : Option NamedData) (script : Script) (h : Held) → IsTidy h
     → IsInTime now h → IsOfProcess line → length script.readings ≡ 8 → length script.offers ≡ 8
@@ -554,12 +555,12 @@ pub knows-turn : (now : ℕ) (line : Option NamedData) (script : Script) (h : He
 knows-turn now line script h tidy time process readings offers p low =
     let held = queue_at p h in
     let past = time.not_past in
-    let s0 : Turning = begun h in
+    let s0 : Turning = turn_begin h in
     let s1 : Turning = after_accept now script h in
     let s2 : Turning = after_reads now script h in
     let s3 : Turning = after_line now line script h in
     let s4 : Turning = after_scan now line script h in
-    let s5 : Turning = turned now line script h in
+    let s5 : Turning = after_turn now line script h in
     let silent : HasNoOctets line = process-quiet line process in
     let kept1 : Kept now p low held past s1 = record {
       taken = _;
@@ -574,39 +575,39 @@ knows-turn now line script h tidy time process readings offers p low =
     (plain-accept (p + 1) now (free_place h) script.accepted s0)
     (none-closes (p + 1) now (accept_events now script.accepted s0) s0.server.device
     (accept-quiet now (free_place h) script.accepted s0))
-    (λ sized. keep_on_accept (Others now p low) (Still p s0.noted) (still-kept p low s0.noted) now
+    (λ sized. keep-on-accept (Others now p low) (Still p s0.noted) (still-kept p low s0.noted) now
     (free_place h) script.accepted s0 (Still-refl p s0.noted sized)) in
     let to2 : Both now p low held past s1
     (calls_of_each (read_one now) (read_calls now) 0 script.readings s1)
     (events_of_each (read_one now) (read_events now) 0 script.readings s1) s2 =
-    each_both now p low held past (read_one now) (read_calls now) (read_events now)
-    (read_learns now p low) (read-moves now p held low past) 0 script.readings s1
+    each-both now p low held past (read_one now) (read_calls now) (read_events now)
+    (read-learns now p low) (read-moves now p held low past) 0 script.readings s1
     (omega (arith, readings)) kept1 in
     let kept3 : Kept now p low held past s3 =
-    kept_after now p low held past s2 s3 (line_calls now line s2) (line_events now line s2)
+    kept-after now p low held past s2 s3 (line_calls now line s2) (line_events now line s2)
     (line-moves now p held low past line s2 process) to2.kept in
     let to3 : Learns now p low s2 (line_calls now line s2) (line_events now line s2) s3 =
     Learns-still now p low s2 s3 (line_calls now line s2) (line_events now line s2)
     (Part-line ⊥ now line s2 (λ q. absurd q)).device (plain-line (p + 1) now line s2)
     (none-closes (p + 1) now (line_events now line s2) s2.server.device
     (line-quiet now line s2 silent))
-    (λ sized. keep_line (Others now p low) (Still p s2.noted) (still-kept p low s2.noted) now line
+    (λ sized. keep-line (Others now p low) (Still p s2.noted) (still-kept p low s2.noted) now line
     s2 (Still-refl p s2.noted sized)) in
     let kept4 : Kept now p low held past s4 =
-    kept_after now p low held past s3 s4 (scan_calls now s3) (scan_events now s3)
+    kept-after now p low held past s3 s4 (scan_calls now s3) (scan_events now s3)
     (scan-moves now p held low past s3) kept3 in
     let to4 : Learns now p low s3 (scan_calls now s3) (scan_events now s3) s4 =
     Learns-still now p low s3 s4 (scan_calls now s3) (scan_events now s3)
-    (Part-scan ⊥ now s3).device (plain-settling (p + 1) now (stepped now Scan s3))
+    (Part-scan ⊥ now s3).device (plain-settling (p + 1) now (after_event now Scan s3))
     (none-closes (p + 1) now (scan_events now s3) s3.server.device
-    (tt, settled-quiet now (stepped now Scan s3)))
-    (λ sized. keep_scan (Others now p low) (Still p s3.noted) (still-kept p low s3.noted) now s3
+    (tt, settled-quiet now (after_event now Scan s3)))
+    (λ sized. keep-scan (Others now p low) (Still p s3.noted) (still-kept p low s3.noted) now s3
     (Still-refl p s3.noted sized)) in
     let to5 : Both now p low held past s4
     (calls_of_each (offer_one now) (offer_calls now) 0 script.offers s4)
     (events_of_each (offer_one now) (offer_events now) 0 script.offers s4) s5 =
-    each_both now p low held past (offer_one now) (offer_calls now) (offer_events now)
-    (offer_learns now p low) (offer-moves now p held low past) 0 script.offers s4
+    each-both now p low held past (offer_one now) (offer_calls now) (offer_events now)
+    (offer-learns now p low) (offer-moves now p held low past) 0 script.offers s4
     (omega (arith, offers)) kept4 in
     let to02 = Learns-trans now p low s0 s1 s2 _ _ _ _ to1 to2.learns in
     let to03 = Learns-trans now p low s0 s2 s3 _ _ _ _ to02 to3 in

@@ -5,7 +5,7 @@ use Rattle.std.proofs.lemmas.List.{get_or-set_other, get_or-set_same}
 use Rattle.std.proofs.lemmas.List.Quantifiers.{position-Some}
 use Rattle.bay_device.specs.declared.event.Why.{Why}
 use Rattle.bay_device.specs.declared.event.Why.TheVariants.{Ended, Fault, Memory}
-use Rattle.bay_serve.specs.Standings.{filled, is_full, is_leaving, is_told}
+use Rattle.bay_serve.specs.Standings.{after_full, is_full, is_leaving, is_told}
 use Rattle.bay_serve.specs.Turns.{Noted, goes, leaves, left_noted, nothing_noted, standing_in, stands}
 use Rattle.bay_serve.specs.declared.standing.Standing.{Standing}
 use Rattle.bay_serve.specs.declared.standing.Standing.TheVariants.{Steady, Full, Leaving, LeavingFull, Gone}
@@ -16,14 +16,14 @@ use Rattle.bay_serve_laws.specs.Faults.{is_link_failed}
 use Rattle.bay_serve_laws.proofs.ClosingLemmas.{IsOwn}
 use Rattle.bay_serve_laws.proofs.KeepLemmas.{IsFilled, IsNoted}
 use Rattle.bay_serve_laws.proofs.StandingLemmas.{all-steady}
-use Rattle.bay_serve_laws.proofs.TellingLemmas.{filled_told, leaving_told, same_number, set_length}
-use Rattle.bay_serve_laws.proofs.TellsLemmas.{or_none, or_true, tells-not, tells-now, tells-other}
+use Rattle.bay_serve_laws.proofs.TellingLemmas.{filled-told, leaving-told, same-number, set-length}
+use Rattle.bay_serve_laws.proofs.TellsLemmas.{or-none, or-true, tells-not, tells-now, tells-other}
 
 -- ---- tests
 
-pub and_no : (b : Bool) → (b && false) ≡ false
-and_no true = refl
-and_no false = refl
+pub and-no : (b : Bool) → (b && false) ≡ false
+and-no true = refl
+and-no false = refl
 
 neither : (b c : Bool) → b ≡ false → c ≡ false → (b || c) ≡ true → ⊥
 neither true c e f g = cc
@@ -86,18 +86,18 @@ Still-refl p n sized = record {
   more = λ e. e;
 }
 
-still_open : (p : ℕ) (a b c : Bool) (n m : Noted) → Still p n m
+still-open : (p : ℕ) (a b c : Bool) (n m : Noted) → Still p n m
     → (is_told (standing_in p m) ≡ false) → IsOpen a b c (p + 1) n → IsOpen a b c (p + 1) m
-still_open p a b c n m s e o = record {
+still-open p a b c n m s e o = record {
   failed = o.failed;
   over = o.over;
   closed = o.closed;
-  full = by_full (tells is_queue_full (p + 1) m.closed) refl;
+  full = by-full (tells is_queue_full (p + 1) m.closed) refl;
 }
   where
-    by_full : (v : Bool) → tells is_queue_full (p + 1) m.closed ≡ v → v ≡ false
-    by_full false is = refl
-    by_full true is = absurd (elim (s.full is) [
+    by-full : (v : Bool) → tells is_queue_full (p + 1) m.closed ≡ v → v ≡ false
+    by-full false is = refl
+    by-full true is = absurd (elim (s.full is) [
       | inl t ↦ let f : true ≡ false = sym t ∙ o.full in cc
       | inr u ↦ let f : true ≡ false = sym u.1 ∙ e in cc
     ])
@@ -114,33 +114,33 @@ still-knows p a b c n m s k = record {
       | inr u ↦ let o = k.untold u.0 in (o.failed, o.over, o.closed)
     ];
   };
-  untold = λ e. still_open p a b c n m s e (k.untold (s.told e));
+  untold = λ e. still-open p a b c n m s e (k.untold (s.told e));
   leaving = λ e. k.leaving (s.leaving e);
   told = λ e f g i. elim (s.closes e) [ inl t ↦ s.more (k.told t f g i) | inr t ↦ t ];
 }
 
 module _ (p : ℕ) (low : p < 8) where
-  at_own : (l : List Standing) (x : Standing) → length l ≡ 8 → get_or (set l p x) p Steady ≡ x
-  at_own l x sized =
+  at-own : (l : List Standing) (x : Standing) → length l ≡ 8 → get_or (set l p x) p Steady ≡ x
+  at-own l x sized =
       get_or-set_same l p x Steady (subst (λ (k : ℕ). p < k) (sym sized) low)
 
-  at_other : (l : List Standing) (x : Standing) (place : ℕ) → place ≢ p
+  at-other : (l : List Standing) (x : Standing) (place : ℕ) → place ≢ p
       → get_or (set l place x) p Steady ≡ get_or l p Steady
-  at_other l x place ne = get_or-set_other l place p x Steady (λ e. ne (sym e))
+  at-other l x place ne = get_or-set_other l place p x Steady (λ e. ne (sym e))
 
   module _ (n : Noted) where
     -- it stands otherwise, and not more open
-    stands_own : (x : Standing) (m : Noted)
+    stands-own : (x : Standing) (m : Noted)
         → (is_told x ≡ false → is_told (standing_in p m) ≡ false)
         → (is_leaving x ≡ true → is_leaving (standing_in p m) ≡ true)
         → (is_told x ≡ true → is_told (standing_in p m) ≡ true) → Still p n m
         → Still p n (stands p x m)
-    stands_own x m untold leaving told s =
-        let here = at_own m.standings x s.sized in
+    stands-own x m untold leaving told s =
+        let here = at-own m.standings x s.sized in
         let back : is_told (standing_in p (stands p x m)) ≡ false
         → is_told (standing_in p m) ≡ false = λ e. untold (sym (ap is_told here) ∙ e) in
         record {
-          sized = set_length m.standings p x ∙ s.sized;
+          sized = set-length m.standings p x ∙ s.sized;
           told = λ e. s.told (back e);
           leaving = λ e. s.leaving (leaving (sym (ap is_leaving here) ∙ e));
           same = s.same;
@@ -153,14 +153,14 @@ module _ (p : ℕ) (low : p < 8) where
         }
 
     -- another stands otherwise, and what is told of it
-    stands_other : (x : Standing) (place : ℕ) (l : List (ℕ × Closing)) (memory : List ℕ) (m : Noted)
+    stands-other : (x : Standing) (place : ℕ) (l : List (ℕ × Closing)) (memory : List ℕ) (m : Noted)
         → place ≢ p
         → ((is : Closing → Bool) → tells is (p + 1) l ≡ tells is (p + 1) m.closed) → Still p n m
         → Still p n (stands place x (record m { closed = l; memory = memory }))
-    stands_other x place l memory m ne told s =
-        let there = at_other m.standings x place ne in
+    stands-other x place l memory m ne told s =
+        let there = at-other m.standings x place ne in
         record {
-          sized = set_length m.standings place x ∙ s.sized;
+          sized = set-length m.standings place x ∙ s.sized;
           told = λ e. s.told (sym (ap is_told there) ∙ e);
           leaving = λ e. s.leaving (sym (ap is_leaving there) ∙ e);
           same = λ is e. told is ∙ s.same is e;
@@ -175,42 +175,42 @@ module _ (p : ℕ) (low : p < 8) where
           more = λ e. told is_queue_full ∙ s.more e;
         }
 
-    told_other : (b : Bool) (x : Standing) (place : ℕ) (why : Closing) (m : Noted) → place ≢ p
+    told-other : (b : Bool) (x : Standing) (place : ℕ) (why : Closing) (m : Noted) → place ≢ p
         → Still p n m
         → Still p n (stands place x
         (cond b m (record m { closed = m.closed ++ (place + 1, why) ∷ [] })))
-    told_other true x place why m ne s =
-        stands_other x place m.closed m.memory m ne (λ is. refl) s
-    told_other false x place why m ne s =
-        stands_other x place (m.closed ++ (place + 1, why) ∷ []) m.memory m ne
+    told-other true x place why m ne s =
+        stands-other x place m.closed m.memory m ne (λ is. refl) s
+    told-other false x place why m ne s =
+        stands-other x place (m.closed ++ (place + 1, why) ∷ []) m.memory m ne
         (λ is. tells-other is p place why m.closed ne) s
 
-    memory_other : (b : Bool) (x : Standing) (place : ℕ) (m : Noted) → place ≢ p → Still p n m
+    memory-other : (b : Bool) (x : Standing) (place : ℕ) (m : Noted) → place ≢ p → Still p n m
         → Still p n (stands place x
         (cond b m (record m { memory = m.memory ++ (place + 1) ∷ [] })))
-    memory_other true x place m ne s = stands_other x place m.closed m.memory m ne (λ is. refl) s
-    memory_other false x place m ne s =
-        stands_other x place m.closed (m.memory ++ (place + 1) ∷ []) m ne (λ is. refl) s
+    memory-other true x place m ne s = stands-other x place m.closed m.memory m ne (λ is. refl) s
+    memory-other false x place m ne s =
+        stands-other x place m.closed (m.memory ++ (place + 1) ∷ []) m ne (λ is. refl) s
 
-    leaves_other : (place : ℕ) (why : Why) (m : Noted) → place ≢ p → Still p n m
+    leaves-other : (place : ℕ) (why : Why) (m : Noted) → place ≢ p → Still p n m
         → Still p n (leaves place why m)
-    leaves_other place Ended m ne s =
-        told_other (is_told (standing_in place m)) Leaving place closing.Ended m ne s
-    leaves_other place (Fault code) m ne s =
-        told_other (is_told (standing_in place m)) Leaving place (closing.Fault code) m ne s
-    leaves_other place Memory m ne s =
-        memory_other (is_told (standing_in place m)) Leaving place m ne s
+    leaves-other place Ended m ne s =
+        told-other (is_told (standing_in place m)) Leaving place closing.Ended m ne s
+    leaves-other place (Fault code) m ne s =
+        told-other (is_told (standing_in place m)) Leaving place (closing.Fault code) m ne s
+    leaves-other place Memory m ne s =
+        memory-other (is_told (standing_in place m)) Leaving place m ne s
 
     -- its queue is full
-    overflows_own : (b : Bool) (m : Noted) → is_told (standing_in p m) ≡ b → Still p n m
+    overflows-own : (b : Bool) (m : Noted) → is_told (standing_in p m) ≡ b → Still p n m
         → Still p n (stands p Gone
         (cond b m (record m { closed = m.closed ++ (p + 1, closing.QueueFull) ∷ [] })))
-    overflows_own true m e s =
-        stands_own Gone m (λ f. absurd (cc)) (λ f. absurd (cc)) (λ f. e) s
-    overflows_own false m e s =
-        let here = at_own m.standings Gone s.sized in
+    overflows-own true m e s =
+        stands-own Gone m (λ f. absurd (cc)) (λ f. absurd (cc)) (λ f. e) s
+    overflows-own false m e s =
+        let here = at-own m.standings Gone s.sized in
         record {
-          sized = set_length m.standings p Gone ∙ s.sized;
+          sized = set-length m.standings p Gone ∙ s.sized;
           told = λ f. absurd (let g : true ≡ false = sym (ap is_told here) ∙ f in cc);
           leaving = λ f. absurd (let g : false ≡ true = sym (ap is_leaving here) ∙ f in cc);
           same = λ is f. tells-not is p closing.QueueFull m.closed f ∙ s.same is f;
@@ -219,51 +219,51 @@ module _ (p : ℕ) (low : p < 8) where
           more = λ f. tells-now is_queue_full p closing.QueueFull m.closed refl;
         }
 
-    overflows_at : (place : ℕ) (m : Noted) → Still p n m
+    overflows-at : (place : ℕ) (m : Noted) → Still p n m
         → Still p n (goes place closing.QueueFull m)
-    overflows_at place m s = elim (cases_eq place p) [
+    overflows-at place m s = elim (cases_eq place p) [
       | inl e ↦ subst (λ q. Still p n (goes q closing.QueueFull m)) (sym e)
-          (overflows_own (is_told (standing_in p m)) m refl s)
-      | inr ne ↦ told_other (is_told (standing_in place m)) Gone place closing.QueueFull m ne s
+          (overflows-own (is_told (standing_in p m)) m refl s)
+      | inr ne ↦ told-other (is_told (standing_in place m)) Gone place closing.QueueFull m ne s
     ]
 
-    fills_at : (place : ℕ) (m : Noted) → Still p n m
-        → Still p n (stands place (filled (standing_in place m)) m)
-    fills_at place m s = elim (cases_eq place p) [
-      | inl e ↦ subst (λ q. Still p n (stands q (filled (standing_in q m)) m)) (sym e)
-          (stands_own (filled (standing_in p m)) m
-          (λ f. sym (filled_told (standing_in p m)) ∙ f)
-          (λ f. sym (filled_leaving (standing_in p m)) ∙ f)
-          (λ f. sym (filled_told (standing_in p m)) ∙ f) s)
-      | inr ne ↦ stands_other (filled (standing_in place m)) place m.closed m.memory m ne
+    fills-at : (place : ℕ) (m : Noted) → Still p n m
+        → Still p n (stands place (after_full (standing_in place m)) m)
+    fills-at place m s = elim (cases_eq place p) [
+      | inl e ↦ subst (λ q. Still p n (stands q (after_full (standing_in q m)) m)) (sym e)
+          (stands-own (after_full (standing_in p m)) m
+          (λ f. sym (filled-told (standing_in p m)) ∙ f)
+          (λ f. sym (filled-leaving (standing_in p m)) ∙ f)
+          (λ f. sym (filled-told (standing_in p m)) ∙ f) s)
+      | inr ne ↦ stands-other (after_full (standing_in place m)) place m.closed m.memory m ne
           (λ is. refl) s
     ]
       where
-        filled_leaving : (x : Standing) → is_leaving (filled x) ≡ is_leaving x
-        filled_leaving Steady = refl
-        filled_leaving Full = refl
-        filled_leaving Leaving = refl
-        filled_leaving LeavingFull = refl
-        filled_leaving Gone = refl
+        filled-leaving : (x : Standing) → is_leaving (after_full x) ≡ is_leaving x
+        filled-leaving Steady = refl
+        filled-leaving Full = refl
+        filled-leaving Leaving = refl
+        filled-leaving LeavingFull = refl
+        filled-leaving Gone = refl
 
     parts_at : (place : ℕ) (m : Noted) → is_leaving (standing_in place m) ≡ true → Still p n m
         → Still p n (stands place Gone m)
     parts_at place m is s = elim (cases_eq place p) [
       | inl e ↦ subst (λ q. Still p n (stands q Gone m)) (sym e)
-          (stands_own Gone m (λ f. absurd (cc)) (λ f. absurd (cc))
-          (λ f. leaving_told (standing_in p m)
+          (stands-own Gone m (λ f. absurd (cc)) (λ f. absurd (cc))
+          (λ f. leaving-told (standing_in p m)
           (ap (λ q. is_leaving (standing_in q m)) (sym e) ∙ is)) s)
-      | inr ne ↦ stands_other Gone place m.closed m.memory m ne (λ is. refl) s
+      | inr ne ↦ stands-other Gone place m.closed m.memory m ne (λ is. refl) s
     ]
 
     -- no other's closing concerns it
     pub still-kept : IsNoted (λ place. place ≢ p) (Still p n)
     still-kept = record {
-      fills = fills_at;
-      leaving = λ place why m small ne s. leaves_other place why m ne s;
+      fills = fills-at;
+      leaving = λ place why m small ne s. leaves-other place why m ne s;
       going = λ place why m small ne s.
-          told_other (is_told (standing_in place m)) Gone place why m ne s;
-      overflows = λ place m small s. overflows_at place m s;
+          told-other (is_told (standing_in place m)) Gone place why m ne s;
+      overflows = λ place m small s. overflows-at place m s;
       found = λ m place s e.
           subst (λ (k : ℕ). place < k) s.sized
           (position-Some is_full m.standings place Steady e).0;
@@ -293,52 +293,52 @@ module _ (p : ℕ) (low : p < 8) where
   is_gone : (n : Noted) (x : Standing) (l : List (ℕ × Closing)) (memory : List ℕ)
       → length n.standings ≡ 8
       → standing_in p (stands p x (record n { closed = l; memory = memory })) ≡ x
-  is_gone n x l memory sized = at_own n.standings x sized
+  is_gone n x l memory sized = at-own n.standings x sized
 
   -- a reason that the device or the client gives
-  left_as : (x y z over closed : Bool) (n : Noted) (l : List (ℕ × Closing)) (memory : List ℕ)
+  left-as : (x y z over closed : Bool) (n : Noted) (l : List (ℕ × Closing)) (memory : List ℕ)
       → is_told (standing_in p n) ≡ false → Knows p x y z n
       → tells is_link_failed (p + 1) l ≡ tells is_link_failed (p + 1) n.closed
       → tells is_queue_full (p + 1) l ≡ tells is_queue_full (p + 1) n.closed
       → (over ≡ true → tells is_ended (p + 1) l ≡ true) → (over || closed) ≡ true
       → Knows p x over closed (stands p Leaving (record n { closed = l; memory = memory }))
-  left_as x y z over closed n l memory e k link queue client some =
+  left-as x y z over closed n l memory e k link queue client some =
       let o = k.untold e in
-      let now_told = ap is_told (is_gone n Leaving l memory k.sized) in
+      let now-told = ap is_told (is_gone n Leaving l memory k.sized) in
       record {
-        sized = set_length n.standings p Leaving ∙ k.sized;
+        sized = set-length n.standings p Leaving ∙ k.sized;
         caused = record {
           link = link ∙ k.caused.link ∙ ap (λ b. b && not (y || z)) o.failed
               ∙ sym (ap (λ b. b && not (over || closed)) o.failed);
           client = client;
           queue = λ f. absurd (let g : true ≡ false = sym f ∙ queue ∙ o.full in cc);
         };
-        untold = λ f. absurd (let g : true ≡ false = sym now_told ∙ f in cc);
+        untold = λ f. absurd (let g : true ≡ false = sym now-told ∙ f in cc);
         leaving = λ f. some;
         told = λ f g i j. absurd (neither over closed i j some);
       }
 
-  told_as : (b x y z over closed : Bool) (why : Closing) (n : Noted)
+  told-as : (b x y z over closed : Bool) (why : Closing) (n : Noted)
       → is_told (standing_in p n) ≡ false → b ≡ false → Knows p x y z n
       → is_link_failed why ≡ false → is_queue_full why ≡ false
       → (over ≡ true → is_ended why ≡ true) → (over || closed) ≡ true
       → Knows p x over closed (stands p Leaving
       (cond b n (record n { closed = n.closed ++ (p + 1, why) ∷ [] })))
-  told_as true x y z over closed why n e is k link queue client some = absurd (cc)
-  told_as false x y z over closed why n e is k link queue client some =
-      left_as x y z over closed n (n.closed ++ (p + 1, why) ∷ []) n.memory e k
+  told-as true x y z over closed why n e is k link queue client some = absurd (cc)
+  told-as false x y z over closed why n e is k link queue client some =
+      left-as x y z over closed n (n.closed ++ (p + 1, why) ∷ []) n.memory e k
       (tells-not is_link_failed p why n.closed link)
       (tells-not is_queue_full p why n.closed queue)
       (λ f. tells-now is_ended p why n.closed (client f)) some
 
-  memory_as : (b x y z closed : Bool) (n : Noted)
+  memory-as : (b x y z closed : Bool) (n : Noted)
       → is_told (standing_in p n) ≡ false → Knows p x y z n → (y || closed) ≡ true
       → Knows p x y closed (stands p Leaving
       (cond b n (record n { memory = n.memory ++ (p + 1) ∷ [] })))
-  memory_as true x y z closed n e k some =
-      left_as x y z y closed n n.closed n.memory e k refl refl k.caused.client some
-  memory_as false x y z closed n e k some =
-      left_as x y z y closed n n.closed (n.memory ++ (p + 1) ∷ []) e k refl refl
+  memory-as true x y z closed n e k some =
+      left-as x y z y closed n n.closed n.memory e k refl refl k.caused.client some
+  memory-as false x y z closed n e k some =
+      left-as x y z y closed n n.closed (n.memory ++ (p + 1) ∷ []) e k refl refl
       k.caused.client some
 
   -- its client ended
@@ -346,49 +346,49 @@ module _ (p : ℕ) (low : p < 8) where
       → is_told (standing_in p n) ≡ false → Knows p x y z n
       → Knows p x (y || true) z (leaves p Ended n)
   ended-knows x y z n e k =
-      told_as (is_told (standing_in p n)) x y z (y || true) z closing.Ended n e e k refl refl
-      (λ f. refl) (ap (λ b. b || z) (or_true y))
+      told-as (is_told (standing_in p n)) x y z (y || true) z closing.Ended n e e k refl refl
+      (λ f. refl) (ap (λ b. b || z) (or-true y))
 
   -- the device closed it
-  closed_knows : (x y z : Bool) (why : Why) (n : Noted)
+  closed-knows : (x y z : Bool) (why : Why) (n : Noted)
       → is_told (standing_in p n) ≡ false → Knows p x y z n
       → Knows p x y (z || true) (leaves p why n)
-  closed_knows x y z Ended n e k =
-      told_as (is_told (standing_in p n)) x y z y (z || true) closing.Ended n e e k refl refl
-      (λ f. refl) (ap (λ b. y || b) (or_true z) ∙ or_true y)
-  closed_knows x y z (Fault code) n e k =
-      told_as (is_told (standing_in p n)) x y z y (z || true) (closing.Fault code) n e e k
+  closed-knows x y z Ended n e k =
+      told-as (is_told (standing_in p n)) x y z y (z || true) closing.Ended n e e k refl refl
+      (λ f. refl) (ap (λ b. y || b) (or-true z) ∙ or-true y)
+  closed-knows x y z (Fault code) n e k =
+      told-as (is_told (standing_in p n)) x y z y (z || true) (closing.Fault code) n e e k
       refl refl (λ f. absurd (let g : true ≡ false = sym f ∙ (k.untold e).over in cc))
-      (ap (λ b. y || b) (or_true z) ∙ or_true y)
-  closed_knows x y z Memory n e k =
-      memory_as (is_told (standing_in p n)) x y z (z || true) n e k
-      (ap (λ b. y || b) (or_true z) ∙ or_true y)
+      (ap (λ b. y || b) (or-true z) ∙ or-true y)
+  closed-knows x y z Memory n e k =
+      memory-as (is_told (standing_in p n)) x y z (z || true) n e k
+      (ap (λ b. y || b) (or-true z) ∙ or-true y)
 
   pub left-knows : (x y z : Bool) (o : Option (ℕ × Why)) (n : Noted)
       → is_told (standing_in p n) ≡ false → IsOwn (p + 1) o → Knows p x y z n
       → Knows p x y (z || is_named (p + 1) o) (left_noted p o n)
   left-knows x y z None n e own k =
-      knows-as p x y z x y (z || false) n refl refl (or_none z false refl) k
+      knows-as p x y z x y (z || false) n refl refl (or-none z false refl) k
   left-knows x y z (Some c) n e own k =
       knows-as p x y (z || true) x y (z || (c.0 == p + 1)) (leaves p c.1 n) refl refl
-      (ap (λ b. z || b) (sym (ap (λ a. a == p + 1) own ∙ same_number p)))
-      (closed_knows x y z c.1 n e k)
+      (ap (λ b. z || b) (sym (ap (λ a. a == p + 1) own ∙ same-number p)))
+      (closed-knows x y z c.1 n e k)
 
   -- a call of it failed
-  failed_as : (b x y z : Bool) (n : Noted)
+  failed-as : (b x y z : Bool) (n : Noted)
       → is_told (standing_in p n) ≡ false → b ≡ false → Knows p x y z n
       → Knows p (x || true) y z (stands p Gone
       (cond b n (record n { closed = n.closed ++ (p + 1, closing.LinkFailed) ∷ [] })))
-  failed_as true x y z n e is k = absurd (cc)
-  failed_as false x y z n e is k =
+  failed-as true x y z n e is k = absurd (cc)
+  failed-as false x y z n e is k =
       let o = k.untold e in
       let l = n.closed ++ (p + 1, closing.LinkFailed) ∷ [] in
       let here = is_gone n Gone l n.memory k.sized in
       record {
-        sized = set_length n.standings p Gone ∙ k.sized;
+        sized = set-length n.standings p Gone ∙ k.sized;
         caused = record {
           link = tells-now is_link_failed p closing.LinkFailed n.closed refl
-              ∙ sym (ap (λ b. b && not (y || z)) (or_true x)
+              ∙ sym (ap (λ b. b && not (y || z)) (or-true x)
               ∙ ap (λ b. true && not (b || z)) o.over ∙ ap (λ b. true && not b) o.closed);
           client = λ f. absurd (let g : true ≡ false = sym f ∙ o.over in cc);
           queue = λ f. absurd (let g : true ≡ false =
@@ -396,13 +396,13 @@ module _ (p : ℕ) (low : p < 8) where
         };
         untold = λ f. absurd (let g : true ≡ false = sym (ap is_told here) ∙ f in cc);
         leaving = λ f. absurd (let g : false ≡ true = sym (ap is_leaving here) ∙ f in cc);
-        told = λ f g i j. absurd (let no : true ≡ false = sym (or_true x) ∙ g in cc);
+        told = λ f g i j. absurd (let no : true ≡ false = sym (or-true x) ∙ g in cc);
       }
 
   pub failed-knows : (x y z : Bool) (n : Noted)
       → is_told (standing_in p n) ≡ false → Knows p x y z n
       → Knows p (x || true) y z (goes p closing.LinkFailed n)
-  failed-knows x y z n e k = failed_as (is_told (standing_in p n)) x y z n e e k
+  failed-knows x y z n e k = failed-as (is_told (standing_in p n)) x y z n e e k
 
   -- what is left for it is offered once more, and it is gone
   pub parted-knows : (x y z more : Bool) (n : Noted)
@@ -412,10 +412,10 @@ module _ (p : ℕ) (low : p < 8) where
       let some = k.leaving e in
       let here = is_gone n Gone n.closed n.memory k.sized in
       record {
-        sized = set_length n.standings p Gone ∙ k.sized;
+        sized = set-length n.standings p Gone ∙ k.sized;
         caused = record {
-          link = k.caused.link ∙ ap (λ b. x && not b) some ∙ and_no x
-              ∙ sym (ap (λ b. (x || more) && not b) some ∙ and_no (x || more));
+          link = k.caused.link ∙ ap (λ b. x && not b) some ∙ and-no x
+              ∙ sym (ap (λ b. (x || more) && not b) some ∙ and-no (x || more));
           client = k.caused.client;
           queue = λ f. absurd (let q = k.caused.queue f in
               let g : true ≡ false =
@@ -435,14 +435,14 @@ module _ (p : ℕ) (low : p < 8) where
   ready-filled x y z place n r = record {
     untold = elim (cases_eq place p) [
       | inl e ↦ subst
-          (λ q. is_told (standing_in p (stands q (filled (standing_in q n)) n)) ≡ false) (sym e)
-          (ap is_told (at_own n.standings (filled (standing_in p n)) r.knows.sized)
-          ∙ filled_told (standing_in p n) ∙ r.untold)
-      | inr ne ↦ ap is_told (at_other n.standings (filled (standing_in place n)) place ne)
+          (λ q. is_told (standing_in p (stands q (after_full (standing_in q n)) n)) ≡ false) (sym e)
+          (ap is_told (at-own n.standings (after_full (standing_in p n)) r.knows.sized)
+          ∙ filled-told (standing_in p n) ∙ r.untold)
+      | inr ne ↦ ap is_told (at-other n.standings (after_full (standing_in place n)) place ne)
           ∙ r.untold
     ];
-    knows = still-knows p x y z n (stands place (filled (standing_in place n)) n)
-        (fills_at n place n (Still-refl p n r.knows.sized)) r.knows;
+    knows = still-knows p x y z n (stands place (after_full (standing_in place n)) n)
+        (fills-at n place n (Still-refl p n r.knows.sized)) r.knows;
   }
 
 -- nothing is known of it as a turn begins

@@ -12,10 +12,10 @@ use Rattle.bay_device.specs.declared.event.Why.TheVariants.{Ended, Fault, Memory
 use Rattle.bay_device.specs.declared.fault.StepFault.{StepFault}
 use Rattle.bay_trace.specs.Placing.{lying}
 use Rattle.bay_trace.specs.Trace.{NamedData}
-use Rattle.bay_serve.specs.Calls.{Heard, Octets, Silence, Over, Broken}
+use Rattle.bay_serve.specs.Calls.{ReadOutcome, Octets, Silence, Over, Broken}
 use Rattle.bay_serve.specs.Offers.{Offer}
-use Rattle.bay_serve.specs.Standings.{filled, is_full, is_leaving, is_told}
-use Rattle.bay_serve.specs.Turns.{Held, Noted, Reading, Script, Turning, after_accept, after_each, after_line, after_reads, after_scan, begun, cut_off, first_full, free_place, goes, hung_up, is_up, leaves, left_by, offer_calls, offer_one, offer_of, on_heard, opened, put_answer, queue_at, read_one, settled, standing_in, standing_of, stands, stepped, taken_in, told, told_of, told_why, turned, with_device}
+use Rattle.bay_serve.specs.Standings.{after_full, is_full, is_leaving, is_told}
+use Rattle.bay_serve.specs.Turns.{Held, Noted, Reading, Script, Turning, after_accept, after_each, after_line, after_reads, after_scan, turn_begin, cut_off, first_full, free_place, goes, hung_up, is_up, leaves, left_by, offer_calls, offer_one, offer_of, on_heard, after_opening, put_answer, queue_at, read_one, after_settling, standing_in, standing_of, stands, after_event, taken_in, with_closing, told_of, told_why, after_turn, with_device}
 use Rattle.bay_serve.specs.declared.standing.Standing.{Standing}
 use Rattle.bay_serve.specs.declared.standing.Standing.TheVariants.{Steady, Full, Leaving, LeavingFull, Gone}
 use Rattle.bay_serve.specs.declared.told.Closing.{Closing}
@@ -26,11 +26,11 @@ use Rattle.bay_serve_laws.specs.Telling.{AreTold, IsAmong, IsToldAs, IsToldOf, T
 use Rattle.bay_serve_laws.proofs.CarryLemmas.{MayLose}
 use Rattle.bay_serve_laws.proofs.CutLemmas.{Well}
 use Rattle.bay_serve_laws.proofs.DoneLemmas.{IsBoth, done-append}
-use Rattle.bay_serve_laws.proofs.KeepLemmas.{Each, IsNoted, keep_each, keep_line, keep_offer, keep_on_accept, keep_read, keep_rest, keep_scan, keep_settled, keep_taken}
+use Rattle.bay_serve_laws.proofs.KeepLemmas.{Each, IsNoted, keep-each, keep-line, keep-offer, keep-on-accept, keep-read, keep-rest, keep-scan, keep-settled, keep-taken}
 use Rattle.bay_serve_laws.proofs.PartLemmas.{Part-accept, Part-each, Part-line, Part-offer, Part-read, Part-scan}
 use Rattle.bay_serve_laws.proofs.QuietLemmas.{IsQuiet, at_any_moment, outcome-quiet, placed-quiet}
 use Rattle.bay_serve_laws.proofs.ReadFlows.{accept-moves, begun-fresh, read-moves}
-use Rattle.bay_serve_laws.proofs.TellingLemmas.{set_length}
+use Rattle.bay_serve_laws.proofs.TellingLemmas.{set-length}
 
 -- ---- what is told stays told
 
@@ -75,7 +75,7 @@ Grown-as l m n g sized closed memory = record {
 
 stands-grown : (l m : Noted) (place : ℕ) (x : Standing) → Grown l m → Grown l (stands place x m)
 stands-grown l m place x g =
-    Grown-as l m (stands place x m) g (set_length m.standings place x ∙ g.sized) refl refl
+    Grown-as l m (stands place x m) g (set-length m.standings place x ∙ g.sized) refl refl
 
 told-grown : (b : Bool) (l m : Noted) (x : ℕ × Closing) → Grown l m
     → Grown l (cond b m (record m { closed = m.closed ++ x ∷ [] }))
@@ -111,12 +111,12 @@ why-grown l m place Memory g =
 
 goes-grown : (l n : Noted) (place : ℕ) (why : Closing) → Grown l n → Grown l (goes place why n)
 goes-grown l n place why g =
-    stands-grown l (told place why n) place Gone
+    stands-grown l (with_closing place why n) place Gone
     (told-grown (is_told (standing_in place n)) l n (place + 1, why) g)
 
 grown-kept : (l : Noted) → IsNoted Each (Grown l)
 grown-kept l = record {
-  fills = λ place n g. stands-grown l n place (filled (standing_in place n)) g;
+  fills = λ place n g. stands-grown l n place (after_full (standing_in place n)) g;
   leaving = λ place why n low may g. stands-grown l (told_why place why n) place Leaving
       (why-grown l n place why g);
   going = λ place why n low may g. goes-grown l n place why g;
@@ -204,7 +204,7 @@ pub accept-quiet : (now : ℕ) (place : Option ℕ) (taken : Option Bool) (s : T
 accept-quiet now None taken s = tt
 accept-quiet now (Some place) None s = tt
 accept-quiet now (Some place) (Some false) s = tt
-accept-quiet now (Some place) (Some true) s = (tt, settled-quiet now (opened now place s))
+accept-quiet now (Some place) (Some true) s = (tt, settled-quiet now (after_opening now place s))
 
 pub line-quiet : (now : ℕ) (line : Option NamedData) (s : Turning) → HasNoOctets line
     → AllQuiet (line_events now line s)
@@ -214,14 +214,14 @@ line-quiet now (Some named) s h =
 
 pub offer-quiet : (now place : ℕ) (o : Offer) (s : Turning) → AllQuiet (offer_events now place o s)
 offer-quiet now place o s =
-    if_leaving (is_leaving (standing_of place s)) (is_up place s) (offer_of place o s).failed
+    if-leaving (is_leaving (standing_of place s)) (is_up place s) (offer_of place o s).failed
   where
-    if_leaving : (leaving up failed : Bool)
+    if-leaving : (leaving up failed : Bool)
         → AllQuiet (cond leaving [] (cond up (failed_events now place failed s) []))
-    if_leaving true up failed = tt
-    if_leaving false true true = (tt, settled-quiet now _)
-    if_leaving false true false = tt
-    if_leaving false false failed = tt
+    if-leaving true up failed = tt
+    if-leaving false true true = (tt, settled-quiet now _)
+    if-leaving false true false = tt
+    if-leaving false false failed = tt
 
 offers-quiet : (now place : ℕ) (cs : List Offer) (s : Turning)
     → AllQuiet (events_of_each (offer_one now) (offer_events now) place cs s)
@@ -332,7 +332,7 @@ answer-told now place (Err fault) s sized e own = tt
 answer-told now place (Ok step) s sized e own =
     let left : Turning = left_by place step.closed s in
     let grown =
-    keep_rest Each (Grown left.noted) (grown-kept left.noted) now place step s
+    keep-rest Each (Grown left.noted) (grown-kept left.noted) now place step s
     (Grown-refl left.noted (left-sized place step.closed s sized)) in
     of-grown step.closed left.noted (put_answer place (Ok step) s).noted grown
     (left-told place step.closed s e own)
@@ -341,10 +341,10 @@ taken-grown : (now place : ℕ) (choice : Option ℕ) (octets : List ℕ) (s : T
     → length s.noted.standings ≡ 8 → place < 8
     → Grown s.noted (taken_in now place choice octets s).noted
 taken-grown now place choice octets s sized low =
-    keep_taken Each (Grown s.noted) (grown-kept s.noted) now place choice octets s low tt
+    keep-taken Each (Grown s.noted) (grown-kept s.noted) now place choice octets s low tt
     (Grown-refl s.noted sized)
 
-heard-told : (now place : ℕ) (choice : Option ℕ) (heard : Heard) (s : Turning)
+heard-told : (now place : ℕ) (choice : Option ℕ) (heard : ReadOutcome) (s : Turning)
     → length s.noted.standings ≡ 8 → is_told (standing_of place s) ≡ false → place < 8
     → AreTold (done_at now (heard_events now place choice heard s) s.server.device).answers
     (on_heard now place choice heard s).noted.closed
@@ -352,12 +352,12 @@ heard-told : (now place : ℕ) (choice : Option ℕ) (heard : Heard) (s : Turnin
 heard-told now place choice (Octets octets) s sized e low =
     let o = outcome choice now (Recv (place + 1) (lying octets)) s.server.device in
     let t : Turning = taken_in now place choice octets s in
-    let u : Turning = settled now t in
+    let u : Turning = after_settling now t in
     let first = answer-told now place o.answer (with_device o.after s) sized e
     (outcome-own choice now (place + 1) octets s.server.device) in
     let sized_then = (taken-grown now place choice octets s sized low).sized in
     let grown : Grown t.noted u.noted =
-    keep_settled Each (Grown t.noted) (grown-kept t.noted) now t (Grown-refl t.noted sized_then) in (
+    keep-settled Each (Grown t.noted) (grown-kept t.noted) now t (Grown-refl t.noted sized_then) in (
       of-grown (closed_in o.answer) t.noted u.noted grown first,
       quiet-told now (settled_events now t) o.after u.noted.closed u.noted.memory
           (settled-quiet now t),
@@ -418,7 +418,7 @@ module _ (now : ℕ) (h : Held) (past : now ≤ last_moment) where
       let w = (all i low).well.carried in
       record {
         device = (Part-read ⊥ now i r s).device;
-        grown = keep_read Each (Grown s.noted) (grown-kept s.noted) now i r s low tt
+        grown = keep-read Each (Grown s.noted) (grown-kept s.noted) now i r s low tt
             (Grown-refl s.noted w.sound.standings);
         told = read-told now i r s (is_up i s) w.sound.standings
             (up-untold (standing_of i s) (is_up i s) _ w.carries.lost w.carries.may) low;
@@ -439,14 +439,14 @@ module _ (now : ℕ) (h : Held) (past : now ≤ last_moment) where
 
   turn-tells : (line : Option NamedData) (script : Script) → IsTidy h → h.device.moment ≤ now
       → HasNoOctets line → length script.readings ≡ 8 → length script.offers ≡ 8
-      → Tells now (begun h) (turn_events now line script h) (turned now line script h)
+      → Tells now (turn_begin h) (turn_events now line script h) (after_turn now line script h)
   turn-tells line script tidy before silent readings offers =
-      let s0 : Turning = begun h in
+      let s0 : Turning = turn_begin h in
       let s1 : Turning = after_accept now script h in
       let s2 : Turning = after_reads now script h in
       let s3 : Turning = after_line now line script h in
       let s4 : Turning = after_scan now line script h in
-      let s5 : Turning = turned now line script h in
+      let s5 : Turning = after_turn now line script h in
       let all : AllKept s1 = λ p low. record {
         taken = _;
         sent = _;
@@ -456,26 +456,26 @@ module _ (now : ℕ) (h : Held) (past : now ≤ last_moment) where
       let to1 : Tells now s0 (accept_events now script.accepted s0) s1 =
       Tells-quiet now s0 s1 (accept_events now script.accepted s0)
       (Part-accept ⊥ now script.accepted s0).device
-      (keep_on_accept Each (Grown s0.noted) (grown-kept s0.noted) now (free_place s0.server)
+      (keep-on-accept Each (Grown s0.noted) (grown-kept s0.noted) now (free_place s0.server)
       script.accepted s0 (Grown-refl s0.noted refl))
       (accept-quiet now (free_place s0.server) script.accepted s0) in
       let to2 = reads-tell 0 script.readings s1 (omega (arith, readings)) all to1.grown.sized in
       let to3 : Tells now s2 (line_events now line s2) s3 =
       Tells-quiet now s2 s3 (line_events now line s2)
       (Part-line ⊥ now line s2 (λ q. absurd q)).device
-      (keep_line Each (Grown s2.noted) (grown-kept s2.noted) now line s2
+      (keep-line Each (Grown s2.noted) (grown-kept s2.noted) now line s2
       (Grown-refl s2.noted to2.grown.sized)) (line-quiet now line s2 silent) in
       let to4 : Tells now s3 (scan_events now s3) s4 =
       Tells-quiet now s3 s4 (scan_events now s3) (Part-scan ⊥ now s3).device
-      (keep_scan Each (Grown s3.noted) (grown-kept s3.noted) now s3
-      (Grown-refl s3.noted to3.grown.sized)) (tt, settled-quiet now (stepped now Scan s3)) in
+      (keep-scan Each (Grown s3.noted) (grown-kept s3.noted) now s3
+      (Grown-refl s3.noted to3.grown.sized)) (tt, settled-quiet now (after_event now Scan s3)) in
       let last = events_of_each (offer_one now) (offer_events now) 0 script.offers s4 in
       let to5 : Tells now s4 last s5 =
       Tells-quiet now s4 s5 last
       (Part-each ⊥ now (offer_one now) (offer_calls now) (offer_events now) (Part-offer ⊥ now) 0
       script.offers s4).device
-      (keep_each Each (Grown s4.noted) (grown-kept s4.noted) now (offer_one now)
-      (λ q o u g. keep_offer Each (Grown s4.noted) (grown-kept s4.noted) now q o u g tt) 0
+      (keep-each Each (Grown s4.noted) (grown-kept s4.noted) now (offer_one now)
+      (λ q o u g. keep-offer Each (Grown s4.noted) (grown-kept s4.noted) now q o u g tt) 0
       script.offers s4
       (omega (arith, offers)) (Grown-refl s4.noted to4.grown.sized))
       (offers-quiet now 0 script.offers s4) in

@@ -8,7 +8,7 @@ use Rattle.bay_device.specs.Outcomes.{last_moment, outcome}
 use Rattle.bay_device.specs.declared.event.Event.TheVariants.{Close}
 use Rattle.bay_serve.specs.Calls.{Call, Closes}
 use Rattle.bay_serve.specs.Standings.{is_full, is_leaving}
-use Rattle.bay_serve.specs.Turns.{Noted, Turning, cut_off, first_full, is_up, put_quiet, queue_of, settled, settled_in, settled_next, settling, settling_in, settling_next, standing_of, stepped, told, with_device, with_noted, with_queue}
+use Rattle.bay_serve.specs.Turns.{Noted, Turning, cut_off, first_full, is_up, put_quiet, queue_of, after_settling, settled_in, settled_next, settling, settling_in, settling_next, standing_of, after_event, with_closing, with_device, with_noted, with_queue}
 use Rattle.bay_serve.specs.declared.standing.Standing.{Standing}
 use Rattle.bay_serve.specs.declared.standing.Standing.TheVariants.{Steady, Full, Leaving, LeavingFull, Gone}
 use Rattle.bay_serve.specs.declared.told.Closing.{Closing}
@@ -30,22 +30,22 @@ use Rattle.bay_serve_laws.proofs.UpLemmas.{close-outcome-far, close-outcome-here
 -- the standings behind the closing of one
 pub gone-standings : (now place : ℕ) (why : Closing) (s : Turning)
     → (cut_off now why place s).noted.standings
-    ≡ set (stepped now (Close (place + 1)) s).noted.standings place Gone
+    ≡ set (after_event now (Close (place + 1)) s).noted.standings place Gone
 unfolding cut_off
-gone-standings now place why s = let t : Turning = stepped now (Close (place + 1)) s in
+gone-standings now place why s = let t : Turning = after_event now (Close (place + 1)) s in
     ap (λ l. set l place Gone) (told-standings place why t.noted)
 
-closing-puts : (now place : ℕ) (s : Turning) → Puts s (stepped now (Close (place + 1)) s)
+closing-puts : (now place : ℕ) (s : Turning) → Puts s (after_event now (Close (place + 1)) s)
 closing-puts now place s =
     let o = outcome None now (Close (place + 1)) s.server.device in
-    let puts : Puts (with_device o.after s) (stepped now (Close (place + 1)) s) =
+    let puts : Puts (with_device o.after s) (after_event now (Close (place + 1)) s) =
     put_quiet-puts o.answer (with_device o.after s) in
     record { queues = puts.queues; fills = puts.fills }
 
 cut-remaining : (now place : ℕ) (why : Closing) (s : Turning) → standing_of place s ≡ Full
     → suc (remaining (cut_off now why place s).noted.standings) ≡ remaining s.noted.standings
 cut-remaining now place why s e =
-    let t : Turning = stepped now (Close (place + 1)) s in
+    let t : Turning = after_event now (Close (place + 1)) s in
     let puts : Puts s t = closing-puts now place s in
     ap (λ l. suc (remaining l)) (gone-standings now place why s)
     ∙ goes-remaining t.noted.standings place (puts.fills.full place e) ∙ puts.fills.remain
@@ -53,7 +53,7 @@ cut-remaining now place why s e =
 cut-length : (now place : ℕ) (why : Closing) (s : Turning)
     → length (cut_off now why place s).noted.standings ≡ length s.noted.standings
 cut-length now place why s =
-    let t : Turning = stepped now (Close (place + 1)) s in
+    let t : Turning = after_event now (Close (place + 1)) s in
     let puts : Puts s t = closing-puts now place s in
     ap length (gone-standings now place why s) ∙ length-set t.noted.standings place Gone
     ∙ puts.fills.sized
@@ -62,56 +62,56 @@ pub cut-kept : (now place i : ℕ) (why : Closing) (s : Turning)
     → is_leaving (standing_of i s) ≡ false
     → is_leaving (standing_of i (cut_off now why place s)) ≡ false
 cut-kept now place i why s e =
-    let t : Turning = stepped now (Close (place + 1)) s in
+    let t : Turning = after_event now (Close (place + 1)) s in
     let puts : Puts s t = closing-puts now place s in
     ap (λ l. is_leaving (get_or l i Steady)) (gone-standings now place why s)
     ∙ goes-kept t.noted.standings place i (puts.fills.kept i e)
 
 -- ---- all that did not fit is dealt with
 
-calm_next : (now count : ℕ) (o : Option ℕ) (s : Turning) → first_full s.noted ≡ o
+calm-next : (now count : ℕ) (o : Option ℕ) (s : Turning) → first_full s.noted ≡ o
     → remaining s.noted.standings ≤ suc count
     → ((t : Turning) → remaining t.noted.standings ≤ count
     → AreCalm (settled_in now count t).noted.standings)
     → AreCalm (settled_next now o s (settled_in now count)).noted.standings
-calm_next now count None s e h later = none-full s.noted.standings e
-calm_next now count (Some place) s e h later =
+calm-next now count None s e h later = none-full s.noted.standings e
+calm-next now count (Some place) s e h later =
     let found = position-Some is_full s.noted.standings place Steady e in
     let full : standing_of place s ≡ Full = full-is (standing_of place s) found.1 in
     let fewer = cut-remaining now place closing.QueueFull s full in
     later (cut_off now closing.QueueFull place s) (omega (arith, fewer))
 
-calm_in : (now count : ℕ) (s : Turning) → remaining s.noted.standings ≤ count
+calm-in : (now count : ℕ) (s : Turning) → remaining s.noted.standings ≤ count
     → AreCalm (settled_in now count s).noted.standings
-calm_in now zero s h = none-remains s.noted.standings h
-calm_in now (suc count) s h =
-    calm_next now count (first_full s.noted) s refl h (λ t g. calm_in now count t g)
+calm-in now zero s h = none-remains s.noted.standings h
+calm-in now (suc count) s h =
+    calm-next now count (first_full s.noted) s refl h (λ t g. calm-in now count t g)
 
 -- no association is left to which a reply did not fit
 pub settled-calm : (now : ℕ) (s : Turning) → length s.noted.standings ≡ 8
-    → AreCalm (settled now s).noted.standings
-unfolding settled
+    → AreCalm (after_settling now s).noted.standings
+unfolding after_settling
 settled-calm now s e = let most =
-    remaining-le s.noted.standings in calm_in now 8 s (omega (arith, most, e))
+    remaining-le s.noted.standings in calm-in now 8 s (omega (arith, most, e))
 
-kept_next : (now count i : ℕ) (o : Option ℕ) (s : Turning) → is_leaving (standing_of i s) ≡ false
+kept-next : (now count i : ℕ) (o : Option ℕ) (s : Turning) → is_leaving (standing_of i s) ≡ false
     → ((t : Turning) → is_leaving (standing_of i t) ≡ false
     → is_leaving (standing_of i (settled_in now count t)) ≡ false)
     → is_leaving (standing_of i (settled_next now o s (settled_in now count))) ≡ false
-kept_next now count i None s e later = e
-kept_next now count i (Some place) s e later =
+kept-next now count i None s e later = e
+kept-next now count i (Some place) s e later =
     later (cut_off now closing.QueueFull place s) (cut-kept now place i closing.QueueFull s e)
 
-kept_in : (now count i : ℕ) (s : Turning) → is_leaving (standing_of i s) ≡ false
+kept-in : (now count i : ℕ) (s : Turning) → is_leaving (standing_of i s) ≡ false
     → is_leaving (standing_of i (settled_in now count s)) ≡ false
-kept_in now zero i s e = e
-kept_in now (suc count) i s e =
-    kept_next now count i (first_full s.noted) s e (λ t g. kept_in now count i t g)
+kept-in now zero i s e = e
+kept-in now (suc count) i s e =
+    kept-next now count i (first_full s.noted) s e (λ t g. kept-in now count i t g)
 
 pub settled-kept : (now i : ℕ) (s : Turning) → is_leaving (standing_of i s) ≡ false
-    → is_leaving (standing_of i (settled now s)) ≡ false
-unfolding settled
-settled-kept now i s e = kept_in now 8 i s e
+    → is_leaving (standing_of i (after_settling now s)) ≡ false
+unfolding after_settling
+settled-kept now i s e = kept-in now 8 i s e
 
 -- ---- an association that is closed at once, seen from one of them
 
@@ -149,9 +149,10 @@ cut-far now p i held taken sent why s h n c =
     put_quiet-carried now p held taken sent o.answer (with_device o.after s) h
     (outcome-quiet None now (Close (i + 1)) s.server.device tt) moved in
     let x : Turning = with_queue i [] t in
-    let y : Turning = with_noted (told i why t.noted) x in
+    let y : Turning = with_noted (with_closing i why t.noted) x in
     other-standing now p i held taken more Gone y n
-    (noted-carried now p held taken more (told i why t.noted) x (told-standings i why t.noted)
+    (noted-carried now p held taken more (with_closing i why t.noted) x
+    (told-standings i why t.noted)
     (told-other p i why t.noted n) (other-queue now p i held taken more [] t n put))
 
 -- what is taken and a rest are what was held and sent; the rest is lost
@@ -166,7 +167,7 @@ unfolding cut_off
 cut-lost now p held taken sent rest why s h past sound is over =
     let o = outcome None now (Close (p + 1)) s.server.device in
     let t : Turning = put_quiet o.answer (with_device o.after s) in
-    let n : Noted = told p why t.noted in
+    let n : Noted = with_closing p why t.noted in
     let puts : Puts s t = closing-puts now p s in
     let same : Same (with_device o.after s) t = put_quiet-same o.answer (with_device o.after s) in
     let queues : length t.server.queues ≡ 8 = puts.queues ∙ sound.queues in
@@ -212,13 +213,13 @@ full-lost Leaving u q lost e m = absurd (cc)
 full-lost LeavingFull u q lost e m = absurd (cc)
 full-lost Gone u q lost e m = absurd (cc)
 
-cut_if : (b : Bool) (now p i : ℕ) (held taken sent : List ℕ) (why : Closing) (s : Turning) → p < 8
+cut-if : (b : Bool) (now p i : ℕ) (held taken sent : List ℕ) (why : Closing) (s : Turning) → p < 8
     → now ≤ last_moment → (is_queue_full why ≡ true → standing_of i s ≡ Full) → (i == p) ≡ b
     → Carried now p held taken sent s
     → Carried now p held taken
     (sent ++ answer_to (p + 1) (outcome None now (Close (i + 1)) s.server.device).answer)
     (cut_off now why i s)
-cut_if true now p i held taken sent why s h past full e c =
+cut-if true now p i held taken sent why s h past full e c =
     let f = c.carries in
     subst (λ j. Carried now p held taken
     (sent ++ answer_to (p + 1) (outcome None now (Close (j + 1)) s.server.device).answer)
@@ -229,7 +230,7 @@ cut_if true now p i held taken sent why s h past full e c =
           (ap (λ j. standing_of j s) (sym (eqb-true i p e)) ∙ full q) f.may
       | inr t ↦ longer-behind 262144 (queue_of p s) f.lost (c.full t)
     ]))
-cut_if false now p i held taken sent why s h past full e c =
+cut-if false now p i held taken sent why s h past full e c =
     cut-far now p i held taken sent why s h (λ q. let same : (i == p) ≡ true = eq-eqb i p q in cc) c
 
 pub cut-carried : (now p i : ℕ) (held taken sent : List ℕ) (why : Closing) (s : Turning) → p < 8
@@ -239,7 +240,7 @@ pub cut-carried : (now p i : ℕ) (held taken sent : List ℕ) (why : Closing) (
     (sent ++ answer_to (p + 1) (outcome None now (Close (i + 1)) s.server.device).answer)
     (cut_off now why i s)
 cut-carried now p i held taken sent why s h past full c =
-    cut_if (i == p) now p i held taken sent why s h past full refl c
+    cut-if (i == p) now p i held taken sent why s h past full refl c
 
 pub cut-device : (now i : ℕ) (why : Closing) (s : Turning)
     → (cut_off now why i s).server.device ≡ (outcome None now (Close (i + 1)) s.server.device).after
@@ -294,13 +295,13 @@ module _ (now p : ℕ) (held : List ℕ) (h : p < 8) (past : now ≤ last_moment
 
   settled-carried : (s : Turning)
       → Moves (Carried now p held) (Carried now p held) now p s (settling now s)
-      (settled_events now s) (settled now s)
-  unfolding settled settling settled_events
+      (settled_events now s) (after_settling now s)
+  unfolding after_settling settling settled_events
   settled-carried s = settled_in-moves 8 s
 
   pub settled-moves : (s : Turning)
       → Moves (Carried now p held) (Well now p held) now p s (settling now s) (settled_events now s)
-      (settled now s)
+      (after_settling now s)
   settled-moves s =
       let moves = settled-carried s in
       record {
@@ -313,9 +314,10 @@ module _ (now p : ℕ) (held : List ℕ) (h : p < 8) (past : now ≤ last_moment
   pub then-moves : (s t : Turning) (calls : List Call) (e : ChosenEvent)
       → Moves (Well now p held) (Carried now p held) now p s calls (e ∷ []) t
       → Moves (Well now p held) (Well now p held) now p s (calls ++ settling now t)
-      (e ∷ settled_events now t) (settled now t)
+      (e ∷ settled_events now t) (after_settling now t)
   then-moves s t calls e m =
-      Moves-trans (Well now p held) (Carried now p held) (Well now p held) now p s t (settled now t)
+      Moves-trans (Well now p held) (Carried now p held) (Well now p held) now p s t
+      (after_settling now t)
       calls (settling now t) (e ∷ []) (settled_events now t) m (settled-moves t)
 
   -- where nothing of the association was of interest before

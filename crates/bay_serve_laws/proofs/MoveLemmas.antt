@@ -5,7 +5,7 @@ use Rattle.bay_device.specs.Outcomes.{outcome}
 use Rattle.bay_device.specs.declared.event.Step.{Step}
 use Rattle.bay_device.specs.declared.fault.StepFault.{StepFault}
 use Rattle.bay_serve.specs.Calls.{Call, Writes}
-use Rattle.bay_serve.specs.Offers.{offered}
+use Rattle.bay_serve.specs.Offers.{offering_of}
 use Rattle.bay_serve.specs.Turns.{Turning}
 use Rattle.bay_serve_laws.specs.Events.{ChosenEvent, done_at}
 use Rattle.bay_serve_laws.specs.Flows.{answer_to, sent_to, taken_by, taken_of}
@@ -25,27 +25,27 @@ sent-append a (x ∷ xs) ys =
     ap (λ l. answer_to a x ++ l) (sent-append a xs ys)
     ∙ sym (append_assoc (answer_to a x) (sent_to a xs) (sent_to a ys))
 
-same_number : (a : ℕ) → (a == a) ≡ true
-same_number a = eq-eqb a a refl
+same-number : (a : ℕ) → (a == a) ≡ true
+same-number a = eq-eqb a a refl
 
 -- of an offer: what was taken, and then what is left
 pub offered-taken : (a : ℕ) (q takes : List ℕ) (fails : Bool)
-    → taken_of a (offered a q takes fails).calls ++ (offered a q takes fails).left ≡ q
+    → taken_of a (offering_of a q takes fails).calls ++ (offering_of a q takes fails).left ≡ q
 offered-taken a [] takes fails = refl
 offered-taken a (x ∷ xs) [] true = refl
-offered-taken a (x ∷ xs) [] false = rw (same_number a) refl
-offered-taken a (x ∷ xs) (zero ∷ takes) fails = rw (same_number a) refl
+offered-taken a (x ∷ xs) [] false = rw (same-number a) refl
+offered-taken a (x ∷ xs) (zero ∷ takes) fails = rw (same-number a) refl
 offered-taken a (x ∷ xs) (suc n ∷ takes) fails =
-    let later = offered a (drop n xs) takes fails in
+    let later = offering_of a (drop n xs) takes fails in
     let first : taken_by a (Writes a (x ∷ xs) (Some (n + 1))) ≡ x ∷ take n xs =
-    rw (same_number a) (ap (λ k. take k (x ∷ xs)) (add-one n)) in
+    rw (same-number a) (ap (λ k. take k (x ∷ xs)) (add-one n)) in
     ap (λ l. (l ++ taken_of a later.calls) ++ later.left) first
     ∙ append_assoc (x ∷ take n xs) (taken_of a later.calls) later.left
     ∙ ap (λ l. (x ∷ take n xs) ++ l) (offered-taken a (drop n xs) takes fails)
     ∙ ap (λ l. x ∷ l) (take-append-drop n xs)
 
 pub offered-other : (a b : ℕ) (q takes : List ℕ) (fails : Bool) → b ≢ a
-    → taken_of a (offered b q takes fails).calls ≡ []
+    → taken_of a (offering_of b q takes fails).calls ≡ []
 offered-other a b [] takes fails n = refl
 offered-other a b (x ∷ xs) [] true n = refl
 offered-other a b (x ∷ xs) [] false n = rw (ne_eqb b a n) refl

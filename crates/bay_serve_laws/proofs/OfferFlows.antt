@@ -7,7 +7,7 @@ use Rattle.bay_device.specs.declared.event.Event.TheVariants.{Close}
 use Rattle.bay_serve.specs.Calls.{Call, Closes}
 use Rattle.bay_serve.specs.Offers.{Offer, Offered}
 use Rattle.bay_serve.specs.Standings.{is_leaving}
-use Rattle.bay_serve.specs.Turns.{Turning, after_each, after_offer, cut_off, is_up, offer_calls, offer_end, offer_of, offer_one, parted, queue_of, settled, settling, standing_of, with_queue}
+use Rattle.bay_serve.specs.Turns.{Turning, after_each, after_offer, cut_off, is_up, offer_calls, offer_end, offer_of, offer_one, after_parting, queue_of, after_settling, settling, standing_of, with_queue}
 use Rattle.bay_serve.specs.declared.standing.Standing.{Standing}
 use Rattle.bay_serve.specs.declared.standing.Standing.TheVariants.{Steady, Full, Leaving, LeavingFull, Gone}
 use Rattle.bay_serve.specs.declared.told.Closing.TheVariants as closing
@@ -40,7 +40,7 @@ may-leave Gone u q lost m e = absurd (cc)
 
 parted-here : (now p : ℕ) (held taken sent : List ℕ) (o : Offer) (s : Turning) → p < 8
     → is_leaving (standing_of p s) ≡ true → Well now p held taken sent s
-    → Well now p held (taken ++ taken_of (p + 1) (offer_of p o s).calls) sent (parted p s)
+    → Well now p held (taken ++ taken_of (p + 1) (offer_of p o s).calls) sent (after_parting p s)
 parted-here now p held taken sent o s h leaving w =
     let c = w.carried in
     let f = c.carries in
@@ -127,10 +127,10 @@ module _ (now p : ℕ) (held : List ℕ) (h : p < 8) (past : now ≤ last_moment
   -- the connection is closed, and what did not fit then is dealt with
   closed-moves : (t : Turning) (i : ℕ)
       → Moves (Carried now p held) (Well now p held) now p t (Closes (i + 1) ∷ settling now t)
-      (settled_events now t) (settled now t)
+      (settled_events now t) (after_settling now t)
   closed-moves t i =
       Moves-trans (Carried now p held) (Carried now p held) (Well now p held) now p t t
-      (settled now t) (Closes (i + 1) ∷ []) (settling now t) [] (settled_events now t)
+      (after_settling now t) (Closes (i + 1) ∷ []) (settling now t) [] (settled_events now t)
       (Moves-none (Carried now p held) (Carried now p held) now p t t (Closes (i + 1) ∷ []) refl
       refl (λ taken sent c. c)) (settled-moves now p held h past t)
 
@@ -145,11 +145,11 @@ module _ (now p : ℕ) (held : List ℕ) (h : p < 8) (past : now ≤ last_moment
 
   here-parted : (o : Offer) (s : Turning) → is_leaving (standing_of p s) ≡ true
       → Moves (Well now p held) (Well now p held) now p s
-      ((offer_of p o s).calls ++ Closes (p + 1) ∷ []) [] (parted p s)
+      ((offer_of p o s).calls ++ Closes (p + 1) ∷ []) [] (after_parting p s)
   here-parted o s leaving = record {
     device = refl;
     goes = λ taken sent w.
-        moved (Well now p held) (parted p s) _
+        moved (Well now p held) (after_parting p s) _
         (taken ++ taken_of (p + 1) ((offer_of p o s).calls ++ Closes (p + 1) ∷ [])) sent
         (sent ++ [])
         (parted-here now p held taken sent o s h leaving w)
@@ -185,26 +185,28 @@ module _ (now p : ℕ) (held : List ℕ) (h : p < 8) (past : now ≤ last_moment
   here-failed : (failed : Bool) (o : Offer) (s : Turning) → is_up p s ≡ true
       → Moves (Well now p held) (Well now p held) now p s
       ((offer_of p o s).calls ++ offer_end now p failed s) (failed_events now p failed s)
-      (if failed then settled now (cut_off now closing.LinkFailed p s)
+      (if failed then after_settling now (cut_off now closing.LinkFailed p s)
       else with_queue p (offer_of p o s).left s)
   here-failed true o s up =
       let t : Turning = cut_off now closing.LinkFailed p s in
-      Moves-trans (Well now p held) (Carried now p held) (Well now p held) now p s t (settled now t)
+      Moves-trans (Well now p held) (Carried now p held) (Well now p held) now p s t
+      (after_settling now t)
       (offer_of p o s).calls (Closes (p + 1) ∷ settling now t)
       (closing_of p ∷ []) (settled_events now t) (here-cut o s) (closed-moves t p)
   here-failed false o s up = here-kept o s up
 
-  here_if : (leaving up : Bool) (o : Offer) (s : Turning) → is_leaving (standing_of p s) ≡ leaving
+  here-if : (leaving up : Bool) (o : Offer) (s : Turning) → is_leaving (standing_of p s) ≡ leaving
       → is_up p s ≡ up
       → Moves (Well now p held) (Well now p held) now p s
       (if leaving then (offer_of p o s).calls ++ Closes (p + 1) ∷ []
       else (if up then (offer_of p o s).calls ++ offer_end now p (offer_of p o s).failed s
       else []))
       (if leaving then [] else (if up then failed_events now p (offer_of p o s).failed s else []))
-      (if leaving then parted p s else (if up then after_offer now p (offer_of p o s) s else s))
-  here_if true up o s e f = here-parted o s e
-  here_if false true o s e f = here-failed (offer_of p o s).failed o s f
-  here_if false false o s e f =
+      (if leaving then after_parting p s
+      else (if up then after_offer now p (offer_of p o s) s else s))
+  here-if true up o s e f = here-parted o s e
+  here-if false true o s e f = here-failed (offer_of p o s).failed o s f
+  here-if false false o s e f =
       Moves-none (Well now p held) (Well now p held) now p s s [] refl refl (λ taken sent w. w)
 
   -- ---- another's
@@ -214,19 +216,19 @@ module _ (now p : ℕ) (held : List ℕ) (h : p < 8) (past : now ≤ last_moment
   not_taken i o s n =
       offered-other (p + 1) (i + 1) (queue_of i s) o.takes o.fails (λ e. n (omega (arith, e)))
 
-  none_behind : (i : ℕ) (o : Offer) (s : Turning) (later : List Call) → i ≢ p
+  none-behind : (i : ℕ) (o : Offer) (s : Turning) (later : List Call) → i ≢ p
       → taken_of (p + 1) later ≡ [] → taken_of (p + 1) ((offer_of i o s).calls ++ later) ≡ []
-  none_behind i o s later n none =
+  none-behind i o s later n none =
       taken-append (p + 1) (offer_of i o s).calls later
       ∙ ap (λ l. l ++ taken_of (p + 1) later) (not_taken i o s n) ∙ none
 
   far-parted : (i : ℕ) (o : Offer) (s : Turning) → i ≢ p
       → Moves (Well now p held) (Well now p held) now p s
-      ((offer_of i o s).calls ++ Closes (i + 1) ∷ []) [] (parted i s)
+      ((offer_of i o s).calls ++ Closes (i + 1) ∷ []) [] (after_parting i s)
   far-parted i o s n =
-      Moves-none (Well now p held) (Well now p held) now p s (parted i s)
+      Moves-none (Well now p held) (Well now p held) now p s (after_parting i s)
       ((offer_of i o s).calls ++ Closes (i + 1) ∷ []) refl
-      (none_behind i o s (Closes (i + 1) ∷ []) n refl)
+      (none-behind i o s (Closes (i + 1) ∷ []) n refl)
       (λ taken sent w. record {
         carried =
             other-standing now p i held taken sent Gone (with_queue i [] s) n
@@ -237,12 +239,13 @@ module _ (now p : ℕ) (held : List ℕ) (h : p < 8) (past : now ≤ last_moment
   far-failed : (failed : Bool) (i : ℕ) (o : Offer) (s : Turning) → i ≢ p
       → Moves (Well now p held) (Well now p held) now p s
       ((offer_of i o s).calls ++ offer_end now i failed s) (failed_events now i failed s)
-      (if failed then settled now (cut_off now closing.LinkFailed i s)
+      (if failed then after_settling now (cut_off now closing.LinkFailed i s)
       else with_queue i (offer_of i o s).left s)
   far-failed true i o s n =
       let t : Turning = cut_off now closing.LinkFailed i s in
       let calls = (offer_of i o s).calls in
-      Moves-trans (Well now p held) (Carried now p held) (Well now p held) now p s t (settled now t)
+      Moves-trans (Well now p held) (Carried now p held) (Well now p held) now p s t
+      (after_settling now t)
       calls (Closes (i + 1) ∷ settling now t) (closing_of i ∷ []) (settled_events now t)
       (calm-moves now p held h past s t calls (closing_of i ∷ [])
       (cut-moves now p held h past i closing.LinkFailed s calls (λ e. absurd (cc))
@@ -251,75 +254,78 @@ module _ (now p : ℕ) (held : List ℕ) (h : p < 8) (past : now ≤ last_moment
   far-failed false i o s n =
       let left = (offer_of i o s).left in
       Moves-none (Well now p held) (Well now p held) now p s (with_queue i left s)
-      ((offer_of i o s).calls ++ []) refl (none_behind i o s [] n refl)
+      ((offer_of i o s).calls ++ []) refl (none-behind i o s [] n refl)
       (λ taken sent w. record
       { carried = other-queue now p i held taken sent left s n w.carried; calm = w.calm })
 
-  far_if : (leaving up : Bool) (i : ℕ) (o : Offer) (s : Turning) → i ≢ p
+  far-if : (leaving up : Bool) (i : ℕ) (o : Offer) (s : Turning) → i ≢ p
       → Moves (Well now p held) (Well now p held) now p s
       (if leaving then (offer_of i o s).calls ++ Closes (i + 1) ∷ []
       else (if up then (offer_of i o s).calls ++ offer_end now i (offer_of i o s).failed s
       else []))
       (if leaving then [] else (if up then failed_events now i (offer_of i o s).failed s else []))
-      (if leaving then parted i s else (if up then after_offer now i (offer_of i o s) s else s))
-  far_if true up i o s n = far-parted i o s n
-  far_if false true i o s n = far-failed (offer_of i o s).failed i o s n
-  far_if false false i o s n =
+      (if leaving then after_parting i s
+      else (if up then after_offer now i (offer_of i o s) s else s))
+  far-if true up i o s n = far-parted i o s n
+  far-if false true i o s n = far-failed (offer_of i o s).failed i o s n
+  far-if false false i o s n =
       Moves-none (Well now p held) (Well now p held) now p s s [] refl refl (λ taken sent w. w)
 
-  offer_if : (b : Bool) (i : ℕ) (o : Offer) (s : Turning) → (i == p) ≡ b
+  offer-if : (b : Bool) (i : ℕ) (o : Offer) (s : Turning) → (i == p) ≡ b
       → Moves (Well now p held) (Well now p held) now p s (offer_calls now i o s)
       (offer_events now i o s) (offer_one now i o s)
-  offer_if true i o s e =
+  offer-if true i o s e =
       subst (λ j. Moves (Well now p held) (Well now p held) now p s (offer_calls now j o s)
       (offer_events now j o s) (offer_one now j o s)) (sym (eqb-true i p e))
-      (here_if (is_leaving (standing_of p s)) (is_up p s) o s refl refl)
-  offer_if false i o s e =
-      far_if (is_leaving (standing_of i s)) (is_up i s) i o s
+      (here-if (is_leaving (standing_of p s)) (is_up p s) o s refl refl)
+  offer-if false i o s e =
+      far-if (is_leaving (standing_of i s)) (is_up i s) i o s
       (λ q. let same : (i == p) ≡ true = eq-eqb i p q in cc)
 
   pub offer-moves : (i : ℕ) (o : Offer) (s : Turning)
       → Moves (Well now p held) (Well now p held) now p s (offer_calls now i o s)
       (offer_events now i o s) (offer_one now i o s)
-  offer-moves i o s = offer_if (i == p) i o s refl
+  offer-moves i o s = offer-if (i == p) i o s refl
 
 -- ---- none is left that was to be offered once more
 
 failed-kept : (failed : Bool) (now i p : ℕ) (o : Offered) (s : Turning)
     → is_leaving (standing_of p s) ≡ false
     → is_leaving (standing_of p
-    (if failed then settled now (cut_off now closing.LinkFailed i s)
+    (if failed then after_settling now (cut_off now closing.LinkFailed i s)
     else with_queue i o.left s)) ≡ false
 failed-kept true now i p o s e =
     settled-kept now p (cut_off now closing.LinkFailed i s)
     (cut-kept now i p closing.LinkFailed s e)
 failed-kept false now i p o s e = e
 
-kept_if : (leaving up : Bool) (now i p : ℕ) (o : Offer) (s : Turning)
+kept-if : (leaving up : Bool) (now i p : ℕ) (o : Offer) (s : Turning)
     → is_leaving (standing_of p s) ≡ false
     → is_leaving (standing_of p
-    (if leaving then parted i s else (if up then after_offer now i (offer_of i o s) s else s)))
+    (if leaving then after_parting i s
+    else (if up then after_offer now i (offer_of i o s) s else s)))
     ≡ false
-kept_if true up now i p o s e = goes-kept s.noted.standings i p e
-kept_if false true now i p o s e = failed-kept (offer_of i o s).failed now i p (offer_of i o s) s e
-kept_if false false now i p o s e = e
+kept-if true up now i p o s e = goes-kept s.noted.standings i p e
+kept-if false true now i p o s e = failed-kept (offer_of i o s).failed now i p (offer_of i o s) s e
+kept-if false false now i p o s e = e
 
 offer-kept : (now i p : ℕ) (o : Offer) (s : Turning) → is_leaving (standing_of p s) ≡ false
     → is_leaving (standing_of p (offer_one now i o s)) ≡ false
-offer-kept now i p o s e = kept_if (is_leaving (standing_of i s)) (is_up i s) now i p o s e
+offer-kept now i p o s e = kept-if (is_leaving (standing_of i s)) (is_up i s) now i p o s e
 
-left_if : (leaving up : Bool) (now p : ℕ) (o : Offer) (s : Turning)
+left-if : (leaving up : Bool) (now p : ℕ) (o : Offer) (s : Turning)
     → is_leaving (standing_of p s) ≡ leaving
     → is_leaving (standing_of p
-    (if leaving then parted p s else (if up then after_offer now p (offer_of p o s) s else s)))
+    (if leaving then after_parting p s
+    else (if up then after_offer now p (offer_of p o s) s else s)))
     ≡ false
-left_if true up now p o s e = goes-left s.noted.standings p
-left_if false true now p o s e = failed-kept (offer_of p o s).failed now p p (offer_of p o s) s e
-left_if false false now p o s e = e
+left-if true up now p o s e = goes-left s.noted.standings p
+left-if false true now p o s e = failed-kept (offer_of p o s).failed now p p (offer_of p o s) s e
+left-if false false now p o s e = e
 
 offer-left : (now p : ℕ) (o : Offer) (s : Turning)
     → is_leaving (standing_of p (offer_one now p o s)) ≡ false
-offer-left now p o s = left_if (is_leaving (standing_of p s)) (is_up p s) now p o s refl
+offer-left now p o s = left-if (is_leaving (standing_of p s)) (is_up p s) now p o s refl
 
 each-kept : (now i p : ℕ) (os : List Offer) (s : Turning) → is_leaving (standing_of p s) ≡ false
     → is_leaving (standing_of p (after_each (offer_one now) i os s)) ≡ false

@@ -9,10 +9,10 @@ use Rattle.bay_device.specs.declared.event.Why.TheVariants.{Ended}
 use Rattle.bay_device.specs.declared.fault.StepFault.{StepFault}
 use Rattle.bay_trace.specs.Placing.{lying, placed_event}
 use Rattle.bay_trace.specs.Trace.{NamedData}
-use Rattle.bay_serve.specs.Calls.{Call, Accepts, Reads, Closes, Heard, Octets, Silence, Over, Broken}
+use Rattle.bay_serve.specs.Calls.{Call, Accepts, Reads, Closes, ReadOutcome, Octets, Silence, Over, Broken}
 use Rattle.bay_serve.specs.Offers.{Offer}
 use Rattle.bay_serve.specs.Standings.{is_leaving}
-use Rattle.bay_serve.specs.Turns.{Held, Reading, Script, Turning, accept_calls, accept_calls_at, accepted, after_accept, after_each, after_line, after_reads, after_scan, begun, calls_of_each, cut_off, first_full, free_place, goes, heard_calls, hung_up, is_up, leaves, line_calls, lined, offer_calls, offer_end, offer_of, offer_one, after_offer, on_accept, on_heard, opened, parted, read_calls, read_one, scan_calls, scanned, settled, settled_in, settled_next, settling, settling_in, settling_next, standing_of, stepped, taken_in, told_after, told_of, turn_calls, turned, with_device, with_noted, with_queue}
+use Rattle.bay_serve.specs.Turns.{Held, Reading, Script, Turning, accept_calls, accept_calls_at, with_accept, after_accept, after_each, after_line, after_reads, after_scan, turn_begin, calls_of_each, cut_off, first_full, free_place, goes, heard_calls, hung_up, is_up, leaves, line_calls, with_line, offer_calls, offer_end, offer_of, offer_one, after_offer, on_accept, on_heard, after_opening, after_parting, read_calls, read_one, scan_calls, after_turn_scan, after_settling, settled_in, settled_next, settling, settling_in, settling_next, standing_of, after_event, taken_in, told_after, told_of, turn_calls, after_turn, with_device, with_noted, with_queue}
 use Rattle.bay_serve.specs.declared.told.Closing.{Closing}
 use Rattle.bay_serve.specs.declared.told.Closing.TheVariants as closing
 use Rattle.bay_serve_laws.specs.Events.{ChosenEvent, HasNoOctets, accept_events, accept_events_at, closing_of, commands_in, commands_of, done_at, events_of_each, failed_events, heard_events, line_events, offer_events, read_events, scan_events, settled_events, settled_in_events, settled_next_events, surely, turn_events}
@@ -77,10 +77,10 @@ module _ (Q : Type 0) (now : ℕ) where
   }
 
   Part-stepped : (event : Event) (s : Turning) (calls : List Call) → IsWithoutOctets event
-      → Part Q now s calls (surely event ∷ []) (stepped now event s)
+      → Part Q now s calls (surely event ∷ []) (after_event now event s)
   Part-stepped event s calls h =
       let o = outcome None now event s.server.device in
-      Part-one s (stepped now event s) calls (surely event) o refl
+      Part-one s (after_event now event s) calls (surely event) o refl
       (λ q. outcome-quiet None now event s.server.device h)
       (put_quiet-same o.answer (with_device o.after s))
 
@@ -133,7 +133,7 @@ module _ (Q : Type 0) (now : ℕ) where
       → Part Q now s calls (closing_of place ∷ []) (cut_off now why place s)
   unfolding cut_off
   Part-cut why place s calls h =
-      let t : Turning = stepped now (Close (place + 1)) s in
+      let t : Turning = after_event now (Close (place + 1)) s in
       let u : Turning = with_noted (goes place why t.noted) (with_queue place [] t) in
       let last : Part Q now t calls [] u = record {
         device = refl;
@@ -165,15 +165,15 @@ module _ (Q : Type 0) (now : ℕ) where
       (settled_in_events now count) (Part-settled_in count)
 
   Part-settled : (s : Turning)
-      → Part Q now s (settling now s) (settled_events now s) (settled now s)
-  unfolding settled settling settled_events
+      → Part Q now s (settling now s) (settled_events now s) (after_settling now s)
+  unfolding after_settling settling settled_events
   Part-settled s = Part-settled_in 8 s
 
   -- an event, and what did not fit then
   Part-then : (s t : Turning) (calls : List Call) (e : ChosenEvent) → Part Q now s calls (e ∷ []) t
-      → Part Q now s (calls ++ settling now t) (e ∷ settled_events now t) (settled now t)
+      → Part Q now s (calls ++ settling now t) (e ∷ settled_events now t) (after_settling now t)
   Part-then s t calls e h =
-      Part-trans s t (settled now t) calls (settling now t) (e ∷ []) (settled_events now t) h
+      Part-trans s t (after_settling now t) calls (settling now t) (e ∷ []) (settled_events now t) h
       (Part-settled t)
 
   -- ---- the parts
@@ -186,14 +186,15 @@ module _ (Q : Type 0) (now : ℕ) where
   Part-on_accept (Some place) (Some false) s = Part-still s (Accepts (place + 1) (Some false) ∷ [])
   Part-on_accept (Some place) (Some true) s =
       let calls = Accepts (place + 1) (Some true) ∷ [] in
-      Part-then s (opened now place s) calls (surely (Open (place + 1)))
+      Part-then s (after_opening now place s) calls (surely (Open (place + 1)))
       (Part-stepped (Open (place + 1)) s calls tt)
 
   pub Part-accept : (taken : Option Bool) (s : Turning)
-      → Part Q now s (accept_calls now taken s) (accept_events now taken s) (accepted now taken s)
+      → Part Q now s (accept_calls now taken s) (accept_events now taken s)
+      (with_accept now taken s)
   Part-accept taken s = Part-on_accept (free_place s.server) taken s
 
-  Part-heard : (place : ℕ) (choice : Option ℕ) (heard : Heard) (s : Turning)
+  Part-heard : (place : ℕ) (choice : Option ℕ) (heard : ReadOutcome) (s : Turning)
       → Part Q now s (Reads (place + 1) 4096 heard ∷ heard_calls now place choice heard s)
       (heard_events now place choice heard s) (on_heard now place choice heard s)
   Part-heard place choice (Octets octets) s =
@@ -224,7 +225,7 @@ module _ (Q : Type 0) (now : ℕ) where
       (Part-heard place r.choice r.heard s)
 
   pub Part-line : (line : Option NamedData) (s : Turning) → (Q → HasNoOctets line)
-      → Part Q now s (line_calls now line s) (line_events now line s) (lined now line s)
+      → Part Q now s (line_calls now line s) (line_events now line s) (with_line now line s)
   Part-line None s h = Part-still s []
   Part-line (Some named) s h =
       let event = placed_event s.server.device named in
@@ -232,23 +233,23 @@ module _ (Q : Type 0) (now : ℕ) where
       (Part-told event s [] (λ q. placed-quiet s.server.device named (h q)))
 
   pub Part-scan : (s : Turning)
-      → Part Q now s (scan_calls now s) (scan_events now s) (scanned now s)
-  Part-scan s = Part-then s (stepped now Scan s) [] (surely Scan) (Part-stepped Scan s [] tt)
+      → Part Q now s (scan_calls now s) (scan_events now s) (after_turn_scan now s)
+  Part-scan s = Part-then s (after_event now Scan s) [] (surely Scan) (Part-stepped Scan s [] tt)
 
   Part-offered : (place : ℕ) (o : Offer) (s : Turning) (failed : Bool)
       → (offer_of place o s).failed ≡ failed
       → Part Q now s ((offer_of place o s).calls ++ offer_end now place failed s)
       (failed_events now place failed s)
-      (if failed then settled now (cut_off now closing.LinkFailed place s)
+      (if failed then after_settling now (cut_off now closing.LinkFailed place s)
       else with_queue place (offer_of place o s).left s)
   Part-offered place o s true e =
       let calls = (offer_of place o s).calls in
       let t : Turning = cut_off now closing.LinkFailed place s in
       let behind : Part Q now t (Closes (place + 1) ∷ settling now t) (settled_events now t)
-      (settled now t) =
-      Part-trans t t (settled now t) (Closes (place + 1) ∷ []) (settling now t) []
+      (after_settling now t) =
+      Part-trans t t (after_settling now t) (Closes (place + 1) ∷ []) (settling now t) []
       (settled_events now t) (Part-still t (Closes (place + 1) ∷ [])) (Part-settled t) in
-      Part-trans s t (settled now t) calls (Closes (place + 1) ∷ settling now t)
+      Part-trans s t (after_settling now t) calls (Closes (place + 1) ∷ settling now t)
       (closing_of place ∷ []) (settled_events now t)
       (Part-cut closing.LinkFailed place s calls
       (inr (offered-failed (place + 1) _ o.takes o.fails e))) behind
@@ -262,10 +263,10 @@ module _ (Q : Type 0) (now : ℕ) where
       ++ offer_end now place (offer_of place o s).failed s else []))
       (if leaving then [] else
       (if up then failed_events now place (offer_of place o s).failed s else []))
-      (if leaving then parted place s
+      (if leaving then after_parting place s
       else (if up then after_offer now place (offer_of place o s) s else s))
   Part-offer_if place o s true up =
-      Part-same s (parted place s) ((offer_of place o s).calls ++ Closes (place + 1) ∷ [])
+      Part-same s (after_parting place s) ((offer_of place o s).calls ++ Closes (place + 1) ∷ [])
       (parted-same place s)
   Part-offer_if place o s false true = Part-offered place o s (offer_of place o s).failed refl
   Part-offer_if place o s false false = Part-still s []
@@ -292,10 +293,10 @@ module _ (Q : Type 0) (now : ℕ) where
 
   -- the whole of a turn
   pub Part-turn : (line : Option NamedData) (script : Script) (h : Held) → (Q → HasNoOctets line)
-      → Part Q now (begun h) (turn_calls now line script h) (turn_events now line script h)
-      (turned now line script h)
+      → Part Q now (turn_begin h) (turn_calls now line script h) (turn_events now line script h)
+      (after_turn now line script h)
   Part-turn line script h quiet =
-      let s0 : Turning = begun h in
+      let s0 : Turning = turn_begin h in
       let s1 : Turning = after_accept now script h in
       let s2 : Turning = after_reads now script h in
       let s3 : Turning = after_line now line script h in
@@ -309,4 +310,4 @@ module _ (Q : Type 0) (now : ℕ) where
       let to2 = Part-trans s0 s1 s2 _ _ _ _ (Part-accept script.accepted s0) reads in
       let to3 = Part-trans s0 s2 s3 _ _ _ _ to2 (Part-line line s2 quiet) in
       let to4 = Part-trans s0 s3 s4 _ _ _ _ to3 (Part-scan s3) in
-      Part-trans s0 s4 (turned now line script h) _ _ _ _ to4 offers
+      Part-trans s0 s4 (after_turn now line script h) _ _ _ _ to4 offers

@@ -7,8 +7,8 @@ use Rattle.bay_device.specs.declared.event.Step.{Step}
 use Rattle.bay_device.specs.declared.event.Why.{Why}
 use Rattle.bay_device.specs.declared.event.Why.TheVariants.{Ended, Fault, Memory}
 use Rattle.bay_device.specs.declared.fault.StepFault.{StepFault}
-use Rattle.bay_serve.specs.Standings.{filled, is_told, takes_replies}
-use Rattle.bay_serve.specs.Turns.{Noted, Turning, has_room, is_up, put_all, put_at, put_ended, put_quiet, put_sent, put_whole, queue_of, standing_in, standing_of, stands, told, told_why, with_noted, with_queue}
+use Rattle.bay_serve.specs.Standings.{after_full, is_told, takes_replies}
+use Rattle.bay_serve.specs.Turns.{Noted, Turning, has_room, is_up, put_all, put_at, put_ended, put_quiet, put_sent, put_whole, queue_of, standing_in, standing_of, stands, with_closing, told_why, with_noted, with_queue}
 use Rattle.bay_serve.specs.declared.told.Closing.{Closing}
 use Rattle.bay_serve.specs.declared.told.Closing.TheVariants as closing
 use Rattle.bay_serve_laws.proofs.StandingLemmas.{Fills, Fills-one, Fills-refl, Fills-trans}
@@ -37,7 +37,7 @@ put_at-puts (Some i) octets s =
     let q = queue_of i s ++ octets in
     Puts-if (takes_replies (standing_of i s) (is_up i s)) s (put_whole i octets s) s
     (Puts-if (has_room (queue_of i s) octets) s (with_queue i q s)
-    (with_noted (stands i (filled (standing_of i s)) s.noted) s)
+    (with_noted (stands i (after_full (standing_of i s)) s.noted) s)
     (record { queues = length-set s.server.queues i q; fills = Fills-refl s.noted.standings })
     (record { queues = refl; fills = Fills-one s.noted.standings i })) (Puts-refl s)
 
@@ -60,15 +60,15 @@ put_quiet-puts (Ok step) s = put_ended-puts step.ended s
 
 -- ---- telling changes no standing
 
-told_if : (b : Bool) (n m : Noted) → m.standings ≡ n.standings
+told-if : (b : Bool) (n m : Noted) → m.standings ≡ n.standings
     → (let o : Noted = if b then n else m in o).standings ≡ n.standings
-told_if true n m e = refl
-told_if false n m e = e
+told-if true n m e = refl
+told-if false n m e = e
 
 pub told-standings : (place : ℕ) (why : Closing) (n : Noted)
-    → (told place why n).standings ≡ n.standings
+    → (with_closing place why n).standings ≡ n.standings
 told-standings place why n =
-    told_if (is_told (standing_in place n)) n
+    told-if (is_told (standing_in place n)) n
     (record n { closed = n.closed ++ (place + 1, why) ∷ [] }) refl
 
 pub told_why-standings : (place : ℕ) (why : Why) (n : Noted)
@@ -76,5 +76,5 @@ pub told_why-standings : (place : ℕ) (why : Why) (n : Noted)
 told_why-standings place Ended n = told-standings place closing.Ended n
 told_why-standings place (Fault code) n = told-standings place (closing.Fault code) n
 told_why-standings place Memory n =
-    told_if (is_told (standing_in place n)) n (record n { memory = n.memory ++ (place + 1) ∷ [] })
+    told-if (is_told (standing_in place n)) n (record n { memory = n.memory ++ (place + 1) ∷ [] })
     refl

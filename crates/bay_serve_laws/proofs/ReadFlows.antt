@@ -14,9 +14,9 @@ use Rattle.bay_device.specs.declared.event.Why.TheVariants.{Ended}
 use Rattle.bay_device.specs.declared.fault.StepFault.{StepFault}
 use Rattle.bay_trace.specs.Placing.{lying, placed_event}
 use Rattle.bay_trace.specs.Trace.{NamedData, connects, receives, disconnects, contact, input, measure, scan, process_event}
-use Rattle.bay_serve.specs.Calls.{Call, Accepts, Reads, Closes, Heard, Octets, Silence, Over, Broken}
+use Rattle.bay_serve.specs.Calls.{Call, Accepts, Reads, Closes, ReadOutcome, Octets, Silence, Over, Broken}
 use Rattle.bay_serve.specs.Standings.{is_full}
-use Rattle.bay_serve.specs.Turns.{Held, Noted, Reading, Turning, accept_calls, accept_calls_at, accepted, begun, cut_off, free_place, heard_calls, hung_up, is_up, leaves, left_by, line_calls, lined, on_accept, on_heard, opened, put_all, put_answer, put_ended, queue_at, queue_of, read_calls, read_one, scan_calls, scanned, settled, settling, standing_of, stepped, taken_in, told_after, told_of, told_why, with_device, with_noted}
+use Rattle.bay_serve.specs.Turns.{Held, Noted, Reading, Turning, accept_calls, accept_calls_at, with_accept, turn_begin, cut_off, free_place, heard_calls, hung_up, is_up, leaves, left_by, line_calls, with_line, on_accept, on_heard, after_opening, put_all, put_answer, put_ended, queue_at, queue_of, read_calls, read_one, scan_calls, after_turn_scan, after_settling, settling, standing_of, after_event, taken_in, told_after, told_of, told_why, with_device, with_noted}
 use Rattle.bay_serve.specs.declared.standing.Standing.{Standing}
 use Rattle.bay_serve.specs.declared.standing.Standing.TheVariants.{Steady, Full, Leaving, LeavingFull, Gone}
 use Rattle.bay_serve.specs.declared.told.Closing.TheVariants as closing
@@ -45,7 +45,7 @@ pub record Fresh (now p : ℕ) (held taken sent : List ℕ) (s : Turning) : Type
   pub untold : tells is_queue_full (p + 1) s.noted.closed ≡ false
 
 pub begun-fresh : (now p : ℕ) (h : Held) → p < 8 → IsTidy h → h.device.moment ≤ now
-    → Fresh now p (queue_at p h) [] [] (begun h)
+    → Fresh now p (queue_at p h) [] [] (turn_begin h)
 begun-fresh now p h low tidy before = record {
   sound = record { queues = tidy.sized; standings = refl; moment = before };
   calm = λ i. ap is_full (all-steady i);
@@ -183,13 +183,13 @@ ready-here now p held taken sent (Err fault) d s h w before up left =
 ready-here now p held taken sent (Ok step) d s h w before up left =
     left_by-here now p held taken sent step.closed d s h w before up left
 
-ready_if : (b : Bool) (now p i : ℕ) (held taken sent : List ℕ) (choice : Option ℕ) (octets : List ℕ)
+ready-if : (b : Bool) (now p i : ℕ) (held taken sent : List ℕ) (choice : Option ℕ) (octets : List ℕ)
     (s : Turning) → p < 8 → (i == p) ≡ b → is_up i s ≡ true
     → Well now p held taken sent s
     → Ready now p i held taken sent
     (outcome choice now (Recv (i + 1) (lying octets)) s.server.device).answer
     (with_device (outcome choice now (Recv (i + 1) (lying octets)) s.server.device).after s)
-ready_if true now p i held taken sent choice octets s h e up w =
+ready-if true now p i held taken sent choice octets s h e up w =
     let same : i ≡ p = eqb-true i p e in
     let o = outcome choice now (Recv (p + 1) (lying octets)) s.server.device in
     let up_here : is_up p s ≡ true = ap (λ j. is_up j s) (sym same) ∙ up in
@@ -201,7 +201,7 @@ ready_if true now p i held taken sent choice octets s h e up w =
     (outcome-moment choice now (Recv (p + 1) (lying octets)) s.server.device
     w.carried.sound.moment) up_here
     (recv-outcome-here choice now p octets s.server.device h up_here))
-ready_if false now p i held taken sent choice octets s h e up w =
+ready-if false now p i held taken sent choice octets s h e up w =
     let far : i ≢ p = λ q. let same : (i == p) ≡ true = eq-eqb i p q in cc in
     let o = outcome choice now (Recv (i + 1) (lying octets)) s.server.device in
     ready-far now p i held taken sent o.answer (with_device o.after s) far
@@ -212,13 +212,13 @@ ready_if false now p i held taken sent choice octets s h e up w =
 
 -- ---- a client that sends no more
 
-hung_if : (b : Bool) (now p i : ℕ) (held taken sent : List ℕ) (s : Turning) → p < 8
+hung-if : (b : Bool) (now p i : ℕ) (held taken sent : List ℕ) (s : Turning) → p < 8
     → now ≤ last_moment → (i == p) ≡ b → is_up i s ≡ true
     → Well now p held taken sent s
     → Carried now p held taken sent
     (with_device (outcome None now (Close (i + 1)) s.server.device).after
     (with_noted (leaves i Ended s.noted) s))
-hung_if true now p i held taken sent s h past e up w =
+hung-if true now p i held taken sent s h past e up w =
     let same : i ≡ p = eqb-true i p e in
     let o = outcome None now (Close (p + 1)) s.server.device in
     let before = w.carried.sound.moment in
@@ -229,7 +229,7 @@ hung_if true now p i held taken sent s h past e up w =
     (outcome-moment None now (Close (p + 1)) s.server.device before)
     (ap (λ j. is_up j s) (sym same) ∙ up)
     (close-outcome-here None now p s.server.device h past before))
-hung_if false now p i held taken sent s h past e up w =
+hung-if false now p i held taken sent s h past e up w =
     let far : i ≢ p = λ q. let same : (i == p) ≡ true = eq-eqb i p q in cc in
     let o = outcome None now (Close (i + 1)) s.server.device in
     device-carried now p held taken sent o.after (with_noted (leaves i Ended s.noted) s)
@@ -244,12 +244,12 @@ module _ (now p : ℕ) (held : List ℕ) (h : p < 8) (past : now ≤ last_moment
       → taken_of (p + 1) calls ≡ []
       → up_at p (outcome None now event s.server.device).after ≡ is_up p s
       → Moves (Carried now p held) (Carried now p held) now p s calls (surely event ∷ [])
-      (stepped now event s)
+      (after_event now event s)
   stepped-moves event s calls q none up =
       let o = outcome None now event s.server.device in
-      let same : Same (with_device o.after s) (stepped now event s) =
+      let same : Same (with_device o.after s) (after_event now event s) =
       put_quiet-same o.answer (with_device o.after s) in
-      Moves-one (Carried now p held) (Carried now p held) now p s (stepped now event s) calls
+      Moves-one (Carried now p held) (Carried now p held) now p s (after_event now event s) calls
       (surely event) same.device none
       (λ taken sent c. put_quiet-carried now p held taken sent o.answer (with_device o.after s) h
       (outcome-quiet None now event s.server.device q)
@@ -284,12 +284,12 @@ module _ (now p : ℕ) (held : List ℕ) (h : p < 8) (past : now ≤ last_moment
 
   opened-moves : (i : ℕ) (s : Turning)
       → Moves (Fresh now p held) (Carried now p held) now p s (Accepts (i + 1) (Some true) ∷ [])
-      (surely (Open (i + 1)) ∷ []) (opened now i s)
+      (surely (Open (i + 1)) ∷ []) (after_opening now i s)
   opened-moves i s =
       let o = outcome None now (Open (i + 1)) s.server.device in
-      let same : Same (with_device o.after s) (opened now i s) =
+      let same : Same (with_device o.after s) (after_opening now i s) =
       put_quiet-same o.answer (with_device o.after s) in
-      Moves-one (Fresh now p held) (Carried now p held) now p s (opened now i s)
+      Moves-one (Fresh now p held) (Carried now p held) now p s (after_opening now i s)
       (Accepts (i + 1) (Some true) ∷ []) (surely (Open (i + 1))) same.device refl
       (λ taken sent f. put_quiet-carried now p held taken sent o.answer (with_device o.after s) h
       (outcome-quiet None now (Open (i + 1)) s.server.device tt)
@@ -310,20 +310,20 @@ module _ (now p : ℕ) (held : List ℕ) (h : p < 8) (past : now ≤ last_moment
       Moves-none (Fresh now p held) (Well now p held) now p s s (Accepts (i + 1) (Some false) ∷ [])
       refl refl (λ t u f. fresh-well t u s f)
   on_accept-moves (Some i) (Some true) s =
-      let t : Turning = opened now i s in
+      let t : Turning = after_opening now i s in
       Moves-trans (Fresh now p held) (Carried now p held) (Well now p held) now p s t
-      (settled now t) (Accepts (i + 1) (Some true) ∷ []) (settling now t)
+      (after_settling now t) (Accepts (i + 1) (Some true) ∷ []) (settling now t)
       (surely (Open (i + 1)) ∷ []) (settled_events now t) (opened-moves i s)
       (settled-moves now p held h past t)
 
   pub accept-moves : (taken : Option Bool) (s : Turning)
       → Moves (Fresh now p held) (Well now p held) now p s (accept_calls now taken s)
-      (accept_events now taken s) (accepted now taken s)
+      (accept_events now taken s) (with_accept now taken s)
   accept-moves taken s = on_accept-moves (free_place s.server) taken s
 
   -- ---- reads
 
-  heard-moves : (i : ℕ) (choice : Option ℕ) (heard : Heard) (s : Turning) → is_up i s ≡ true
+  heard-moves : (i : ℕ) (choice : Option ℕ) (heard : ReadOutcome) (s : Turning) → is_up i s ≡ true
       → Moves (Well now p held) (Well now p held) now p s
       (Reads (i + 1) 4096 heard ∷ heard_calls now i choice heard s)
       (heard_events now i choice heard s) (on_heard now i choice heard s)
@@ -337,7 +337,7 @@ module _ (now p : ℕ) (held : List ℕ) (h : p < 8) (past : now ≤ last_moment
       (Moves-one (Well now p held) (Carried now p held) now p s t calls
       (choice, Recv (i + 1) (lying octets)) told.device refl
       (λ taken sent w. answer-carried now p i held taken sent o.answer (with_device o.after s) h
-      (ready_if (i == p) now p i held taken sent choice octets s h refl up w)))
+      (ready-if (i == p) now p i held taken sent choice octets s h refl up w)))
   heard-moves i choice Silence s up =
       Moves-none (Well now p held) (Well now p held) now p s s (Reads (i + 1) 4096 Silence ∷ [])
       refl refl (λ taken sent w. w)
@@ -353,7 +353,7 @@ module _ (now p : ℕ) (held : List ℕ) (h : p < 8) (past : now ≤ last_moment
       refl
       (λ taken sent w. put_quiet-carried now p held taken sent o.answer (with_device o.after left) h
       (outcome-quiet None now (Close (i + 1)) s.server.device tt)
-      (hung_if (i == p) now p i held taken sent s h past refl up w)))
+      (hung-if (i == p) now p i held taken sent s h past refl up w)))
   heard-moves i choice Broken s up =
       let t : Turning = cut_off now closing.LinkFailed i s in
       let calls = Reads (i + 1) 4096 Broken ∷ Closes (i + 1) ∷ [] in
@@ -361,19 +361,19 @@ module _ (now p : ℕ) (held : List ℕ) (h : p < 8) (past : now ≤ last_moment
       (calm-moves now p held h past s t calls (closing_of i ∷ [])
       (cut-moves now p held h past i closing.LinkFailed s calls (λ e. absurd (cc)) refl))
 
-  read_if : (b : Bool) (i : ℕ) (r : Reading) (s : Turning) → is_up i s ≡ b
+  read-if : (b : Bool) (i : ℕ) (r : Reading) (s : Turning) → is_up i s ≡ b
       → Moves (Well now p held) (Well now p held) now p s
       (if b then Reads (i + 1) 4096 r.heard ∷ heard_calls now i r.choice r.heard s else [])
       (if b then heard_events now i r.choice r.heard s else [])
       (if b then on_heard now i r.choice r.heard s else s)
-  read_if true i r s up = heard-moves i r.choice r.heard s up
-  read_if false i r s up =
+  read-if true i r s up = heard-moves i r.choice r.heard s up
+  read-if false i r s up =
       Moves-none (Well now p held) (Well now p held) now p s s [] refl refl (λ taken sent w. w)
 
   pub read-moves : (i : ℕ) (r : Reading) (s : Turning)
       → Moves (Well now p held) (Well now p held) now p s (read_calls now i r s)
       (read_events now i r s) (read_one now i r s)
-  read-moves i r s = read_if (is_up i s) i r s refl
+  read-moves i r s = read-if (is_up i s) i r s refl
 
   -- ---- the line and the scan
 
@@ -396,7 +396,7 @@ module _ (now p : ℕ) (held : List ℕ) (h : p < 8) (past : now ≤ last_moment
 
   pub line-moves : (line : Option NamedData) (s : Turning) → IsOfProcess line
       → Moves (Well now p held) (Well now p held) now p s (line_calls now line s)
-      (line_events now line s) (lined now line s)
+      (line_events now line s) (with_line now line s)
   line-moves None s e =
       Moves-none (Well now p held) (Well now p held) now p s s [] refl refl (λ taken sent w. w)
   line-moves (Some named) s e =
@@ -407,9 +407,9 @@ module _ (now p : ℕ) (held : List ℕ) (h : p < 8) (past : now ≤ last_moment
 
   pub scan-moves : (s : Turning)
       → Moves (Well now p held) (Well now p held) now p s (scan_calls now s) (scan_events now s)
-      (scanned now s)
+      (after_turn_scan now s)
   scan-moves s =
-      let t : Turning = stepped now Scan s in
+      let t : Turning = after_event now Scan s in
       then-moves now p held h past s t [] (surely Scan)
       (calm-moves now p held h past s t [] (surely Scan ∷ [])
       (stepped-moves Scan s [] tt refl (scan-outcome-up None now p s.server.device)))

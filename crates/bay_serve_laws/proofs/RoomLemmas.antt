@@ -15,10 +15,10 @@ use Rattle.bay_device.specs.declared.event.Why.TheVariants.{Ended}
 use Rattle.bay_device.specs.declared.fault.StepFault.{StepFault}
 use Rattle.bay_trace.specs.Placing.{lying, placed_event}
 use Rattle.bay_trace.specs.Trace.{NamedData}
-use Rattle.bay_serve.specs.Calls.{Heard, Octets, Silence, Over, Broken}
-use Rattle.bay_serve.specs.Offers.{Offer, Offered, offered}
-use Rattle.bay_serve.specs.Standings.{filled, is_leaving, takes_replies}
-use Rattle.bay_serve.specs.Turns.{Held, Reading, Script, Turning, after_accept, after_each, after_line, after_offer, after_reads, after_scan, begun, cut_off, first_full, free_place, has_room, hung_up, is_up, leaves, left_by, lined, offer_of, offer_one, on_accept, on_heard, opened, parted, put_all, put_answer, put_at, put_ended, put_quiet, put_sent, put_told, put_whole, queue_at, queue_of, read_one, scanned, settled, settled_in, settled_next, standing_of, stands, stepped, taken_in, told_of, turned, with_device, with_noted, with_queue}
+use Rattle.bay_serve.specs.Calls.{ReadOutcome, Octets, Silence, Over, Broken}
+use Rattle.bay_serve.specs.Offers.{Offer, Offered, offering_of}
+use Rattle.bay_serve.specs.Standings.{after_full, is_leaving, takes_replies}
+use Rattle.bay_serve.specs.Turns.{Held, Reading, Script, Turning, after_accept, after_each, after_line, after_offer, after_reads, after_scan, turn_begin, cut_off, first_full, free_place, has_room, hung_up, is_up, leaves, left_by, with_line, offer_of, offer_one, on_accept, on_heard, after_opening, after_parting, put_all, put_answer, put_at, put_ended, put_quiet, put_sent, put_told, put_whole, queue_at, queue_of, read_one, after_turn_scan, after_settling, settled_in, settled_next, standing_of, stands, after_event, taken_in, told_of, after_turn, with_device, with_noted, with_queue}
 use Rattle.bay_serve.specs.declared.told.Closing.{Closing}
 use Rattle.bay_serve.specs.declared.told.Closing.TheVariants as closing
 use Rattle.bay_serve_laws.specs.Flows.{IsTidy}
@@ -43,7 +43,7 @@ holds-queue place queue s fits p = All-set Fits s.server.queues place queue fits
 holds-put : (b : Bool) (place : ℕ) (octets : List ℕ) (s : Turning)
     → has_room (queue_of place s) octets ≡ b → Holds s
     → Holds (cond b (with_queue place (queue_of place s ++ octets) s)
-    (with_noted (stands place (filled (standing_of place s)) s.noted) s))
+    (with_noted (stands place (after_full (standing_of place s)) s.noted) s))
 holds-put true place octets s is p =
     let within = leb-true (length (queue_of place s) + length octets) 262144 is in
     let fits : Fits (queue_of place s ++ octets) =
@@ -76,7 +76,7 @@ holds-quiet (Ok step) s p = holds-ended step.ended s p
 -- ---- what is offered
 
 left-fits : (a : ℕ) (queue takes : List ℕ) (fails : Bool)
-    → (let o : Offered = offered a queue takes fails in length o.left ≤ length queue)
+    → (let o : Offered = offering_of a queue takes fails in length o.left ≤ length queue)
 left-fits a [] takes fails = omega arith
 left-fits a (x ∷ xs) [] fails = omega arith
 left-fits a (x ∷ xs) (zero ∷ takes) fails = omega arith
@@ -105,7 +105,7 @@ left-of place o s p =
 -- ---- events
 
 module _ (now : ℕ) where
-  holds-stepped : (event : Event) (s : Turning) → Holds s → Holds (stepped now event s)
+  holds-stepped : (event : Event) (s : Turning) → Holds s → Holds (after_event now event s)
   holds-stepped event s p =
       let o = outcome None now event s.server.device in
       holds-quiet o.answer (with_device o.after s) p
@@ -113,7 +113,7 @@ module _ (now : ℕ) where
   holds-cut : (why : Closing) (place : ℕ) (s : Turning) → Holds s → Holds (cut_off now why place s)
   unfolding cut_off
   holds-cut why place s p =
-      holds-queue place [] (stepped now (Close (place + 1)) s) (omega arith)
+      holds-queue place [] (after_event now (Close (place + 1)) s) (omega arith)
       (holds-stepped (Close (place + 1)) s p)
 
   holds-next : (o : Option ℕ) (s : Turning) (later : Turning → Turning)
@@ -127,8 +127,8 @@ module _ (now : ℕ) where
   holds-settled_in (suc count) s p =
       holds-next (first_full s.noted) s (settled_in now count) (holds-settled_in count) p
 
-  holds-settled : (s : Turning) → Holds s → Holds (settled now s)
-  unfolding settled
+  holds-settled : (s : Turning) → Holds s → Holds (after_settling now s)
+  unfolding after_settling
   holds-settled s p = holds-settled_in 8 s p
 
   -- ---- the parts of a turn
@@ -139,7 +139,7 @@ module _ (now : ℕ) where
   holds-accept (Some place) None s p = p
   holds-accept (Some place) (Some false) s p = p
   holds-accept (Some place) (Some true) s p =
-      holds-settled (opened now place s) (holds-stepped (Open (place + 1)) s p)
+      holds-settled (after_opening now place s) (holds-stepped (Open (place + 1)) s p)
 
   holds-answer : (place : ℕ) (answer : Result Step StepFault) (s : Turning) → Holds s
       → Holds (put_answer place answer s)
@@ -154,7 +154,7 @@ module _ (now : ℕ) where
       let o = outcome choice now (Recv (place + 1) (lying octets)) s.server.device in
       holds-answer place o.answer (with_device o.after s) p
 
-  holds-heard : (place : ℕ) (choice : Option ℕ) (heard : Heard) (s : Turning) → Holds s
+  holds-heard : (place : ℕ) (choice : Option ℕ) (heard : ReadOutcome) (s : Turning) → Holds s
       → Holds (on_heard now place choice heard s)
   holds-heard place choice (Octets octets) s p =
       holds-settled (taken_in now place choice octets s) (holds-taken place choice octets s p)
@@ -175,26 +175,26 @@ module _ (now : ℕ) where
   holds-told (Err fault) s p = p
   holds-told (Ok step) s p = holds-ended step.ended s p
 
-  holds-line : (line : Option NamedData) (s : Turning) → Holds s → Holds (lined now line s)
+  holds-line : (line : Option NamedData) (s : Turning) → Holds s → Holds (with_line now line s)
   holds-line None s p = p
   holds-line (Some named) s p =
       let o = outcome None now (placed_event s.server.device named) s.server.device in
       holds-settled (told_of now named s) (holds-told o.answer (with_device o.after s) p)
 
-  holds-scan : (s : Turning) → Holds s → Holds (scanned now s)
-  holds-scan s p = holds-settled (stepped now Scan s) (holds-stepped Scan s p)
+  holds-scan : (s : Turning) → Holds s → Holds (after_turn_scan now s)
+  holds-scan s p = holds-settled (after_event now Scan s) (holds-stepped Scan s p)
 
   holds-offered : (place : ℕ) (o : Offered) (s : Turning) → Fits o.left → Holds s
       → Holds (after_offer now place o s)
   holds-offered place o s fits p =
-      either o.failed (settled now (cut_off now closing.LinkFailed place s))
+      either o.failed (after_settling now (cut_off now closing.LinkFailed place s))
       (with_queue place o.left s)
       (holds-settled (cut_off now closing.LinkFailed place s)
       (holds-cut closing.LinkFailed place s p)) (holds-queue place o.left s fits p)
 
   holds-offer : (place : ℕ) (o : Offer) (s : Turning) → Holds s → Holds (offer_one now place o s)
   holds-offer place o s p =
-      either (is_leaving (standing_of place s)) (parted place s)
+      either (is_leaving (standing_of place s)) (after_parting place s)
       (cond (is_up place s) (after_offer now place (offer_of place o s) s) s)
       (All-set Fits s.server.queues place [] (omega arith) p)
       (either (is_up place s) (after_offer now place (offer_of place o s) s) s
@@ -208,13 +208,13 @@ module _ (now : ℕ) where
       holds-each f step (place + 1) cs (f place c s) (step place c s p)
 
   pub holds-turn : (line : Option NamedData) (script : Script) (h : Held) → AreInRoom h
-      → AreInRoom (turned now line script h).server
+      → AreInRoom (after_turn now line script h).server
   holds-turn line script h p =
       let s1 : Turning = after_accept now script h in
       let s2 : Turning = after_reads now script h in
       let s3 : Turning = after_line now line script h in
       let s4 : Turning = after_scan now line script h in
-      let p1 = holds-accept (free_place h) script.accepted (begun h) p in
+      let p1 = holds-accept (free_place h) script.accepted (turn_begin h) p in
       let p2 = holds-each (read_one now) holds-read 0 script.readings s1 p1 in
       let p3 = holds-line line s2 p2 in
       let p4 = holds-scan s3 p3 in

@@ -7,8 +7,8 @@ use Rattle.bay_device.specs.declared.event.Step.{Step}
 use Rattle.bay_device.specs.declared.event.Why.{Why}
 use Rattle.bay_device.specs.declared.event.Why.TheVariants.{Ended, Fault, Memory}
 use Rattle.bay_device.specs.declared.fault.StepFault.{StepFault}
-use Rattle.bay_serve.specs.Standings.{filled, is_told, takes_replies}
-use Rattle.bay_serve.specs.Turns.{Noted, Turning, goes, has_room, is_up, leaves, left_by, parted, put_all, put_answer, put_at, put_ended, put_quiet, put_sent, put_told, put_whole, queue_of, standing_in, standing_of, stands, told, told_memory, told_why, with_noted, with_queue}
+use Rattle.bay_serve.specs.Standings.{after_full, is_told, takes_replies}
+use Rattle.bay_serve.specs.Turns.{Noted, Turning, goes, has_room, is_up, leaves, left_by, after_parting, put_all, put_answer, put_at, put_ended, put_quiet, put_sent, put_told, put_whole, queue_of, standing_in, standing_of, stands, with_closing, told_memory, told_why, with_noted, with_queue}
 use Rattle.bay_serve.specs.declared.told.Closing.{Closing}
 use Rattle.bay_serve.specs.declared.told.Closing.TheVariants as closing
 use Rattle.bay_serve_laws.specs.Events.{commands_in}
@@ -38,7 +38,7 @@ Same-if s t u false a b = b
 put_whole-same : (place : ℕ) (octets : List ℕ) (s : Turning) → Same s (put_whole place octets s)
 put_whole-same place octets s =
     Same-if s (with_queue place (queue_of place s ++ octets) s)
-    (with_noted (stands place (filled (standing_of place s)) s.noted) s)
+    (with_noted (stands place (after_full (standing_of place s)) s.noted) s)
     (has_room (queue_of place s) octets)
     (record { device = refl; commands = refl; failures = refl })
     (record { device = refl; commands = refl; failures = refl })
@@ -76,20 +76,20 @@ pub record SameNotes (n m : Noted) : Type 0 where
   pub commands : m.commands ≡ n.commands
   pub failures : tells_failure m.closed ≡ tells_failure n.closed
 
-notes_if : (n m : Noted) (b : Bool) → SameNotes n m → SameNotes n (if b then n else m)
-notes_if n m true h = record { commands = refl; failures = refl }
-notes_if n m false h = h
+notes-if : (n m : Noted) (b : Bool) → SameNotes n m → SameNotes n (if b then n else m)
+notes-if n m true h = record { commands = refl; failures = refl }
+notes-if n m false h = h
 
 told-same : (place : ℕ) (closing : Closing) (n : Noted) → is_link_failed closing ≡ false
-    → SameNotes n (told place closing n)
+    → SameNotes n (with_closing place closing n)
 told-same place closing n e =
-    notes_if n (record n { closed = n.closed ++ (place + 1, closing) ∷ [] })
+    notes-if n (record n { closed = n.closed ++ (place + 1, closing) ∷ [] })
     (is_told (standing_in place n))
     (record { commands = refl; failures = tells-append n.closed (place + 1) closing e })
 
 told_memory-same : (place : ℕ) (n : Noted) → SameNotes n (told_memory place n)
 told_memory-same place n =
-    notes_if n (record n { memory = n.memory ++ (place + 1) ∷ [] }) (is_told (standing_in place n))
+    notes-if n (record n { memory = n.memory ++ (place + 1) ∷ [] }) (is_told (standing_in place n))
     (record { commands = refl; failures = refl })
 
 told_why-same : (place : ℕ) (why : Why) (n : Noted) → SameNotes n (told_why place why n)
@@ -100,28 +100,29 @@ told_why-same place Memory n = told_memory-same place n
 pub leaves-same : (place : ℕ) (why : Why) (s : Turning)
     → Same s (with_noted (leaves place why s.noted) s)
 leaves-same place why s =
-    let told : SameNotes s.noted (told_why place why s.noted) = told_why-same place why s.noted in
-    record { device = refl; commands = told.commands; failures = told.failures }
+    let with_closing : SameNotes s.noted (told_why place why s.noted) =
+    told_why-same place why s.noted in
+    record { device = refl; commands = with_closing.commands; failures = with_closing.failures }
 
 pub goes-same : (place : ℕ) (closing : Closing) (n : Noted) → is_link_failed closing ≡ false
     → SameNotes n (goes place closing n)
 goes-same place closing n e =
-    let told : SameNotes n (told place closing n) = told-same place closing n e in
-    record { commands = told.commands; failures = told.failures }
+    let with_closing : SameNotes n (with_closing place closing n) = told-same place closing n e in
+    record { commands = with_closing.commands; failures = with_closing.failures }
 
-commands_if : (n m : Noted) (b : Bool) → m.commands ≡ n.commands
+commands-if : (n m : Noted) (b : Bool) → m.commands ≡ n.commands
     → (let o : Noted = if b then n else m in o).commands ≡ n.commands
-commands_if n m true e = refl
-commands_if n m false e = e
+commands-if n m true e = refl
+commands-if n m false e = e
 
 -- whatever the reason
 pub goes-commands : (place : ℕ) (closing : Closing) (n : Noted)
     → (goes place closing n).commands ≡ n.commands
 goes-commands place closing n =
-    commands_if n (record n { closed = n.closed ++ (place + 1, closing) ∷ [] })
+    commands-if n (record n { closed = n.closed ++ (place + 1, closing) ∷ [] })
     (is_told (standing_in place n)) refl
 
-pub parted-same : (place : ℕ) (s : Turning) → Same s (parted place s)
+pub parted-same : (place : ℕ) (s : Turning) → Same s (after_parting place s)
 parted-same place s = record { device = refl; commands = refl; failures = refl }
 
 -- ---- the device's answer to octets

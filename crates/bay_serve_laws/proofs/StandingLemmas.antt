@@ -2,7 +2,7 @@
 use Rattle.std.proofs.Common.{◌≡◌, ℕ, zero, suc, ◌+◌, ◌≤◌, nat_lt, Bool, true, false, not, cond, List, [], ◌∷◌, length, get_or, set, replicate, position, Some, None, refl, ap, sym, ◌∙◌, arith}
 use Rattle.std.specs.List.{position_or_len}
 use Rattle.std.proofs.lemmas.Bool.{ltb-false}
-use Rattle.bay_serve.specs.Standings.{filled, is_full, is_leaving}
+use Rattle.bay_serve.specs.Standings.{after_full, is_full, is_leaving}
 use Rattle.bay_serve.specs.declared.standing.Standing.{Standing}
 use Rattle.bay_serve.specs.declared.standing.Standing.TheVariants.{Steady, Full, Leaving, LeavingFull, Gone}
 
@@ -19,14 +19,14 @@ abbrev pub remaining : List Standing → ℕ
 remaining [] = 0
 remaining (x ∷ xs) = and_one x (remaining xs)
 
-and_one-filled : (x : Standing) (n : ℕ) → and_one (filled x) n ≡ and_one x n
+and_one-filled : (x : Standing) (n : ℕ) → and_one (after_full x) n ≡ and_one x n
 and_one-filled Steady n = refl
 and_one-filled Full n = refl
 and_one-filled Leaving n = refl
 and_one-filled LeavingFull n = refl
 and_one-filled Gone n = refl
 
-filled-leaving : (x : Standing) → is_leaving x ≡ false → is_leaving (filled x) ≡ false
+filled-leaving : (x : Standing) → is_leaving x ≡ false → is_leaving (after_full x) ≡ false
 filled-leaving Steady e = refl
 filled-leaving Full e = refl
 filled-leaving Leaving e = e
@@ -34,21 +34,21 @@ filled-leaving LeavingFull e = e
 filled-leaving Gone e = refl
 
 filled-remaining : (l : List Standing) (j : ℕ)
-    → remaining (set l j (filled (get_or l j Steady))) ≡ remaining l
+    → remaining (set l j (after_full (get_or l j Steady))) ≡ remaining l
 filled-remaining [] j = refl
 filled-remaining (x ∷ l) zero = and_one-filled x (remaining l)
 filled-remaining (x ∷ l) (suc j) = ap (and_one x) (filled-remaining l j)
 
 filled-full : (l : List Standing) (j i : ℕ) → get_or l i Steady ≡ Full
-    → get_or (set l j (filled (get_or l j Steady))) i Steady ≡ Full
+    → get_or (set l j (after_full (get_or l j Steady))) i Steady ≡ Full
 filled-full [] j i e = e
-filled-full (x ∷ l) zero zero e = ap filled e
+filled-full (x ∷ l) zero zero e = ap after_full e
 filled-full (x ∷ l) zero (suc i) e = e
 filled-full (x ∷ l) (suc j) zero e = e
 filled-full (x ∷ l) (suc j) (suc i) e = filled-full l j i e
 
 filled-kept : (l : List Standing) (j i : ℕ) → is_leaving (get_or l i Steady) ≡ false
-    → is_leaving (get_or (set l j (filled (get_or l j Steady))) i Steady) ≡ false
+    → is_leaving (get_or (set l j (after_full (get_or l j Steady))) i Steady) ≡ false
 filled-kept [] j i e = e
 filled-kept (x ∷ l) zero zero e = filled-leaving x e
 filled-kept (x ∷ l) zero (suc i) e = e
@@ -80,9 +80,9 @@ set-length [] j x = refl
 set-length (y ∷ l) zero x = refl
 set-length (y ∷ l) (suc j) x = ap suc (set-length l j x)
 
-pub Fills-one : (l : List Standing) (j : ℕ) → Fills l (set l j (filled (get_or l j Steady)))
+pub Fills-one : (l : List Standing) (j : ℕ) → Fills l (set l j (after_full (get_or l j Steady)))
 Fills-one l j = record {
-  sized = set-length l j (filled (get_or l j Steady));
+  sized = set-length l j (after_full (get_or l j Steady));
   remain = filled-remaining l j;
   full = filled-full l j;
   kept = filled-kept l j;
@@ -146,36 +146,36 @@ steady-at (suc n) (suc i) = steady-at n i
 pub all-steady : (i : ℕ) → get_or (replicate 8 Steady) i Steady ≡ Steady
 all-steady i = steady-at 8 i
 
-all_gone : (x : Standing) (n : ℕ) → and_one x n ≤ 0 → (is_full x ≡ false) × (n ≤ 0)
-all_gone Steady n h = absurd (omega arith)
-all_gone Full n h = absurd (omega arith)
-all_gone Leaving n h = absurd (omega arith)
-all_gone LeavingFull n h = absurd (omega arith)
-all_gone Gone n h = (refl, h)
+all-gone : (x : Standing) (n : ℕ) → and_one x n ≤ 0 → (is_full x ≡ false) × (n ≤ 0)
+all-gone Steady n h = absurd (omega arith)
+all-gone Full n h = absurd (omega arith)
+all-gone Leaving n h = absurd (omega arith)
+all-gone LeavingFull n h = absurd (omega arith)
+all-gone Gone n h = (refl, h)
 
 pub none-remains : (l : List Standing) → remaining l ≤ 0 → AreCalm l
 none-remains [] h i = refl
-none-remains (x ∷ l) h zero = (all_gone x (remaining l) h).0
-none-remains (x ∷ l) h (suc i) = none-remains l (all_gone x (remaining l) h).1 i
+none-remains (x ∷ l) h zero = (all-gone x (remaining l) h).0
+none-remains (x ∷ l) h (suc i) = none-remains l (all-gone x (remaining l) h).1 i
 
-passes_first : (b : Bool) (n m : ℕ) → suc m ≤ cond (not b) (1 + n) 0 → (b ≡ false) × (m ≤ n)
-passes_first true n m h = absurd (omega arith)
-passes_first false n m h = (refl, omega arith)
+passes-first : (b : Bool) (n m : ℕ) → suc m ≤ cond (not b) (1 + n) 0 → (b ≡ false) × (m ≤ n)
+passes-first true n m h = absurd (omega arith)
+passes-first false n m h = (refl, omega arith)
 
-none_passes : (l : List Standing) → length l ≤ position_or_len is_full l → AreCalm l
-none_passes [] h i = refl
-none_passes (x ∷ l) h zero = (passes_first (is_full x) (position_or_len is_full l) (length l) h).0
-none_passes (x ∷ l) h (suc i) =
-    none_passes l (passes_first (is_full x) (position_or_len is_full l) (length l) h).1 i
+none-passes : (l : List Standing) → length l ≤ position_or_len is_full l → AreCalm l
+none-passes [] h i = refl
+none-passes (x ∷ l) h zero = (passes-first (is_full x) (position_or_len is_full l) (length l) h).0
+none-passes (x ∷ l) h (suc i) =
+    none-passes l (passes-first (is_full x) (position_or_len is_full l) (length l) h).1 i
 
-not_found : (b : Bool) (n : ℕ) → cond b (Some n) None ≡ None → b ≡ false
-not_found true n e = absurd (cc)
-not_found false n e = refl
+not-found : (b : Bool) (n : ℕ) → cond b (Some n) None ≡ None → b ≡ false
+not-found true n e = absurd (cc)
+not-found false n e = refl
 
 pub none-full : (l : List Standing) → position is_full l ≡ None → AreCalm l
 none-full l e =
-    none_passes l (ltb-false (position_or_len is_full l) (length l)
-    (not_found (nat_lt (position_or_len is_full l) (length l)) (position_or_len is_full l) e))
+    none-passes l (ltb-false (position_or_len is_full l) (length l)
+    (not-found (nat_lt (position_or_len is_full l) (length l)) (position_or_len is_full l) e))
 
 pub full-is : (x : Standing) → is_full x ≡ true → x ≡ Full
 full-is Steady e = absurd (cc)

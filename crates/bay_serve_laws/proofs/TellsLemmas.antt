@@ -6,12 +6,12 @@ use Rattle.bay_device.specs.declared.event.Event.{Event}
 use Rattle.bay_device.specs.declared.event.Why.{Why}
 use Rattle.bay_device.specs.declared.event.Why.TheVariants.{Ended, Fault, Memory}
 use Rattle.bay_serve.specs.Standings.{is_told}
-use Rattle.bay_serve.specs.Turns.{Noted, Turning, standing_in, stepped, told, told_why}
+use Rattle.bay_serve.specs.Turns.{Noted, Turning, standing_in, after_event, with_closing, told_why}
 use Rattle.bay_serve.specs.declared.told.Closing.{Closing}
 use Rattle.bay_serve.specs.declared.told.Closing.TheVariants as closing
 use Rattle.bay_serve_laws.specs.Causes.{has_some, is_queue_full, tells}
-use Rattle.bay_serve_laws.proofs.KeepLemmas.{keep_stepped}
-use Rattle.bay_serve_laws.proofs.TellingLemmas.{other_number, same_number}
+use Rattle.bay_serve_laws.proofs.KeepLemmas.{keep-stepped}
+use Rattle.bay_serve_laws.proofs.TellingLemmas.{other-number, same-number}
 
 -- ---- tests
 
@@ -22,13 +22,13 @@ some-append f (x ∷ xs) ys =
     ap (λ b. f x || b) (some-append f xs ys)
     ∙ sym (or_assoc (f x) (has_some f xs) (has_some f ys))
 
-pub or_none : (b x : Bool) → x ≡ false → b ≡ (b || x)
-or_none true x e = refl
-or_none false x e = sym e
+pub or-none : (b x : Bool) → x ≡ false → b ≡ (b || x)
+or-none true x e = refl
+or-none false x e = sym e
 
-pub or_true : (b : Bool) → (b || true) ≡ true
-or_true true = refl
-or_true false = refl
+pub or-true : (b : Bool) → (b || true) ≡ true
+or-true true = refl
+or-true false = refl
 
 -- ---- one entry more
 
@@ -37,24 +37,24 @@ module _ (is : Closing → Bool) (p : ℕ) where
       → tells is (p + 1) (l ++ (place + 1, why) ∷ []) ≡ tells is (p + 1) l
   tells-other place why l ne =
       some-append _ l ((place + 1, why) ∷ [])
-      ∙ sym (or_none (tells is (p + 1) l) _
-      (ap (λ b. (b && is why) || false) (other_number place p ne)))
+      ∙ sym (or-none (tells is (p + 1) l) _
+      (ap (λ b. (b && is why) || false) (other-number place p ne)))
 
   tells-own : (why : Closing) (l : List (ℕ × Closing))
       → tells is (p + 1) (l ++ (p + 1, why) ∷ []) ≡ (tells is (p + 1) l || is why)
   tells-own why l =
       some-append _ l ((p + 1, why) ∷ [])
       ∙ ap (λ b. tells is (p + 1) l || b)
-      (ap (λ b. (b && is why) || false) (same_number p) ∙ sym (or_none (is why) false refl))
+      (ap (λ b. (b && is why) || false) (same-number p) ∙ sym (or-none (is why) false refl))
 
   pub tells-not : (why : Closing) (l : List (ℕ × Closing)) → is why ≡ false
       → tells is (p + 1) (l ++ (p + 1, why) ∷ []) ≡ tells is (p + 1) l
-  tells-not why l e = tells-own why l ∙ sym (or_none (tells is (p + 1) l) (is why) e)
+  tells-not why l e = tells-own why l ∙ sym (or-none (tells is (p + 1) l) (is why) e)
 
   pub tells-now : (why : Closing) (l : List (ℕ × Closing)) → is why ≡ true
       → tells is (p + 1) (l ++ (p + 1, why) ∷ []) ≡ true
   tells-now why l e =
-      tells-own why l ∙ ap (λ b. tells is (p + 1) l || b) e ∙ or_true (tells is (p + 1) l)
+      tells-own why l ∙ ap (λ b. tells is (p + 1) l || b) e ∙ or-true (tells is (p + 1) l)
 
 -- ---- that a queue was full
 
@@ -62,51 +62,51 @@ module _ (p : ℕ) where
   abbrev FullIn : Noted → Bool
   FullIn n = tells is_queue_full (p + 1) n.closed
 
-  entry_other : (b : Bool) (place : ℕ) (why : Closing) (n : Noted) → place ≢ p
+  entry-other : (b : Bool) (place : ℕ) (why : Closing) (n : Noted) → place ≢ p
       → FullIn (cond b n (record n { closed = n.closed ++ (place + 1, why) ∷ [] })) ≡ FullIn n
-  entry_other true place why n ne = refl
-  entry_other false place why n ne = tells-other is_queue_full p place why n.closed ne
+  entry-other true place why n ne = refl
+  entry-other false place why n ne = tells-other is_queue_full p place why n.closed ne
 
   -- of another it is told
   pub told-other : (place : ℕ) (why : Closing) (n : Noted) → place ≢ p
-      → FullIn (told place why n) ≡ FullIn n
-  told-other place why n ne = entry_other (is_told (standing_in place n)) place why n ne
+      → FullIn (with_closing place why n) ≡ FullIn n
+  told-other place why n ne = entry-other (is_told (standing_in place n)) place why n ne
 
-  entry_own : (b : Bool) (why : Closing) (n : Noted) → is_queue_full why ≡ false
+  entry-own : (b : Bool) (why : Closing) (n : Noted) → is_queue_full why ≡ false
       → FullIn (cond b n (record n { closed = n.closed ++ (p + 1, why) ∷ [] })) ≡ FullIn n
-  entry_own true why n e = refl
-  entry_own false why n e = tells-not is_queue_full p why n.closed e
+  entry-own true why n e = refl
+  entry-own false why n e = tells-not is_queue_full p why n.closed e
 
-  entry_at : (place : ℕ) (why : Closing) (n : Noted) → is_queue_full why ≡ false
-      → FullIn (told place why n) ≡ FullIn n
-  entry_at place why n e = elim (cases_eq place p) [
-    | inl same ↦ subst (λ q. FullIn (told q why n) ≡ FullIn n) (sym same)
-        (entry_own (is_told (standing_in p n)) why n e)
+  entry-at : (place : ℕ) (why : Closing) (n : Noted) → is_queue_full why ≡ false
+      → FullIn (with_closing place why n) ≡ FullIn n
+  entry-at place why n e = elim (cases_eq place p) [
+    | inl same ↦ subst (λ q. FullIn (with_closing q why n) ≡ FullIn n) (sym same)
+        (entry-own (is_told (standing_in p n)) why n e)
     | inr ne ↦ told-other place why n ne
   ]
 
-  memory_at : (b : Bool) (place : ℕ) (n : Noted)
+  memory-at : (b : Bool) (place : ℕ) (n : Noted)
       → FullIn (cond b n (record n { memory = n.memory ++ (place + 1) ∷ [] })) ≡ FullIn n
-  memory_at true place n = refl
-  memory_at false place n = refl
+  memory-at true place n = refl
+  memory-at false place n = refl
 
   -- the device closed one
   pub why-not_full : (place : ℕ) (why : Why) (n : Noted) → FullIn (told_why place why n) ≡ FullIn n
-  why-not_full place Ended n = entry_at place closing.Ended n refl
-  why-not_full place (Fault code) n = entry_at place (closing.Fault code) n refl
-  why-not_full place Memory n = memory_at (is_told (standing_in place n)) place n
+  why-not_full place Ended n = entry-at place closing.Ended n refl
+  why-not_full place (Fault code) n = entry-at place (closing.Fault code) n refl
+  why-not_full place Memory n = memory-at (is_told (standing_in place n)) place n
 
   -- it was told before, or this is the reason
-  pub full-by : (why : Closing) (n : Noted) → FullIn (told p why n) ≡ true
+  pub full-by : (why : Closing) (n : Noted) → FullIn (with_closing p why n) ≡ true
       → (is_queue_full why ≡ true) ⊎ (FullIn n ≡ true)
-  full-by why n e = by_why (is_queue_full why) refl
+  full-by why n e = by-why (is_queue_full why) refl
     where
-      by_why : (b : Bool) → is_queue_full why ≡ b → (is_queue_full why ≡ true) ⊎ (FullIn n ≡ true)
-      by_why true is = inl is
-      by_why false is = inr (sym (entry_at p why n is) ∙ e)
+      by-why : (b : Bool) → is_queue_full why ≡ b → (is_queue_full why ≡ true) ⊎ (FullIn n ≡ true)
+      by-why true is = inl is
+      by-why false is = inr (sym (entry-at p why n is) ∙ e)
 
 -- an event tells nothing by itself
 pub stepped-closed : (now : ℕ) (event : Event) (s : Turning)
-    → (stepped now event s).noted.closed ≡ s.noted.closed
+    → (after_event now event s).noted.closed ≡ s.noted.closed
 stepped-closed now event s =
-    keep_stepped (λ (n : Noted). n.closed ≡ s.noted.closed) (λ place n e. e) now event s refl
+    keep-stepped (λ (n : Noted). n.closed ≡ s.noted.closed) (λ place n e. e) now event s refl

@@ -4,7 +4,7 @@ use Rattle.bay_device.specs.Outcomes.{last_moment}
 use Rattle.bay_trace.specs.Trace.{NamedData}
 use Rattle.bay_serve.specs.Calls.{Call}
 use Rattle.bay_serve.specs.Standings.{is_full, is_leaving}
-use Rattle.bay_serve.specs.Turns.{Held, Script, Turning, after_accept, after_each, after_line, after_reads, after_scan, begun, calls_of_each, is_up, offer_calls, offer_one, queue_at, queue_of, read_calls, read_one, standing_of, turn_calls, turned}
+use Rattle.bay_serve.specs.Turns.{Held, Script, Turning, after_accept, after_each, after_line, after_reads, after_scan, turn_begin, calls_of_each, is_up, offer_calls, offer_one, queue_at, queue_of, read_calls, read_one, standing_of, turn_calls, after_turn}
 use Rattle.bay_serve.specs.declared.standing.Standing.{Standing}
 use Rattle.bay_serve.specs.declared.standing.Standing.TheVariants.{Steady, Full, Leaving, LeavingFull, Gone}
 use Rattle.bay_serve_laws.specs.Events.{ChosenEvent, done_at, events_of_each, offer_events, read_events, turn_events}
@@ -32,10 +32,10 @@ each-moves P now p f calls events step i (c ∷ cs) s =
 
 turn-moves : (now p : ℕ) (held : List ℕ) (line : Option NamedData) (script : Script) (h : Held)
     → p < 8 → now ≤ last_moment → IsOfProcess line
-    → Moves (Fresh now p held) (Well now p held) now p (begun h) (turn_calls now line script h)
-    (turn_events now line script h) (turned now line script h)
+    → Moves (Fresh now p held) (Well now p held) now p (turn_begin h) (turn_calls now line script h)
+    (turn_events now line script h) (after_turn now line script h)
 turn-moves now p held line script h low past told =
-    let s0 : Turning = begun h in
+    let s0 : Turning = turn_begin h in
     let s1 : Turning = after_accept now script h in
     let s2 : Turning = after_reads now script h in
     let s3 : Turning = after_line now line script h in
@@ -56,31 +56,31 @@ turn-moves now p held line script h low past told =
     Moves-trans (Fresh now p held) (Well now p held) (Well now p held) now p s0 s3 s4 _ _ _ _
     to3 (scan-moves now p held low past s3) in
     Moves-trans (Fresh now p held) (Well now p held) (Well now p held) now p s0 s4
-    (turned now line script h) _ _ _ _ to4 offers
+    (after_turn now line script h) _ _ _ _ to4 offers
 
-kept_at : (x : Standing) (u : Bool) (q lost : List ℕ) → MayLose x u q lost → is_full x ≡ false
+kept-at : (x : Standing) (u : Bool) (q lost : List ℕ) → MayLose x u q lost → is_full x ≡ false
     → is_leaving x ≡ false → (q ≡ q ++ lost) ⊎ ((q ≡ []) × (u ≡ false))
-kept_at Steady true q lost m e f = inl (sym (append-nil q) ∙ ap (λ l. q ++ l) (sym m))
-kept_at Steady false q lost m e f = inr (m, refl)
-kept_at Full u q lost m e f = absurd (cc)
-kept_at Leaving u q lost m e f = absurd (cc)
-kept_at LeavingFull u q lost m e f = absurd (cc)
-kept_at Gone u q lost m e f = inr m
+kept-at Steady true q lost m e f = inl (sym (append-nil q) ∙ ap (λ l. q ++ l) (sym m))
+kept-at Steady false q lost m e f = inr (m, refl)
+kept-at Full u q lost m e f = absurd (cc)
+kept-at Leaving u q lost m e f = absurd (cc)
+kept-at LeavingFull u q lost m e f = absurd (cc)
+kept-at Gone u q lost m e f = inr m
 
-empty_at : (x : Standing) (u : Bool) (q lost : List ℕ) → MayLose x u q lost → is_full x ≡ false
+empty-at : (x : Standing) (u : Bool) (q lost : List ℕ) → MayLose x u q lost → is_full x ≡ false
     → is_leaving x ≡ false → u ≡ false → q ≡ []
-empty_at Steady true q lost m e f g = absurd (cc)
-empty_at Steady false q lost m e f g = m
-empty_at Full u q lost m e f g = absurd (cc)
-empty_at Leaving u q lost m e f g = absurd (cc)
-empty_at LeavingFull u q lost m e f g = absurd (cc)
-empty_at Gone u q lost m e f g = m.0
+empty-at Steady true q lost m e f g = absurd (cc)
+empty-at Steady false q lost m e f g = m
+empty-at Full u q lost m e f g = absurd (cc)
+empty-at Leaving u q lost m e f g = absurd (cc)
+empty-at LeavingFull u q lost m e f g = absurd (cc)
+empty-at Gone u q lost m e f g = m.0
 
 pub loses-nothing : (now : ℕ) (line : Option NamedData) (script : Script) (h : Held) → IsTidy h
     → IsInTime now h → IsOfProcess line → length script.offers ≡ 8
     → LosesNothing now line script h
 loses-nothing now line script h tidy time told offers =
-    let t : Turning = turned now line script h in
+    let t : Turning = after_turn now line script h in
     let taken = λ (p : ℕ). taken_of (p + 1) (turn_calls now line script h) in
     let sent =
     λ (p : ℕ). sent_to (p + 1) (done_at now (turn_events now line script h) h.device).answers in
@@ -98,7 +98,7 @@ loses-nothing now line script h tidy time told offers =
           record {
             rest = queue_of p t ++ f.lost;
             is = f.is;
-            kept = kept_at (standing_of p t) (is_up p t) (queue_of p t) f.lost f.may (w.calm p)
+            kept = kept-at (standing_of p t) (is_up p t) (queue_of p t) f.lost f.may (w.calm p)
                 (left p low);
           };
       full = λ p low told. longer-behind 262144 (queue_of p t) (well p low).carried.carries.lost
@@ -107,7 +107,7 @@ loses-nothing now line script h tidy time told offers =
         sized = (well 0 (omega arith)).carried.sound.queues;
         empty = λ p low down.
             let w = well p low in
-            empty_at (standing_of p t) (is_up p t) (queue_of p t) w.carried.carries.lost
+            empty-at (standing_of p t) (is_up p t) (queue_of p t) w.carried.carries.lost
             w.carried.carries.may (w.calm p) (left p low) down;
       };
     }

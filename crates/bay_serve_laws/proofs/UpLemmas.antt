@@ -5,9 +5,9 @@ use Rattle.bay_nodes.specs.declared.switch.Switch.{Switch}
 use Rattle.bay_tree.specs.declared.leaf.Dbpos.{Dbpos}
 use Rattle.bay_config.specs.declared.bay.MeterField.{MeterField}
 use Rattle.bay_connection.specs.Talk.{Indication, Talk, answers, ends, fails, indications, left_by, releases, tells}
-use Rattle.bay_device.specs.Device.{State, advanced, ended_at}
-use Rattle.bay_device.specs.Hearing.{Done, Heard, heard, on_heard, said, with_sent}
-use Rattle.bay_device.specs.Outcomes.{Outcome, close_outcome, closed, closed_by, connection_at, contact_outcome, event_outcome, first_talk, input_outcome, last_moment, measure_outcome, nothing_done, open_outcome, outcome, place_of, recv_after, recv_done, recv_outcome, refused, with_connection, without_owner}
+use Rattle.bay_device.specs.Device.{State, device_at, ended_at}
+use Rattle.bay_device.specs.Hearing.{Done, AllHeard, after_indications, on_heard, after_pdu, with_sent}
+use Rattle.bay_device.specs.Outcomes.{Outcome, close_outcome, without_connection, closed_by, connection_at, contact_outcome, event_outcome, first_talk, input_outcome, last_moment, measure_outcome, nothing_done, open_outcome, outcome, place_of, recv_after, recv_done, recv_outcome, refusal_of, with_connection, without_owner}
 use Rattle.bay_device.specs.declared.event.Event.{Event}
 use Rattle.bay_device.specs.declared.event.Event.TheVariants.{Open, Recv, Close, Contact, Input, Measure, Scan}
 use Rattle.bay_device.specs.declared.event.Sent.{Sent}
@@ -63,20 +63,20 @@ place-of place h =
     ap (λ b. if b && nat_lt (place + 1) 9 then Some (place + 1 - 1) else None) low
     ∙ ap (λ b. if b then Some (place + 1 - 1) else None) high ∙ ap (λ n. Some n) same
 
-number_if : (b : Bool) (a i : ℕ) → (nat_lt 0 a ≡ false → b ≡ false)
+number-if : (b : Bool) (a i : ℕ) → (nat_lt 0 a ≡ false → b ≡ false)
     → (if b then Some (a - 1) else None) ≡ Some i → a ≡ i + 1
-number_if true zero i f e = let absent : true ≡ false = f refl in absurd (cc)
-number_if true (suc a) i f e = let same : suc a - 1 ≡ i =
+number-if true zero i f e = let absent : true ≡ false = f refl in absurd (cc)
+number-if true (suc a) i f e = let same : suc a - 1 ≡ i =
     ap (λ (o : Option ℕ). unwrap_or o (suc a - 1)) e in omega (arith, same)
-number_if false a i f e = absurd (cc)
+number-if false a i f e = absurd (cc)
 
-and_false : (a b : Bool) → a ≡ false → (a && b) ≡ false
-and_false true b e = absurd (cc)
-and_false false b e = refl
+and-false : (a b : Bool) → a ≡ false → (a && b) ≡ false
+and-false true b e = absurd (cc)
+and-false false b e = refl
 
 pub number-of : (a place : ℕ) → place_of a ≡ Some place → a ≡ place + 1
 number-of a place e =
-    number_if (nat_lt 0 a && nat_lt a 9) a place (and_false (nat_lt 0 a) (nat_lt a 9)) e
+    number-if (nat_lt 0 a && nat_lt a 9) a place (and-false (nat_lt 0 a) (nat_lt a 9)) e
 
 -- ---- what keeps the connections
 
@@ -91,12 +91,12 @@ Keeps-trans : (now : ℕ) (s t u : State) → Keeps now s t → Keeps now t u �
 Keeps-trans now s t u a b =
     record { connections = b.connections ∙ a.connections; moment = λ h. b.moment (a.moment h) }
 
-said-keeps : (now a : ℕ) (i : Indication) (d : Done) (later : Done → Heard)
+said-keeps : (now a : ℕ) (i : Indication) (d : Done) (later : Done → AllHeard)
     → ((e : Done) → Keeps now e.state (later e).done.state)
     → Keeps now d.state (on_heard now a i d later).done.state
 said-keeps now a (answers octets) d later h = h (with_sent a octets d)
 said-keeps now a (tells terms pdu) d later h =
-    let e = said now a terms pdu d in
+    let e = after_pdu now a terms pdu d in
     Keeps-trans now d.state e.state (later e).done.state
     (record { connections = refl; moment = λ h. h }) (h e)
 said-keeps now a (releases octets) d later h = Keeps-refl now d.state
@@ -104,14 +104,15 @@ said-keeps now a ends d later h = Keeps-refl now d.state
 said-keeps now a (fails code) d later h = Keeps-refl now d.state
 
 heard-keeps : (choice : Option ℕ) (now a : ℕ) (is : List Indication) (d : Done)
-    → Keeps now d.state (heard choice now a is d).done.state
+    → Keeps now d.state (after_indications choice now a is d).done.state
 heard-keeps None now a [] d = Keeps-refl now d.state
 heard-keeps None now a (i ∷ is) d =
-    said-keeps now a i d (heard None now a is) (λ e. heard-keeps None now a is e)
+    said-keeps now a i d (after_indications None now a is) (λ e. heard-keeps None now a is e)
 heard-keeps (Some zero) now a is d = Keeps-refl now d.state
 heard-keeps (Some (suc n)) now a [] d = Keeps-refl now d.state
 heard-keeps (Some (suc n)) now a (i ∷ is) d =
-    said-keeps now a i d (heard (Some n) now a is) (λ e. heard-keeps (Some n) now a is e)
+    said-keeps now a i d (after_indications (Some n) now a is)
+    (λ e. heard-keeps (Some n) now a is e)
 
 -- ---- a connection that is set
 
@@ -141,13 +142,13 @@ open-moment : (now a : ℕ) (s : State) (place : Option ℕ) (talk : Option Talk
 open-moment now a s None talk h = h
 open-moment now a s (Some place) (Some talk) h = h
 open-moment now a s (Some place) None h = let e =
-    set-moment (place_of a) (Some (first_talk a)) (advanced now s) in omega (arith, e)
+    set-moment (place_of a) (Some (first_talk a)) (device_at now s) in omega (arith, e)
 
 close-moment : (now a : ℕ) (s : State) (talk : Option Talk) → s.moment ≤ now
     → (close_outcome now a s talk).after.moment ≤ now
 close-moment now a s None h = h
 close-moment now a s (Some talk) h = let e =
-    set-moment (place_of a) None (without_owner a (advanced now s)) in omega (arith, e)
+    set-moment (place_of a) None (without_owner a (device_at now s)) in omega (arith, e)
 
 contact-moment : (now k : ℕ) (position : Dbpos) (s : State) (switch : Option Switch)
     → s.moment ≤ now → (contact_outcome now k position s switch).after.moment ≤ now
@@ -175,8 +176,8 @@ recv-moment : (choice : Option ℕ) (now a : ℕ) (octets : List ℕ) (s : State
 recv-moment choice now a octets s None h = h
 recv-moment choice now a [] s (Some talk) h = omega arith
 recv-moment choice now a (octet ∷ octets) s (Some talk) h =
-    let d = nothing_done (advanced now s) in
-    let x = heard choice now a (indications talk (octet ∷ octets)) d in
+    let d = nothing_done (device_at now s) in
+    let x = after_indications choice now a (indications talk (octet ∷ octets)) d in
     let keeps = heard-keeps choice now a (indications talk (octet ∷ octets)) d in
     after-moment now a (left_by talk (octet ∷ octets)) x.done.state x.why
     (keeps.moment (omega arith))
@@ -253,7 +254,7 @@ open-up : (now a p : ℕ) (s : State) (place : Option ℕ) (talk : Option Talk)
     → NotClosed p s (open_outcome now a s place talk).after
 open-up now a p s None talk e = e
 open-up now a p s (Some place) (Some talk) e = e
-open-up now a p s (Some place) None e = set-open (place_of a) p (first_talk a) (advanced now s) e
+open-up now a p s (Some place) None e = set-open (place_of a) p (first_talk a) (device_at now s) e
 
 pub open-outcome-up : (choice : Option ℕ) (now a p : ℕ) (s : State)
     → NotClosed p s (outcome choice now (Open a) s).after
@@ -265,10 +266,10 @@ in_time : (choice : Option ℕ) (now : ℕ) (event : Event) (s : State) → now 
     → s.moment ≤ now
     → outcome choice now event s ≡ event_outcome choice now event s
 in_time choice now event s h g =
-    ap (λ b. if b then refused MomentTooLarge s else if nat_lt now s.moment
-    then refused TimeWentBack s else event_outcome choice now event s)
+    ap (λ b. if b then refusal_of MomentTooLarge s else if nat_lt now s.moment
+    then refusal_of TimeWentBack s else event_outcome choice now event s)
     (le-ltb last_moment now h)
-    ∙ ap (λ b. if b then refused TimeWentBack s else event_outcome choice now event s)
+    ∙ ap (λ b. if b then refusal_of TimeWentBack s else event_outcome choice now event s)
     (le-ltb now s.moment g)
 
 up-set : (ts : List (Option Talk)) (i : ℕ) (t : Talk) → i < length ts
@@ -287,19 +288,19 @@ open-outcome-here choice now p s h past before long free =
     up_at p (open_outcome now (p + 1) s o (connection_at o s)).after) (place-of p h)
     ∙ ap (λ (t : Option Talk). up_at p (open_outcome now (p + 1) s (Some p) t).after) free
     ∙ ap (λ (o : Option ℕ).
-    up_at p (with_connection o (Some (first_talk (p + 1))) (advanced now s))) (place-of p h)
+    up_at p (with_connection o (Some (first_talk (p + 1))) (device_at now s))) (place-of p h)
     ∙ up-set s.connections p (first_talk (p + 1)) long
 
 -- ---- an association is closed
 
-other_place : (i p : ℕ) → i ≢ p → place_of (i + 1) ≡ Some p → ⊥
-other_place i p n e = let same : i + 1 ≡ p + 1 = number-of (i + 1) p e in n (omega arith)
+other-place : (i p : ℕ) → i ≢ p → place_of (i + 1) ≡ Some p → ⊥
+other-place i p n e = let same : i + 1 ≡ p + 1 = number-of (i + 1) p e in n (omega arith)
 
 close-far : (now i p : ℕ) (s : State) (talk : Option Talk) → i ≢ p
     → up_at p (close_outcome now (i + 1) s talk).after ≡ up_at p s
 close-far now i p s None n = refl
 close-far now i p s (Some talk) n =
-    set-far (place_of (i + 1)) p None (without_owner (i + 1) (advanced now s)) (other_place i p n)
+    set-far (place_of (i + 1)) p None (without_owner (i + 1) (device_at now s)) (other-place i p n)
 
 pub close-outcome-far : (choice : Option ℕ) (now i p : ℕ) (s : State) → i ≢ p
     → up_at p (outcome choice now (Close (i + 1)) s).after ≡ up_at p s
@@ -307,7 +308,7 @@ close-outcome-far choice now i p s n =
     at_any_moment (λ o. up_at p o.after ≡ up_at p s) choice now (Close (i + 1)) s (λ f. refl)
     (close-far now i p s (connection_at (place_of (i + 1)) s) n)
 
-closed-here : (p : ℕ) (s : State) → p < 8 → up_at p (closed (p + 1) s) ≡ false
+closed-here : (p : ℕ) (s : State) → p < 8 → up_at p (without_connection (p + 1) s) ≡ false
 closed-here p s h =
     let t : State = without_owner (p + 1) s in
     ap (λ (o : Option ℕ). up_at p (with_connection o None t)) (place-of p h)
@@ -319,7 +320,7 @@ close-here : (now p : ℕ) (s : State) (talk : Option Talk) → p < 8
 close-here now p s None h e =
     ap (λ o. is_some (connection_at o s)) (sym (place-of p h))
     ∙ ap (λ (t : Option Talk). is_some t) e
-close-here now p s (Some talk) h e = closed-here p (advanced now s) h
+close-here now p s (Some talk) h e = closed-here p (device_at now s) h
 
 pub close-outcome-here : (choice : Option ℕ) (now p : ℕ) (s : State) → p < 8 → now ≤ last_moment
     → s.moment ≤ now
@@ -332,9 +333,9 @@ close-outcome-here choice now p s h past before =
 
 after-far : (now i p : ℕ) (left : Talk) (s : State) (why : Option Why) → i ≢ p
     → up_at p (recv_after (i + 1) left s why) ≡ up_at p s
-after-far now i p left s None n = set-far (place_of (i + 1)) p (Some left) s (other_place i p n)
+after-far now i p left s None n = set-far (place_of (i + 1)) p (Some left) s (other-place i p n)
 after-far now i p left s (Some why) n =
-    set-far (place_of (i + 1)) p None (without_owner (i + 1) s) (other_place i p n)
+    set-far (place_of (i + 1)) p None (without_owner (i + 1) s) (other-place i p n)
 
 recv-far : (choice : Option ℕ) (now i p : ℕ) (octets : List ℕ) (s : State) (talk : Option Talk)
     → i ≢ p
@@ -342,8 +343,8 @@ recv-far : (choice : Option ℕ) (now i p : ℕ) (octets : List ℕ) (s : State)
 recv-far choice now i p octets s None n = refl
 recv-far choice now i p [] s (Some talk) n = refl
 recv-far choice now i p (octet ∷ octets) s (Some talk) n =
-    let d = nothing_done (advanced now s) in
-    let x = heard choice now (i + 1) (indications talk (octet ∷ octets)) d in
+    let d = nothing_done (device_at now s) in
+    let x = after_indications choice now (i + 1) (indications talk (octet ∷ octets)) d in
     let keeps = heard-keeps choice now (i + 1) (indications talk (octet ∷ octets)) d in
     after-far now i p (left_by talk (octet ∷ octets)) x.done.state x.why n
     ∙ ap (up_in p) keeps.connections
@@ -358,13 +359,14 @@ recv-outcome-far choice now i p octets s n =
 -- it is open still, or the answer says that the device has closed it
 abbrev pub LeftOpen : ℕ → Option (ℕ × Why) → State → Type 0
 LeftOpen p None s = up_at p s ≡ true
-LeftOpen p (Some closed) s = up_at p s ≡ false
+LeftOpen p (Some without_connection) s = up_at p s ≡ false
 
 abbrev pub HeardOpen : ℕ → Result Step StepFault → State → Type 0
 HeardOpen p (Err fault) s = up_at p s ≡ true
 HeardOpen p (Ok step) s = LeftOpen p step.closed s
 
-after-here : (now p : ℕ) (left : Talk) (ended : Option Sent) (h : Heard) (why : Option Why) → p < 8
+after-here : (now p : ℕ) (left : Talk) (ended : Option Sent) (h : AllHeard) (why : Option Why)
+    → p < 8
     → up_at p h.done.state ≡ true → h.why ≡ why
     → HeardOpen p (recv_done (p + 1) left ended h).answer (recv_done (p + 1) left ended h).after
 after-here now p left ended h None low up e =
@@ -384,8 +386,8 @@ recv-here : (choice : Option ℕ) (now p : ℕ) (octets : List ℕ) (s : State) 
 recv-here choice now p octets s None h up = up
 recv-here choice now p [] s (Some talk) h up = up
 recv-here choice now p (octet ∷ octets) s (Some talk) h up =
-    let d = nothing_done (advanced now s) in
-    let x = heard choice now (p + 1) (indications talk (octet ∷ octets)) d in
+    let d = nothing_done (device_at now s) in
+    let x = after_indications choice now (p + 1) (indications talk (octet ∷ octets)) d in
     let keeps = heard-keeps choice now (p + 1) (indications talk (octet ∷ octets)) d in
     after-here now p (left_by talk (octet ∷ octets)) (ended_at now s) x x.why h
     (ap (up_in p) keeps.connections ∙ up) refl

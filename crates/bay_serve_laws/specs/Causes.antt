@@ -4,8 +4,8 @@ use Rattle.bay_device.specs.declared.event.Step.{Step}
 use Rattle.bay_device.specs.declared.event.Why.{Why}
 use Rattle.bay_device.specs.declared.fault.StepFault.{StepFault}
 use Rattle.bay_trace.specs.Trace.{NamedData}
-use Rattle.bay_serve.specs.Calls.{Call, Accepts, Reads, Writes, Closes, Heard, Octets, Silence, Over, Broken, is_broken}
-use Rattle.bay_serve.specs.Turns.{Held, Script, turn_calls, turned}
+use Rattle.bay_serve.specs.Calls.{Call, Accepts, Reads, Writes, Closes, ReadOutcome, Octets, Silence, Over, Broken, is_broken}
+use Rattle.bay_serve.specs.Turns.{Held, Script, turn_calls, after_turn}
 use Rattle.bay_serve.specs.declared.told.Closing.{Closing}
 use Rattle.bay_serve.specs.declared.told.Closing.TheVariants.{Ended, Fault, QueueFull, LinkFailed}
 use Rattle.bay_serve_laws.specs.Events.{done_at, turn_events}
@@ -27,7 +27,7 @@ fails_for a (Writes b octets taken) = b == a && is_none taken
 fails_for a (Closes b) = false
 
 -- the end came
-abbrev pub is_over : Heard → Bool
+abbrev pub is_over : ReadOutcome → Bool
 is_over (Octets octets) = false
 is_over Silence = false
 is_over Over = true
@@ -84,4 +84,4 @@ HasItsCause now line script h a =
     IsCaused (has_some (fails_for a) (turn_calls now line script h))
     (has_some (ends_for a) (turn_calls now line script h))
     (has_some (closes_for a) (done_at now (turn_events now line script h) h.device).answers)
-    a (turned now line script h).noted.closed
+    a (after_turn now line script h).noted.closed

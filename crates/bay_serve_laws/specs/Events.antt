@@ -10,10 +10,10 @@ use Rattle.bay_device.specs.declared.event.Step.{Step}
 use Rattle.bay_device.specs.declared.fault.StepFault.{StepFault}
 use Rattle.bay_trace.specs.Placing.{AreOctets, lying, placed_event}
 use Rattle.bay_trace.specs.Trace.{NamedData}
-use Rattle.bay_serve.specs.Calls.{Heard, Octets, Silence, Over, Broken}
+use Rattle.bay_serve.specs.Calls.{ReadOutcome, Octets, Silence, Over, Broken}
 use Rattle.bay_serve.specs.Offers.{Offer}
 use Rattle.bay_serve.specs.Standings.{is_leaving}
-use Rattle.bay_serve.specs.Turns.{Held, Reading, Script, Turning, after_accept, after_line, after_reads, after_scan, begun, cut_off, first_full, free_place, hung_up, is_up, offer_of, offer_one, opened, read_one, standing_of, stepped, taken_in, told_of, turned}
+use Rattle.bay_serve.specs.Turns.{Held, Reading, Script, Turning, after_accept, after_line, after_reads, after_scan, turn_begin, cut_off, first_full, free_place, hung_up, is_up, offer_of, offer_one, after_opening, read_one, standing_of, after_event, taken_in, told_of, after_turn}
 use Rattle.bay_serve.specs.declared.told.Closing.TheVariants as closing
 
 -- an event with its choice: behind how many things that its octets come to memory was refused, if
@@ -51,13 +51,13 @@ accept_events_at now None taken s = []
 accept_events_at now (Some place) None s = []
 accept_events_at now (Some place) (Some false) s = []
 accept_events_at now (Some place) (Some true) s =
-    surely (Open (place + 1)) ∷ settled_events now (opened now place s)
+    surely (Open (place + 1)) ∷ settled_events now (after_opening now place s)
 
 abbrev pub accept_events : ℕ → Option Bool → Turning → List ChosenEvent
 accept_events now taken s = accept_events_at now (free_place s.server) taken s
 
 -- octets of a client come, or it is closed
-abbrev pub heard_events : ℕ → ℕ → Option ℕ → Heard → Turning → List ChosenEvent
+abbrev pub heard_events : ℕ → ℕ → Option ℕ → ReadOutcome → Turning → List ChosenEvent
 heard_events now place choice (Octets octets) s =
     (choice, Recv (place + 1) (lying octets))
     ∷ settled_events now (taken_in now place choice octets s)
@@ -77,7 +77,7 @@ line_events now (Some named) s =
 
 -- the program runs once
 abbrev pub scan_events : ℕ → Turning → List ChosenEvent
-scan_events now s = surely Scan ∷ settled_events now (stepped now Scan s)
+scan_events now s = surely Scan ∷ settled_events now (after_event now Scan s)
 
 -- an association is closed where a write fails
 abbrev pub failed_events : ℕ → ℕ → Bool → Turning → List ChosenEvent
@@ -101,7 +101,7 @@ events_of_each f events place (c ∷ cs) s =
 -- the events of a turn, in their order
 abbrev pub turn_events : ℕ → Option NamedData → Script → Held → List ChosenEvent
 turn_events now line script h =
-    accept_events now script.accepted (begun h)
+    accept_events now script.accepted (turn_begin h)
     ++ events_of_each (read_one now) (read_events now) 0 script.readings (after_accept now script h)
     ++ line_events now line (after_reads now script h)
     ++ scan_events now (after_line now line script h)
@@ -139,8 +139,8 @@ HasNoOctets line = IfSome line (λ named. AreOctets named [])
 -- their answers.
 pub record IsItsEvents (now : ℕ) (line : Option NamedData) (script : Script) (h : Held)
     : Type 0 where
-  pub device : (turned now line script h).server.device
+  pub device : (after_turn now line script h).server.device
       ≡ (done_at now (turn_events now line script h) h.device).after
   pub commands : HasNoOctets line
-      → (turned now line script h).noted.commands
+      → (after_turn now line script h).noted.commands
       ≡ commands_of (done_at now (turn_events now line script h) h.device).answers

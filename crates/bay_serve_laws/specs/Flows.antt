@@ -6,7 +6,7 @@ use Rattle.bay_device.specs.declared.event.Step.{Step}
 use Rattle.bay_device.specs.declared.fault.StepFault.{StepFault}
 use Rattle.bay_trace.specs.Trace.{NamedData, process_event}
 use Rattle.bay_serve.specs.Calls.{Call, Accepts, Reads, Writes, Closes}
-use Rattle.bay_serve.specs.Turns.{Held, Script, is_up_in, queue_at, turn_calls, turned}
+use Rattle.bay_serve.specs.Turns.{Held, Script, is_up_in, queue_at, turn_calls, after_turn}
 use Rattle.bay_serve_laws.specs.Causes.{is_queue_full, tells}
 use Rattle.bay_serve_laws.specs.Events.{done_at, turn_events}
 
@@ -78,8 +78,8 @@ abbrev pub FlowsAt : ℕ → Option NamedData → Script → Held → ℕ → Ty
 FlowsAt now line script h place =
     Flows (taken_of (place + 1) (turn_calls now line script h)) (queue_at place h)
     (sent_to (place + 1) (done_at now (turn_events now line script h) h.device).answers)
-    (queue_at place (turned now line script h).server)
-    (is_up_in place (turned now line script h).server)
+    (queue_at place (after_turn now line script h).server)
+    (is_up_in place (after_turn now line script h).server)
 
 -- So it is for each association, and the server is tidy again; where it is told that a queue was
 -- full, the link left more of its octets than there is room for.
@@ -87,6 +87,6 @@ pub record LosesNothing (now : ℕ) (line : Option NamedData) (script : Script) 
     : Type 0 where
   pub flows : (place : ℕ) → place < 8 → FlowsAt now line script h place
   pub full : (place : ℕ) (low : place < 8)
-      → tells is_queue_full (place + 1) (turned now line script h).noted.closed ≡ true
+      → tells is_queue_full (place + 1) (after_turn now line script h).noted.closed ≡ true
       → 262144 < length (flows place low).rest
-  pub tidy : IsTidy (turned now line script h).server
+  pub tidy : IsTidy (after_turn now line script h).server

@@ -1,7 +1,7 @@
 -- Where a turn tells that the queue of an association was full, by octets alone.
 use Rattle.std.specs.Prelude.{◌≡◌, ℕ, ◌+◌, ◌<◌, ◌↔◌, ◌⊎◌, Bool, true, false, List, length, Option, Some}
 use Rattle.bay_trace.specs.Trace.{NamedData}
-use Rattle.bay_serve.specs.Turns.{Held, Script, free_place, is_up_in, queue_at, turn_calls, turned}
+use Rattle.bay_serve.specs.Turns.{Held, Script, free_place, is_up_in, queue_at, turn_calls, after_turn}
 use Rattle.bay_serve_laws.specs.Causes.{closes_for, ends_for, fails_for, has_some, is_queue_full, tells}
 use Rattle.bay_serve_laws.specs.Events.{done_at, turn_events}
 use Rattle.bay_serve_laws.specs.Flows.{sent_to, taken_of}
@@ -22,7 +22,7 @@ IsOpenIn place script h =
 -- So it is of one of the associations in a turn, exactly where that is told.
 abbrev pub IsToldWhereFull : ℕ → Option NamedData → Script → Held → ℕ → Type 0
 IsToldWhereFull now line script h place =
-    (tells is_queue_full (place + 1) (turned now line script h).noted.closed ≡ true)
+    (tells is_queue_full (place + 1) (after_turn now line script h).noted.closed ≡ true)
     ↔ HasNoRoom (taken_of (place + 1) (turn_calls now line script h)) (queue_at place h)
     (sent_to (place + 1) (done_at now (turn_events now line script h) h.device).answers)
     (has_some (fails_for (place + 1)) (turn_calls now line script h))

@@ -1,3 +1,13 @@
+-- Laws of a turn of bay_serve, in words that need not know how a turn goes.
+--
+-- `Events`: the events of a turn with their choices, which are what the device was stepped by.
+-- `Flows`: what the link took of an association, what its queue held and holds, and what was sent
+-- to it: no byte is lost, at a time that the device does not refuse, for a server in which nothing
+-- waits for a closed association. `Telling`: how often, and as what, it is told that an association
+-- was closed. `Causes`: what closed it, by the calls on the link and the device's answers.
+-- `Faults`: that a failed link is told. `Room`: no queue has more than its room. `Fullness`: where
+-- a reply had no room, by bytes alone.
+
 -- What public clauses cite of the crates below.
 pub use Rattle.bay_device.specs.Device
 pub use Rattle.bay_device.specs.Outcomes

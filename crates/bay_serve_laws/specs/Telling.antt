@@ -5,7 +5,7 @@ use Rattle.bay_device.specs.declared.event.Why.{Why}
 use Rattle.bay_device.specs.declared.event.Why.TheVariants.{Ended, Fault, Memory}
 use Rattle.bay_device.specs.declared.fault.StepFault.{StepFault}
 use Rattle.bay_trace.specs.Trace.{NamedData}
-use Rattle.bay_serve.specs.Turns.{Held, Script, turned}
+use Rattle.bay_serve.specs.Turns.{Held, Script, after_turn}
 use Rattle.bay_serve.specs.declared.told.Closing.{Closing}
 use Rattle.bay_serve.specs.declared.told.Closing.TheVariants as closing
 use Rattle.bay_serve_laws.specs.Events.{done_at, turn_events}
@@ -62,4 +62,4 @@ AreTold (answer ∷ answers) closed memory =
 abbrev pub TellsClosings : ℕ → Option NamedData → Script → Held → Type 0
 TellsClosings now line script h =
     AreTold (done_at now (turn_events now line script h) h.device).answers
-    (turned now line script h).noted.closed (turned now line script h).noted.memory
+    (after_turn now line script h).noted.closed (after_turn now line script h).noted.memory

@@ -4,7 +4,7 @@ ghost use Rattle.bay_device.specs.Device.{State};
 ghost use Rattle.bay_trace.specs.Trace.{NamedData};
 ghost use Rattle.bay_serve.specs.Calls.{Called};
 ghost use Rattle.bay_serve.specs.Served.{Serves, line_in};
-ghost use Rattle.bay_serve.specs.Turns.{Held, Script, turned};
+ghost use Rattle.bay_serve.specs.Turns.{Held, Script, after_turn};
 ghost use Rattle.bay_serve.specs.declared.told.Turn.{Turn};
 ghost use Rattle.bay_serve_laws.specs.Causes.{HasItsCause};
 ghost use Rattle.bay_serve_laws.specs.Events.{HasNoOctets, IsItsEvents};
@@ -88,7 +88,7 @@ pub fn queues_stay_in_their_room()
     ensures begins { (device : State)
         → AreInRoom (record { device = device; queues = replicate 8 [] }) }
     ensures stays { (now : ℕ) (line : Option NamedData) (script : Script) (h : Held) → AreInRoom h
-        → AreInRoom (turned now line script h).server }
+        → AreInRoom (after_turn now line script h).server }
 {}
 
 /// Where a reply had no room, read off the calls on the link and the device's answers: of an

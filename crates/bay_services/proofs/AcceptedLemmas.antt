@@ -7,8 +7,8 @@ use Rattle.bay_ber.specs.Tags.{same_tag}
 use Rattle.bay_ber.specs.Values.{Part, SpellAll, under, value, value_in, values_in}
 use Rattle.bay_ber.specs.Writing.{element, integer_octets}
 use Rattle.bay_ber.specs.declared.tag.Tag.{Tag}
-use Rattle.bay_ber.proofs.BackLemmas.{one_read}
-use Rattle.bay_ber.proofs.ListingLemmas.{values_again}
+use Rattle.bay_ber.proofs.BackLemmas.{one-read}
+use Rattle.bay_ber.proofs.ListingLemmas.{values-again}
 use Rattle.bay_ber.proofs.SizeLemmas.{length-element, length-integer_octets}
 use Rattle.bay_tree.specs.Rows.{name_at}
 use Rattle.bay_control.specs.Acts.{Entry}
@@ -27,14 +27,14 @@ use Rattle.bay_mms.specs.declared.fault.MmsFault.{MmsFault}
 use Rattle.bay_mms.specs.declared.fault.MmsFault.TheVariants.{BadPdu, UnknownService, TooMany, OutOfMemory}
 use Rattle.bay_mms.specs.declared.response.ErrorClass.TheVariants.{NoSuchObject, Resource}
 use Rattle.bay_services.specs.Accepted.{AreNamedAlike, accepted_in, behind_id, first_response, is_report, may_be_reported, message_accepted, read_accepted, read_results, service_in, write_accepted, write_results}
-use Rattle.bay_services.specs.Answers.{Answered, answer_of, answered, attributes_at, said, served}
+use Rattle.bay_services.specs.Answers.{Answered, answer_of, pdu_answer, attributes_at, plain_answer, service_answer}
 use Rattle.bay_services.specs.Bay.{Bay}
 use Rattle.bay_services.specs.Controls.{ask_of, has_reports, object_of, refusal_report, refusal_reports, view_of}
 use Rattle.bay_services.specs.Entries.{entries_in, message_entries, read_entries, service_entries, target_at, write_entries}
 use Rattle.bay_services.specs.Reads.{Reading, nothing_read, read_all, read_one}
 use Rattle.bay_services.specs.Replies.{fitting}
 use Rattle.bay_services.specs.Rows.{row_named}
-use Rattle.bay_services.specs.Writes.{Writing, cancel_asked, decided, nothing_written, operate_asked, select_with_asked, write_all, write_one, write_part, write_row, write_target}
+use Rattle.bay_services.specs.Writes.{Writing, cancel_asked, after_decision, nothing_written, operate_asked, select_with_asked, write_all, write_one, write_part, write_row, write_target}
 use Rattle.bay_services.specs.declared.client.Client.{Client}
 use Rattle.bay_services.specs.declared.target.ControlPart.{ControlPart}
 use Rattle.bay_services.specs.declared.target.ControlPart.TheVariants.{Select, SelectWith, Operate, Cancel}
@@ -45,18 +45,18 @@ use Rattle.bay_services.proofs.VariableLemmas.{AllRead, AllWritten, all-read, al
 
 service-read : (n id : ℕ) (content : List ℕ) → n < 31
     → same_tag (constructed n) (constructed n) ≡ true
-    → length (response.confirmed id (element (constructed n) content)) < 4294967296
-    → service_in n (response.confirmed id (element (constructed n) content)) ≡ Some content
+    → length (response.confirmed_response id (element (constructed n) content)) < 4294967296
+    → service_in n (response.confirmed_response id (element (constructed n) content)) ≡ Some content
 service-read n id content small same short =
     let number : List ℕ = integer_octets (pos id) in
     let inside : List ℕ = element int_tag number ++ element (constructed n) content in
     let outer : value_in (element (constructed 1) inside) ≡ Some (value (constructed 1) inside) =
-    one_read (element (constructed 1) inside) (value (constructed 1) inside)
+    one-read (element (constructed 1) inside) (value (constructed 1) inside)
     (spell-one (constructed 1) inside (omega arith) short) in
     let within = within-element (constructed 1) inside in
     let size = length-append (element int_tag number) (element (constructed n) content) in
     let parts : List Part = value int_tag number ∷ value (constructed n) content ∷ [] in
-    let both : values_in inside ≡ Some parts = values_again inside parts (
+    let both : values_in inside ≡ Some parts = values-again inside parts (
       element int_tag number,
       element (constructed n) content,
       refl,
@@ -86,18 +86,18 @@ read-back id results parts short spelled =
       within-element (constructed 4) content,
     ) in
     let list : value_in content ≡ Some (value (constructed 1) results) =
-    one_read content (value (constructed 1) results)
+    one-read content (value (constructed 1) results)
     (spell-one (constructed 1) results (omega arith) size) in
     ap (λ (o : Option (List ℕ)). o >>= value_in >>= under (constructed 1) >>= values_in) service
     ∙ ap (λ (o : Option Part). o >>= under (constructed 1) >>= values_in) list
-    ∙ values_again results parts spelled
+    ∙ values-again results parts spelled
 
 write-back : (id : ℕ) (results : List ℕ) (parts : List Part)
     → length (write_text id results) < 4294967296 → SpellAll results parts
     → write_results (write_text id results) ≡ Some parts
 write-back id results parts short spelled =
     ap (λ (o : Option (List ℕ)). o >>= values_in)
-    (service-read 5 id results (omega arith) refl short) ∙ values_again results parts spelled
+    (service-read 5 id results (omega arith) refl short) ∙ values-again results parts spelled
 
 -- the results stand in the response
 read-size : (id : ℕ) (results : List ℕ) → length results ≤ length (read_text id results)
@@ -151,7 +151,7 @@ no-service n id =
     ++ element (constructed 2) (element (constructed 0) (class_text Resource)) in
     ap (λ (o : Option Part). o >>= under (constructed 1) >>= values_in >>= behind_id
     >>= under (constructed n))
-    (one_read (element (constructed 2) inside) (value (constructed 2) inside)
+    (one-read (element (constructed 2) inside) (value (constructed 2) inside)
     (spell-one (constructed 2) inside (omega arith) (error-short id)))
 
 no-read : (id : ℕ) → read_results (error_text id Resource) ≡ None
@@ -179,14 +179,14 @@ not-report : (tag : Tag) (content : List ℕ) → tag.number < 31 → same_tag t
     → length (element tag content) < 4294967296 → is_report (element tag content) ≡ false
 not-report tag content small other short =
     ap (λ (o : Option Part). is_some (o >>= under (constructed 3)))
-    (one_read (element tag content) (value tag content) (spell-one tag content small short))
+    (one-read (element tag content) (value tag content) (spell-one tag content small short))
     ∙ ap (λ (b : Bool). is_some (cond b (Some content) None)) other
 
 a-report : (content : List ℕ) → length (element (constructed 3) content) < 4294967296
     → is_report (element (constructed 3) content) ≡ true
 a-report content short =
     ap (λ (o : Option Part). is_some (o >>= under (constructed 3)))
-    (one_read (element (constructed 3) content) (value (constructed 3) content)
+    (one-read (element (constructed 3) content) (value (constructed 3) content)
     (spell-one (constructed 3) content (omega arith) short))
 
 fits : (n most : ℕ) → nat_le n most ≡ true → n ≤ most
@@ -231,7 +231,7 @@ module _ (c : Client) (small : c.size ≤ 65000) where
       (λ is. let n = fits (length report) c.size is in a-report _ (omega (arith, n, small)))
 
   decided-are : (k : ℕ) (item : List ℕ) (control : Control) (o : Outcome) (w : Writing)
-      → AreReports w.reports → AreReports (decided c k item control o w).reports
+      → AreReports w.reports → AreReports (after_decision c k item control o w).reports
   decided-are k item control o w all =
       both-reports w.reports (refusal_reports c k item control w.bay o.answer) all
       (refusals-are k item control w.bay o.answer)
@@ -327,7 +327,7 @@ module _ (c : Client) (small : c.size ≤ 65000) (n b : Bay) (alike : AreNamedAl
       → nat_le (length (read_text id (read_all c ns (nothing_read b)).results)) c.size ≡ within
       → Told (Ok (confirmed id (read ns)))
       (cond within (read_sent id (read_all c ns (nothing_read b)))
-      (said (error_text id Resource) b)).sent
+      (plain_answer (error_text id Resource) b)).sent
       (cond within (read_entries c ns (nothing_read b)) [])
   read-told id ns true is =
       let all : AllRead c n ns (nothing_read b) = all-read c n ns (nothing_read b) alike in
@@ -361,7 +361,7 @@ module _ (c : Client) (small : c.size ≤ 65000) (n b : Bay) (alike : AreNamedAl
       ≡ within
       → Told (Ok (confirmed id (write ns values)))
       (cond within (write_sent id (write_all c ns values (nothing_written b)))
-      (said (error_text id Resource) b)).sent
+      (plain_answer (error_text id Resource) b)).sent
       (cond within (write_entries c ns values (nothing_written b)) [])
   write-told id ns values true is =
       let all : AllWritten c n ns values (nothing_written b) =
@@ -398,7 +398,7 @@ module _ (c : Client) (small : c.size ≤ 65000) (n b : Bay) (alike : AreNamedAl
   quiet-told : (m : Result Message MmsFault) (within : Bool) (x y : List ℕ)
       → may_be_reported m ≡ false
       → ((pdu : List ℕ) → message_accepted c.now c.association n m pdu ≡ [])
-      → Told m (cond within (said x b) (said y b)).sent []
+      → Told m (cond within (plain_answer x b) (plain_answer y b)).sent []
   quiet-told m true x y mute none =
       record { reports = []; response = x; is = refl; stands = rw mute refl; told = none x }
   quiet-told m false x y mute none =
@@ -418,7 +418,8 @@ module _ (c : Client) (small : c.size ≤ 65000) (n b : Bay) (alike : AreNamedAl
       quiet-told (Ok (confirmed id (attributes name))) _ _ _ refl (λ pdu. refl)
 
   service-told : (id : ℕ) (asking : Asking)
-      → Told (Ok (confirmed id asking)) (served c id b asking).sent (service_entries c id b asking)
+      → Told (Ok (confirmed id asking)) (service_answer c id b asking).sent
+      (service_entries c id b asking)
   service-told id identify = quiet-told (Ok (confirmed id identify)) _ _ _ refl (λ pdu. refl)
   service-told id (names class place after) =
       quiet-told (Ok (confirmed id (names class place after))) _ _ _ refl (λ pdu. refl)
@@ -447,14 +448,15 @@ module _ (c : Client) (small : c.size ≤ 65000) (n b : Bay) (alike : AreNamedAl
 pub response-tells : (c : Client) (pdu : List ℕ) (n b : Bay) (later : List (List ℕ))
     → c.size ≤ 65000 → AreNamedAlike n b
     → (accepted_in c.now c.association pdu n
-    (first_response (may_be_reported (answer_to pdu)) ((answered c pdu b).sent ++ later)).0
+    (first_response (may_be_reported (answer_to pdu)) ((pdu_answer c pdu b).sent ++ later)).0
     ≡ entries_in c pdu b)
-    × ((first_response (may_be_reported (answer_to pdu)) ((answered c pdu b).sent ++ later)).1
+    × ((first_response (may_be_reported (answer_to pdu)) ((pdu_answer c pdu b).sent ++ later)).1
     ≡ later)
 response-tells c pdu n b later small alike =
-    let t : IsTold c.now c.association n (answer_to pdu) (answered c pdu b).sent
+    let t : IsTold c.now c.association n (answer_to pdu) (pdu_answer c pdu b).sent
     (entries_in c pdu b) = message-told c small n b alike (answer_to pdu) in
-    let first : first_response (may_be_reported (answer_to pdu)) ((answered c pdu b).sent ++ later)
+    let first : first_response (may_be_reported (answer_to pdu))
+    ((pdu_answer c pdu b).sent ++ later)
     ≡ (t.response, later) =
     ap (λ (sent : List (List ℕ)). first_response (may_be_reported (answer_to pdu)) (sent ++ later))
     t.is
@@ -491,7 +493,7 @@ alike-attributes n c id b None alike = alike
 alike-attributes n c id b (Some place) alike = alike-if n _ _ _ alike alike
 
 alike-served : (n : Bay) (c : Client) (id : ℕ) (b : Bay) (asking : Asking) → AreNamedAlike n b
-    → AreNamedAlike n (served c id b asking).after
+    → AreNamedAlike n (service_answer c id b asking).after
 alike-served n c id b identify alike = alike-if n _ _ _ alike alike
 alike-served n c id b (names class place after) alike = alike-if n _ _ _ alike alike
 alike-served n c id b (attributes name) alike = alike-attributes n c id b (row_named b name) alike
@@ -511,5 +513,5 @@ alike-answer n c b (Err (TooMany id)) alike = alike
 alike-answer n c b (Err OutOfMemory) alike = alike
 
 pub alike-after : (n : Bay) (c : Client) (pdu : List ℕ) (b : Bay) → AreNamedAlike n b
-    → AreNamedAlike n (answered c pdu b).after
+    → AreNamedAlike n (pdu_answer c pdu b).after
 alike-after n c pdu b alike = alike-answer n c b (answer_to pdu) alike

@@ -13,12 +13,12 @@ use Rattle.bay_services.specs.Controls.{IsShort}
 use Rattle.bay_services.specs.Views.{AnswersAs, read_as}
 use Rattle.bay_services.specs.declared.answer.Answer.{Answer}
 use Rattle.bay_services.specs.declared.client.Client.{Client}
-use Rattle.bay_services.proofs.ShortLemmas.{AreShort, answer_end, answer_short}
+use Rattle.bay_services.proofs.ShortLemmas.{AreShort, answer-end, answer-short}
 
-asked_is : (request : Result Request MmsFault) (held : Result Message MmsFault)
+asked-is : (request : Result Request MmsFault) (held : Result Message MmsFault)
     → Gives OutOfMemory message request held → request ≢ Err OutOfMemory → held ≡ read_as request
-asked_is (Ok r) held gives known = gives
-asked_is (Err e) held gives known =
+asked-is (Ok r) held gives known = gives
+asked-is (Err e) held gives known =
     ⊎_elim (λ (is : e ≡ OutOfMemory). absurd (known (ap Err is))) (λ (is : held ≡ Err e). is) gives
 
 pub answered_as : (r : Result Answer AllocError) (c : Client) (old new : Bay)
@@ -30,7 +30,7 @@ pub answered_as : (r : Result Answer AllocError) (c : Client) (old new : Bay)
 answered_as (Err e) c old new request held gives known told = tt
 answered_as (Ok a) c old new request held gives known told =
     subst (λ (x : Result Message MmsFault). AnswersAs a new (answer_of c old x))
-    (sym (asked_is request held gives known)) told
+    (sym (asked-is request held gives known)) told
 
 pub sent_short : (r : Result Answer AllocError) (c : Client) (old new : Bay)
     (request : Result Request MmsFault) → c.size ≤ 65000
@@ -38,7 +38,7 @@ pub sent_short : (r : Result Answer AllocError) (c : Client) (old new : Bay)
     → IfOk r (λ a. AreShort a.sent.items)
 sent_short (Err e) c old new request most told = tt
 sent_short (Ok a) c old new request most told =
-    subst AreShort (sym told.sent) (answer_short c old (read_as request) most)
+    subst AreShort (sym told.sent) (answer-short c old (read_as request) most)
 
 pub end_short : (r : Result Answer AllocError) (c : Client) (old new : Bay)
     (request : Result Request MmsFault) → c.size ≤ 65000
@@ -46,12 +46,12 @@ pub end_short : (r : Result Answer AllocError) (c : Client) (old new : Bay)
     → IfOk r (λ a. IsShort a.ending)
 end_short (Err e) c old new request most told = tt
 end_short (Ok a) c old new request most told =
-    subst IsShort (sym told.ending) (answer_end c old (read_as request) most)
+    subst IsShort (sym told.ending) (answer-end c old (read_as request) most)
 
-pub not_memory : (r : Result Answer AllocError) (request : Result Request MmsFault)
+pub not-memory : (r : Result Answer AllocError) (request : Result Request MmsFault)
     (fault : MmsFault) → request ≡ Err fault → IfOk r (λ _. fault ≢ OutOfMemory)
     → IfOk r (λ _. request ≢ Err OutOfMemory)
-not_memory (Ok a) request fault is other =
+not-memory (Ok a) request fault is other =
     λ memory. other (let by : ◌≡◌ {A = Result Request MmsFault} (Err fault) (Err OutOfMemory) =
     sym is ∙ memory in cc)
-not_memory (Err e) request fault is other = tt
+not-memory (Err e) request fault is other = tt

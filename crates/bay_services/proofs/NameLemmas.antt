@@ -17,12 +17,12 @@ behind : (c : Client) (id : ℕ) (b : Bay) (name : List ℕ) (place : Option ℕ
 behind c id b name (Some place) is known = refl
 behind c id b name None is known = absurd (known (place_of-none b.rows name is))
 
-pub page_is : (c : Client) (id : ℕ) (b : Bay) (after : Option (List ℕ)) (page : List ℕ)
+pub page-is : (c : Client) (id : ℕ) (b : Bay) (after : Option (List ℕ)) (page : List ℕ)
     → page ≡ first_page id c.size (names_of (rows_after b.rows after))
     → (IsUnknown b.rows after → ⊥)
     → variable_names c id b after ≡ page
-page_is c id b None page is known = sym is
-page_is c id b (Some name) page is known =
+page-is c id b None page is known = sym is
+page-is c id b (Some name) page is known =
     behind c id b name (place_of b.rows name) refl known ∙ sym is
 
 missing : (c : Client) (id : ℕ) (b : Bay) (name : List ℕ) (place : Option ℕ)
@@ -31,7 +31,7 @@ missing : (c : Client) (id : ℕ) (b : Bay) (name : List ℕ) (place : Option �
 missing c id b name (Some place) is none = absurd (place_of-some b.rows name place is none)
 missing c id b name None is none = refl
 
-pub unknown_is : (c : Client) (id : ℕ) (b : Bay) (after : Option (List ℕ)) → IsUnknown b.rows after
+pub unknown-is : (c : Client) (id : ℕ) (b : Bay) (after : Option (List ℕ)) → IsUnknown b.rows after
     → variable_names c id b after ≡ error_text id NoSuchObject
-unknown_is c id b None none = absurd none
-unknown_is c id b (Some name) none = missing c id b name (place_of b.rows name) refl none
+unknown-is c id b None none = absurd none
+unknown-is c id b (Some name) none = missing c id b name (place_of b.rows name) refl none

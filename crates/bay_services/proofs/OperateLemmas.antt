@@ -15,10 +15,10 @@ use Rattle.bay_mms.specs.Responses.{read_text, write_text}
 use Rattle.bay_mms.specs.declared.fault.ControlFault.{ControlFault}
 use Rattle.bay_mms.specs.declared.fault.MmsFault.{MmsFault}
 use Rattle.bay_mms.specs.declared.fault.MmsFault.TheVariants.{BadPdu, UnknownService, TooMany, OutOfMemory}
-use Rattle.bay_services.specs.Answers.{Answered, answer_of, answered, attributes_at, said, served}
+use Rattle.bay_services.specs.Answers.{Answered, answer_of, pdu_answer, attributes_at, plain_answer, service_answer}
 use Rattle.bay_services.specs.Bay.{Bay}
 use Rattle.bay_services.specs.Controls.{ask_of, view_of}
-use Rattle.bay_services.specs.Entries.{call_of_read, call_of_write, cancel_call, command_of, entries_in, message_entries, operate_call, operates_in, read_call, read_entries, seen, select_with_call, service_entries, target_at, write_call, write_entries}
+use Rattle.bay_services.specs.Entries.{call_of_read, call_of_write, cancel_call, command_of, entries_in, message_entries, operate_call, operates_in, read_call, read_entries, entries_of_call, select_with_call, service_entries, target_at, write_call, write_entries}
 use Rattle.bay_services.specs.Reads.{Reading, nothing_read, read_all, read_one}
 use Rattle.bay_services.specs.Rows.{row_named}
 use Rattle.bay_services.specs.Writes.{Writing, cancel_asked, commands_for, nothing_written, operate_asked, select_with_asked, write_all, write_one, write_part, write_row, write_target}
@@ -40,20 +40,22 @@ module _ (c : Client) where
   -- ---- a variable that is read: none
 
   read-part-none : (b : Bay) (k : ℕ) (part : ControlPart)
-      → operates_in (seen c b (read_call c k part)) ≡ []
+      → operates_in (entries_of_call c b (read_call c k part)) ≡ []
   read-part-none b k Select = refl
   read-part-none b k SelectWith = refl
   read-part-none b k Operate = refl
   read-part-none b k Cancel = refl
 
-  read-target-none : (b : Bay) (t : Option Target) → operates_in (seen c b (call_of_read c t)) ≡ []
+  read-target-none : (b : Bay) (t : Option Target)
+      → operates_in (entries_of_call c b (call_of_read c t)) ≡ []
   read-target-none b None = refl
   read-target-none b (Some t) = read-part-none b t.switch t.part
 
   read-none : (ns : List Naming) (r : Reading) → operates_in (read_entries c ns r) ≡ []
   read-none [] r = refl
   read-none (name ∷ ns) r =
-      operates-append (seen c r.bay (call_of_read c (target_at r.bay (row_named r.bay name))))
+      operates-append (entries_of_call c r.bay
+      (call_of_read c (target_at r.bay (row_named r.bay name))))
       (read_entries c ns (read_one c name r))
       ∙ ap₂ (λ (xs ys : List Command). xs ++ ys)
       (read-target-none r.bay (target_at r.bay (row_named r.bay name)))
@@ -69,7 +71,7 @@ module _ (c : Client) where
   adds-none w = sym (append-nil w.commands)
 
   select-with-adds : (k : ℕ) (item : List ℕ) (w : Writing) (o : Result asked.Operate ControlFault)
-      → Adds w (seen c w.bay (select_with_call c k o)) (select_with_asked c k item w o)
+      → Adds w (entries_of_call c w.bay (select_with_call c k o)) (select_with_asked c k item w o)
   select-with-adds k item w (Ok o) = adds-none w
   select-with-adds k item w (Err fault) = adds-none w
 
@@ -81,31 +83,33 @@ module _ (c : Client) where
   commands-are k o (Err why) = refl
 
   operate-adds : (k : ℕ) (item : List ℕ) (w : Writing) (o : Result asked.Operate ControlFault)
-      → Adds w (seen c w.bay (operate_call c k w.bay o)) (operate_asked c k item w o)
+      → Adds w (entries_of_call c w.bay (operate_call c k w.bay o)) (operate_asked c k item w o)
   operate-adds k item w (Ok o) =
       ap (λ cs. w.commands ++ cs) (commands-are k o
       (operate_outcome c.association k (ask_of o) (view_of c k w.bay) c.now w.bay.controls).answer)
   operate-adds k item w (Err fault) = adds-none w
 
   cancel-adds : (k : ℕ) (item : List ℕ) (w : Writing) (o : Result Control ControlFault)
-      → Adds w (seen c w.bay (cancel_call c k o)) (cancel_asked c k item w o)
+      → Adds w (entries_of_call c w.bay (cancel_call c k o)) (cancel_asked c k item w o)
   cancel-adds k item w (Ok control) = adds-none w
   cancel-adds k item w (Err fault) = adds-none w
 
   write-part-adds : (k : ℕ) (item : List ℕ) (given : Datum) (w : Writing) (part : ControlPart)
-      → Adds w (seen c w.bay (write_call c w.bay given k part)) (write_part c k item given w part)
+      → Adds w (entries_of_call c w.bay (write_call c w.bay given k part))
+      (write_part c k item given w part)
   write-part-adds k item given w Select = adds-none w
   write-part-adds k item given w SelectWith = select-with-adds k item w (operate_in given)
   write-part-adds k item given w Operate = operate-adds k item w (operate_in given)
   write-part-adds k item given w Cancel = cancel-adds k item w (cancel_in given)
 
   write-target-adds : (item : List ℕ) (given : Datum) (w : Writing) (t : Option Target)
-      → Adds w (seen c w.bay (call_of_write c w.bay given t)) (write_target c item given w t)
+      → Adds w (entries_of_call c w.bay (call_of_write c w.bay given t))
+      (write_target c item given w t)
   write-target-adds item given w None = adds-none w
   write-target-adds item given w (Some t) = write-part-adds t.switch item given w t.part
 
   write-row-adds : (given : Datum) (w : Writing) (row : Option ℕ)
-      → Adds w (seen c w.bay (call_of_write c w.bay given (target_at w.bay row)))
+      → Adds w (entries_of_call c w.bay (call_of_write c w.bay given (target_at w.bay row)))
       (write_row c given w row)
   write-row-adds given w None = adds-none w
   write-row-adds given w (Some place) = write-target-adds _ given w (target_at w.bay (Some place))
@@ -117,7 +121,8 @@ module _ (c : Client) where
   write-adds (name ∷ ns) (given ∷ values) w =
       let next : Writing = write_one c name given w in
       let own : List Entry =
-      seen c w.bay (call_of_write c w.bay given (target_at w.bay (row_named w.bay name))) in
+      entries_of_call c w.bay (call_of_write c w.bay given (target_at w.bay (row_named w.bay name)))
+      in
       let rest : List Entry = write_entries c ns values next in
       write-adds ns values next
       ∙ ap (λ cs. cs ++ operates_in rest) (write-row-adds given w (row_named w.bay name))
@@ -129,12 +134,12 @@ module _ (c : Client) where
   -- what is too long is undone
   within-operates : (fits : Bool) (b : Bay) (error : List ℕ) (entries : List Entry) (x : Answered)
       → x.commands ≡ operates_in entries
-      → (cond fits x (said error b)).commands ≡ operates_in (cond fits entries [])
+      → (cond fits x (plain_answer error b)).commands ≡ operates_in (cond fits entries [])
   within-operates true b error entries x is = is
   within-operates false b error entries x is = refl
 
   quiet-none : (fits : Bool) (b : Bay) (response error : List ℕ)
-      → (cond fits (said response b) (said error b)).commands ≡ []
+      → (cond fits (plain_answer response b) (plain_answer error b)).commands ≡ []
   quiet-none true b response error = refl
   quiet-none false b response error = refl
 
@@ -143,7 +148,7 @@ module _ (c : Client) where
   attributes-none id b (Some place) = quiet-none _ b _ _
 
   served-operates : (id : ℕ) (b : Bay) (asking : Asking)
-      → (served c id b asking).commands ≡ operates_in (service_entries c id b asking)
+      → (service_answer c id b asking).commands ≡ operates_in (service_entries c id b asking)
   served-operates id b identify = quiet-none _ b _ _
   served-operates id b (names class place after) = quiet-none _ b _ _
   served-operates id b (attributes name) = attributes-none id b (row_named b name)
@@ -167,5 +172,5 @@ module _ (c : Client) where
   message-operates b (Err OutOfMemory) = refl
 
 pub answer-operates : (c : Client) (pdu : List ℕ) (b : Bay)
-    → (answered c pdu b).commands ≡ operates_in (entries_in c pdu b)
+    → (pdu_answer c pdu b).commands ≡ operates_in (entries_in c pdu b)
 answer-operates c pdu b = message-operates c b (answer_to pdu)

@@ -23,127 +23,127 @@ use Rattle.bay_services.specs.declared.target.Target.{Target}
 abbrev pub IsFirst : List Row → ℕ → Type 0
 IsFirst rows handle = place_of rows (name_at rows handle) ≡ Some handle
 
-same_place : (a b : ℕ) → nat_eq a b ≡ true → a ≡ b
-same_place a b e = grind (arith, nat_tests)
+same-place : (a b : ℕ) → nat_eq a b ≡ true → a ≡ b
+same-place a b e = grind (arith, nat_tests)
 
-is_itself : (a : ℕ) → nat_eq a a ≡ true
-is_itself a = grind (arith, nat_tests)
+is-itself : (a : ℕ) → nat_eq a a ≡ true
+is-itself a = grind (arith, nat_tests)
 
 other : (rows : List Row) (p : ℕ) (name : List ℕ) (handle : ℕ) (b : Bool) → nat_eq p handle ≡ b
     → bytes_eq name (name_at rows handle) ≡ false → Some p ≡ place_of rows name → b ≡ false
 other rows p name handle false e is at = refl
 other rows p name handle true e is at =
     let same : name ≡ name_at rows handle =
-    sym (place_of-found rows name p (sym at)).1 ∙ ap (name_at rows) (same_place p handle e) in
+    sym (place_of-found rows name p (sym at)).1 ∙ ap (name_at rows) (same-place p handle e) in
     let so : bytes_eq name (name_at rows handle) ≡ true =
     (bytes_eq-Decides name (name_at rows handle)).1 same in
     absurd cc
 
-test_if : (rows : List Row) (row : Option ℕ) (name : List ℕ) (handle : ℕ) (b : Bool)
+test-if : (rows : List Row) (row : Option ℕ) (name : List ℕ) (handle : ℕ) (b : Bool)
     → bytes_eq name (name_at rows handle) ≡ b → row ≡ place_of rows name → IsFirst rows handle
     → is_place handle row ≡ b
-test_if rows row name handle true is at first =
+test-if rows row name handle true is at first =
     let same : name ≡ name_at rows handle = (bytes_eq-Decides name (name_at rows handle)).0 is in
     let here : row ≡ Some handle = at ∙ ap (place_of rows) same ∙ first in
-    ap (is_place handle) here ∙ is_itself handle
-test_if rows None name handle false is at first = refl
-test_if rows (Some p) name handle false is at first =
+    ap (is_place handle) here ∙ is-itself handle
+test-if rows None name handle false is at first = refl
+test-if rows (Some p) name handle false is at first =
     other rows p name handle (nat_eq p handle) refl is at
 
-place_test : (rows : List Row) (row : Option ℕ) (name : List ℕ) (handle : ℕ)
+place-test : (rows : List Row) (row : Option ℕ) (name : List ℕ) (handle : ℕ)
     → row ≡ place_of rows name → IsFirst rows handle
     → is_place handle row ≡ bytes_eq name (name_at rows handle)
-place_test rows row name handle at first =
-    test_if rows row name handle (bytes_eq name (name_at rows handle)) refl at first
+place-test rows row name handle at first =
+    test-if rows row name handle (bytes_eq name (name_at rows handle)) refl at first
 
-pub part_named : (rows : List Row) (k : ℕ) (control : ControlRows) (handle : ℕ)
+pub part-named : (rows : List Row) (k : ℕ) (control : ControlRows) (handle : ℕ)
     → AreControlRows rows (control_names k) control → IsFirst rows handle
     → part_by control handle ≡ part_at k (name_at rows handle)
-part_named rows k control handle names first =
-    let t = place_test rows control.select (control_name k Select) handle names.select first in
-    let u = place_test rows control.select_with_value (control_name k SelectWith) handle
+part-named rows k control handle names first =
+    let t = place-test rows control.select (control_name k Select) handle names.select first in
+    let u = place-test rows control.select_with_value (control_name k SelectWith) handle
     names.select_with_value first in
-    let v = place_test rows control.operate (control_name k Operate) handle names.operate first in
-    let w = place_test rows control.cancel (control_name k Cancel) handle names.cancel first in
+    let v = place-test rows control.operate (control_name k Operate) handle names.operate first in
+    let w = place-test rows control.cancel (control_name k Cancel) handle names.cancel first in
     rw (t, u, v, w) refl
 
 -- the first of the targets from a place on
-pub target_here : (k count : ℕ) (name : List ℕ) (part : ControlPart) → 0 < count
+pub target-here : (k count : ℕ) (name : List ℕ) (part : ControlPart) → 0 < count
     → part_at k name ≡ Some part
     → target_from k count name ≡ Some (record { switch = k; part = part })
-target_here k zero name part some is = absurd (omega arith)
-target_here k (suc count) name part some is =
+target-here k zero name part some is = absurd (omega arith)
+target-here k (suc count) name part some is =
     ap (λ p. or_later k p (target_from (k + 1) count name)) is
 
-pub target_later : (k count less : ℕ) (name : List ℕ) → count ≡ suc less → part_at k name ≡ None
+pub target-later : (k count less : ℕ) (name : List ℕ) → count ≡ suc less → part_at k name ≡ None
     → target_from k count name ≡ target_from (k + 1) less name
-target_later k count less name one is =
+target-later k count less name one is =
     ap (λ n. target_from k n name) one ∙ ap (λ p. or_later k p (target_from (k + 1) less name)) is
 
-within_later : (k count : ℕ) (t : Option Target) → IfSome t (λ t. t.switch < (k + 1) + count)
+within-later : (k count : ℕ) (t : Option Target) → IfSome t (λ t. t.switch < (k + 1) + count)
     → IfSome t (λ t. t.switch < k + suc count)
-within_later k count None lt = tt
-within_later k count (Some t) lt = omega (arith, lt)
+within-later k count None lt = tt
+within-later k count (Some t) lt = omega (arith, lt)
 
-within_if : (k count : ℕ) (name : List ℕ) (part : Option ControlPart)
+within-if : (k count : ℕ) (name : List ℕ) (part : Option ControlPart)
     → IfSome (target_from (k + 1) count name) (λ t. t.switch < (k + 1) + count)
     → IfSome (or_later k part (target_from (k + 1) count name)) (λ t. t.switch < k + suc count)
-within_if k count name (Some part) later = omega arith
-within_if k count name None later = within_later k count (target_from (k + 1) count name) later
+within-if k count name (Some part) later = omega arith
+within-if k count name None later = within-later k count (target_from (k + 1) count name) later
 
 -- the place of a target is one of the switches
-pub target_within : (k count : ℕ) (name : List ℕ)
+pub target-within : (k count : ℕ) (name : List ℕ)
     → IfSome (target_from k count name) (λ t. t.switch < k + count)
-target_within k zero name = tt
-target_within k (suc count) name =
-    within_if k count name (part_at k name) (target_within (k + 1) count name)
+target-within k zero name = tt
+target-within k (suc count) name =
+    within-if k count name (part_at k name) (target-within (k + 1) count name)
 
 -- ---- rows and their layout
 
-pub found_named : (rows : List Row) (name : List ℕ) (row : ℕ) → place_of rows name ≡ Some row
+pub found-named : (rows : List Row) (name : List ℕ) (row : ℕ) → place_of rows name ≡ Some row
     → IsFound rows row
-found_named rows name row at =
+found-named rows name row at =
     let found = place_of-found rows name row at in
     record { there = found.0; first = ap (place_of rows) found.1 ∙ at }
 
-pub name_here : (rows : List Row) (row : ℕ) → name_in (layout_of rows) row ≡ name_at rows row
-name_here rows row = get_or-map (λ (r : Row). r.name) rows row (record { name = []; leaf = None })
+pub name-here : (rows : List Row) (row : ℕ) → name_in (layout_of rows) row ≡ name_at rows row
+name-here rows row = get_or-map (λ (r : Row). r.name) rows row (record { name = []; leaf = None })
 
-pub target_there : (count total : ℕ) (name : List ℕ) → count ≡ total
+pub target-there : (count total : ℕ) (name : List ℕ) → count ≡ total
     → target_of count name ≡ target_of total name
-target_there count total name is = ap (λ n. target_of n name) is
+target-there count total name is = ap (λ n. target_of n name) is
 
-pub switch_there : (count total : ℕ) (name : List ℕ) (t : Option Target) → t ≡ target_of count name
+pub switch-there : (count total : ℕ) (name : List ℕ) (t : Option Target) → t ≡ target_of count name
     → count ≡ total → IfSome t (λ t. t.switch < total)
-switch_there count total name t is same =
+switch-there count total name t is same =
     let bound : 0 + count ≡ total = omega (arith, same) in
     let within : IfSome (target_from 0 count name) (λ t. t.switch < 0 + count) =
-    target_within 0 count name in
+    target-within 0 count name in
     let here : IfSome t (λ t. t.switch < 0 + count) =
     subst (λ (o : Option Target). IfSome o (λ t. t.switch < 0 + count)) (sym is) within in
     subst (λ (n : ℕ). IfSome t (λ t. t.switch < n)) bound here
 
 -- ---- a tree of the same layout
 
-pub name_kept : (rows old : List Row) (row : ℕ) → layout_of rows ≡ layout_of old
+pub name-kept : (rows old : List Row) (row : ℕ) → layout_of rows ≡ layout_of old
     → name_at rows row ≡ name_at old row
-name_kept rows old row same =
-    sym (name_here rows row) ∙ ap (λ (l : Layout). name_in l row) same ∙ name_here old row
+name-kept rows old row same =
+    sym (name-here rows row) ∙ ap (λ (l : Layout). name_in l row) same ∙ name-here old row
 
-pub handle_kept : (rows old : List Row) (row : ℕ) → layout_of rows ≡ layout_of old
+pub handle-kept : (rows old : List Row) (row : ℕ) → layout_of rows ≡ layout_of old
     → IsHandle old row → IsHandle rows row
-handle_kept rows old row same there =
+handle-kept rows old row same there =
     let few : length (names_of rows) ≡ length (names_of old) =
     ap (λ (l : Layout). length l.names) same in
     omega (arith, few, length-map rows (λ (r : Row). r.name), length-map old (λ (r : Row). r.name))
 
 -- the row of a name has it
-pub selected_named : (rows : List Row) (row : ℕ) (name : List ℕ) → place_of rows name ≡ Some row
+pub selected-named : (rows : List Row) (row : ℕ) (name : List ℕ) → place_of rows name ≡ Some row
     → name_in (layout_of rows) row ≡ name
-selected_named rows row name at = name_here rows row ∙ (place_of-found rows name row at).1
+selected-named rows row name at = name-here rows row ∙ (place_of-found rows name row at).1
 
 -- a control's rows stay where they are in a tree of the same layout
-pub rows_kept : (rows old : List Row) (controls : List ControlRows) → layout_of old ≡ layout_of rows
+pub rows-kept : (rows old : List Row) (controls : List ControlRows) → layout_of old ≡ layout_of rows
     → AreAllControlRows old controls → AreAllControlRows rows controls
-rows_kept rows old controls same are =
+rows-kept rows old controls same are =
     λ k handles here. control-rows-stay old rows (control_names k) handles same (are k handles here)

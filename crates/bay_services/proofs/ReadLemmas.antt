@@ -47,12 +47,12 @@ selected c k item r o new answer text results after is told has =
     ap (λ (rs : List ℕ). record { bay = new; results = rs }) has ∙ ap of_text told ∙ ap of_answer is
     ∙ ap of_bay after
 
-pub selected_long : (c : Client) (k : ℕ) (item : List ℕ) (r : Reading) (o : Outcome)
+pub selected-long : (c : Client) (k : ℕ) (item : List ℕ) (r : Reading) (o : Outcome)
     (answer : Result (Unit {0}) AddCause) (text : List ℕ) (size : ℕ)
     → answer ≡ o.answer → text ≡ selected_text (object_of r.bay item) answer
     → size < length (r.results ++ text_result text)
     → size < length (select_done c k item r o).results
-selected_long c k item r o answer text size is told long =
+selected-long c k item r o answer text size is told long =
     let same : r.results ++ text_result text
     ≡ r.results ++ text_result (selected_text (object_of r.bay item) o.answer) =
     ap (λ (t : List ℕ). r.results ++ text_result t)
@@ -60,50 +60,50 @@ selected_long c k item r o answer text size is told long =
     omega (arith, long, ap length same)
 
 -- the object is named by the domain, which stays
-pub object_kept : (b new : Bay) (s : _) (item : List ℕ) → new ≡ with_controls s b
+pub object-kept : (b new : Bay) (s : _) (item : List ℕ) → new ≡ with_controls s b
     → object_of new item ≡ object_of b item
-object_kept b new s item is = ap (λ (d : Bay). object_of d item) is
+object-kept b new s item is = ap (λ (d : Bay). object_of d item) is
 
 -- ---- results grow
 
 more : (xs ys : List ℕ) → length xs ≤ length (xs ++ ys)
 more xs ys = omega (arith, length-append xs ys)
 
-grows_part : (c : Client) (place : ℕ) (r : Reading) (k : ℕ) (part : ControlPart)
+grows-part : (c : Client) (place : ℕ) (r : Reading) (k : ℕ) (part : ControlPart)
     → length r.results ≤ length (read_part c place r k part).results
-grows_part c place r k Select =
+grows-part c place r k Select =
     more r.results (text_result
     (selected_text (object_of r.bay (name_at r.bay.rows place))
     (select_outcome c.association k c.now r.bay.controls).answer))
-grows_part c place r k SelectWith = more r.results (datum_text (data_at r.bay.rows place))
-grows_part c place r k Operate = more r.results (datum_text (data_at r.bay.rows place))
-grows_part c place r k Cancel = more r.results (datum_text (data_at r.bay.rows place))
+grows-part c place r k SelectWith = more r.results (datum_text (data_at r.bay.rows place))
+grows-part c place r k Operate = more r.results (datum_text (data_at r.bay.rows place))
+grows-part c place r k Cancel = more r.results (datum_text (data_at r.bay.rows place))
 
-grows_target : (c : Client) (place : ℕ) (r : Reading) (t : Option Target)
+grows-target : (c : Client) (place : ℕ) (r : Reading) (t : Option Target)
     → length r.results ≤ length (read_target c place r t).results
-grows_target c place r None = more r.results (datum_text (data_at r.bay.rows place))
-grows_target c place r (Some t) = grows_part c place r t.switch t.part
+grows-target c place r None = more r.results (datum_text (data_at r.bay.rows place))
+grows-target c place r (Some t) = grows-part c place r t.switch t.part
 
-grows_row : (c : Client) (r : Reading) (place : Option ℕ)
+grows-row : (c : Client) (r : Reading) (place : Option ℕ)
     → length r.results ≤ length (read_row c r place).results
-grows_row c r None = more r.results (failure_result 10)
-grows_row c r (Some place) =
-    grows_target c place r (target_of (length r.bay.switches) (name_at r.bay.rows place))
+grows-row c r None = more r.results (failure_result 10)
+grows-row c r (Some place) =
+    grows-target c place r (target_of (length r.bay.switches) (name_at r.bay.rows place))
 
-grows_all : (c : Client) (names : List Naming) (r : Reading)
+grows-all : (c : Client) (names : List Naming) (r : Reading)
     → length r.results ≤ length (read_all c names r).results
-grows_all c [] r = omega arith
-grows_all c (name ∷ names) r =
-    omega (arith, grows_row c r (row_named r.bay name), grows_all c names (read_one c name r))
+grows-all c [] r = omega arith
+grows-all c (name ∷ names) r =
+    omega (arith, grows-row c r (row_named r.bay name), grows-all c names (read_one c name r))
 
 -- a variable whose results are too long makes all too long
-pub long_all : (c : Client) (size : ℕ) (names : List ObjectName) (i : ℕ) (d : ObjectName)
+pub long-all : (c : Client) (size : ℕ) (names : List ObjectName) (i : ℕ) (d : ObjectName)
     (first r : Reading)
     → read_all c (map naming names) first ≡ read_all c (map naming (drop i names)) r
     → i < length names
     → size < length (read_one c (naming (get_or names i d)) r).results
     → size < length (read_all c (map naming names) first).results
-long_all c size names i d first r so within long =
+long-all c size names i d first r so within long =
     let name = naming (get_or names i d) in
     let rest = map naming (drop (i + 1) names) in
     let is : map naming (drop i names) ≡ name ∷ rest =
@@ -113,6 +113,6 @@ long_all c size names i d first r so within long =
     omega (
       arith,
       ap (λ (x : Reading). length x.results) whole,
-      grows_all c rest (read_one c name r),
+      grows-all c rest (read_one c name r),
       long,
     )

@@ -9,7 +9,7 @@ use Rattle.bay_nodes.specs.Names.{control_names, interlocking_of}
 use Rattle.bay_nodes.specs.Node.{node_name}
 use Rattle.bay_process.specs.Values.{is_truth}
 use Rattle.bay_process.proofs.ToldLemmas.{IsAway, leaf-other}
-use Rattle.bay_control.specs.Decisions.{Outcome, State, advanced, answer_of, cancel_outcome, execution_at, is_executing, is_over_at, operate_outcome, other_is_executing, rows_of_operate, select_outcome, select_with_outcome, selected_switch}
+use Rattle.bay_control.specs.Decisions.{Outcome, State, controls_at, answer_of, cancel_outcome, execution_at, is_executing, is_over_at, operate_outcome, other_is_executing, rows_of_operate, select_outcome, select_with_outcome, selected_switch}
 use Rattle.bay_control.specs.Decisions.{Row as DecisionRow}
 use Rattle.bay_control.specs.Requests.{control_of, is_controlled, is_released}
 use Rattle.bay_control.specs.declared.cause.AddCause.{AddCause}
@@ -25,14 +25,14 @@ use Rattle.bay_mms.specs.Requests.{Naming, Asking, identify, names, attributes, 
 use Rattle.bay_mms.specs.declared.fault.ControlFault.{ControlFault}
 use Rattle.bay_mms.specs.declared.fault.MmsFault.{MmsFault}
 use Rattle.bay_mms.specs.declared.fault.MmsFault.TheVariants.{BadPdu, UnknownService, TooMany, OutOfMemory}
-use Rattle.bay_services.specs.Answers.{Answered, answer_of as answer-of, answered, attributes_at, served, within}
-use Rattle.bay_services.specs.Bay.{Bay, is_selected, shown, with_controls}
+use Rattle.bay_services.specs.Answers.{Answered, answer_of as answer-of, pdu_answer, attributes_at, service_answer, within}
+use Rattle.bay_services.specs.Bay.{Bay, is_selected, rows_shown, with_controls}
 use Rattle.bay_services.specs.Controls.{ask_of, view_of}
 use Rattle.bay_services.specs.Reads.{Reading, nothing_read, read_all, read_one, read_part, read_row, read_target}
 use Rattle.bay_services.specs.Released.{AreTimed, IsReleased, Leaves, TellsNoSelection, releasing}
 use Rattle.bay_services.specs.Rows.{row_named}
 use Rattle.bay_services.specs.Targets.{target_of}
-use Rattle.bay_services.specs.Writes.{Writing, nothing_written, cancel_asked, commands_for, decided, operate_asked, select_with_asked, write_all, write_one, write_part, write_row, write_target}
+use Rattle.bay_services.specs.Writes.{Writing, nothing_written, cancel_asked, commands_for, after_decision, operate_asked, select_with_asked, write_all, write_one, write_part, write_row, write_target}
 use Rattle.bay_services.specs.declared.answer.Command.{Command}
 use Rattle.bay_services.specs.declared.client.Client.{Client}
 use Rattle.bay_services.specs.declared.target.ControlPart.{ControlPart}
@@ -49,10 +49,10 @@ pub interlocking-apart : (k : ℕ) (s : List ℕ) → TellsNoSelection (interloc
 interlocking-apart k s j e = away-control (j + 1) _ k s e
 
 pub keeps-shown : (selected : Option ℕ) (count : ℕ) (rows : List Row) (name : List ℕ)
-    → TellsNoSelection name → leaf_of name (shown selected count rows) ≡ leaf_of name rows
+    → TellsNoSelection name → leaf_of name (rows_shown selected count rows) ≡ leaf_of name rows
 keeps-shown selected zero rows name apart = refl
 keeps-shown selected (suc j) rows name apart =
-    leaf-other (shown selected j rows) name ((control_names j).selected)
+    leaf-other (rows_shown selected j rows) name ((control_names j).selected)
     (leaf.Truth (is_selected j selected)) (apart j)
     ∙ keeps-shown selected j rows name apart
 
@@ -116,31 +116,33 @@ saw a k ask view t ok =
 
 abbrev pub Busies : ℕ → State → State → Type 0
 Busies now s t =
-    (e : Execution) → (advanced now s).execution ≡ Some e → (advanced now t).execution ≡ Some e
+    (e : Execution) → (controls_at now s).execution ≡ Some e
+    → (controls_at now t).execution ≡ Some e
 
-pub busy-still : (now : ℕ) (s : State) → Busies now s (advanced now s)
+pub busy-still : (now : ℕ) (s : State) → Busies now s (controls_at now s)
 busy-still now s e h = ap (execution_at now s.controls) h ∙ lasting now s.controls s.execution e h
 
 busy-operated : (now k : ℕ) (on : Bool) (a : ℕ) (ask : Ask) (view : View) (s : State) (ok : Bool)
     → is_ok (operate_outcome a k ask view now s).answer ≡ ok
     → Busies now s (operate_outcome a k ask view now s).after
 busy-operated now k on a ask view s true is e h =
-    let none : (advanced now s).execution ≡ None = (saw a k ask view (advanced now s) is).idle in
+    let none : (controls_at now s).execution ≡ None =
+    (saw a k ask view (controls_at now s) is).idle in
     absurd (let no : None ≡ (let o : Option Execution = Some e in o) = sym none ∙ h in cc)
 busy-operated now k on a ask view s false is e h =
     let stays : (operate_outcome a k ask view now s).after.execution ≡ Some e =
     ap (λ (b : Bool). let o : Option Execution =
-    cond b (Some (record { switch = k; start = now; on = ask.on })) (advanced now s).execution
+    cond b (Some (record { switch = k; start = now; on = ask.on })) (controls_at now s).execution
     in o) is ∙ h in
     ap (execution_at now s.controls) stays ∙ lasting now s.controls s.execution e h
 
 -- ---- one command at most
 
 abbrev IsBusy : ℕ → State → Type 0
-IsBusy now s = (e : Execution) × ((advanced now s).execution ≡ Some e)
+IsBusy now s = (e : Execution) × ((controls_at now s).execution ≡ Some e)
 
 abbrev IsIdle : ℕ → State → Type 0
-IsIdle now s = (advanced now s).execution ≡ None
+IsIdle now s = (controls_at now s).execution ≡ None
 
 -- after a command a switch is operating, and there is no second one
 abbrev pub Single : ℕ → List Command → State → Type 0
@@ -299,12 +301,14 @@ true-of false h = absurd cc
 -- an operation that was released when others had been asked for is released now
 enabled-now : (c : Client) (b d : Bay) (k : ℕ) (on : Bool) → Leaves c.now b d
     → is_released on (view_of c k d) ≡ true → is_truth true (leaf_of (releasing k on) b.rows) ≡ true
-enabled-now c b d k true left h = ap (is_truth true) (sym (left.values _ (interlocking-apart k _))) ∙ h
-enabled-now c b d k false left h = ap (is_truth true) (sym (left.values _ (interlocking-apart k _))) ∙ h
+enabled-now c b d k true left h =
+    ap (is_truth true) (sym (left.values _ (interlocking-apart k _))) ∙ h
+enabled-now c b d k false left h =
+    ap (is_truth true) (sym (left.values _ (interlocking-apart k _))) ∙ h
 
 pub idle-now : (now : ℕ) (s t : State) (o : Option Execution) → Busies now s t
-    → (advanced now t).execution ≡ None → (advanced now s).execution ≡ o
-    → (advanced now s).execution ≡ None
+    → (controls_at now t).execution ≡ None → (controls_at now s).execution ≡ o
+    → (controls_at now s).execution ≡ None
 idle-now now s t None busy none is = is
 idle-now now s t (Some e) busy none is =
     absurd (let no : None ≡ (let o : Option Execution = Some e in o) = sym none ∙ busy e is in cc)
@@ -313,13 +317,13 @@ released-by : (c : Client) (b d : Bay) (k : ℕ) (o : asked.Operate) → Leaves 
     → is_ok (operate_outcome c.association k (ask_of o) (view_of c k d) c.now d.controls).answer
     ≡ true → IsReleased c b (record { switch = k; on = o.control.ctl_val })
 released-by c b d k o left ok =
-    let seen = saw c.association k (ask_of o) (view_of c k d) (advanced c.now d.controls) ok in
+    let seen = saw c.association k (ask_of o) (view_of c k d) (controls_at c.now d.controls) ok in
     record {
       fresh = true-of c.fresh seen.fresh;
       enabled =
           enabled-now c b d k o.control.ctl_val left
           (true-of (is_released o.control.ctl_val (view_of c k d)) seen.released);
-      idle = idle-now c.now b.controls d.controls (advanced c.now b.controls).execution left.busy
+      idle = idle-now c.now b.controls d.controls (controls_at c.now b.controls).execution left.busy
           seen.idle refl;
     }
 
@@ -335,7 +339,7 @@ idle-operated : (c : Client) (d : Bay) (k : ℕ) (o : asked.Operate)
     → (operate_outcome c.association k (ask_of o) (view_of c k d) c.now d.controls).answer ≡ answer
     → AllByRecursion (λ (x : Command). IsIdle c.now d.controls) (commands_for k o answer)
 idle-operated c d k o (Ok done) is = (
-  (saw c.association k (ask_of o) (view_of c k d) (advanced c.now d.controls)
+  (saw c.association k (ask_of o) (view_of c k d) (controls_at c.now d.controls)
       (ap is_ok is)).idle,
   tt,
 )
@@ -348,12 +352,12 @@ single-operated : (c : Client) (d : Bay) (k : ℕ) (o : asked.Operate)
     (operate_outcome c.association k (ask_of o) (view_of c k d) c.now d.controls).after
 single-operated c d k o (Ok done) timed is =
     let seen =
-    saw c.association k (ask_of o) (view_of c k d) (advanced c.now d.controls) (ap is_ok is) in
+    saw c.association k (ask_of o) (view_of c k d) (controls_at c.now d.controls) (ap is_ok is) in
     let e : Execution = record { switch = k; start = c.now; on = o.control.ctl_val } in
     let starts : (operate_outcome c.association k (ask_of o) (view_of c k d) c.now
     d.controls).after.execution ≡ Some e =
     ap (λ (b : Bool). let x : Option Execution =
-    cond b (Some e) (advanced c.now d.controls).execution in x) (ap is_ok is) in (
+    cond b (Some e) (controls_at c.now d.controls).execution in x) (ap is_ok is) in (
       e,
       ap (execution_at c.now d.controls.controls) starts
           ∙ starting c.now k o.control.ctl_val d.controls.controls timed
@@ -371,7 +375,7 @@ kept-nothing c b =
 
 kept-decided : (c : Client) (b : Bay) (k : ℕ) (item : List ℕ) (control : Control) (o : Outcome)
     (w : Writing) → w.bay.controls.controls ≡ o.after.controls → Kept c b w
-    → Busies c.now w.bay.controls o.after → Kept c b (decided c k item control o w)
+    → Busies c.now w.bay.controls o.after → Kept c b (after_decision c k item control o w)
 kept-decided c b k item control o w same kept busy = record {
   leaves = leaves-with c.now b w.bay o.after kept.leaves busy;
   released = kept.released;
@@ -484,7 +488,7 @@ does-attributes : (c : Client) (b : Bay) (id : ℕ) (row : Option ℕ)
 does-attributes c b id None = does-nothing c b _
 does-attributes c b id (Some place) = does-within c b id _ _ (does-nothing c b _)
 
-does-served : (c : Client) (b : Bay) (id : ℕ) (a : Asking) → Does c b (served c id b a)
+does-served : (c : Client) (b : Bay) (id : ℕ) (a : Asking) → Does c b (service_answer c id b a)
 does-served c b id identify = does-within c b id _ _ (does-nothing c b _)
 does-served c b id (names class place after) = does-within c b id _ _ (does-nothing c b _)
 does-served c b id (attributes name) = does-attributes c b id (row_named b name)
@@ -513,15 +517,16 @@ all-of P [] h k d lt = absurd (omega (arith, lt))
 all-of P (x ∷ xs) h zero d lt = h.0
 all-of P (x ∷ xs) h (suc k) d lt = all-of P xs h.1 k d (omega (arith, lt))
 
-pub request-leaves : (c : Client) (pdu : List ℕ) (b : Bay) → Leaves c.now b (answered c pdu b).after
+pub request-leaves : (c : Client) (pdu : List ℕ) (b : Bay)
+    → Leaves c.now b (pdu_answer c pdu b).after
 request-leaves c pdu b = (does-answer c b (answer_to pdu)).leaves
 
 pub commands-each : (c : Client) (pdu : List ℕ) (b : Bay)
-    → AllByRecursion (IsReleased c b) (answered c pdu b).commands
+    → AllByRecursion (IsReleased c b) (pdu_answer c pdu b).commands
 commands-each c pdu b = (does-answer c b (answer_to pdu)).released
 
 pub commands-sole : (c : Client) (pdu : List ℕ) (b : Bay) → AreTimed b.controls.controls
-    → Sole c.now (answered c pdu b).commands (answered c pdu b).after.controls
+    → Sole c.now (pdu_answer c pdu b).commands (pdu_answer c pdu b).after.controls
 commands-sole c pdu b timed = (does-answer c b (answer_to pdu)).sole timed
 
 -- each was given while no switch was operating
@@ -534,9 +539,9 @@ idle-each c b (x ∷ commands) released = (released.0.idle, idle-each c b comman
 -- those of an answer, behind commands that were given before
 pub sole-said : (c : Client) (pdu : List ℕ) (b : Bay) (before : List Command)
     → Sole c.now before b.controls
-    → Sole c.now (before ++ (answered c pdu b).commands) (answered c pdu b).after.controls
+    → Sole c.now (before ++ (pdu_answer c pdu b).commands) (pdu_answer c pdu b).after.controls
 sole-said c pdu b before sole =
-    let x = answered c pdu b in
+    let x = pdu_answer c pdu b in
     let later = commands-sole c pdu b sole.timed in
     record {
       timed = later.timed;
@@ -547,14 +552,14 @@ sole-said c pdu b before sole =
     }
 
 pub one-command : (c : Client) (pdu : List ℕ) (b : Bay) → AreTimed b.controls.controls
-    → length (answered c pdu b).commands ≤ 1
+    → length (pdu_answer c pdu b).commands ≤ 1
 one-command c pdu b timed =
-    at-most-one c.now (answered c pdu b).commands (answered c pdu b).after.controls
+    at-most-one c.now (pdu_answer c pdu b).commands (pdu_answer c pdu b).after.controls
     (commands-sole c pdu b timed).single
 
 pub commands-are : (c : Client) (pdu : List ℕ) (b : Bay)
-    → All (IsReleased c b) (answered c pdu b).commands
-commands-are c pdu b = all-of (IsReleased c b) (answered c pdu b).commands (commands-each c pdu b)
+    → All (IsReleased c b) (pdu_answer c pdu b).commands
+commands-are c pdu b = all-of (IsReleased c b) (pdu_answer c pdu b).commands (commands-each c pdu b)
 
 -- ---- something is answered
 
@@ -574,7 +579,7 @@ sent-attributes : (c : Client) (b : Bay) (id : ℕ) (row : Option ℕ)
 sent-attributes c b id None = one-sent _
 sent-attributes c b id (Some place) = sent-if _ _ _ (one-sent _) (one-sent _)
 
-sent-served : (c : Client) (b : Bay) (id : ℕ) (a : Asking) → (served c id b a).sent ≢ []
+sent-served : (c : Client) (b : Bay) (id : ℕ) (a : Asking) → (service_answer c id b a).sent ≢ []
 sent-served c b id identify = sent-if _ _ _ (one-sent _) (one-sent _)
 sent-served c b id (names class place after) = sent-if _ _ _ (one-sent _) (one-sent _)
 sent-served c b id (attributes name) = sent-attributes c b id (row_named b name)
@@ -590,5 +595,5 @@ sent-answer c b (Err (UnknownService id)) = one-sent _
 sent-answer c b (Err (TooMany id)) = one-sent _
 sent-answer c b (Err OutOfMemory) = one-sent _
 
-pub answer-sent : (c : Client) (pdu : List ℕ) (b : Bay) → (answered c pdu b).sent ≢ []
+pub answer-sent : (c : Client) (pdu : List ℕ) (b : Bay) → (pdu_answer c pdu b).sent ≢ []
 answer-sent c pdu b = sent-answer c b (answer_to pdu)

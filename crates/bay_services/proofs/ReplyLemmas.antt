@@ -8,14 +8,14 @@ use Rattle.std.proofs.lemmas.List.{length-append}
 use Rattle.bay_ber.specs.Writing.{element, integer_octets}
 use Rattle.bay_ber.specs.declared.tag.Tag.{Tag}
 use Rattle.bay_ber.proofs.SizeLemmas.{length-element-is}
-use Rattle.bay_mms.proofs.PageLemmas.{more_than}
+use Rattle.bay_mms.proofs.PageLemmas.{more-than}
 use Rattle.bay_mms.specs.Tags.{constructed, int_tag}
 use Rattle.bay_mms.specs.Responses.{error_text, read_text, write_text}
 use Rattle.bay_mms.specs.declared.fault.EncodeFault.{EncodeFault}
 use Rattle.bay_mms.specs.declared.fault.EncodeFault.TheVariants.{TooLong, OutOfMemory}
 use Rattle.bay_mms.specs.declared.response.ErrorClass.TheVariants.{Resource}
-use Rattle.bay_mms.specs.Writing.{Adds, written}
-use Rattle.bay_services.specs.Answers.{Answered, read_done, responded, said, within, write_done}
+use Rattle.bay_mms.specs.Writing.{Adds, text_within}
+use Rattle.bay_services.specs.Answers.{Answered, read_done, response_answer, plain_answer, within, write_done}
 use Rattle.bay_services.specs.Bay.{Bay}
 use Rattle.bay_services.specs.Reads.{Reading}
 use Rattle.bay_services.specs.Replies.{fitting}
@@ -26,76 +26,79 @@ use Rattle.bay_services.specs.declared.client.Client.{Client}
 
 -- ---- what fits
 
-fits_if : (b : Bool) (pdu found : List ℕ) → cond b (Some pdu) None ≡ Some found
+fits-if : (b : Bool) (pdu found : List ℕ) → cond b (Some pdu) None ≡ Some found
     → (b ≡ true) × (found ≡ pdu)
-fits_if true pdu found is = (refl, cc)
-fits_if false pdu found is = absurd cc
+fits-if true pdu found is = (refl, cc)
+fits-if false pdu found is = absurd cc
 
-over_if : (b : Bool) (pdu : List ℕ) → cond b (Some pdu) None ≡ None → b ≡ false
-over_if true pdu is = absurd cc
-over_if false pdu is = refl
+over-if : (b : Bool) (pdu : List ℕ) → cond b (Some pdu) None ≡ None → b ≡ false
+over-if true pdu is = absurd cc
+over-if false pdu is = refl
 
 pub fits : (size : ℕ) (pdu found : List ℕ) → fitting size pdu ≡ Some found
     → (nat_le (length pdu) size ≡ true) × (found ≡ pdu)
-fits size pdu found is = fits_if (nat_le (length pdu) size) pdu found is
+fits size pdu found is = fits-if (nat_le (length pdu) size) pdu found is
 
 pub over : (size : ℕ) (pdu : List ℕ) → fitting size pdu ≡ None → nat_le (length pdu) size ≡ false
-over size pdu is = over_if (nat_le (length pdu) size) pdu is
+over size pdu is = over-if (nat_le (length pdu) size) pdu is
 
-pub within_fits : (c : Client) (id : ℕ) (b : Bay) (response found : List ℕ) (answer : Answered)
+pub within-fits : (c : Client) (id : ℕ) (b : Bay) (response found : List ℕ) (answer : Answered)
     → fitting c.size response ≡ Some found → within c id b response answer ≡ answer
-within_fits c id b response found answer is =
-    ap (λ t. cond t answer (said (error_text id Resource) b)) (fits c.size response found is).0
+within-fits c id b response found answer is =
+    ap (λ t. cond t answer (plain_answer (error_text id Resource) b))
+    (fits c.size response found is).0
 
-pub within_over : (c : Client) (id : ℕ) (b : Bay) (response : List ℕ) (answer : Answered)
+pub within-over : (c : Client) (id : ℕ) (b : Bay) (response : List ℕ) (answer : Answered)
     → fitting c.size response ≡ None
-    → within c id b response answer ≡ said (error_text id Resource) b
-within_over c id b response answer is =
-    ap (λ t. cond t answer (said (error_text id Resource) b)) (over c.size response is)
+    → within c id b response answer ≡ plain_answer (error_text id Resource) b
+within-over c id b response answer is =
+    ap (λ t. cond t answer (plain_answer (error_text id Resource) b)) (over c.size response is)
 
 -- ---- answers
 
 pub said_as : (r : Result Answer AllocError) (p : List ℕ) (b : Bay) (x : Answered)
-    → IfOk r (λ a. (d : Bay) → AnswersAs a d (said p d)) → x ≡ said p b
+    → IfOk r (λ a. (d : Bay) → AnswersAs a d (plain_answer p d)) → x ≡ plain_answer p b
     → IfOk r (λ a. AnswersAs a b x)
 said_as (Ok a) p b x told is = subst (AnswersAs a b) (sym is) (told b)
 said_as (Err e) p b x told is = tt
 
 pub said_alike : (r : Result Answer AllocError) (p q : List ℕ) → p ≡ q
-    → IfOk r (λ a. (d : Bay) → AnswersAs a d (said p d))
-    → IfOk r (λ a. (d : Bay) → AnswersAs a d (said q d))
+    → IfOk r (λ a. (d : Bay) → AnswersAs a d (plain_answer p d))
+    → IfOk r (λ a. (d : Bay) → AnswersAs a d (plain_answer q d))
 said_alike r p q is told =
-    subst (λ (s : List ℕ). IfOk r (λ a. (d : Bay) → AnswersAs a d (said s d))) is told
+    subst (λ (s : List ℕ). IfOk r (λ a. (d : Bay) → AnswersAs a d (plain_answer s d))) is told
 
-pub responded_fits : (c : Client) (id : ℕ) (b : Bay) (pdu found : List ℕ) (was : Option (List ℕ))
-    → was ≡ fitting c.size pdu → was ≡ Some found → responded c id b pdu ≡ said found b
-responded_fits c id b pdu found was is some =
+pub responded-fits : (c : Client) (id : ℕ) (b : Bay) (pdu found : List ℕ) (was : Option (List ℕ))
+    → was ≡ fitting c.size pdu → was ≡ Some found
+    → response_answer c id b pdu ≡ plain_answer found b
+responded-fits c id b pdu found was is some =
     let fit = sym is ∙ some in
-    within_fits c id b pdu found (said pdu b) fit
-    ∙ ap (λ p. said p b) (sym (fits c.size pdu found fit).1)
+    within-fits c id b pdu found (plain_answer pdu b) fit
+    ∙ ap (λ p. plain_answer p b) (sym (fits c.size pdu found fit).1)
 
-pub responded_over : (c : Client) (id : ℕ) (b : Bay) (pdu : List ℕ) (was : Option (List ℕ))
-    → was ≡ fitting c.size pdu → was ≡ None → responded c id b pdu ≡ said (error_text id Resource) b
-responded_over c id b pdu was is none = within_over c id b pdu (said pdu b) (sym is ∙ none)
+pub responded-over : (c : Client) (id : ℕ) (b : Bay) (pdu : List ℕ) (was : Option (List ℕ))
+    → was ≡ fitting c.size pdu → was ≡ None
+    → response_answer c id b pdu ≡ plain_answer (error_text id Resource) b
+responded-over c id b pdu was is none = within-over c id b pdu (plain_answer pdu b) (sym is ∙ none)
 
-pub read_fits : (c : Client) (id : ℕ) (b new : Bay) (r : Reading) (found : List ℕ)
+pub read-fits : (c : Client) (id : ℕ) (b new : Bay) (r : Reading) (found : List ℕ)
     (was : Option (List ℕ)) → was ≡ fitting c.size (read_text id r.results) → was ≡ Some found
-    → new ≡ r.bay → read_done c id b r ≡ said found new
-read_fits c id b new r found was is some at =
+    → new ≡ r.bay → read_done c id b r ≡ plain_answer found new
+read-fits c id b new r found was is some at =
     let fit = sym is ∙ some in
-    let whole : Bay → Answered = λ (d : Bay). said (read_text id r.results) d in
-    within_fits c id b (read_text id r.results) found _ fit ∙ ap whole (sym at)
-    ∙ ap (λ p. said p new) (sym (fits c.size (read_text id r.results) found fit).1)
+    let whole : Bay → Answered = λ (d : Bay). plain_answer (read_text id r.results) d in
+    within-fits c id b (read_text id r.results) found _ fit ∙ ap whole (sym at)
+    ∙ ap (λ p. plain_answer p new) (sym (fits c.size (read_text id r.results) found fit).1)
 
-pub read_over : (c : Client) (id : ℕ) (b : Bay) (r : Reading) (was : Option (List ℕ))
+pub read-over : (c : Client) (id : ℕ) (b : Bay) (r : Reading) (was : Option (List ℕ))
     → was ≡ fitting c.size (read_text id r.results) → was ≡ None
-    → read_done c id b r ≡ said (error_text id Resource) b
-read_over c id b r was is none = within_over c id b (read_text id r.results) _ (sym is ∙ none)
+    → read_done c id b r ≡ plain_answer (error_text id Resource) b
+read-over c id b r was is none = within-over c id b (read_text id r.results) _ (sym is ∙ none)
 
-pub write_over : (c : Client) (id : ℕ) (b : Bay) (w : Writing) (was : Option (List ℕ))
+pub write-over : (c : Client) (id : ℕ) (b : Bay) (w : Writing) (was : Option (List ℕ))
     → was ≡ fitting c.size (write_text id w.results) → was ≡ None
-    → write_done c id b w ≡ said (error_text id Resource) b
-write_over c id b w was is none = within_over c id b (write_text id w.results) _ (sym is ∙ none)
+    → write_done c id b w ≡ plain_answer (error_text id Resource) b
+write-over c id b w was is none = within-over c id b (write_text id w.results) _ (sym is ∙ none)
 
 -- ---- results of calls
 
@@ -122,51 +125,51 @@ too_long (Err OutOfMemory) size old new text P adds f = λ is. absurd cc
 
 -- ---- texts that are short enough
 
-pub is_written : (size : ℕ) (text : List ℕ) → length text ≤ size → written size text ≡ Ok text
-is_written size text few = rw (fits_limit size text few) refl
+pub is-written : (size : ℕ) (text : List ℕ) → length text ≤ size → text_within size text ≡ Ok text
+is-written size text few = rw (fits_limit size text few) refl
 
-over_written : (size : ℕ) (text : List ℕ) → size < length text → written size text ≡ Err TooLong
-over_written size text long = rw (past size text long) refl
+over-written : (size : ℕ) (text : List ℕ) → size < length text → text_within size text ≡ Err TooLong
+over-written size text long = rw (past size text long) refl
 
-pub fault_told : (e : EncodeFault) (size : ℕ) (text : List ℕ)
-    → (e ≡ TooLong → size < length text) → (e ≡ OutOfMemory) ⊎ (written size text ≡ Err e)
-fault_told TooLong size text long = inr (over_written size text (long refl))
-fault_told OutOfMemory size text long = inl refl
+pub fault-told : (e : EncodeFault) (size : ℕ) (text : List ℕ)
+    → (e ≡ TooLong → size < length text) → (e ≡ OutOfMemory) ⊎ (text_within size text ≡ Err e)
+fault-told TooLong size text long = inr (over-written size text (long refl))
+fault-told OutOfMemory size text long = inl refl
 
-pub fits_given : (size : ℕ) (pdu octets : List ℕ) → written size pdu ≡ Ok octets
+pub fits-given : (size : ℕ) (pdu octets : List ℕ) → text_within size pdu ≡ Ok octets
     → fitting size pdu ≡ Some octets
-fits_given size pdu octets is =
+fits-given size pdu octets is =
     elim (cases_lt size (length pdu)) [
-      | inl long ↦ let e : Err TooLong ≡ Ok octets = sym (over_written size pdu long) ∙ is in cc
+      | inl long ↦ let e : Err TooLong ≡ Ok octets = sym (over-written size pdu long) ∙ is in cc
       | inr few ↦
-          let e : Ok pdu ≡ Ok octets = sym (is_written size pdu few) ∙ is in
+          let e : Ok pdu ≡ Ok octets = sym (is-written size pdu few) ∙ is in
           let same : pdu ≡ octets = cc in
           rw (le-leb (length pdu) size few) (ap Some same)
     ]
 
-long_given : (size : ℕ) (pdu : List ℕ)
-    → (TooLong ≡ OutOfMemory) ⊎ (written size pdu ≡ Err TooLong) → fitting size pdu ≡ None
-long_given size pdu (inl memory) = cc
-long_given size pdu (inr is) =
+long-given : (size : ℕ) (pdu : List ℕ)
+    → (TooLong ≡ OutOfMemory) ⊎ (text_within size pdu ≡ Err TooLong) → fitting size pdu ≡ None
+long-given size pdu (inl memory) = cc
+long-given size pdu (inr is) =
     elim (cases_lt size (length pdu)) [
       | inl long ↦ rw (lt-leb (length pdu) size long) refl
-      | inr few ↦ let e : Ok pdu ≡ Err TooLong = sym (is_written size pdu few) ∙ is in cc
+      | inr few ↦ let e : Ok pdu ≡ Err TooLong = sym (is-written size pdu few) ∙ is in cc
     ]
 
-long_told : (made : Result (List ℕ) EncodeFault) (e : EncodeFault) (size : ℕ)
+long-told : (made : Result (List ℕ) EncodeFault) (e : EncodeFault) (size : ℕ)
     (pdu : List ℕ) → made ≡ Err e → e ≡ TooLong
-    → Gives OutOfMemory (λ (octets : List ℕ). octets) made (written size pdu)
+    → Gives OutOfMemory (λ (octets : List ℕ). octets) made (text_within size pdu)
     → fitting size pdu ≡ None
-long_told made e size pdu is told gives = long_given size pdu (rw (is, told) at gives)
+long-told made e size pdu is told gives = long-given size pdu (rw (is, told) at gives)
 
-pub lost_told : (r : Result (Option (List ℕ)) AllocError) (made : Result (List ℕ) EncodeFault)
+pub lost-told : (r : Result (Option (List ℕ)) AllocError) (made : Result (List ℕ) EncodeFault)
     (e : EncodeFault) (size : ℕ) (pdu : List ℕ) → made ≡ Err e
     → IfOk r (λ found. (found ≡ None) × (e ≡ TooLong))
-    → Gives OutOfMemory (λ (octets : List ℕ). octets) made (written size pdu)
+    → Gives OutOfMemory (λ (octets : List ℕ). octets) made (text_within size pdu)
     → IfOk r (λ found. found ≡ fitting size pdu)
-lost_told (Ok found) made e size pdu is h gives =
-    h.0 ∙ sym (long_told made e size pdu is h.1 gives)
-lost_told (Err none) made e size pdu is h gives = tt
+lost-told (Ok found) made e size pdu is h gives =
+    h.0 ∙ sym (long-told made e size pdu is h.1 gives)
+lost-told (Err none) made e size pdu is h gives = tt
 
 pub lost_none : (r : Result (Option (List ℕ)) AllocError) (P Q : Type 0)
     → IfOk r (λ found. (found ≡ None) × P) → IfOk r (λ found. IfSome found (λ octets. Q))
@@ -174,20 +177,20 @@ lost_none (Ok found) P Q h = rw h.0 tt
 lost_none (Err none) P Q h = tt
 
 -- a response has its results in it
-element_more : (tag : Tag) (content : List ℕ) → length content ≤ length (element tag content)
-element_more tag content = omega (arith, length-element-is tag content, more_than (length content))
+element-more : (tag : Tag) (content : List ℕ) → length content ≤ length (element tag content)
+element-more tag content = omega (arith, length-element-is tag content, more-than (length content))
 
-pub response_more : (id : ℕ) (results : List ℕ) → length results ≤ length (read_text id results)
-response_more id results =
+pub response-more : (id : ℕ) (results : List ℕ) → length results ≤ length (read_text id results)
+response-more id results =
     let one = element (constructed 1) results in
     let four = element (constructed 4) one in
     let number = element int_tag (integer_octets (pos id)) in
     omega (
       arith,
-      element_more (constructed 1) results,
-      element_more (constructed 4) one,
+      element-more (constructed 1) results,
+      element-more (constructed 4) one,
       length-append number four,
-      element_more (constructed 1) (number ++ four),
+      element-more (constructed 1) (number ++ four),
     )
 
 pub done : (r : Result (List ℕ) EncodeFault) (P : Type 0) → is_ok r ≡ true → OnOk r P → P

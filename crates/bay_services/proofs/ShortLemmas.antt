@@ -20,7 +20,7 @@ use Rattle.bay_mms.specs.Tags.{context}
 use Rattle.bay_mms.proofs.ShortLemmas.{error_short, reject_short}
 use Rattle.bay_ber.proofs.SizeLemmas.{length-element}
 use Rattle.bay_tree.specs.Rows.{name_at}
-use Rattle.bay_services.specs.Answers.{Answered, answer_of, attributes_at, read_asked, responded, said, served, write_asked}
+use Rattle.bay_services.specs.Answers.{Answered, answer_of, attributes_at, read_asked, response_answer, plain_answer, service_answer, write_asked}
 use Rattle.bay_services.specs.Bay.{Bay}
 use Rattle.bay_services.specs.Controls as controls
 use Rattle.bay_services.specs.Controls.{IsShort, ask_of, ending_of, endings, failed_report, has_reports, object_of, refusal_report, refusal_reports, termination_report, view_of}
@@ -39,250 +39,253 @@ use Rattle.bay_services.specs.declared.target.Target.{Target}
 abbrev pub AreShort : List (List ℕ) → Type 0
 AreShort pdus = All {X = List ℕ} (λ pdu. length pdu ≤ 65000) pdus
 
-none_long : AreShort []
-none_long = λ k d lt. absurd (omega arith)
+none-long : AreShort []
+none-long = λ k d lt. absurd (omega arith)
 
-one_short : (pdu : List ℕ) → length pdu ≤ 65000 → AreShort (pdu ∷ [])
-one_short pdu few zero d lt = few
-one_short pdu few (suc k) d lt = absurd (omega arith)
+one-short : (pdu : List ℕ) → length pdu ≤ 65000 → AreShort (pdu ∷ [])
+one-short pdu few zero d lt = few
+one-short pdu few (suc k) d lt = absurd (omega arith)
 
-both_short : (xs ys : List (List ℕ)) → AreShort xs → AreShort ys → AreShort (xs ++ ys)
-both_short xs ys a b = All-append (λ (pdu : List ℕ). length pdu ≤ 65000) xs ys a b
+both-short : (xs ys : List (List ℕ)) → AreShort xs → AreShort ys → AreShort (xs ++ ys)
+both-short xs ys a b = All-append (λ (pdu : List ℕ). length pdu ≤ 65000) xs ys a b
 
-error_fits : (id : ℕ) (class : ErrorClass) (b : Bay) → AreShort (said (error_text id class) b).sent
-error_fits id class b = one_short (error_text id class) (omega (arith, error_short id class))
+error-fits : (id : ℕ) (class : ErrorClass) (b : Bay)
+    → AreShort (plain_answer (error_text id class) b).sent
+error-fits id class b = one-short (error_text id class) (omega (arith, error_short id class))
 
-within_if : (c : Client) (id : ℕ) (b : Bay) (response : List ℕ) (answer : Answered) (t : Bool)
+within-if : (c : Client) (id : ℕ) (b : Bay) (response : List ℕ) (answer : Answered) (t : Bool)
     → (t ≡ true → AreShort answer.sent)
-    → AreShort (cond t answer (said (error_text id Resource) b)).sent
-within_if c id b response answer true short = short refl
-within_if c id b response answer false short = error_fits id Resource b
+    → AreShort (cond t answer (plain_answer (error_text id Resource) b)).sent
+within-if c id b response answer true short = short refl
+within-if c id b response answer false short = error-fits id Resource b
 
-fits_size : (size : ℕ) (pdu : List ℕ) → size ≤ 65000 → nat_le (length pdu) size ≡ true
+fits-size : (size : ℕ) (pdu : List ℕ) → size ≤ 65000 → nat_le (length pdu) size ≡ true
     → length pdu ≤ 65000
-fits_size size pdu most is = grind (arith, nat_tests)
+fits-size size pdu most is = grind (arith, nat_tests)
 
-responded_short : (c : Client) (id : ℕ) (b : Bay) (pdu : List ℕ) → c.size ≤ 65000
-    → AreShort (responded c id b pdu).sent
-responded_short c id b pdu most =
-    within_if c id b pdu (said pdu b) (nat_le (length pdu) c.size)
-    (λ is. one_short pdu (fits_size c.size pdu most is))
+responded-short : (c : Client) (id : ℕ) (b : Bay) (pdu : List ℕ) → c.size ≤ 65000
+    → AreShort (response_answer c id b pdu).sent
+responded-short c id b pdu most =
+    within-if c id b pdu (plain_answer pdu b) (nat_le (length pdu) c.size)
+    (λ is. one-short pdu (fits-size c.size pdu most is))
 
 -- ---- the reports of a write
 
-fitting_if : (size : ℕ) (pdu : List ℕ) (t : Bool) → nat_le (length pdu) size ≡ t → size ≤ 65000
+fitting-if : (size : ℕ) (pdu : List ℕ) (t : Bool) → nat_le (length pdu) size ≡ t → size ≤ 65000
     → AreShort (option_to_list (cond t (Some pdu) None))
-fitting_if size pdu true is most = one_short pdu (fits_size size pdu most is)
-fitting_if size pdu false is most = none_long
+fitting-if size pdu true is most = one-short pdu (fits-size size pdu most is)
+fitting-if size pdu false is most = none-long
 
-report_if : (c : Client) (pdu : List ℕ) (t : Bool) → c.size ≤ 65000
+report-if : (c : Client) (pdu : List ℕ) (t : Bool) → c.size ≤ 65000
     → AreShort (cond t (option_to_list (fitting c.size pdu)) [])
-report_if c pdu true most = fitting_if c.size pdu (nat_le (length pdu) c.size) refl most
-report_if c pdu false most = none_long
+report-if c pdu true most = fitting-if c.size pdu (nat_le (length pdu) c.size) refl most
+report-if c pdu false most = none-long
 
-refusals_short : (c : Client) (k : ℕ) (item : List ℕ) (control : Control) (b : Bay)
+refusals-short : (c : Client) (k : ℕ) (item : List ℕ) (control : Control) (b : Bay)
     (answer : Result (Unit {0}) AddCause) → c.size ≤ 65000
     → AreShort (refusal_reports c k item control b answer)
-refusals_short c k item control b (Ok done) most = none_long
-refusals_short c k item control b (Err why) most =
-    report_if c (refusal_report (object_of b item) control why) (has_reports b k) most
+refusals-short c k item control b (Ok done) most = none-long
+refusals-short c k item control b (Err why) most =
+    report-if c (refusal_report (object_of b item) control why) (has_reports b k) most
 
-more_short : (c : Client) (k : ℕ) (item : List ℕ) (control : Control) (w : Writing)
+more-short : (c : Client) (k : ℕ) (item : List ℕ) (control : Control) (w : Writing)
     (answer : Result (Unit {0}) AddCause) → c.size ≤ 65000 → AreShort w.reports
     → AreShort (w.reports ++ refusal_reports c k item control w.bay answer)
-more_short c k item control w answer most short =
-    both_short w.reports (refusal_reports c k item control w.bay answer) short
-    (refusals_short c k item control w.bay answer most)
+more-short c k item control w answer most short =
+    both-short w.reports (refusal_reports c k item control w.bay answer) short
+    (refusals-short c k item control w.bay answer most)
 
 -- ---- the reports of an end
 
-fitting_some : (size : ℕ) (pdu : List ℕ) (t : Bool) → nat_le (length pdu) size ≡ t → size ≤ 65000
+fitting-some : (size : ℕ) (pdu : List ℕ) (t : Bool) → nat_le (length pdu) size ≡ t → size ≤ 65000
     → IfSome (cond t (Some pdu) None) (λ p. length p ≤ 65000)
-fitting_some size pdu true is most = fits_size size pdu most is
-fitting_some size pdu false is most = tt
+fitting-some size pdu true is most = fits-size size pdu most is
+fitting-some size pdu false is most = tt
 
-ending_short : (c : Client) (item : List ℕ) (o : asked.Operate) (b : Bay) → c.size ≤ 65000
+ending-short : (c : Client) (item : List ℕ) (o : asked.Operate) (b : Bay) → c.size ≤ 65000
     → controls.AreShort (ending_of c item o b)
-ending_short c item o b most = record {
+ending-short c item o b most = record {
   positive =
-      fitting_some c.size (termination_report b.domain item o)
+      fitting-some c.size (termination_report b.domain item o)
       (nat_le (length (termination_report b.domain item o)) c.size) refl most;
   negative =
-      fitting_some c.size (failed_report (object_of b item) b.domain item o)
+      fitting-some c.size (failed_report (object_of b item) b.domain item o)
       (nat_le (length (failed_report (object_of b item) b.domain item o)) c.size) refl most;
 }
 
-endings_if : (c : Client) (item : List ℕ) (o : asked.Operate) (b : Bay) (t : Bool) → c.size ≤ 65000
+endings-if : (c : Client) (item : List ℕ) (o : asked.Operate) (b : Bay) (t : Bool) → c.size ≤ 65000
     → IsShort (cond t (Some (ending_of c item o b)) None)
-endings_if c item o b true most = ending_short c item o b most
-endings_if c item o b false most = tt
+endings-if c item o b true most = ending-short c item o b most
+endings-if c item o b false most = tt
 
-endings_short : (c : Client) (k : ℕ) (item : List ℕ) (o : asked.Operate) (b : Bay)
+endings-short : (c : Client) (k : ℕ) (item : List ℕ) (o : asked.Operate) (b : Bay)
     (answer : Result (Unit {0}) AddCause) → c.size ≤ 65000 → IsShort (endings c k item o b answer)
-endings_short c k item o b (Ok done) most = endings_if c item o b (has_reports b k) most
-endings_short c k item o b (Err why) most = tt
+endings-short c k item o b (Ok done) most = endings-if c item o b (has_reports b k) most
+endings-short c k item o b (Err why) most = tt
 
-later_short : (before later : Option Ending) → IsShort before → IsShort later
+later-short : (before later : Option Ending) → IsShort before → IsShort later
     → IsShort (later_ending before later)
-later_short before None a b = a
-later_short before (Some ending) a b = b
+later-short before None a b = a
+later-short before (Some ending) a b = b
 
 -- ---- what a write makes
 
 abbrev IsFit : Writing → Type 0
 IsFit w = AreShort w.reports × IsShort w.ending
 
-select_with_short : (c : Client) (k : ℕ) (item : List ℕ) (w : Writing)
+select-with-short : (c : Client) (k : ℕ) (item : List ℕ) (w : Writing)
     (x : Result asked.Operate ControlFault) → c.size ≤ 65000 → IsFit w
     → IsFit (select_with_asked c k item w x)
-select_with_short c k item w (Err fault) most short = short
-select_with_short c k item w (Ok o) most short = (
-  more_short c k item o.control w
+select-with-short c k item w (Err fault) most short = short
+select-with-short c k item w (Ok o) most short = (
+  more-short c k item o.control w
       (select_with_outcome c.association k (ask_of o) c.now w.bay.controls).answer most short.0,
   short.1,
 )
 
-operate_short : (c : Client) (k : ℕ) (item : List ℕ) (w : Writing)
+operate-short : (c : Client) (k : ℕ) (item : List ℕ) (w : Writing)
     (x : Result asked.Operate ControlFault) → c.size ≤ 65000 → IsFit w
     → IsFit (operate_asked c k item w x)
-operate_short c k item w (Err fault) most short = short
-operate_short c k item w (Ok o) most short =
+operate-short c k item w (Err fault) most short = short
+operate-short c k item w (Ok o) most short =
     let answer =
     (operate_outcome c.association k (ask_of o) (view_of c k w.bay) c.now w.bay.controls).answer
     in (
-      more_short c k item o.control w answer most short.0,
-      later_short w.ending (endings c k item o w.bay answer) short.1
-          (endings_short c k item o w.bay answer most),
+      more-short c k item o.control w answer most short.0,
+      later-short w.ending (endings c k item o w.bay answer) short.1
+          (endings-short c k item o w.bay answer most),
     )
 
-cancel_short : (c : Client) (k : ℕ) (item : List ℕ) (w : Writing) (x : Result Control ControlFault)
+cancel-short : (c : Client) (k : ℕ) (item : List ℕ) (w : Writing) (x : Result Control ControlFault)
     → c.size ≤ 65000 → IsFit w → IsFit (cancel_asked c k item w x)
-cancel_short c k item w (Err fault) most short = short
-cancel_short c k item w (Ok control) most short = (
-  more_short c k item control w (cancel_outcome c.association k c.now w.bay.controls).answer most
+cancel-short c k item w (Err fault) most short = short
+cancel-short c k item w (Ok control) most short = (
+  more-short c k item control w (cancel_outcome c.association k c.now w.bay.controls).answer most
       short.0,
   short.1,
 )
 
-part_short : (c : Client) (k : ℕ) (item : List ℕ) (given : Datum) (w : Writing) (part : ControlPart)
+part-short : (c : Client) (k : ℕ) (item : List ℕ) (given : Datum) (w : Writing) (part : ControlPart)
     → c.size ≤ 65000 → IsFit w → IsFit (write_part c k item given w part)
-part_short c k item given w Select most short = short
-part_short c k item given w SelectWith most short =
-    select_with_short c k item w (operate_in given) most short
-part_short c k item given w Operate most short =
-    operate_short c k item w (operate_in given) most short
-part_short c k item given w Cancel most short = cancel_short c k item w (cancel_in given) most short
+part-short c k item given w Select most short = short
+part-short c k item given w SelectWith most short =
+    select-with-short c k item w (operate_in given) most short
+part-short c k item given w Operate most short =
+    operate-short c k item w (operate_in given) most short
+part-short c k item given w Cancel most short = cancel-short c k item w (cancel_in given) most short
 
-target_short : (c : Client) (item : List ℕ) (given : Datum) (w : Writing) (t : Option Target)
+target-short : (c : Client) (item : List ℕ) (given : Datum) (w : Writing) (t : Option Target)
     → c.size ≤ 65000 → IsFit w → IsFit (write_target c item given w t)
-target_short c item given w None most short = short
-target_short c item given w (Some t) most short =
-    part_short c t.switch item given w t.part most short
+target-short c item given w None most short = short
+target-short c item given w (Some t) most short =
+    part-short c t.switch item given w t.part most short
 
-row_short : (c : Client) (given : Datum) (w : Writing) (place : Option ℕ) → c.size ≤ 65000 → IsFit w
+row-short : (c : Client) (given : Datum) (w : Writing) (place : Option ℕ) → c.size ≤ 65000 → IsFit w
     → IsFit (write_row c given w place)
-row_short c given w None most short = short
-row_short c given w (Some place) most short =
-    target_short c (name_at w.bay.rows place) given w
+row-short c given w None most short = short
+row-short c given w (Some place) most short =
+    target-short c (name_at w.bay.rows place) given w
     (target_of (length w.bay.switches) (name_at w.bay.rows place)) most short
 
-all_short : (c : Client) (ns : List Naming) (values : List Datum) (w : Writing) → c.size ≤ 65000
+all-short : (c : Client) (ns : List Naming) (values : List Datum) (w : Writing) → c.size ≤ 65000
     → IsFit w → IsFit (write_all c ns values w)
-all_short c [] values w most short = short
-all_short c (n ∷ ns) [] w most short = short
-all_short c (n ∷ ns) (given ∷ values) w most short =
-    all_short c ns values (write_one c n given w) most
-    (row_short c given w (row_named w.bay n) most short)
+all-short c [] values w most short = short
+all-short c (n ∷ ns) [] w most short = short
+all-short c (n ∷ ns) (given ∷ values) w most short =
+    all-short c ns values (write_one c n given w) most
+    (row-short c given w (row_named w.bay n) most short)
 
 -- ---- all answers
 
-attributes_short : (c : Client) (id : ℕ) (b : Bay) (place : Option ℕ) → c.size ≤ 65000
+attributes-short : (c : Client) (id : ℕ) (b : Bay) (place : Option ℕ) → c.size ≤ 65000
     → AreShort (attributes_at c id b place).sent
-attributes_short c id b None most = error_fits id NoSuchObject b
-attributes_short c id b (Some place) most = responded_short c id b _ most
+attributes-short c id b None most = error-fits id NoSuchObject b
+attributes-short c id b (Some place) most = responded-short c id b _ most
 
-read_short : (c : Client) (id : ℕ) (b : Bay) (ns : List Naming) → c.size ≤ 65000
+read-short : (c : Client) (id : ℕ) (b : Bay) (ns : List Naming) → c.size ≤ 65000
     → AreShort (read_asked c id b ns).sent
-read_short c id b ns most =
+read-short c id b ns most =
     let text = read_text id (read_all c ns (nothing_read b)).results in
-    within_if c id b text _ (nat_le (length text) c.size)
-    (λ is. one_short text (fits_size c.size text most is))
+    within-if c id b text _ (nat_le (length text) c.size)
+    (λ is. one-short text (fits-size c.size text most is))
 
-write_short : (c : Client) (id : ℕ) (b : Bay) (ns : List Naming) (values : List Datum)
+write-short : (c : Client) (id : ℕ) (b : Bay) (ns : List Naming) (values : List Datum)
     → c.size ≤ 65000 → AreShort (write_asked c id b ns values).sent
-write_short c id b ns values most =
+write-short c id b ns values most =
     let w = write_all c ns values (nothing_written b) in
     let text = write_text id w.results in
-    within_if c id b text _ (nat_le (length text) c.size)
-    (λ is. both_short w.reports (text ∷ [])
-    (all_short c ns values (nothing_written b) most (none_long, tt)).0
-    (one_short text (fits_size c.size text most is)))
+    within-if c id b text _ (nat_le (length text) c.size)
+    (λ is. both-short w.reports (text ∷ [])
+    (all-short c ns values (nothing_written b) most (none-long, tt)).0
+    (one-short text (fits-size c.size text most is)))
 
-served_short : (c : Client) (id : ℕ) (b : Bay) (x : Asking) → c.size ≤ 65000
-    → AreShort (served c id b x).sent
-served_short c id b identify most = responded_short c id b _ most
-served_short c id b (names class place after) most = responded_short c id b _ most
-served_short c id b (attributes name) most = attributes_short c id b (row_named b name) most
-served_short c id b (read ns) most = read_short c id b ns most
-served_short c id b (write ns values) most = write_short c id b ns values most
+served-short : (c : Client) (id : ℕ) (b : Bay) (x : Asking) → c.size ≤ 65000
+    → AreShort (service_answer c id b x).sent
+served-short c id b identify most = responded-short c id b _ most
+served-short c id b (names class place after) most = responded-short c id b _ most
+served-short c id b (attributes name) most = attributes-short c id b (row_named b name) most
+served-short c id b (read ns) most = read-short c id b ns most
+served-short c id b (write ns values) most = write-short c id b ns values most
 
-rejected_fits : (id : Option ℕ) (reason : RejectReason) → AreShort (reject_text id reason ∷ [])
-rejected_fits id reason = one_short (reject_text id reason) (omega (arith, reject_short id reason))
+rejected-fits : (id : Option ℕ) (reason : RejectReason) → AreShort (reject_text id reason ∷ [])
+rejected-fits id reason = one-short (reject_text id reason) (omega (arith, reject_short id reason))
 
-pub answer_short : (c : Client) (b : Bay) (x : Result Message MmsFault) → c.size ≤ 65000
+pub answer-short : (c : Client) (b : Bay) (x : Result Message MmsFault) → c.size ≤ 65000
     → AreShort (answer_of c b x).sent
-answer_short c b (Ok (initiate proposal)) most = rejected_fits None InvalidPdu
-answer_short c b (Ok conclude) most =
-    one_short concluded_text (omega (arith, length-element (context 12) []))
-answer_short c b (Ok (confirmed id x)) most = served_short c id b x most
-answer_short c b (Err (BadPdu known)) most = rejected_fits known InvalidPdu
-answer_short c b (Err (UnknownService id)) most = rejected_fits (Some id) UnrecognizedService
-answer_short c b (Err (TooMany id)) most = error_fits id Resource b
-answer_short c b (Err OutOfMemory) most = rejected_fits None InvalidPdu
+answer-short c b (Ok (initiate proposal)) most = rejected-fits None InvalidPdu
+answer-short c b (Ok conclude) most =
+    one-short concluded_text (omega (arith, length-element (context 12) []))
+answer-short c b (Ok (confirmed id x)) most = served-short c id b x most
+answer-short c b (Err (BadPdu known)) most = rejected-fits known InvalidPdu
+answer-short c b (Err (UnknownService id)) most = rejected-fits (Some id) UnrecognizedService
+answer-short c b (Err (TooMany id)) most = error-fits id Resource b
+answer-short c b (Err OutOfMemory) most = rejected-fits None InvalidPdu
 
 -- ---- the ends that all answers tell of
 
-ending_within : (c : Client) (id : ℕ) (b : Bay) (response : List ℕ) (answer : Answered) (t : Bool)
-    → IsShort answer.ending → IsShort (cond t answer (said (error_text id Resource) b)).ending
-ending_within c id b response answer true short = short
-ending_within c id b response answer false short = tt
+ending-within : (c : Client) (id : ℕ) (b : Bay) (response : List ℕ) (answer : Answered) (t : Bool)
+    → IsShort answer.ending → IsShort
+    (cond t answer (plain_answer (error_text id Resource) b)).ending
+ending-within c id b response answer true short = short
+ending-within c id b response answer false short = tt
 
-responded_end : (c : Client) (id : ℕ) (b : Bay) (pdu : List ℕ)
-    → IsShort (responded c id b pdu).ending
-responded_end c id b pdu = ending_within c id b pdu (said pdu b) (nat_le (length pdu) c.size) tt
+responded-end : (c : Client) (id : ℕ) (b : Bay) (pdu : List ℕ)
+    → IsShort (response_answer c id b pdu).ending
+responded-end c id b pdu =
+    ending-within c id b pdu (plain_answer pdu b) (nat_le (length pdu) c.size) tt
 
-attributes_end : (c : Client) (id : ℕ) (b : Bay) (place : Option ℕ)
+attributes-end : (c : Client) (id : ℕ) (b : Bay) (place : Option ℕ)
     → IsShort (attributes_at c id b place).ending
-attributes_end c id b None = tt
-attributes_end c id b (Some place) = responded_end c id b _
+attributes-end c id b None = tt
+attributes-end c id b (Some place) = responded-end c id b _
 
-read_end : (c : Client) (id : ℕ) (b : Bay) (ns : List Naming)
+read-end : (c : Client) (id : ℕ) (b : Bay) (ns : List Naming)
     → IsShort (read_asked c id b ns).ending
-read_end c id b ns =
+read-end c id b ns =
     let text = read_text id (read_all c ns (nothing_read b)).results in
-    ending_within c id b text _ (nat_le (length text) c.size) tt
+    ending-within c id b text _ (nat_le (length text) c.size) tt
 
-write_end : (c : Client) (id : ℕ) (b : Bay) (ns : List Naming) (values : List Datum)
+write-end : (c : Client) (id : ℕ) (b : Bay) (ns : List Naming) (values : List Datum)
     → c.size ≤ 65000 → IsShort (write_asked c id b ns values).ending
-write_end c id b ns values most =
+write-end c id b ns values most =
     let text = write_text id (write_all c ns values (nothing_written b)).results in
-    ending_within c id b text _ (nat_le (length text) c.size)
-    (all_short c ns values (nothing_written b) most (none_long, tt)).1
+    ending-within c id b text _ (nat_le (length text) c.size)
+    (all-short c ns values (nothing_written b) most (none-long, tt)).1
 
-served_end : (c : Client) (id : ℕ) (b : Bay) (x : Asking) → c.size ≤ 65000
-    → IsShort (served c id b x).ending
-served_end c id b identify most = responded_end c id b _
-served_end c id b (names class place after) most = responded_end c id b _
-served_end c id b (attributes name) most = attributes_end c id b (row_named b name)
-served_end c id b (read ns) most = read_end c id b ns
-served_end c id b (write ns values) most = write_end c id b ns values most
+served-end : (c : Client) (id : ℕ) (b : Bay) (x : Asking) → c.size ≤ 65000
+    → IsShort (service_answer c id b x).ending
+served-end c id b identify most = responded-end c id b _
+served-end c id b (names class place after) most = responded-end c id b _
+served-end c id b (attributes name) most = attributes-end c id b (row_named b name)
+served-end c id b (read ns) most = read-end c id b ns
+served-end c id b (write ns values) most = write-end c id b ns values most
 
-pub answer_end : (c : Client) (b : Bay) (x : Result Message MmsFault) → c.size ≤ 65000
+pub answer-end : (c : Client) (b : Bay) (x : Result Message MmsFault) → c.size ≤ 65000
     → IsShort (answer_of c b x).ending
-answer_end c b (Ok (initiate proposal)) most = tt
-answer_end c b (Ok conclude) most = tt
-answer_end c b (Ok (confirmed id x)) most = served_end c id b x most
-answer_end c b (Err (BadPdu known)) most = tt
-answer_end c b (Err (UnknownService id)) most = tt
-answer_end c b (Err (TooMany id)) most = tt
-answer_end c b (Err OutOfMemory) most = tt
+answer-end c b (Ok (initiate proposal)) most = tt
+answer-end c b (Ok conclude) most = tt
+answer-end c b (Ok (confirmed id x)) most = served-end c id b x most
+answer-end c b (Err (BadPdu known)) most = tt
+answer-end c b (Err (UnknownService id)) most = tt
+answer-end c b (Err (TooMany id)) most = tt
+answer-end c b (Err OutOfMemory) most = tt

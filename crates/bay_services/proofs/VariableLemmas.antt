@@ -6,7 +6,7 @@ use Rattle.bay_ber.specs.Spelling.{Spells}
 use Rattle.bay_ber.specs.Values.{Part, SpellAll, value}
 use Rattle.bay_ber.specs.Writing.{element, integer_octets, length_octets}
 use Rattle.bay_ber.specs.declared.tag.Tag.{Tag}
-use Rattle.bay_ber.proofs.WriteLemmas.{element_spells}
+use Rattle.bay_ber.proofs.WriteLemmas.{element-spells}
 use Rattle.bay_nodes.specs.declared.switch.Switch.{Switch}
 use Rattle.bay_tree.specs.Rows.{name_at, names_of, place_of, with_leaf_of}
 use Rattle.bay_tree.specs.declared.leaf.Leaf.{Leaf}
@@ -31,11 +31,11 @@ use Rattle.bay_mms.specs.Requests.{Naming, vmd, domain, association}
 use Rattle.bay_mms.specs.Responses.{failure_result, text_result}
 use Rattle.bay_mms.specs.Tags.{context}
 use Rattle.bay_mms.specs.declared.fault.ControlFault.{ControlFault}
-use Rattle.bay_mms.proofs.LawLemmas.{datum_spells}
+use Rattle.bay_mms.proofs.LawLemmas.{datum-spells}
 use Rattle.bay_services.specs.Accepted.{AreNamedAlike, act_of_read, act_of_write, cancel_act, is_granted, is_some_text, is_success, operate_act, read_accepted, read_act, select_with_act, write_accepted, write_act}
-use Rattle.bay_services.specs.Bay.{Bay, is_selected, shown, with_controls}
+use Rattle.bay_services.specs.Bay.{Bay, is_selected, rows_shown, with_controls}
 use Rattle.bay_services.specs.Controls.{ask_of, object_of, view_of}
-use Rattle.bay_services.specs.Entries.{call_of_read, call_of_write, cancel_call, operate_call, read_call, read_entries, seen, select_with_call, target_at, write_call, write_entries}
+use Rattle.bay_services.specs.Entries.{call_of_read, call_of_write, cancel_call, operate_call, read_call, read_entries, entries_of_call, select_with_call, target_at, write_call, write_entries}
 use Rattle.bay_services.specs.Reads.{Reading, read_all, read_one, read_part, read_row, read_target, selected_text, value_read}
 use Rattle.bay_services.specs.Rows.{row_named}
 use Rattle.bay_services.specs.Targets.{target_of}
@@ -60,11 +60,11 @@ names-with-leaf name v (r ∷ rows) =
     (names-with-leaf name v rows)
 
 names-shown : (selected : Option ℕ) (count : ℕ) (rows : List Row)
-    → names_of (shown selected count rows) ≡ names_of rows
+    → names_of (rows_shown selected count rows) ≡ names_of rows
 names-shown selected zero rows = refl
 names-shown selected (suc k) rows =
     names-with-leaf ((control_names k).selected) (leaf.Truth (is_selected k selected))
-    (shown selected k rows) ∙ names-shown selected k rows
+    (rows_shown selected k rows) ∙ names-shown selected k rows
 
 pub alike-still : (b d : Bay) (controls : State) → AreNamedAlike b d
     → AreNamedAlike b (with_controls controls d)
@@ -122,7 +122,7 @@ within-element tag content = omega (arith, length-append (length_octets (length 
 pub spells-element : (tag : Tag) (content : List ℕ) → tag.number < 31
     → length (element tag content) < 4294967296 → Spells (element tag content) tag content
 spells-element tag content small short =
-    element_spells tag content small (omega (arith, within-element tag content))
+    element-spells tag content small (omega (arith, within-element tag content))
 
 pub spell-one : (tag : Tag) (content : List ℕ) → tag.number < 31
     → length (element tag content) < 4294967296
@@ -144,14 +144,14 @@ record OneRead (c : Client) (asks : Option Act) (asked : Option Call) (r next : 
   front : List ℕ
   is : next.results ≡ r.results ++ front
   spelled : length front < 4294967296 → Spells front part.tag part.content
-  told : entries_of c.now asks (is_granted part) ≡ seen c r.bay asked
+  told : entries_of c.now asks (is_granted part) ≡ entries_of_call c r.bay asked
 
 data-read : (c : Client) (place : ℕ) (r : Reading) → OneRead c None None r (value_read place r)
 data-read c place r = record {
   part = value (datum_tag (data_at r.bay.rows place)) (datum_content (data_at r.bay.rows place));
   front = datum_text (data_at r.bay.rows place);
   is = refl;
-  spelled = datum_spells (data_at r.bay.rows place) (node-small (node_at r.bay.rows place));
+  spelled = datum-spells (data_at r.bay.rows place) (node-small (node_at r.bay.rows place));
   told = refl;
 }
 
@@ -246,7 +246,7 @@ all-read c b (name ∷ ns) r alike =
     let rest : AllRead c b ns next =
     all-read c b ns next (read-row-alike b c r (row_named r.bay name) alike) in
     let here : entries_of c.now (act_of_read c.association (target_at b (row_named b name)))
-    (is_granted one.part) ≡ seen c r.bay (call_of_read c target) =
+    (is_granted one.part) ≡ entries_of_call c r.bay (call_of_read c target) =
     ap (λ (t : Option Target). entries_of c.now (act_of_read c.association t) (is_granted one.part))
     (sym (named-target b r.bay name alike)) ∙ one.told in
     record {
@@ -273,7 +273,7 @@ record OneWritten (c : Client) (asks : Option Act) (asked : Option Call) (w next
   front : List ℕ
   is : next.results ≡ w.results ++ front
   spelled : length front < 4294967296 → Spells front part.tag part.content
-  told : entries_of c.now asks (is_success part) ≡ seen c w.bay asked
+  told : entries_of c.now asks (is_success part) ≡ entries_of_call c w.bay asked
 
 nothing-done : (c : Client) (number : ℕ) (w : Writing)
     → OneWritten c None None w (write_failed number w)
@@ -449,7 +449,7 @@ all-written c b (name ∷ ns) (given ∷ values) w alike =
     let rest : AllWritten c b ns values next =
     all-written c b ns values next (write-row-alike b c given w (row_named w.bay name) alike) in
     let here : entries_of c.now (act_of_write c.association given (target_at b (row_named b name)))
-    (is_success one.part) ≡ seen c w.bay (call_of_write c w.bay given target) =
+    (is_success one.part) ≡ entries_of_call c w.bay (call_of_write c w.bay given target) =
     ap (λ (t : Option Target). entries_of c.now (act_of_write c.association given t)
     (is_success one.part)) (sym (named-target b w.bay name alike)) ∙ one.told in
     record {

@@ -19,13 +19,13 @@ there switches lent k d is within =
     slice_get-get_or switches k d within
     ∙ ap (λ (s : List BoundSwitch). Some (get_or s k d)) (sym is)
 
-pub seen_position : (switches : List BoundSwitch) (rows : List Row) (k : ℕ) (bound : BoundSwitch)
+pub seen-position : (switches : List BoundSwitch) (rows : List Row) (k : ℕ) (bound : BoundSwitch)
     (p : Dbpos) → slice_get switches k ≡ Some bound
     → switch_in (layout_of rows) bound.rows ≡ switch_names (switches_of switches) k bound.switch
     → leaf_of (name_in (layout_of rows) bound.rows.position.value) rows ≡ Some (leaf.Dbpos p)
     → p ≡ dbpos_of (position_leaf (switches_of switches) rows k
     (slice_get (switches_of switches) k))
-seen_position switches rows k bound p here named stands =
+seen-position switches rows k bound p here named stands =
     let switch : slice_get (switches_of switches) k ≡ Some bound.switch =
     slice_get-map (λ (b : BoundSwitch). b.switch) switches k
     ∙ ap (λ o. option_map (λ (b : BoundSwitch). b.switch) o) here in
@@ -35,16 +35,16 @@ seen_position switches rows k bound p here named stands =
     sym (ap (λ (o : Option Switch). dbpos_of (position_leaf (switches_of switches) rows k o)) switch
     ∙ ap dbpos_of at)
 
-pub seen_opening : (switches : List Switch) (rows : List Row) (k : ℕ) (bound : BoundSwitch)
+pub seen-opening : (switches : List Switch) (rows : List Row) (k : ℕ) (bound : BoundSwitch)
     → switch_in (layout_of rows) bound.rows ≡ switch_names switches k bound.switch
     → is_truth true (leaf_of (name_in (layout_of rows) bound.rows.ena_opn.value) rows)
     ≡ is_truth true (leaf_of (opening_of k).value rows)
-seen_opening switches rows k bound named =
+seen-opening switches rows k bound named =
     ap (λ (n : SwitchNames). is_truth true (leaf_of n.ena_opn.value rows)) named
 
-pub seen_closing : (switches : List Switch) (rows : List Row) (k : ℕ) (bound : BoundSwitch)
+pub seen-closing : (switches : List Switch) (rows : List Row) (k : ℕ) (bound : BoundSwitch)
     → switch_in (layout_of rows) bound.rows ≡ switch_names switches k bound.switch
     → is_truth true (leaf_of (name_in (layout_of rows) bound.rows.ena_cls.value) rows)
     ≡ is_truth true (leaf_of (closing_of k).value rows)
-seen_closing switches rows k bound named =
+seen-closing switches rows k bound named =
     ap (λ (n : SwitchNames). is_truth true (leaf_of n.ena_cls.value rows)) named

@@ -32,31 +32,31 @@ pub record Answered : Type 0 where
   pub after : Bay
 
 -- an answer that does nothing
-abbrev pub said : List ℕ → Bay → Answered
-said pdu b = record { sent = pdu ∷ []; commands = []; ending = None; after = b }
+abbrev pub plain_answer : List ℕ → Bay → Answered
+plain_answer pdu b = record { sent = pdu ∷ []; commands = []; ending = None; after = b }
 
 -- A response of more octets than are agreed is answered by an error of the class resource, and
 -- nothing is done.
 abbrev pub within : Client → ℕ → Bay → List ℕ → Answered → Answered
 within c id b response answer =
-    if nat_le (length response) c.size then answer else said (error_text id Resource) b
+    if nat_le (length response) c.size then answer else plain_answer (error_text id Resource) b
 
 -- a response that does nothing else
-abbrev pub responded : Client → ℕ → Bay → List ℕ → Answered
-responded c id b response = within c id b response (said response b)
+abbrev pub response_answer : Client → ℕ → Bay → List ℕ → Answered
+response_answer c id b response = within c id b response (plain_answer response b)
 
 -- ---- the services
 
-abbrev pub identified : Client → ℕ → Bay → Answered
-identified c id b =
-    responded c id b (response.confirmed id
+abbrev pub identify_answer : Client → ℕ → Bay → Answered
+identify_answer c id b =
+    response_answer c id b (response.confirmed_response id
     (element (constructed 2) (identity_text b.vendor b.model b.revision)))
 
 -- the type of a variable, which can't be deleted by a client
 abbrev pub attributes_at : Client → ℕ → Bay → Option ℕ → Answered
-attributes_at c id b None = said (error_text id NoSuchObject) b
+attributes_at c id b None = plain_answer (error_text id NoSuchObject) b
 attributes_at c id b (Some place) =
-    responded c id b (response.confirmed id
+    response_answer c id b (response.confirmed_response id
     (element (constructed 6)
     (element (context 0) (truth_octets false)
     ++ element (constructed 2) (type_text (type_at b.rows place)))))
@@ -85,38 +85,39 @@ write_asked c id b ns values =
     write_done c id b (write_all c ns values (nothing_written b))
 
 -- the answer to a confirmed request
-abbrev pub served : Client → ℕ → Bay → Asking → Answered
-served c id b identify = identified c id b
-served c id b (names class place after) = responded c id b (listing c id class place after b)
-served c id b (attributes name) = attributes_at c id b (row_named b name)
-served c id b (read ns) = read_asked c id b ns
-served c id b (write ns values) = write_asked c id b ns values
+abbrev pub service_answer : Client → ℕ → Bay → Asking → Answered
+service_answer c id b identify = identify_answer c id b
+service_answer c id b (names class place after) =
+    response_answer c id b (listing c id class place after b)
+service_answer c id b (attributes name) = attributes_at c id b (row_named b name)
+service_answer c id b (read ns) = read_asked c id b ns
+service_answer c id b (write ns values) = write_asked c id b ns values
 
 -- ---- the PDUs
 
 -- a reject, with the invoke id where it was read
-abbrev pub rejected : Option ℕ → RejectReason → Bay → Answered
-rejected id reason b = said (reject_text id reason) b
+abbrev pub reject_answer : Option ℕ → RejectReason → Bay → Answered
+reject_answer id reason b = plain_answer (reject_text id reason) b
 
 -- An association is opened elsewhere: an initiate here is no PDU that is served, and has no invoke
 -- id.
-abbrev pub asked : Client → Bay → Message → Answered
-asked c b (initiate proposal) = rejected None InvalidPdu b
-asked c b conclude = said concluded_text b
-asked c b (confirmed id asking) = served c id b asking
+abbrev pub message_answer : Client → Bay → Message → Answered
+message_answer c b (initiate proposal) = reject_answer None InvalidPdu b
+message_answer c b conclude = plain_answer concluded_text b
+message_answer c b (confirmed id asking) = service_answer c id b asking
 
 -- the answer to a PDU that is not taken
-abbrev pub refused : MmsFault → Bay → Answered
-refused (BadPdu known) b = rejected known InvalidPdu b
-refused (UnknownService id) b = rejected (Some id) UnrecognizedService b
-refused (TooMany id) b = said (error_text id Resource) b
-refused OutOfMemory b = rejected None InvalidPdu b
+abbrev pub refusal_answer : MmsFault → Bay → Answered
+refusal_answer (BadPdu known) b = reject_answer known InvalidPdu b
+refusal_answer (UnknownService id) b = reject_answer (Some id) UnrecognizedService b
+refusal_answer (TooMany id) b = plain_answer (error_text id Resource) b
+refusal_answer OutOfMemory b = reject_answer None InvalidPdu b
 
 -- the answer to what was read of a PDU
 abbrev pub answer_of : Client → Bay → Result Message MmsFault → Answered
-answer_of c b (Ok message) = asked c b message
-answer_of c b (Err fault) = refused fault b
+answer_of c b (Ok message) = message_answer c b message
+answer_of c b (Err fault) = refusal_answer fault b
 
 -- What octets that a client sent as a PDU of MMS are answered, and what they do.
-abbrev pub answered : Client → List ℕ → Bay → Answered
-answered c pdu b = answer_of c b (answer_to pdu)
+abbrev pub pdu_answer : Client → List ℕ → Bay → Answered
+pdu_answer c pdu b = answer_of c b (answer_to pdu)

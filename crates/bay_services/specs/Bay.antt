@@ -5,7 +5,7 @@ use Rattle.bay_nodes.specs.Names.{control_names}
 use Rattle.bay_tree.specs.Rows.{with_leaf_of}
 use Rattle.bay_tree.specs.declared.row.Row.{Row}
 use Rattle.bay_tree.specs.declared.leaf.Leaf.TheVariants as leaf
-use Rattle.bay_control.specs.Decisions.{State, restored, selected_switch}
+use Rattle.bay_control.specs.Decisions.{State, with_standing, selected_switch}
 use Rattle.bay_control.specs.declared.selection.Standing.{Standing}
 
 -- a bay: its name and its nameplate, its switches, the rows of its tree, and its controls
@@ -24,24 +24,25 @@ is_selected k None = false
 is_selected k (Some j) = j == k
 
 -- the rows with stSeld of each of so many switches: TRUE for the one that is selected
-abbrev pub shown : Option ℕ → ℕ → List Row → List Row
-shown selected zero rows = rows
-shown selected (suc k) rows =
+abbrev pub rows_shown : Option ℕ → ℕ → List Row → List Row
+rows_shown selected zero rows = rows
+rows_shown selected (suc k) rows =
     with_leaf_of ((control_names k).selected) (leaf.Truth (is_selected k selected))
-    (shown selected k rows)
+    (rows_shown selected k rows)
 
 -- The rows show which of so many switches is selected.
 abbrev pub ShowSelection : State → ℕ → List Row → Type 0
-ShowSelection controls count rows = shown (selected_switch controls.selection) count rows ≡ rows
+ShowSelection controls count rows =
+    rows_shown (selected_switch controls.selection) count rows ≡ rows
 
 -- a bay with these controls, whose selection its rows show
 abbrev pub with_controls : State → Bay → Bay
 with_controls controls b =
     record b {
       controls = controls;
-      rows = shown (selected_switch controls.selection) (length b.switches) b.rows;
+      rows = rows_shown (selected_switch controls.selection) (length b.switches) b.rows;
     }
 
 -- a bay with what stood before
 abbrev pub standing_again : Standing → Bay → Bay
-standing_again standing b = with_controls (restored standing b.controls) b
+standing_again standing b = with_controls (with_standing standing b.controls) b

@@ -72,22 +72,22 @@ call_of_write c b given (Some t) = write_call c b given t.switch t.part
 -- ---- what is seen of it
 
 -- what was asked at a moment, and whether the controls accepted it
-abbrev pub seen : Client → Bay → Option Call → List Entry
-seen c b None = []
-seen c b (Some asked) =
+abbrev pub entries_of_call : Client → Bay → Option Call → List Entry
+entries_of_call c b None = []
+entries_of_call c b (Some asked) =
     entries_of c.now (act_of asked) (is_ok (outcome_of asked c.now b.controls).answer)
 
 abbrev pub read_entries : Client → List Naming → Reading → List Entry
 read_entries c [] r = []
 read_entries c (name ∷ ns) r =
-    seen c r.bay (call_of_read c (target_at r.bay (row_named r.bay name)))
+    entries_of_call c r.bay (call_of_read c (target_at r.bay (row_named r.bay name)))
     ++ read_entries c ns (read_one c name r)
 
 abbrev pub write_entries : Client → List Naming → List Datum → Writing → List Entry
 write_entries c [] values w = []
 write_entries c (name ∷ ns) [] w = []
 write_entries c (name ∷ ns) (given ∷ values) w =
-    seen c w.bay (call_of_write c w.bay given (target_at w.bay (row_named w.bay name)))
+    entries_of_call c w.bay (call_of_write c w.bay given (target_at w.bay (row_named w.bay name)))
     ++ write_entries c ns values (write_one c name given w)
 
 -- what a response answers that is not too long; the others do nothing

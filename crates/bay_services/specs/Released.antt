@@ -3,7 +3,7 @@ use Rattle.std.specs.Prelude.{ℕ, ◌≡◌, ◌≢◌, ◌≤◌, Bool, true, 
 use Rattle.bay_tree.specs.Rows.{leaf_of}
 use Rattle.bay_nodes.specs.Names.{closing_of, control_names, opening_of}
 use Rattle.bay_process.specs.Values.{is_truth}
-use Rattle.bay_control.specs.Decisions.{advanced}
+use Rattle.bay_control.specs.Decisions.{controls_at}
 use Rattle.bay_control.specs.Requests.{control_of, is_controlled}
 use Rattle.bay_control.specs.declared.control.SwitchControl.{SwitchControl}
 use Rattle.bay_control.specs.declared.selection.Execution.{Execution}
@@ -21,7 +21,7 @@ releasing k false = (opening_of k).value
 pub record IsReleased (c : Client) (b : Bay) (command : Command) : Type 0 where
   pub fresh : c.fresh ≡ true
   pub enabled : is_truth true (leaf_of (releasing command.switch command.on) b.rows) ≡ true
-  pub idle : (advanced c.now b.controls).execution ≡ None
+  pub idle : (controls_at c.now b.controls).execution ≡ None
 
 -- a name that tells of no selection
 abbrev pub TellsNoSelection : List ℕ → Type 0
@@ -31,8 +31,8 @@ TellsNoSelection name = (k : ℕ) → name ≢ (control_names k).selected
 pub record Leaves (now : ℕ) (before after : Bay) : Type 0 where
   pub values : (name : List ℕ) → TellsNoSelection name
       → leaf_of name after.rows ≡ leaf_of name before.rows
-  pub busy : (e : Execution) → (advanced now before.controls).execution ≡ Some e
-      → (advanced now after.controls).execution ≡ Some e
+  pub busy : (e : Execution) → (controls_at now before.controls).execution ≡ Some e
+      → (controls_at now after.controls).execution ≡ Some e
 
 -- A switch that can be operated takes some time, so what operates it lasts beyond its moment.
 abbrev pub AreTimed : List SwitchControl → Type 0

@@ -46,8 +46,8 @@ decision_result (Err why) = failure_result 3
 
 -- a decision on a control: the bay after it, its result, and where it refuses the report of that,
 -- which names the control
-abbrev pub decided : Client → ℕ → List ℕ → Control → Outcome → Writing → Writing
-decided c k item control o w = record w {
+abbrev pub after_decision : Client → ℕ → List ℕ → Control → Outcome → Writing → Writing
+after_decision c k item control o w = record w {
   bay = with_controls o.after w.bay;
   results = w.results ++ decision_result o.answer;
   reports = w.reports ++ refusal_reports c k item control w.bay o.answer;
@@ -64,8 +64,8 @@ later_ending before None = before
 later_ending before (Some ending) = Some ending
 
 -- an operate after its decision
-abbrev pub operated : Client → ℕ → List ℕ → asked.Operate → Outcome → Writing → Writing
-operated c k item o outcome w = record (decided c k item o.control outcome w) {
+abbrev pub after_operate : Client → ℕ → List ℕ → asked.Operate → Outcome → Writing → Writing
+after_operate c k item o outcome w = record (after_decision c k item o.control outcome w) {
   commands = w.commands ++ commands_for k o outcome.answer;
   ending = later_ending w.ending (endings c k item o w.bay outcome.answer);
 }
@@ -74,20 +74,21 @@ abbrev pub select_with_asked : Client → ℕ → List ℕ → Writing → Resul
     → Writing
 select_with_asked c k item w (Err fault) = write_failed (control_code_of fault) w
 select_with_asked c k item w (Ok o) =
-    decided c k item o.control (select_with_outcome c.association k (ask_of o) c.now w.bay.controls)
+    after_decision c k item o.control
+    (select_with_outcome c.association k (ask_of o) c.now w.bay.controls)
     w
 
 abbrev pub operate_asked : Client → ℕ → List ℕ → Writing → Result asked.Operate ControlFault
     → Writing
 operate_asked c k item w (Err fault) = write_failed (control_code_of fault) w
 operate_asked c k item w (Ok o) =
-    operated c k item o (operate_outcome c.association k (ask_of o) (view_of c k w.bay) c.now
+    after_operate c k item o (operate_outcome c.association k (ask_of o) (view_of c k w.bay) c.now
     w.bay.controls) w
 
 abbrev pub cancel_asked : Client → ℕ → List ℕ → Writing → Result Control ControlFault → Writing
 cancel_asked c k item w (Err fault) = write_failed (control_code_of fault) w
 cancel_asked c k item w (Ok control) =
-    decided c k item control (cancel_outcome c.association k c.now w.bay.controls) w
+    after_decision c k item control (cancel_outcome c.association k c.now w.bay.controls) w
 
 -- the part of a control that is written, as a whole; SBO is read alone
 abbrev pub write_part : Client → ℕ → List ℕ → Datum → Writing → ControlPart → Writing

@@ -1,10 +1,10 @@
 // What clients ask of controls, decided, with the selection shown in the tree.
 ghost use Rattle.std.specs.Prelude.{◌≡◌, ◌<◌, length};
-ghost use Rattle.bay_control.specs.Decisions.{advanced, cancel_outcome, dropped, operate_outcome, select_outcome, run_out, select_with_outcome, selected_switch, standing_of};
+ghost use Rattle.bay_control.specs.Decisions.{controls_at, cancel_outcome, without_association, operate_outcome, select_outcome, run_out, select_with_outcome, selected_switch, standing_of};
 ghost use Rattle.bay_control.specs.declared.selection.Standing.{Standing};
 ghost use Rattle.bay_process.specs.Controls.{AreAllControlRows};
 ghost use Rattle.bay_process.specs.Layout.{layout_of};
-ghost use Rattle.bay_services.specs.Bay.{shown, standing_again, with_controls};
+ghost use Rattle.bay_services.specs.Bay.{rows_shown, standing_again, with_controls};
 ghost use Rattle.bay_services.specs.Bay as spec;
 ghost use Rattle.bay_services.specs.Controls.{view_of};
 ghost use Rattle.bay_services.specs.Views.{bay_view};
@@ -31,7 +31,7 @@ fn is_selected(selected: Option<usize>, switch: usize) -> bool
 /// Shows in the tree which switch is selected (IEC 61850-7-3, stSeld).
 pub fn show(tree: &mut Tree, rows: &[ControlRows], selected: Option<usize>)
     requires { AreAllControlRows tree.old rows.now }
-    ensures rows { tree.new ≡ shown selected (length rows.now) tree.old }
+    ensures rows { tree.new ≡ rows_shown selected (length rows.now) tree.old }
     ensures layout { layout_of tree.new ≡ layout_of tree.old }
 {
     for switch in 0..rows.len() {
@@ -46,7 +46,7 @@ pub fn show(tree: &mut Tree, rows: &[ControlRows], selected: Option<usize>)
 /// Lets the tree show which switch is selected.
 fn show_selection(tree: &mut Tree, rows: &Listing<ControlRows>, controls: &Controls)
     requires { AreAllControlRows tree.old rows.now }
-    ensures rows { tree.new ≡ shown (selected_switch controls.now.selection) (length rows.now)
+    ensures rows { tree.new ≡ rows_shown (selected_switch controls.now.selection) (length rows.now)
         tree.old }
     ensures layout { layout_of tree.new ≡ layout_of tree.old }
 {
@@ -182,7 +182,7 @@ impl ServedBay {
         ensures run_out { result
             ≡ run_out now self.old.controls.controls self.old.controls.execution }
         ensures after { bay_view self.new
-            ≡ with_controls (advanced now self.old.controls) (bay_view self.old) }
+            ≡ with_controls (controls_at now self.old.controls) (bay_view self.old) }
         ensures switches { self.new.switches ≡ self.old.switches }
         ensures layout { layout_of self.new.tree ≡ layout_of self.old.tree }
     {
@@ -197,7 +197,8 @@ impl ServedBay {
     /// Ends the selection of an association, which is closed.
     pub fn drop_owner(&mut self, association: u16)
         ensures after { bay_view self.new
-            ≡ with_controls (dropped association self.old.controls) (bay_view self.old) }
+            ≡ with_controls (without_association association self.old.controls)
+            (bay_view self.old) }
         ensures switches { self.new.switches ≡ self.old.switches }
         ensures layout { layout_of self.new.tree ≡ layout_of self.old.tree }
     {

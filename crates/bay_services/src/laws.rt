@@ -6,7 +6,7 @@ ghost use Rattle.bay_control.specs.Happenings.{Leads};
 ghost use Rattle.bay_mms.specs.Grammar.{answer_to};
 ghost use Rattle.bay_nodes.specs.Names.{control_names};
 ghost use Rattle.bay_services.specs.Accepted.{AreNamedAlike, accepted_in, first_response, may_be_reported};
-ghost use Rattle.bay_services.specs.Answers.{answered};
+ghost use Rattle.bay_services.specs.Answers.{pdu_answer};
 ghost use Rattle.bay_services.specs.Bay.{Bay, ShowSelection};
 ghost use Rattle.bay_services.specs.Entries.{entries_in, operates_in};
 ghost use Rattle.bay_services.specs.Released.{AreTimed, IsReleased, Leaves};
@@ -29,20 +29,20 @@ pub fn selection_stays_shown()
 /// value of the tree but which switch is selected, nor what is operating.
 pub fn commands_are_released()
     ensures operated { (c : Client) (pdu : List ℕ) (b : Bay)
-        → (answered c pdu b).commands ≡ operates_in (entries_in c pdu b) }
+        → (pdu_answer c pdu b).commands ≡ operates_in (entries_in c pdu b) }
     ensures released { (c : Client) (pdu : List ℕ) (b : Bay)
-        → All (IsReleased c b) (answered c pdu b).commands }
+        → All (IsReleased c b) (pdu_answer c pdu b).commands }
     ensures single { (c : Client) (pdu : List ℕ) (b : Bay) → AreTimed b.controls.controls
-        → length (answered c pdu b).commands ≤ 1 }
+        → length (pdu_answer c pdu b).commands ≤ 1 }
     ensures leaves { (c : Client) (pdu : List ℕ) (b : Bay)
-        → Leaves c.now b (answered c pdu b).after }
+        → Leaves c.now b (pdu_answer c pdu b).after }
 {}
 
 /// What a PDU of an open association asks of the controls leads them from those before it to those
 /// after it: what is seen of that are its entries. No request opens or closes an association.
 pub fn requests_lead()
     ensures { (c : Client) (pdu : List ℕ) (b : Bay) (opens : ℕ → Bool) → opens c.association ≡ true
-        → Leads (entries_in c pdu b) opens b.controls opens (answered c pdu b).after.controls }
+        → Leads (entries_in c pdu b) opens b.controls opens (pdu_answer c pdu b).after.controls }
 {}
 
 /// What the octets of a response tell, beside the names of a bay's variables, is what the PDU asked
@@ -53,8 +53,8 @@ pub fn answers_tell()
     ensures { (c : Client) (pdu : List ℕ) (named b : Bay) (later : List (List ℕ)) → c.size ≤ 65000
         → AreNamedAlike named b
         → (accepted_in c.now c.association pdu named
-        (first_response (may_be_reported (answer_to pdu)) ((answered c pdu b).sent ++ later)).0
+        (first_response (may_be_reported (answer_to pdu)) ((pdu_answer c pdu b).sent ++ later)).0
         ≡ entries_in c pdu b)
-        × ((first_response (may_be_reported (answer_to pdu)) ((answered c pdu b).sent ++ later)).1
+        × ((first_response (may_be_reported (answer_to pdu)) ((pdu_answer c pdu b).sent ++ later)).1
         ≡ later) }
 {}

@@ -6,7 +6,7 @@ ghost use Rattle.bay_mms.specs.RequestViews.{place};
 ghost use Rattle.bay_mms.specs.Requests.{in_domain};
 ghost use Rattle.bay_mms.specs.Responses.{error_text, page_text};
 ghost use Rattle.bay_mms.specs.declared.response.ErrorClass.TheVariants.{NoSuchObject};
-ghost use Rattle.bay_mms.specs.Writing.{written};
+ghost use Rattle.bay_mms.specs.Writing.{text_within};
 ghost use Rattle.bay_services.specs.Names.{domain_names, listing, no_names, variable_names};
 ghost use Rattle.bay_services.specs.Views.{bay_view};
 
@@ -30,7 +30,7 @@ const DOMAIN: i64 = 9;
 fn write_unknown(alloc: Global, client: Client, id: u32) -> Result<Outgoing, EncodeFault>
     requires { 256 ≤ client.size }
     ensures { Gives EncodeFault.OutOfMemory (λ octets. octets) result
-        (written client.size (error_text id NoSuchObject)) }
+        (text_within client.size (error_text id NoSuchObject)) }
 {
     let error = write_error(alloc, id, ErrorClass::NoSuchObject)?;
     Ok(error)
@@ -44,7 +44,7 @@ fn write_names(
     names: &[Text],
 ) -> Result<Outgoing, EncodeFault>
     ensures { Gives EncodeFault.OutOfMemory (λ octets. octets) result
-        (written client.size (page_text id names.now false)) }
+        (text_within client.size (page_text id names.now false)) }
 {
     let service = Service::Names { names, more: false };
     write_response(alloc, &Response::Confirmed { id, service }, client.size)
@@ -59,7 +59,7 @@ fn write_none(
 ) -> Result<Outgoing, EncodeFault>
     requires { 256 ≤ client.size }
     ensures { Gives EncodeFault.OutOfMemory (λ octets. octets) result
-        (written client.size (no_names id (option_copied after.entry))) }
+        (text_within client.size (no_names id (option_copied after.entry))) }
 {
     match after {
         None => write_names(alloc, client, id, &[]),
@@ -78,7 +78,8 @@ impl ServedBay {
     ) -> Result<Outgoing, EncodeFault>
         requires { 256 ≤ client.size }
         ensures { Gives EncodeFault.OutOfMemory (λ octets. octets) result
-            (written client.size (domain_names id (bay_view self.now) (option_copied after.entry))) }
+            (text_within client.size
+            (domain_names id (bay_view self.now) (option_copied after.entry))) }
     {
         match after {
             None => {
@@ -106,7 +107,8 @@ impl ServedBay {
         requires least { 256 ≤ client.size }
         requires most { client.size ≤ 65_000 }
         ensures { Gives EncodeFault.OutOfMemory (λ octets. octets) result
-            (written client.size (variable_names client id (bay_view self.now) (option_copied after.entry))) }
+            (text_within client.size
+            (variable_names client id (bay_view self.now) (option_copied after.entry))) }
     {
         match write_page(alloc, id, &self.tree, after, client.size) {
             Ok(page) => Ok(page),
@@ -128,7 +130,8 @@ impl ServedBay {
         requires least { 256 ≤ client.size }
         requires most { client.size ≤ 65_000 }
         ensures { Gives EncodeFault.OutOfMemory (λ octets. octets) result
-            (written client.size (listing client id class (in_domain domain.now) (option_copied after.entry)
+            (text_within client.size
+            (listing client id class (in_domain domain.now) (option_copied after.entry)
             (bay_view self.now))) }
     {
         if domain != self.domain.as_str().as_bytes() {
@@ -154,7 +157,8 @@ impl ServedBay {
         requires least { 256 ≤ client.size }
         requires most { client.size ≤ 65_000 }
         ensures { Gives EncodeFault.OutOfMemory (λ octets. octets) result
-            (written client.size (listing client id class.now (place scope.now) (option_copied after.entry)
+            (text_within client.size
+            (listing client id class.now (place scope.now) (option_copied after.entry)
             (bay_view self.now))) }
     {
         let class = *class;

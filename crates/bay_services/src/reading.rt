@@ -66,7 +66,8 @@ impl ServedBay {
     ) -> Result<(), EncodeFault>
         requires { IsHandle self.old.tree row }
         ensures ok { OnOk result (reading self.new response.new.octets
-            ≡ select_done client switch (name_at self.old.tree row) (reading self.old response.old.octets)
+            ≡ select_done client switch (name_at self.old.tree row)
+            (reading self.old response.old.octets)
             (select_outcome client.association switch client.now self.old.controls)) }
         ensures long { IfErr result (λ fault. fault ≡ TooLong
             → response.old.size < length (select_done client switch (name_at self.old.tree row)
@@ -102,7 +103,8 @@ impl ServedBay {
             ≡ spec.read_row client (reading self.old response.old.octets) (Some row)) }
         ensures long { IfErr result
             (λ fault. fault ≡ TooLong
-            → response.old.size < length (spec.read_row client (reading self.old response.old.octets)
+            → response.old.size < length
+            (spec.read_row client (reading self.old response.old.octets)
             (Some row)).results) }
         ensures size { response.new.size ≡ response.old.size }
         ensures back { (standing : Standing)

@@ -1,7 +1,7 @@
 // Answers within the size of a PDU.
 ghost use Rattle.std.specs.Prelude.{◌≡◌, None, List, ℕ, IfOk, IfSome, is_ok, true};
 ghost use Rattle.bay_base.specs.Exact.{Gives};
-ghost use Rattle.bay_mms.specs.Writing.{written};
+ghost use Rattle.bay_mms.specs.Writing.{text_within};
 ghost use Rattle.bay_services.specs.Replies as spec;
 
 use bay_ber::outgoing::Outgoing;
@@ -21,7 +21,7 @@ fn lost(fault: EncodeFault) -> Result<Option<Outgoing>, AllocError>
 /// A PDU that was made, if it has no more octets than it may have.
 pub fn fitting(made: Result<Outgoing, EncodeFault>) -> Result<Option<Outgoing>, AllocError>
     ensures pdu { (size : ℕ) (pdu : List ℕ)
-        → Gives EncodeFault.OutOfMemory (λ octets. octets) made (written size pdu)
+        → Gives EncodeFault.OutOfMemory (λ octets. octets) made (text_within size pdu)
         → IfOk result (λ found. found ≡ spec.fitting size pdu) }
     ensures made { IfOk result (λ found. IfSome found (λ _. is_ok made ≡ true)) }
 {

@@ -5,9 +5,9 @@ ghost use Rattle.bay_control.specs.declared.selection.Standing.{Standing};
 ghost use Rattle.bay_mms.specs.RequestViews.{asking, naming};
 ghost use Rattle.bay_mms.specs.Responses.{concluded_text, error_text, read_text};
 ghost use Rattle.bay_mms.specs.Views.{data_in};
-ghost use Rattle.bay_mms.specs.Writing.{written};
+ghost use Rattle.bay_mms.specs.Writing.{text_within};
 ghost use Rattle.bay_process.specs.Layout.{layout_of};
-ghost use Rattle.bay_services.specs.Answers.{Answered, answer_of, answered, attributes_at, identified, read_asked, served, write_asked};
+ghost use Rattle.bay_services.specs.Answers.{Answered, answer_of, pdu_answer, attributes_at, identify_answer, read_asked, service_answer, write_asked};
 ghost use Rattle.bay_services.specs.Answers as spec;
 ghost use Rattle.bay_services.specs.Bay.{Bay, standing_again};
 ghost use Rattle.bay_services.specs.Rows.{row_named};
@@ -34,7 +34,7 @@ use std::alloc::{AllocError, Global};
 
 // An answer that does nothing.
 fn said(alloc: Global, pdu: Outgoing) -> Result<Answer, AllocError>
-    ensures { IfOk result (λ answer. (b : Bay) → AnswersAs answer b (spec.said pdu b)) }
+    ensures { IfOk result (λ answer. (b : Bay) → AnswersAs answer b (spec.plain_answer pdu b)) }
 {
     Ok(Answer {
         sent: vec![in alloc; pdu]?,
@@ -46,7 +46,7 @@ fn said(alloc: Global, pdu: Outgoing) -> Result<Answer, AllocError>
 // An error, which does nothing.
 fn failed(alloc: Global, id: u32, class: ErrorClass) -> Result<Answer, AllocError>
     ensures { IfOk result (λ answer. (b : Bay)
-        → AnswersAs answer b (spec.said (error_text id class) b)) }
+        → AnswersAs answer b (spec.plain_answer (error_text id class) b)) }
 {
     let error = write_error(alloc, id, class)?;
     said(alloc, error)
@@ -54,7 +54,8 @@ fn failed(alloc: Global, id: u32, class: ErrorClass) -> Result<Answer, AllocErro
 
 // A reject, which does nothing.
 fn rejected(alloc: Global, id: Option<u32>, reason: RejectReason) -> Result<Answer, AllocError>
-    ensures { IfOk result (λ answer. (b : Bay) → AnswersAs answer b (spec.rejected id reason b)) }
+    ensures { IfOk result (λ answer. (b : Bay)
+        → AnswersAs answer b (spec.reject_answer id reason b)) }
 {
     let reject = write_reject(alloc, id, reason)?;
     said(alloc, reject)
@@ -62,7 +63,8 @@ fn rejected(alloc: Global, id: Option<u32>, reason: RejectReason) -> Result<Answ
 
 // The answer to a conclude, which does nothing.
 fn concluded(alloc: Global) -> Result<Answer, AllocError>
-    ensures { IfOk result (λ answer. (b : Bay) → AnswersAs answer b (spec.said concluded_text b)) }
+    ensures { IfOk result (λ answer. (b : Bay)
+        → AnswersAs answer b (spec.plain_answer concluded_text b)) }
 {
     let conclude = write_conclude(alloc)?;
     said(alloc, conclude)
@@ -70,7 +72,8 @@ fn concluded(alloc: Global) -> Result<Answer, AllocError>
 
 // What answers octets that ask for nothing that is served.
 fn refused(alloc: Global, fault: MmsFault) -> Result<Answer, AllocError>
-    ensures told { IfOk result (λ answer. (b : Bay) → AnswersAs answer b (spec.refused fault b)) }
+    ensures told { IfOk result
+        (λ answer. (b : Bay) → AnswersAs answer b (spec.refusal_answer fault b)) }
     ensures memory { IfOk result (λ _. fault ≢ MmsFault.OutOfMemory) }
 {
     match fault {
@@ -92,8 +95,8 @@ fn responded(
 ) -> Result<Answer, AllocError>
     ensures { (pdu : List ℕ) (b : Bay)
         → Gives EncodeFault.OutOfMemory (λ octets. octets) response
-        (written client.size pdu)
-        → IfOk result (λ answer. AnswersAs answer b (spec.responded client id b pdu)) }
+        (text_within client.size pdu)
+        → IfOk result (λ answer. AnswersAs answer b (spec.response_answer client id b pdu)) }
 {
     match fitting(response)? {
         Some(pdu) => said(alloc, pdu),
@@ -105,7 +108,7 @@ impl ServedBay {
     // Who made the device, its model and its revision.
     fn identify(&self, alloc: Global, client: Client, id: u32) -> Result<Answer, AllocError>
         ensures { IfOk result (λ answer. AnswersAs answer (bay_view self.now)
-            (identified client id (bay_view self.now))) }
+            (identify_answer client id (bay_view self.now))) }
     {
         let service = Service::Identify {
             vendor: self.vendor.as_str(),
@@ -152,7 +155,7 @@ impl ServedBay {
         names: &[ObjectName<'_>],
     ) -> Result<Outgoing, EncodeFault>
         ensures response { Gives EncodeFault.OutOfMemory (λ octets. octets) result
-            (written client.size (read_text id
+            (text_within client.size (read_text id
             (read_all client (map naming names.now) (nothing_read (bay_view self.old))).results)) }
         ensures after { OnOk result
             (bay_view self.new ≡ (read_all client (map naming names.now)
@@ -258,7 +261,7 @@ impl ServedBay {
         requires most { client.size ≤ 65_000 }
         ensures ok { IfOk result
             (λ answer. AnswersAs answer (bay_view self.new)
-            (served client id (bay_view self.old) (asking call.now))) }
+            (service_answer client id (bay_view self.old) (asking call.now))) }
         ensures back { (standing : Standing)
             → standing_again standing (bay_view self.new)
             ≡ standing_again standing (bay_view self.old) }
@@ -323,7 +326,7 @@ impl ServedBay {
         requires most { client.size ≤ 65_000 }
         ensures ok { IfOk result
             (λ answer. AnswersAs answer (bay_view self.new)
-            (answered client pdu.now (bay_view self.old))) }
+            (pdu_answer client pdu.now (bay_view self.old))) }
         ensures short { IfOk result (λ answer. All (λ pdu. length pdu ≤ 65_000) answer.sent.items) }
         ensures ending { IfOk result (λ answer. IsShort answer.ending) }
         ensures err { OnErr result (bay_view self.new ≡ bay_view self.old) }

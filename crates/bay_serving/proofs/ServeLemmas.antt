@@ -9,7 +9,7 @@ use Rattle.bay_device.specs.declared.fault.LoadFault.TheVariants.{Refused, OutOf
 use Rattle.bay_device.specs.declared.report.Report.{Report}
 use Rattle.bay_io.specs.Watched.{Writing}
 use Rattle.bay_io.specs.declared.outbox.WriteFault.{WriteFault}
-use Rattle.bay_report.proofs.ReportLemmas.{nil_from_length}
+use Rattle.bay_report.proofs.ReportLemmas.{nil-from-length}
 use Rattle.bay_serving.specs.Host.{HostCall, Pauses, Tells}
 use Rattle.bay_report.specs.Load.{LoadsTo}
 use Rattle.bay_report.specs.Report.{IsLast, Prints, report_text}
@@ -40,7 +40,7 @@ told-some k (b ∷ bs) lines e = refl
 told-none : (k : ℕ) (line : List ℕ) (lines : List (List ℕ)) → (length line == 0) ≡ true
     → told_lines k (line ∷ lines) ≡ told_lines (k + 1) lines
 told-none k line lines e =
-    ap (λ l. told_lines k (l ∷ lines)) (nil_from_length line (grind (arith, nat_tests)))
+    ap (λ l. told_lines k (l ∷ lines)) (nil-from-length line (grind (arith, nat_tests)))
 
 module _ (k : ℕ) (text : List ℕ) (all : List (ℕ × List ℕ)) (is : told_lines k (lines_of text) ≡ all)
   where
@@ -62,7 +62,7 @@ module _ (k : ℕ) (text : List ℕ) (all : List (ℕ × List ℕ)) (is : told_l
     pub told-end : (length text == 0) ≡ true → all ≡ []
     told-end e =
         sym is ∙ ap (λ t. told_lines k (lines_of t))
-        (nil_from_length text (grind (arith, nat_tests)))
+        (nil-from-length text (grind (arith, nat_tests)))
 
 -- ---- a link that has another below it, to which each call goes
 
@@ -206,15 +206,15 @@ module _ {L H W : Type 0} (step : L → Call → L → Type 0) (acts : H → Hos
   tells-cut : (now : ℕ) (turn : Turn) (s : State) (old new : Writing W) (one other : WriteFault)
       → TellsTurn contents asks now turn s old new (Err one)
       → TellsTurn contents asks now turn s old new (Err other)
-  tells-cut now turn s old new one other tells = by_quiet (is_quiet turn) tells
+  tells-cut now turn s old new one other tells = by-quiet (is_quiet turn) tells
     where
-      by_quiet : (b : Bool) → MatchBool b
+      by-quiet : (b : Bool) → MatchBool b
           ((new ≡ old) × (◌≡◌ {A = Result ℕ WriteFault} (Err one) (Ok 0)))
           (Prints contents asks (IsLast (turn_text now turn s) 0) old new (Err one))
           → MatchBool b ((new ≡ old) × (◌≡◌ {A = Result ℕ WriteFault} (Err other) (Ok 0)))
           (Prints contents asks (IsLast (turn_text now turn s) 0) old new (Err other))
-      by_quiet true stays = let e = stays.1 in absurd cc
-      by_quiet false prints = prints
+      by-quiet true stays = let e = stays.1 in absurd cc
+      by-quiet false prints = prints
 
   news-cut : (now : ℕ) (news : Option News) (old new : Writing W) (one other : WriteFault)
       → TellsNews contents asks now news old new (Err one)
@@ -240,12 +240,12 @@ module _ {L H W : Type 0} (step : L → Call → L → Type 0) (acts : H → Hos
       → TurnGoes step acts contents asks line before old after new (Err one)
       → TurnGoes step acts contents asks line before old after new (Err other)
   goes-cut line before old after new one other goes =
-      by_outcome goes.outcome goes.printed goes.hears
+      by-outcome goes.outcome goes.printed goes.hears
     where
       now : ℕ
       now = moment_at goes.clock before.held
 
-      by_outcome : (r : Result ℕ WriteFault)
+      by-outcome : (r : Result ℕ WriteFault)
           → TellsTurn contents asks now goes.turn after.held.device old goes.between r
           → AfterTurn r
           ((after.process ≡ before.process) × (new ≡ goes.between)
@@ -253,7 +253,7 @@ module _ {L H W : Type 0} (step : L → Call → L → Type 0) (acts : H → Hos
           (Hears step contents asks now goes.turn after.held.device before.process after.process
           goes.between new (Err one))
           → TurnGoes step acts contents asks line before old after new (Err other)
-      by_outcome (Ok status) printed hears = record {
+      by-outcome (Ok status) printed hears = record {
         clock = goes.clock;
         told = goes.told;
         turn = goes.turn;
@@ -265,7 +265,7 @@ module _ {L H W : Type 0} (step : L → Call → L → Type 0) (acts : H → Hos
             hears-cut now goes.turn after.held.device before.process after.process goes.between new
             one other hears;
       }
-      by_outcome (Err fault) printed hears = record {
+      by-outcome (Err fault) printed hears = record {
         clock = goes.clock;
         told = goes.told;
         turn = goes.turn;

@@ -1,3 +1,15 @@
+-- Serving files over a port. What a call of the system did is a relation of whoever implements it.
+--
+-- `Serve` is the main file: files are read and loaded, the load's line is printed, the port is
+-- bound, and turns are served; at the first of these that fails it says what is printed, and that
+-- nothing more was done. `ServeReport`: so many turns, each with its line. In each the clock was
+-- asked, the turn is one of bay_serve's, and what it tells was printed and flushed; up to a turn
+-- that is not done, or whose lines could not be written.
+--
+-- `Host`: what serving asks of the system: ports and links, the clock's time, a pause. `Choosing`:
+-- the line of a turn. `TurnLines`: what is printed for a turn, and for one that is not done.
+-- `Serving`: what one try of a turn comes to.
+
 -- What public clauses cite of the crates below.
 pub use Rattle.bay_files.specs.Files
 pub use Rattle.bay_port.specs.Attending

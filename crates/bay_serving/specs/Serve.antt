@@ -17,7 +17,7 @@ use Rattle.bay_report.specs.Report.{IsLast, Prints, Refuses, UnreadReport, repor
 use Rattle.bay_report.specs.TextLines.{lines_of}
 use Rattle.bay_serving.specs.ServeReport.{Hearing, ServesTurns, told_lines}
 use Rattle.bay_port.specs.Ports.{bare}
-use Rattle.bay_port.specs.declared.port.Standing.TheVariants.{Away}
+use Rattle.bay_port.specs.declared.port.Presence.TheVariants.{Away}
 use Rattle.bay_report.specs.declared.load.Form.{Form}
 use Rattle.bay_serving.specs.declared.serve.Numbers.{Numbers}
 use Rattle.bay_serve.specs.Calls.{Call}

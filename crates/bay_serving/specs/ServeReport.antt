@@ -8,7 +8,7 @@ use Rattle.bay_io.specs.declared.outbox.WriteFault.{WriteFault}
 use Rattle.bay_serving.specs.Host.{HostCall, Tells, Pauses}
 use Rattle.bay_report.specs.Report.{IsLast, Prints}
 use Rattle.bay_serving.specs.TurnLines.{is_quiet, news_text, turn_text, unserved_text}
-use Rattle.bay_port.specs.Attending.{Attends, attended}
+use Rattle.bay_port.specs.Attending.{Attends, attendance}
 use Rattle.bay_port.specs.Ports.{PortData, is_leaving, taken_line}
 use Rattle.bay_port.specs.Telling.{told_text}
 use Rattle.bay_port.specs.declared.news.News.{News}
@@ -81,14 +81,14 @@ is_gone None = false
 is_gone (Some p) = is_leaving p.port.standing
 
 -- a line of the process has no number
-abbrev pub unnumbered : List ℕ → ℕ × List ℕ
-unnumbered text = (0, text)
+abbrev pub without_number : List ℕ → ℕ × List ℕ
+without_number text = (0, text)
 
 -- the line that the port of the process has
 abbrev pub from_port : {L : Type 0} → State → List (ℕ × List ℕ) → Option (Hearing L) → Chosen L
 from_port s lines None = record { line = None; lines = lines; process = None }
 from_port s lines (Some p) = record {
-  line = option_map unnumbered (taken_line s p.port).line;
+  line = option_map without_number (taken_line s p.port).line;
   lines = lines;
   process = Some (record { link = p.link; port = (taken_line s p.port).port });
 }
@@ -134,7 +134,7 @@ module _ {L W : Type 0} (step : L → Call → L → Type 0) (contents : W → O
   pub record AttendsTo (now : ℕ) (turn : Turn) (s : State) (before after : Hearing L)
       (old new : Writing W) (answer : Result ℕ WriteFault) : Type 0 where
     pub news : Option News
-    pub attends : Attends step (λ script. attended (told_text now turn s) s script before.port)
+    pub attends : Attends step (λ script. attendance (told_text now turn s) s script before.port)
         before.link after.link after.port news
     pub printed : TellsNews contents asks now news old new answer
 

@@ -1,12 +1,13 @@
 // A link that knows whether its calls have left anything to do at once.
 ghost use Rattle.std.specs.Prelude.{◌≡◌};
 
-use bay_serve::link::{Got, Link, LinkFault};
+use bay_serve::link::{Arrival, Link, LinkFault};
 
 /// A link of which it is known whether its calls may have left something that can be done without
-/// waiting: a connection was taken, a read filled its room, a client's end was seen, a connection was
-/// closed, or a call failed. A read that did not fill its room has emptied the socket, and a write
-/// has been given all that waits: behind them there is something to do only once a socket is ready.
+/// waiting: a connection was taken, a read filled its room, a client's end was seen, a connection
+/// was closed, or a call failed. A read that did not fill its room has emptied the socket, and a
+/// write has been given all that waits: behind them there is something to do only once a socket is
+/// ready.
 #[derive(Drop)]
 pub struct BusyLink<L> {
     link: L,
@@ -45,12 +46,12 @@ impl<L: Link> Link for BusyLink<L> {
         answer
     }
 
-    fn read(&mut self, a: u16, room: &mut [u8]) -> Result<Got, LinkFault> {
+    fn read(&mut self, a: u16, room: &mut [u8]) -> Result<Arrival, LinkFault> {
         let answer = self.link.read(a, room);
         self.is_busy |= match answer {
-            Ok(Got::Nothing) => false,
-            Ok(Got::Bytes(count)) => count == room.len(),
-            Ok(Got::End) => true,
+            Ok(Arrival::Nothing) => false,
+            Ok(Arrival::Bytes(count)) => count == room.len(),
+            Ok(Arrival::End) => true,
             Err(_) => true,
         };
         answer

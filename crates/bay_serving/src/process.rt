@@ -1,9 +1,9 @@
 // The process that is heard, and the line of a turn.
 ghost use Rattle.std.specs.Prelude.{◌≡◌, [], option_map};
-ghost use Rattle.bay_port.specs.Fit.{said};
+ghost use Rattle.bay_port.specs.Fit.{line_if};
 ghost use Rattle.bay_serve.specs.Calls.{Called};
 ghost use Rattle.bay_serving.specs.Choosing.{with_heard};
-ghost use Rattle.bay_serving.specs.ServeReport.{AttendsTo, Hears, chosen, from_port, is_gone, next_view, unnumbered};
+ghost use Rattle.bay_serving.specs.ServeReport.{AttendsTo, Hears, chosen, from_port, is_gone, next_view, without_number};
 
 use crate::trace_lines::TraceLines;
 use crate::turns::tell_news;
@@ -80,7 +80,7 @@ fn is_leaving<L>(process: &Option<Process<L>>) -> bool
 
 /// Takes the line that the port of the process has, and answers whether there is one.
 fn take_port_line<L>(process: &mut Option<Process<L>>, device: &Device, buffer: &mut Line) -> bool
-    ensures line { option_map unnumbered (said result buffer.new.items)
+    ensures line { option_map without_number (line_if result buffer.new.items)
         ≡ (from_port device.now [] process.old).line }
     ensures process { process.new ≡ (from_port device.now [] process.old).process }
 {
@@ -99,7 +99,7 @@ pub fn choose<'a, L>(
     device: &Device,
     buffer: &mut Line,
 ) -> (Option<(usize, &'a [u8])>, bool)
-    ensures line { with_heard (next_view result.0) (said result.1 buffer.new.items)
+    ensures line { with_heard (next_view result.0) (line_if result.1 buffer.new.items)
         ≡ (chosen device.now lines.old process.old).line }
     ensures lines { lines.new ≡ (chosen device.now lines.old process.old).lines }
     ensures process { process.new ≡ (chosen device.now lines.old process.old).process }
@@ -120,7 +120,7 @@ pub fn line_of<'a>(
     buffer: &'a Line,
 ) -> Option<(usize, &'a [u8])>
     ensures { next_view result
-        ≡ with_heard (next_view traced.entry) (said is_heard buffer.now.items) }
+        ≡ with_heard (next_view traced.entry) (line_if is_heard buffer.now.items) }
 {
     match traced {
         Some(line) => Some(line),

@@ -122,8 +122,8 @@ fn rest<L, H: Host<L>>(host: &mut H, was_idle: bool)
 }
 
 /// Serves so many turns, each with its line, and prints what each tells: the exit status, which is
-/// 0 after the last turn, or 3 at one that is not done. After a turn that left nothing to do at once
-/// there is a pause.
+/// 0 after the last turn, or 3 at one that is not done. After a turn that left nothing to do at
+/// once there is a pause.
 fn serve_lines<L: Link, H: Host<L>, W: Sink>(
     alloc: Global,
     server: &mut Server,

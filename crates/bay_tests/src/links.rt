@@ -6,7 +6,7 @@ use crate::sockets::{client_of, link_at, read_some};
 use bay_main::host::{Host, SystemHost};
 use bay_net::readiness::Readiness;
 use bay_net::tcp::TcpLink;
-use bay_serve::link::{Got, Link};
+use bay_serve::link::{Arrival, Link};
 use std::alloc::Global;
 use std::cell::Cell;
 use std::io::Write;
@@ -75,7 +75,7 @@ fn what_cannot_be_taken_is_not_told(rt: HostRuntime) -> Result<(), Fail> {
     let mut link = link_at(&rt)?;
     let stream = client_of(&rt, &link)?;
     assert!(rt; take(&rt, &mut link, 1)?);
-    assert!(rt; link.read(1, &mut [0; 16]) == Ok(Got::Nothing));
+    assert!(rt; link.read(1, &mut [0; 16]) == Ok(Arrival::Nothing));
     let told = fill(rt.alloc(), &mut link)?.unwrap_or(0);
     assert!(rt; told > 0);
     assert_eq!(rt; drained(&rt, &stream, told)?, told);
@@ -150,10 +150,10 @@ fn link_of_two<'a, R: Runtime<A = Global> + Net<Listener = TcpListener, Stream =
 }
 
 /// What a connection has to read, which is waited for for some seconds.
-fn heard<C: Clock>(rt: &impl Clock, link: &mut TcpLink<'_, C>) -> Option<Got> {
+fn heard<C: Clock>(rt: &impl Clock, link: &mut TcpLink<'_, C>) -> Option<Arrival> {
     for _ in 0..2000 {
         match link.read(1, &mut [0; 16]) {
-            Ok(Got::Nothing) => thread::sleep(rt, Duration::from_millis(1)),
+            Ok(Arrival::Nothing) => thread::sleep(rt, Duration::from_millis(1)),
             Ok(got) => return Some(got),
             Err(_) => return None,
         }
@@ -168,10 +168,10 @@ fn a_silent_connection_fails(rt: HostRuntime) -> Result<(), Fail> {
     };
     let (mut link, _streams) = link_of_two(&rt, &clock)?;
     clock.seconds.set(109);
-    assert_eq!(rt; heard(&rt, &mut link), Some(Got::Bytes(1)));
-    assert_eq!(rt; link.read(2, &mut [0; 16]), Ok(Got::Nothing));
+    assert_eq!(rt; heard(&rt, &mut link), Some(Arrival::Bytes(1)));
+    assert_eq!(rt; link.read(2, &mut [0; 16]), Ok(Arrival::Nothing));
     clock.seconds.set(110);
-    assert_eq!(rt; link.read(1, &mut [0; 16]), Ok(Got::Nothing));
+    assert_eq!(rt; link.read(1, &mut [0; 16]), Ok(Arrival::Nothing));
     assert_eq!(rt; link.failures(), 0);
     assert!(rt; link.read(2, &mut [0; 16]).is_err());
     assert_eq!(rt; link.failures(), 1);
@@ -197,6 +197,6 @@ fn a_wait_ends_where_a_socket_is_ready(rt: HostRuntime) -> Result<(), Fail> {
     assert!(rt; waited(&rt, &mut readiness, 50)? >= 45);
     (&mut &stream).write_all(b"a")?;
     assert!(rt; waited(&rt, &mut readiness, 30_000)? < 15_000);
-    assert_eq!(rt; link.read(1, &mut [0; 16]), Ok(Got::Bytes(1)));
+    assert_eq!(rt; link.read(1, &mut [0; 16]), Ok(Arrival::Bytes(1)));
     Ok(())
 }

@@ -1,7 +1,7 @@
 // Clients in memory, of which one call fails, and which take so many octets at a write.
 ghost use Rattle.std.specs.Prelude.{◌≡◌, ◌≤◌, length};
 
-use bay_serve::link::{Got, Link, LinkFault};
+use bay_serve::link::{Arrival, Link, LinkFault};
 use std::alloc::Global;
 use std::test::Fail;
 
@@ -104,7 +104,7 @@ impl Link for MemoryLink {
         Ok(false)
     }
 
-    fn read(&mut self, association: u16, room: &mut [u8]) -> Result<Got, LinkFault> {
+    fn read(&mut self, association: u16, room: &mut [u8]) -> Result<Arrival, LinkFault> {
         if self.is_failing() {
             self.failures = self.failures.saturating_add(1);
             return Err(LinkFault);
@@ -116,13 +116,13 @@ impl Link for MemoryLink {
             let incoming = self.incoming.as_slice();
             let count = give(incoming, &mut self.clients[at].given, room);
             if count > 0 {
-                return Ok(Got::Bytes(count));
+                return Ok(Arrival::Bytes(count));
             }
         }
         if self.ends {
-            return Ok(Got::End);
+            return Ok(Arrival::End);
         }
-        Ok(Got::Nothing)
+        Ok(Arrival::Nothing)
     }
 
     fn write(&mut self, association: u16, octets: &[u8]) -> Result<usize, LinkFault> {

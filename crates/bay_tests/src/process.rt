@@ -1,11 +1,11 @@
 // A process that is heard, over links in memory.
 use crate::serve::served;
 use bay_main::host::Host;
-use bay_serve::link::{Got, Link, LinkFault};
+use bay_serve::link::{Arrival, Link, LinkFault};
 use std::test::Fail;
 
-/// A link on which no client connects, or one process, which sends some pieces and then its end, and
-/// wants to be told one text; behind its closing it may come again.
+/// A link on which no client connects, or one process, which sends some pieces and then its end,
+/// and wants to be told one text; behind its closing it may come again.
 #[derive(Drop)]
 struct Scripted {
     waits: bool,
@@ -25,15 +25,15 @@ impl Link for Scripted {
         Ok(waits)
     }
 
-    fn read(&mut self, _a: u16, room: &mut [u8]) -> Result<Got, LinkFault> {
+    fn read(&mut self, _a: u16, room: &mut [u8]) -> Result<Arrival, LinkFault> {
         let piece = self.pieces.as_slice().get(self.at).copied().unwrap_or(b"");
         self.at = self.at.saturating_add(1);
         let count = room.len().min(piece.len());
         room[..count].copy_from_slice(&piece[..count]);
         if count > 0 {
-            return Ok(Got::Bytes(count));
+            return Ok(Arrival::Bytes(count));
         }
-        Ok(Got::End)
+        Ok(Arrival::End)
     }
 
     fn write(&mut self, _a: u16, octets: &[u8]) -> Result<usize, LinkFault> {

@@ -7,7 +7,7 @@ use bay_main::commands::obey;
 use bay_main::files::{FileFault, FileSystem};
 use bay_main::host::{Host, SystemHost};
 use bay_net::tcp::TcpLink;
-use bay_serve::link::{Got, Link, LinkFault};
+use bay_serve::link::{Arrival, Link, LinkFault};
 use std::alloc::Global;
 use std::test::Fail;
 
@@ -64,8 +64,8 @@ impl Link for Hasty {
         Ok(waits)
     }
 
-    fn read(&mut self, _a: u16, _room: &mut [u8]) -> Result<Got, LinkFault> {
-        Ok(Got::End)
+    fn read(&mut self, _a: u16, _room: &mut [u8]) -> Result<Arrival, LinkFault> {
+        Ok(Arrival::End)
     }
 
     fn write(&mut self, _a: u16, _octets: &[u8]) -> Result<usize, LinkFault> {

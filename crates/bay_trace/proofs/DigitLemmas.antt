@@ -75,12 +75,12 @@ octets-even [] v some even e = absurd cc
 octets-even (b ∷ bs) true some even e =
     let d = decode_of-digits (b ∷ bs) even (all-digits (b ∷ bs) (sym e)) in
     sym (ap (λ (r : Result (List ℕ) FromHexError). is_some (result_ok r)) d.1)
-octets-even (b ∷ bs) false some even e = by_octets (octets_of (b ∷ bs)) refl
+octets-even (b ∷ bs) false some even e = by-octets (octets_of (b ∷ bs)) refl
   where
-    by_octets : (o : Option (List ℕ)) → octets_of (b ∷ bs) ≡ o
+    by-octets : (o : Option (List ℕ)) → octets_of (b ∷ bs) ≡ o
         → false ≡ is_some (octets_of (b ∷ bs))
-    by_octets None is = sym (ap is_some is)
-    by_octets (Some octets) is = let all =
+    by-octets None is = sym (ap is_some is)
+    by-octets (Some octets) is = let all =
         digits-all (b ∷ bs) (octets-digits (b ∷ bs) octets is) in absurd cc
 
 pub octets-odd : (word : List ℕ) → length word % 2 ≡ 1 → false ≡ is_some (octets_of word)
@@ -97,11 +97,11 @@ octets-none (b ∷ bs) e = absurd (grind (arith, nat_tests))
 
 pub octets-known : (word : List ℕ) → is_some (octets_of word) ≡ true
     → octets_of word ≡ Some (octets_in word)
-octets-known word e = by_octets (octets_of word) refl
+octets-known word e = by-octets (octets_of word) refl
   where
-    by_octets : (o : Option (List ℕ)) → octets_of word ≡ o → octets_of word ≡ Some (octets_in word)
-    by_octets None is = let no : false ≡ true = sym (ap is_some is) ∙ e in absurd cc
-    by_octets (Some octets) is = is ∙ ap Some (sym (ap (λ o. unwrap_or o []) is))
+    by-octets : (o : Option (List ℕ)) → octets_of word ≡ o → octets_of word ≡ Some (octets_in word)
+    by-octets None is = let no : false ≡ true = sym (ap is_some is) ∙ e in absurd cc
+    by-octets (Some octets) is = is ∙ ap Some (sym (ap (λ o. unwrap_or o []) is))
 
 known-decode : (word octets : List ℕ) → octets_of word ≡ Some octets → decode_of word ≡ Ok octets
 known-decode [] octets e = absurd cc

@@ -46,12 +46,12 @@ plain [] e = IsAscii-nil
 plain (b ∷ bs) e = let both = and_parts (nat_lt b 128) (is_plain bs) e in let lt =
     both.0 in IsAscii-cons b bs (grind (arith, nat_tests)) (plain bs both.1)
 
-pub plain_text : (bs : List ℕ) → is_plain bs ≡ true → IsUtf8 bs
-plain_text bs ascii = IsUtf8-from_ascii bs (plain bs ascii)
+pub plain-text : (bs : List ℕ) → is_plain bs ≡ true → IsUtf8 bs
+plain-text bs ascii = IsUtf8-from_ascii bs (plain bs ascii)
 
 choice : {X : Type 0} (word text : List ℕ) (x y : X) (rest : Option X) → is_plain text ≡ true
     → (rest ≡ Some y → IsUtf8 word) → cond (bytes_eq word text) (Some x) rest ≡ Some y → IsUtf8 word
-choice word text x y rest ascii = chosen IsUtf8 word text x y rest (plain_text text ascii)
+choice word text x y rest ascii = chosen IsUtf8 word text x y rest (plain-text text ascii)
 
 position_text : (word : List ℕ) (p : Dbpos) → position_of word ≡ Some p → IsUtf8 word
 position_text word p e =
@@ -60,57 +60,57 @@ position_text word p e =
     (choice word (codes "2") _ p _ refl
     (choice word (codes "3") _ p _ refl (none-chosen IsUtf8 word p)))) e
 
-truth_text : (word : List ℕ) (v : Bool) → truth_of word ≡ Some v → IsUtf8 word
-truth_text word v e =
+truth-text : (word : List ℕ) (v : Bool) → truth_of word ≡ Some v → IsUtf8 word
+truth-text word v e =
     choice word (codes "0") _ v _ refl
     (choice word (codes "1") _ v _ refl (none-chosen IsUtf8 word v)) e
 
-field_text : (word : List ℕ) (f : MeterField) → field_of word ≡ Some f → IsUtf8 word
-field_text word f e =
+field-text : (word : List ℕ) (f : MeterField) → field_of word ≡ Some f → IsUtf8 word
+field-text word f e =
     choice word (codes "TOTW") _ f _ refl
     (choice word (codes "TOTVAR") _ f _ refl (choice word (codes "HZ") _ f _ refl
     (choice word (codes "AA") _ f _ refl
     (choice word (codes "AB") _ f _ refl
     (choice word (codes "AC") _ f _ refl (none-chosen IsUtf8 word f)))))) e
 
-digits_ascii : (bs : List ℕ) → all_ascii_digits bs ≡ true → IsAscii bs
-digits_ascii [] e = IsAscii-nil
-digits_ascii (b ∷ bs) e = let both = and_parts (is_ascii_digit b) (all_ascii_digits bs) e in
-    let is = both.0 in IsAscii-cons b bs (grind (arith, nat_tests)) (digits_ascii bs both.1)
+digits-ascii : (bs : List ℕ) → all_ascii_digits bs ≡ true → IsAscii bs
+digits-ascii [] e = IsAscii-nil
+digits-ascii (b ∷ bs) e = let both = and_parts (is_ascii_digit b) (all_ascii_digits bs) e in
+    let is = both.0 in IsAscii-cons b bs (grind (arith, nat_tests)) (digits-ascii bs both.1)
 
-number_ascii : (word : List ℕ) (n : ℕ) → read_number word ≡ Some n → IsAscii word
-number_ascii word n e = by_test (all_ascii_digits word) refl
+number-ascii : (word : List ℕ) (n : ℕ) → read_number word ≡ Some n → IsAscii word
+number-ascii word n e = by_test (all_ascii_digits word) refl
   where
     by_test : (v : Bool) → all_ascii_digits word ≡ v → IsAscii word
-    by_test true d = digits_ascii word d
+    by_test true d = digits-ascii word d
     by_test false d = let none : None ≡ Some n = rw d at e in absurd cc
 
-integer_text : (word : List ℕ) (z : ℤ) → read_integer word ≡ Some z → IsUtf8 word
-integer_text [] z e = absurd cc
-integer_text (b ∷ bs) z e = IsUtf8-from_ascii (b ∷ bs) (by_test (eqb b 45) refl)
+integer-text : (word : List ℕ) (z : ℤ) → read_integer word ≡ Some z → IsUtf8 word
+integer-text [] z e = absurd cc
+integer-text (b ∷ bs) z e = IsUtf8-from_ascii (b ∷ bs) (by_test (eqb b 45) refl)
   where
     by_test : (v : Bool) → eqb b 45 ≡ v → IsAscii (b ∷ bs)
     by_test true minus =
         let parts : Parts negative_of (read_number bs) z =
         and_then negative_of (read_number bs) z (rw minus at e) in
-        IsAscii-cons b bs (grind (arith, nat_tests)) (number_ascii bs parts.part parts.whole)
+        IsAscii-cons b bs (grind (arith, nat_tests)) (number-ascii bs parts.part parts.whole)
     by_test false minus =
         let parts : Parts positive_of (read_number (b ∷ bs)) z =
         and_then positive_of (read_number (b ∷ bs)) z (rw minus at e) in
-        number_ascii (b ∷ bs) parts.part parts.whole
+        number-ascii (b ∷ bs) parts.part parts.whole
 
-association_text : (word : List ℕ) (a : ℕ) → association_of word ≡ Some a → IsUtf8 word
-association_text word a e =
+association-text : (word : List ℕ) (a : ℕ) → association_of word ≡ Some a → IsUtf8 word
+association-text word a e =
     let parts : Parts (λ n. cond (nat_lt n (2 ^ 16)) (Some n) None) (read_number word) a =
     and_then _ (read_number word) a e in
-    IsUtf8-from_ascii word (number_ascii word parts.part parts.whole)
+    IsUtf8-from_ascii word (number-ascii word parts.part parts.whole)
 
-octets_text : (word octets : List ℕ) → octets_of word ≡ Some octets → IsUtf8 word
-octets_text word octets e = IsUtf8-from_ascii word (hex-ascii word (octets-digits word octets e))
+octets-text : (word octets : List ℕ) → octets_of word ≡ Some octets → IsUtf8 word
+octets-text word octets e = IsUtf8-from_ascii word (hex-ascii word (octets-digits word octets e))
 
-name_text : (word name : List ℕ) → name_of word ≡ Some name → IsUtf8 word
-name_text [] name e = absurd cc
-name_text (b ∷ bs) name e = by_test (is_utf8 (b ∷ bs)) refl
+name-text : (word name : List ℕ) → name_of word ≡ Some name → IsUtf8 word
+name-text [] name e = absurd cc
+name-text (b ∷ bs) name e = by_test (is_utf8 (b ∷ bs)) refl
   where
     by_test : (v : Bool) → is_utf8 (b ∷ bs) ≡ v → IsUtf8 (b ∷ bs)
     by_test true is = IsUtf8-from_is_utf8 (b ∷ bs) is
@@ -122,25 +122,25 @@ abbrev AreText : List (List ℕ) → Type 0
 AreText [] = Unit {0}
 AreText (word ∷ words) = IsUtf8 word × AreText words
 
-only_text : {X : Type 0} (f : List ℕ → Option X) (words : List (List ℕ)) (y : X)
+only-text : {X : Type 0} (f : List ℕ → Option X) (words : List (List ℕ)) (y : X)
     → ((word : List ℕ) → f word ≡ Some y → IsUtf8 word)
     → option_and_then f (only_word words) ≡ Some y → AreText words
-only_text f [] y text e = absurd cc
-only_text f (word ∷ []) y text e = (text word e, tt)
-only_text f (word ∷ next ∷ words) y text e = absurd cc
+only-text f [] y text e = absurd cc
+only-text f (word ∷ []) y text e = (text word e, tt)
+only-text f (word ∷ next ∷ words) y text e = absurd cc
 
-measure_text : (id : List ℕ) (words : List (List ℕ)) (d : NamedData) → measure_of id words ≡ Some d
+measure-text : (id : List ℕ) (words : List (List ℕ)) (d : NamedData) → measure_of id words ≡ Some d
     → AreText words
-measure_text id [] d e = absurd cc
-measure_text id (word ∷ value) d e =
+measure-text id [] d e = absurd cc
+measure-text id (word ∷ value) d e =
     let field : Parts (λ f. option_map (measure id f)
     (option_and_then read_integer (only_word value))) (field_of word) d =
     and_then _ (field_of word) d e in
     let number =
     mapped (measure id field.part) (option_and_then read_integer (only_word value)) d
     field.gives in (
-      field_text word field.part field.whole,
-      only_text read_integer value number.0 (λ w h. integer_text w number.0 h) number.1,
+      field-text word field.part field.whole,
+      only-text read_integer value number.0 (λ w h. integer-text w number.0 h) number.1,
     )
 
 -- the verb is this one, and what is behind it is text; or something is said further on
@@ -151,90 +151,90 @@ verb word text words o rest d ascii here more e = by_test (bytes_eq word text) r
   where
     by_test : (v : Bool) → bytes_eq word text ≡ v → AreText (word ∷ words)
     by_test true is = (
-      subst IsUtf8 (sym ((bytes_eq-Decides word text).0 is)) (plain_text text ascii),
+      subst IsUtf8 (sym ((bytes_eq-Decides word text).0 is)) (plain-text text ascii),
       here (rw is at e),
     )
     by_test false is = more (rw is at e)
 
-position_words : (name : List ℕ) (words : List (List ℕ)) (d : NamedData)
+position-words : (name : List ℕ) (words : List (List ℕ)) (d : NamedData)
     → option_map (contact name) (option_and_then position_of (only_word words)) ≡ Some d
     → AreText words
-position_words name words d e = let p =
+position-words name words d e = let p =
     mapped (contact name) (option_and_then position_of (only_word words)) d e in
-    only_text position_of words p.0 (λ w h. position_text w p.0 h) p.1
+    only-text position_of words p.0 (λ w h. position_text w p.0 h) p.1
 
-truth_words : (name : List ℕ) (words : List (List ℕ)) (d : NamedData)
+truth-words : (name : List ℕ) (words : List (List ℕ)) (d : NamedData)
     → option_map (input name) (option_and_then truth_of (only_word words)) ≡ Some d → AreText words
-truth_words name words d e = let v =
+truth-words name words d e = let v =
     mapped (input name) (option_and_then truth_of (only_word words)) d e in
-    only_text truth_of words v.0 (λ w h. truth_text w v.0 h) v.1
+    only-text truth_of words v.0 (λ w h. truth-text w v.0 h) v.1
 
-named_text : (word name : List ℕ) (words : List (List ℕ)) (d : NamedData)
+named-text : (word name : List ℕ) (words : List (List ℕ)) (d : NamedData)
     → named_of word name words ≡ Some d → AreText (word ∷ words)
-named_text word name words d e =
-    verb word (codes "contact") words _ _ d refl (position_words name words d)
-    (verb word (codes "input") words _ _ d refl (truth_words name words d)
-    (verb word (codes "measure") words _ None d refl (measure_text name words d)
+named-text word name words d e =
+    verb word (codes "contact") words _ _ d refl (position-words name words d)
+    (verb word (codes "input") words _ _ d refl (truth-words name words d)
+    (verb word (codes "measure") words _ None d refl (measure-text name words d)
     (λ none. absurd cc))) e
 
-association_words : (f : ℕ → NamedData) (words : List (List ℕ)) (d : NamedData)
+association-words : (f : ℕ → NamedData) (words : List (List ℕ)) (d : NamedData)
     → option_map f (option_and_then association_of (only_word words)) ≡ Some d → AreText words
-association_words f words d e =
+association-words f words d e =
     let a = mapped f (option_and_then association_of (only_word words)) d e in
-    only_text association_of words a.0 (λ w h. association_text w a.0 h) a.1
+    only-text association_of words a.0 (λ w h. association-text w a.0 h) a.1
 
-received_words : (words : List (List ℕ)) (d : NamedData) → received_of words ≡ Some d
+received-words : (words : List (List ℕ)) (d : NamedData) → received_of words ≡ Some d
     → AreText words
-received_words [] d e = absurd cc
-received_words (word ∷ octets) d e =
+received-words [] d e = absurd cc
+received-words (word ∷ octets) d e =
     let a : Parts (λ a. option_map (receives a) (option_and_then octets_of (only_word octets)))
     (association_of word) d = and_then _ (association_of word) d e in
     let xs = mapped (receives a.part) (option_and_then octets_of (only_word octets)) d a.gives in (
-      association_text word a.part a.whole,
-      only_text octets_of octets xs.0 (λ w h. octets_text w xs.0 h) xs.1,
+      association-text word a.part a.whole,
+      only-text octets_of octets xs.0 (λ w h. octets-text w xs.0 h) xs.1,
     )
 
-talk_text : (word : List ℕ) (words : List (List ℕ)) (d : NamedData) → talk_of word words ≡ Some d
+talk-text : (word : List ℕ) (words : List (List ℕ)) (d : NamedData) → talk_of word words ≡ Some d
     → AreText (word ∷ words)
-talk_text word words d e =
-    verb word (codes "open") words _ _ d refl (association_words connects words d)
-    (verb word (codes "close") words _ _ d refl (association_words disconnects words d)
-    (verb word (codes "recv") words _ None d refl (received_words words d) (λ none. absurd cc)))
+talk-text word words d e =
+    verb word (codes "open") words _ _ d refl (association-words connects words d)
+    (verb word (codes "close") words _ _ d refl (association-words disconnects words d)
+    (verb word (codes "recv") words _ None d refl (received-words words d) (λ none. absurd cc)))
     e
 
-event_text : (words : List (List ℕ)) (d : NamedData) → event_of words ≡ Some d → AreText words
-event_text [] d e = absurd cc
-event_text (word ∷ []) d e =
+event-text : (words : List (List ℕ)) (d : NamedData) → event_of words ≡ Some d → AreText words
+event-text [] d e = absurd cc
+event-text (word ∷ []) d e =
     (choice word (codes "scan") _ d _ refl (none-chosen IsUtf8 word d) e, tt)
-event_text (word ∷ name ∷ words) d e = by_test (is_talk word) refl
+event-text (word ∷ name ∷ words) d e = by_test (is_talk word) refl
   where
     by_test : (v : Bool) → is_talk word ≡ v → AreText (word ∷ name ∷ words)
-    by_test true is = talk_text word (name ∷ words) d (rw is at e)
+    by_test true is = talk-text word (name ∷ words) d (rw is at e)
     by_test false is =
         let parts : Parts (λ n. named_of word n words) (name_of name) d =
         and_then _ (name_of name) d (rw is at e) in
-        let others = named_text word parts.part words d parts.gives in
-        (others.0, (name_text name parts.part parts.whole, others.1))
+        let others = named-text word parts.part words d parts.gives in
+        (others.0, (name-text name parts.part parts.whole, others.1))
 
 joined : (words : List (List ℕ)) → AreText words → IsUtf8 (join_with_byte 32 words)
 joined [] h = IsUtf8-from_ascii [] IsAscii-nil
 joined (word ∷ []) h = h.0
 joined (word ∷ next ∷ words) h =
     IsUtf8-append word (32 ∷ join_with_byte 32 (next ∷ words)) h.0
-    (IsUtf8-append (32 ∷ []) (join_with_byte 32 (next ∷ words)) (plain_text (32 ∷ []) refl)
+    (IsUtf8-append (32 ∷ []) (join_with_byte 32 (next ∷ words)) (plain-text (32 ∷ []) refl)
     (joined (next ∷ words) h.1))
 
-line_text : (words : List (List ℕ)) (l : LineData) → words_line words ≡ Some l → AreText words
-line_text [] l e = absurd cc
-line_text (first ∷ []) l e = absurd cc
-line_text (first ∷ next ∷ words) l e = by_number (read_number first) refl
+line-text : (words : List (List ℕ)) (l : LineData) → words_line words ≡ Some l → AreText words
+line-text [] l e = absurd cc
+line-text (first ∷ []) l e = absurd cc
+line-text (first ∷ next ∷ words) l e = by-number (read_number first) refl
   where
-    by_number : (o : Option ℕ) → read_number first ≡ o → AreText (first ∷ next ∷ words)
-    by_number None r = let none : None ≡ Some l = rw r at e in absurd cc
-    by_number (Some n) r =
+    by-number : (o : Option ℕ) → read_number first ≡ o → AreText (first ∷ next ∷ words)
+    by-number None r = let none : None ≡ Some l = rw r at e in absurd cc
+    by-number (Some n) r =
         let event = mapped (at_moment n) (event_of (next ∷ words)) l (rw r at e) in (
-          IsUtf8-from_ascii first (number_ascii first n r),
-          event_text (next ∷ words) event.0 event.1,
+          IsUtf8-from_ascii first (number-ascii first n r),
+          event-text (next ∷ words) event.0 event.1,
         )
 
 -- a line that can be read is UTF-8
@@ -242,15 +242,15 @@ line-is_text : (line : List ℕ) (l : LineData) → trace_line_of line ≡ Some 
 line-is_text [] l e = IsUtf8-from_ascii [] IsAscii-nil
 line-is_text (b ∷ bs) l e =
     subst IsUtf8 (join_with_byte-slice_split 32 (b ∷ bs))
-    (joined (slice_split is_space (b ∷ bs)) (line_text (slice_split is_space (b ∷ bs)) l e))
+    (joined (slice_split is_space (b ∷ bs)) (line-text (slice_split is_space (b ∷ bs)) l e))
 
 -- what is no text can't be read
 pub no_text-unread : (line : List ℕ) → (IsUtf8 line → ⊥) → trace_line_of line ≡ None
-no_text-unread line fails = by_line (trace_line_of line) refl
+no_text-unread line fails = by-line (trace_line_of line) refl
   where
-    by_line : (o : Option LineData) → trace_line_of line ≡ o → trace_line_of line ≡ None
-    by_line None e = e
-    by_line (Some l) e = absurd (fails (line-is_text line l e))
+    by-line : (o : Option LineData) → trace_line_of line ≡ o → trace_line_of line ≡ None
+    by-line None e = e
+    by-line (Some l) e = absurd (fails (line-is_text line l e))
 
 pub read-is_text : (line : Option TraceLine) (bs : List ℕ) → eqb (length bs) 0 ≡ false
     → option_map line_view line ≡ words_line (slice_split is_space bs)

@@ -14,48 +14,48 @@ use Rattle.std.specs.List.{AllPass}
 use Rattle.hex.specs.Hex.{is_hex_digit}
 use Rattle.bay_trace.specs.Digits.{octets_of}
 use Rattle.bay_trace.proofs.DigitLemmas.{octets-digits}
-use Rattle.bay_trace.proofs.WordLemmas.{chosen, none-chosen, not_space}
+use Rattle.bay_trace.proofs.WordLemmas.{chosen, none-chosen, not-space}
 
 -- a text without a space is one word
 abbrev pub IsWord : List ℕ → Type 0
 IsWord bs = slice_split is_space bs ≡ bs ∷ []
 
-position_word : (word : List ℕ) (p : Dbpos) → position_of word ≡ Some p → IsWord word
-position_word word p e =
+position-word : (word : List ℕ) (p : Dbpos) → position_of word ≡ Some p → IsWord word
+position-word word p e =
     chosen IsWord word (codes "0") _ p _ refl
     (chosen IsWord word (codes "1") _ p _ refl
     (chosen IsWord word (codes "2") _ p _ refl
     (chosen IsWord word (codes "3") _ p _ refl (none-chosen IsWord word p)))) e
 
-truth_word : (word : List ℕ) (v : Bool) → truth_of word ≡ Some v → IsWord word
-truth_word word v e =
+truth-word : (word : List ℕ) (v : Bool) → truth_of word ≡ Some v → IsWord word
+truth-word word v e =
     chosen IsWord word (codes "0") _ v _ refl
     (chosen IsWord word (codes "1") _ v _ refl (none-chosen IsWord word v)) e
 
-digits_word : (bs : List ℕ) → all_ascii_digits bs ≡ true → IsWord bs
-digits_word [] e = refl
-digits_word (b ∷ bs) e = let both = and_parts (is_ascii_digit b) (all_ascii_digits bs) e in
-    slice_split-cons_no is_space b bs (not_space b both.0)
-    ∙ ap (onto_first b) (digits_word bs both.1)
+digits-word : (bs : List ℕ) → all_ascii_digits bs ≡ true → IsWord bs
+digits-word [] e = refl
+digits-word (b ∷ bs) e = let both = and_parts (is_ascii_digit b) (all_ascii_digits bs) e in
+    slice_split-cons_no is_space b bs (not-space b both.0)
+    ∙ ap (onto_first b) (digits-word bs both.1)
 
-number_word : (word : List ℕ) (n : ℕ) → read_number word ≡ Some n → IsWord word
-number_word word n e = by_test (all_ascii_digits word) refl
+number-word : (word : List ℕ) (n : ℕ) → read_number word ≡ Some n → IsWord word
+number-word word n e = by_test (all_ascii_digits word) refl
   where
     by_test : (v : Bool) → all_ascii_digits word ≡ v → IsWord word
-    by_test true d = digits_word word d
+    by_test true d = digits-word word d
     by_test false d = let none : None ≡ Some n = rw d at e in absurd cc
 
-integer_word : (word : List ℕ) (z : ℤ) → read_integer word ≡ Some z → IsWord word
-integer_word [] z e = absurd cc
-integer_word (b ∷ bs) z e = by_test (eqb b 45) refl
+integer-word : (word : List ℕ) (z : ℤ) → read_integer word ≡ Some z → IsWord word
+integer-word [] z e = absurd cc
+integer-word (b ∷ bs) z e = by_test (eqb b 45) refl
   where
     read : (f : ℕ → Option ℤ) (ds : List ℕ) → option_and_then f (read_number ds) ≡ Some z
         → IsWord ds
-    read f ds h = by_number (read_number ds) refl
+    read f ds h = by-number (read_number ds) refl
       where
-        by_number : (o : Option ℕ) → read_number ds ≡ o → IsWord ds
-        by_number None r = let none : None ≡ Some z = rw r at h in absurd cc
-        by_number (Some n) r = number_word ds n r
+        by-number : (o : Option ℕ) → read_number ds ≡ o → IsWord ds
+        by-number None r = let none : None ≡ Some z = rw r at h in absurd cc
+        by-number (Some n) r = number-word ds n r
 
     by_test : (v : Bool) → eqb b 45 ≡ v → IsWord (b ∷ bs)
     by_test true minus =
@@ -64,62 +64,62 @@ integer_word (b ∷ bs) z e = by_test (eqb b 45) refl
         ∙ ap (onto_first b) (read negative_of bs (rw minus at e))
     by_test false minus = read positive_of (b ∷ bs) (rw minus at e)
 
-association_word : (word : List ℕ) (a : ℕ) → association_of word ≡ Some a → IsWord word
-association_word word a e = by_number (read_number word) refl
+association-word : (word : List ℕ) (a : ℕ) → association_of word ≡ Some a → IsWord word
+association-word word a e = by-number (read_number word) refl
   where
-    by_number : (o : Option ℕ) → read_number word ≡ o → IsWord word
-    by_number None r = let none : None ≡ Some a = rw r at e in absurd cc
-    by_number (Some n) r = number_word word n r
+    by-number : (o : Option ℕ) → read_number word ≡ o → IsWord word
+    by-number None r = let none : None ≡ Some a = rw r at e in absurd cc
+    by-number (Some n) r = number-word word n r
 
-hex_word : (bs : List ℕ) → AllPass is_hex_digit bs → IsWord bs
-hex_word [] h = refl
-hex_word (b ∷ bs) h =
+hex-word : (bs : List ℕ) → AllPass is_hex_digit bs → IsWord bs
+hex-word [] h = refl
+hex-word (b ∷ bs) h =
     let digit : is_hex_digit b ≡ true = All-head (λ c. is_hex_digit c ≡ true) b bs h in
     let space : is_space b ≡ false = grind (arith, nat_tests) in
     slice_split-cons_no is_space b bs space
-    ∙ ap (onto_first b) (hex_word bs (All-tail (λ c. is_hex_digit c ≡ true) b bs h))
+    ∙ ap (onto_first b) (hex-word bs (All-tail (λ c. is_hex_digit c ≡ true) b bs h))
 
-octets_word : (word octets : List ℕ) → octets_of word ≡ Some octets → IsWord word
-octets_word word octets e = hex_word word (octets-digits word octets e)
+octets-word : (word octets : List ℕ) → octets_of word ≡ Some octets → IsWord word
+octets-word word octets e = hex-word word (octets-digits word octets e)
 
 -- what says something only of one word says of a text what it says of the word that stands alone
 -- there
 alone-tells : {X : Type 0} (f : List ℕ → Option X) (bs : List ℕ)
     → ((y : X) → f bs ≡ Some y → IsWord bs)
     → option_and_then f (only_word (slice_split is_space bs)) ≡ f bs
-alone-tells {X = X} f bs word = by_told (f bs) refl
+alone-tells {X = X} f bs word = by-told (f bs) refl
   where
-    by_words : (ws : List (List ℕ)) → slice_split is_space bs ≡ ws → f bs ≡ None
+    by-words : (ws : List (List ℕ)) → slice_split is_space bs ≡ ws → f bs ≡ None
         → option_and_then f (only_word ws) ≡ f bs
-    by_words [] e none = sym none
-    by_words (w ∷ []) e none =
+    by-words [] e none = sym none
+    by-words (w ∷ []) e none =
         ap f (ap (join_with_byte 32) (sym e) ∙ join_with_byte-slice_split 32 bs)
-    by_words (w ∷ next ∷ ws) e none = sym none
+    by-words (w ∷ next ∷ ws) e none = sym none
 
-    by_told : (o : Option X) → f bs ≡ o
+    by-told : (o : Option X) → f bs ≡ o
         → option_and_then f (only_word (slice_split is_space bs)) ≡ f bs
-    by_told None told = by_words (slice_split is_space bs) refl told
-    by_told (Some y) told = ap (λ ws. option_and_then f (only_word ws)) (word y told)
+    by-told None told = by-words (slice_split is_space bs) refl told
+    by-told (Some y) told = ap (λ ws. option_and_then f (only_word ws)) (word y told)
 
 pub alone-position : (bs : List ℕ)
     → option_and_then position_of (only_word (slice_split is_space bs)) ≡ position_of bs
-alone-position bs = alone-tells position_of bs (position_word bs)
+alone-position bs = alone-tells position_of bs (position-word bs)
 
 pub alone-truth : (bs : List ℕ)
     → option_and_then truth_of (only_word (slice_split is_space bs)) ≡ truth_of bs
-alone-truth bs = alone-tells truth_of bs (truth_word bs)
+alone-truth bs = alone-tells truth_of bs (truth-word bs)
 
 pub alone-integer : (bs : List ℕ)
     → option_and_then read_integer (only_word (slice_split is_space bs)) ≡ read_integer bs
-alone-integer bs = alone-tells read_integer bs (integer_word bs)
+alone-integer bs = alone-tells read_integer bs (integer-word bs)
 
 pub alone-association : (bs : List ℕ)
     → option_and_then association_of (only_word (slice_split is_space bs)) ≡ association_of bs
-alone-association bs = alone-tells association_of bs (association_word bs)
+alone-association bs = alone-tells association_of bs (association-word bs)
 
 pub alone-octets : (bs : List ℕ)
     → option_and_then octets_of (only_word (slice_split is_space bs)) ≡ octets_of bs
-alone-octets bs = alone-tells octets_of bs (octets_word bs)
+alone-octets bs = alone-tells octets_of bs (octets-word bs)
 
 -- a text that doesn't begin with a word and a space has another first word
 other : (text word verb rest : List ℕ) → ((r : List ℕ) → text ≢ verb ++ 32 ∷ r)
@@ -136,55 +136,55 @@ unsaid : {X : Type 0} (o : Option (List ℕ)) (f : List ℕ → Option X)
 unsaid None f h = refl
 unsaid (Some name) f h = h name
 
-is_not : (text word : List ℕ) → text ≢ word → bytes_eq text word ≡ false
-is_not text word h = by_test (bytes_eq text word) refl
+is-not : (text word : List ℕ) → text ≢ word → bytes_eq text word ≡ false
+is-not text word h = by_test (bytes_eq text word) refl
   where
     by_test : (v : Bool) → bytes_eq text word ≡ v → bytes_eq text word ≡ false
     by_test true is = absurd (h ((bytes_eq-Decides text word).0 is))
     by_test false is = is
 
-none_of : {X : Type 0} (u v w : Bool)
+none-of : {X : Type 0} (u v w : Bool)
     → ◌≡◌ {A = Option X} (cond u None (cond v None (cond w None None))) None
-none_of true v w = refl
-none_of false true w = refl
-none_of false false true = refl
-none_of false false false = refl
+none-of true v w = refl
+none-of false true w = refl
+none-of false false true = refl
+none-of false false false = refl
 
 -- nothing is told of an association by a word alone
-talk_alone : (word : List ℕ) → talk_of word [] ≡ None
-talk_alone word =
-    none_of (bytes_eq word (codes "open")) (bytes_eq word (codes "close"))
+talk-alone : (word : List ℕ) → talk_of word [] ≡ None
+talk-alone word =
+    none-of (bytes_eq word (codes "open")) (bytes_eq word (codes "close"))
     (bytes_eq word (codes "recv"))
 
 -- a verb of none of three
-not_of : {X : Type 0} (u v w : Bool) (x y z : Option X) → (u || (v || w)) ≡ false
+not-of : {X : Type 0} (u v w : Bool) (x y z : Option X) → (u || (v || w)) ≡ false
     → cond u x (cond v y (cond w z None)) ≡ None
-not_of true v w x y z e = absurd cc
-not_of false true w x y z e = absurd cc
-not_of false false true x y z e = absurd cc
-not_of false false false x y z e = refl
+not-of true v w x y z e = absurd cc
+not-of false true w x y z e = absurd cc
+not-of false false true x y z e = absurd cc
+not-of false false false x y z e = refl
 
-no_talk : (verb : List ℕ) (words : List (List ℕ)) → is_talk verb ≡ false → talk_of verb words ≡ None
-no_talk verb words e =
-    not_of (bytes_eq verb (codes "open")) (bytes_eq verb (codes "close"))
+no-talk : (verb : List ℕ) (words : List (List ℕ)) → is_talk verb ≡ false → talk_of verb words ≡ None
+no-talk verb words e =
+    not-of (bytes_eq verb (codes "open")) (bytes_eq verb (codes "close"))
     (bytes_eq verb (codes "recv")) _ _ _ e
 
 -- a text that isn't `scan`, and that begins with no verb before a name and a space, says what it
 -- says of an association
-pub no_verb : (text : List ℕ) → ((r : List ℕ) → text ≢ codes "contact " ++ r)
+pub no-verb : (text : List ℕ) → ((r : List ℕ) → text ≢ codes "contact " ++ r)
     → ((r : List ℕ) → text ≢ codes "input " ++ r) → ((r : List ℕ) → text ≢ codes "measure " ++ r)
     → text ≢ codes "scan"
     → event_of (slice_split is_space text) ≡ talk_in (slice_split is_space text)
-no_verb text no_contact no_input no_measure no_scan =
-    by_words (slice_split is_space text) (join_with_byte-slice_split 32 text)
+no-verb text no_contact no_input no_measure no_scan =
+    by-words (slice_split is_space text) (join_with_byte-slice_split 32 text)
   where
-    by_words : (ws : List (List ℕ)) → join_with_byte 32 ws ≡ text → event_of ws ≡ talk_in ws
-    by_words [] e = refl
-    by_words (word ∷ []) e =
+    by-words : (ws : List (List ℕ)) → join_with_byte 32 ws ≡ text → event_of ws ≡ talk_in ws
+    by-words [] e = refl
+    by-words (word ∷ []) e =
         ap (λ w. cond (bytes_eq w (codes "scan")) (Some scan) None) e
-        ∙ ap (λ v. cond v (Some scan) None) (is_not text (codes "scan") no_scan)
-        ∙ sym (talk_alone word)
-    by_words (verb ∷ word ∷ values) e = by_test (is_talk verb) refl
+        ∙ ap (λ v. cond v (Some scan) None) (is-not text (codes "scan") no_scan)
+        ∙ sym (talk-alone word)
+    by-words (verb ∷ word ∷ values) e = by_test (is_talk verb) refl
       where
         by_test : (v : Bool) → is_talk verb ≡ v
             → event_of (verb ∷ word ∷ values) ≡ talk_of verb (word ∷ values)
@@ -197,19 +197,19 @@ no_verb text no_contact no_input no_measure no_scan =
             ap (λ v. cond v (talk_of verb (word ∷ values))
             (option_and_then (λ name. named_of verb name values) (name_of word))) is
             ∙ unsaid (name_of word) (λ name. named_of verb name values) (λ name. rw (a, b, d) refl)
-            ∙ sym (no_talk verb (word ∷ values) is)
+            ∙ sym (no-talk verb (word ∷ values) is)
 
 -- a text that begins with no verb before an association and a space says nothing of one
-pub no_talk_verb : (text : List ℕ) → ((r : List ℕ) → text ≢ codes "recv " ++ r)
+pub no-talk-verb : (text : List ℕ) → ((r : List ℕ) → text ≢ codes "recv " ++ r)
     → ((r : List ℕ) → text ≢ codes "open " ++ r) → ((r : List ℕ) → text ≢ codes "close " ++ r)
     → talk_in (slice_split is_space text) ≡ None
-no_talk_verb text no_recv no_open no_close =
-    by_words (slice_split is_space text) (join_with_byte-slice_split 32 text)
+no-talk-verb text no_recv no_open no_close =
+    by-words (slice_split is_space text) (join_with_byte-slice_split 32 text)
   where
-    by_words : (ws : List (List ℕ)) → join_with_byte 32 ws ≡ text → talk_in ws ≡ None
-    by_words [] e = refl
-    by_words (word ∷ []) e = talk_alone word
-    by_words (verb ∷ word ∷ values) e =
+    by-words : (ws : List (List ℕ)) → join_with_byte 32 ws ≡ text → talk_in ws ≡ None
+    by-words [] e = refl
+    by-words (word ∷ []) e = talk-alone word
+    by-words (verb ∷ word ∷ values) e =
         let rest = join_with_byte 32 (word ∷ values) in
         let a = other text verb (codes "open") rest no_open (sym e) in
         let b = other text verb (codes "close") rest no_close (sym e) in

@@ -15,13 +15,13 @@ use Rattle.std.proofs.lemmas.Str.{IsUtf8-from_is_utf8, is_utf8-from_IsUtf8}
 use Rattle.bay_trace.specs.Trace.{is_space, with_digit, read_number, first_number, read_integer, name_of}
 
 -- what is left of a list is all of it
-pub take_rest : (xs : List ℕ) (n : ℕ) → take (length xs - n) (drop n xs) ≡ drop n xs
-take_rest xs n = take_all (length xs - n) (drop n xs) (grind (arith, common_steps))
+pub take-rest : (xs : List ℕ) (n : ℕ) → take (length xs - n) (drop n xs) ≡ drop n xs
+take-rest xs n = take_all (length xs - n) (drop n xs) (grind (arith, common_steps))
 
 -- a text with a space is the word before it and what follows
-pub some_space : (bs : List ℕ) (at : ℕ) → position is_space bs ≡ Some at
+pub some-space : (bs : List ℕ) (at : ℕ) → position is_space bs ≡ Some at
     → slice_split is_space bs ≡ take at bs ∷ slice_split is_space (drop (at + 1) bs)
-some_space bs at e = by_test (nat_lt (position_or_len is_space bs) (length bs)) refl
+some-space bs at e = by_test (nat_lt (position_or_len is_space bs) (length bs)) refl
   where
     by_test : (v : Bool) → nat_lt (position_or_len is_space bs) (length bs) ≡ v
         → slice_split is_space bs ≡ take at bs ∷ slice_split is_space (drop (at + 1) bs)
@@ -44,8 +44,8 @@ alone (b ∷ bs) l = by_test (λ h. alone bs h) (is_space b) refl
         slice_split-cons_no is_space b bs e ∙ ap (onto_first b) (rest (omega (arith, le)))
 
 -- a text without one is one word
-pub no_space : (bs : List ℕ) → position is_space bs ≡ None → slice_split is_space bs ≡ bs ∷ []
-no_space bs e = by_test (nat_lt (position_or_len is_space bs) (length bs)) refl
+pub no-space : (bs : List ℕ) → position is_space bs ≡ None → slice_split is_space bs ≡ bs ∷ []
+no-space bs e = by_test (nat_lt (position_or_len is_space bs) (length bs)) refl
   where
     by_test : (v : Bool) → nat_lt (position_or_len is_space bs) (length bs) ≡ v
         → slice_split is_space bs ≡ bs ∷ []
@@ -58,25 +58,25 @@ number_from n ds =
     if all_ascii_digits ds && nat_lt (digits_value_after 10 n ds) (2 ^ 64)
     then Some (digits_value_after 10 n ds) else None
 
-without_true : (o : Option ℕ) (u v w : Bool) → v ≡ true
+without-true : (o : Option ℕ) (u v w : Bool) → v ≡ true
     → cond (u && v && w) o None ≡ cond (u && w) o None
-without_true o u false w e = absurd cc
-without_true o false true w e = refl
-without_true o true true false e = refl
-without_true o true true true e = refl
+without-true o u false w e = absurd cc
+without-true o false true w e = refl
+without-true o true true false e = refl
+without-true o true true true e = refl
 
 pub read_number-some : (bs : List ℕ) → eqb (length bs) 0 ≡ false → read_number bs ≡ number_from 0 bs
 read_number-some bs some =
-    without_true _ (all_ascii_digits bs) (nat_lt 0 (length bs))
+    without-true _ (all_ascii_digits bs) (nat_lt 0 (length bs))
     (nat_lt (digits_value_after 10 0 bs) (2 ^ 64)) (grind (arith, nat_tests))
 
 pub digit_value-digit : (b : ℕ) → is_ascii_digit b ≡ true → digit_value b ≡ b - 48
 digit_value-digit b is = omega (arith, digit_value_digit b (grind (arith, nat_tests)))
 
 -- a number with its digits behind it
-after_ge : (n : ℕ) (ds : List ℕ) → n ≤ digits_value_after 10 n ds
-after_ge n [] = omega arith
-after_ge n (c ∷ cs) = omega (arith, after_ge (n * 10 + digit_value c) cs)
+after-ge : (n : ℕ) (ds : List ℕ) → n ≤ digits_value_after 10 n ds
+after-ge n [] = omega arith
+after-ge n (c ∷ cs) = omega (arith, after-ge (n * 10 + digit_value c) cs)
 
 pub number_from-end : (n : ℕ) → n < 2 ^ 64 → number_from n [] ≡ Some n
 number_from-end n lt = let is : nat_lt n (2 ^ 64) ≡ true = grind (arith, nat_tests) in rw is refl
@@ -87,13 +87,13 @@ AddsDigit n b m = (is_ascii_digit b ≡ true) × (m ≡ n * 10 + (b - 48)) × (m
 
 pub with_digit-some : (n b m : ℕ) → with_digit n b ≡ Some m → AddsDigit n b m
 with_digit-some n b m e =
-    by_tests (is_ascii_digit b) (nat_lt (n * 10 + (b - 48)) (2 ^ 64)) refl refl
+    by-tests (is_ascii_digit b) (nat_lt (n * 10 + (b - 48)) (2 ^ 64)) refl refl
   where
-    by_tests : (u v : Bool) → is_ascii_digit b ≡ u → nat_lt (n * 10 + (b - 48)) (2 ^ 64) ≡ v
+    by-tests : (u v : Bool) → is_ascii_digit b ≡ u → nat_lt (n * 10 + (b - 48)) (2 ^ 64) ≡ v
         → AddsDigit n b m
-    by_tests false v d f = let none : None ≡ Some m = rw d at e in absurd cc
-    by_tests true false d f = let none : None ≡ Some m = rw (d, f) at e in absurd cc
-    by_tests true true d f =
+    by-tests false v d f = let none : None ≡ Some m = rw d at e in absurd cc
+    by-tests true false d f = let none : None ≡ Some m = rw (d, f) at e in absurd cc
+    by-tests true true d f =
         let is : Some (n * 10 + (b - 48)) ≡ Some m = rw (d, f) at e in
         let same : n * 10 + (b - 48) ≡ m = cc in
         (d, cc, subst (λ k. k < 2 ^ 64) same (grind (arith, nat_tests)))
@@ -106,35 +106,35 @@ number_from-step n b bs m e = let is =
 pub number_from-none : (n b : ℕ) (bs : List ℕ) → with_digit n b ≡ None
     → number_from n (b ∷ bs) ≡ None
 number_from-none n b bs e =
-    by_tests (is_ascii_digit b) (nat_lt (n * 10 + (b - 48)) (2 ^ 64)) refl refl
+    by-tests (is_ascii_digit b) (nat_lt (n * 10 + (b - 48)) (2 ^ 64)) refl refl
   where
-    by_tests : (u v : Bool) → is_ascii_digit b ≡ u → nat_lt (n * 10 + (b - 48)) (2 ^ 64) ≡ v
+    by-tests : (u v : Bool) → is_ascii_digit b ≡ u → nat_lt (n * 10 + (b - 48)) (2 ^ 64) ≡ v
         → number_from n (b ∷ bs) ≡ None
-    by_tests false v d f = rw d refl
-    by_tests true false d f =
+    by-tests false v d f = rw d refl
+    by-tests true false d f =
         let over : nat_lt (digits_value_after 10 (n * 10 + (b - 48)) bs) (2 ^ 64) ≡ false = let ge =
-        after_ge (n * 10 + (b - 48)) bs in grind (arith, nat_tests) in
-        rw (d, digit_value-digit b d) (no_more (all_ascii_digits bs) over)
+        after-ge (n * 10 + (b - 48)) bs in grind (arith, nat_tests) in
+        rw (d, digit_value-digit b d) (no-more (all_ascii_digits bs) over)
       where
-        no_more : {v : Bool} (u : Bool) → v ≡ false
+        no-more : {v : Bool} (u : Bool) → v ≡ false
             → cond (u && v) (Some (digits_value_after 10 (n * 10 + (b - 48)) bs)) None ≡ None
-        no_more true e = rw e refl
-        no_more false e = refl
-    by_tests true true d f = let none : Some (n * 10 + (b - 48)) ≡ None =
+        no-more true e = rw e refl
+        no-more false e = refl
+    by-tests true true d f = let none : Some (n * 10 + (b - 48)) ≡ None =
         rw (d, f) at e in absurd cc
 
 -- a list that isn't empty
 abbrev HasFirst : List (List ℕ) → Type 0
 HasFirst ps = (w : List ℕ) × (ws : List (List ℕ)) × (ps ≡ w ∷ ws)
 
-some_first : (b : ℕ) (ps : List (List ℕ)) (v : Bool) → HasFirst (cond v ([] ∷ ps) (onto_first b ps))
-some_first b ps true = ([], ps, refl)
-some_first b [] false = (b ∷ [], [], refl)
-some_first b (p ∷ ps) false = (b ∷ p, ps, refl)
+some-first : (b : ℕ) (ps : List (List ℕ)) (v : Bool) → HasFirst (cond v ([] ∷ ps) (onto_first b ps))
+some-first b ps true = ([], ps, refl)
+some-first b [] false = (b ∷ [], [], refl)
+some-first b (p ∷ ps) false = (b ∷ p, ps, refl)
 
-some_word : (bs : List ℕ) → HasFirst (slice_split is_space bs)
-some_word [] = ([], [], refl)
-some_word (b ∷ bs) = some_first b (slice_split is_space bs) (is_space b)
+some-word : (bs : List ℕ) → HasFirst (slice_split is_space bs)
+some-word [] = ([], [], refl)
+some-word (b ∷ bs) = some-first b (slice_split is_space bs) (is_space b)
 
 -- the number that the first of several words is behind a number, and the words behind it
 abbrev pub number_behind : ℕ → List (List ℕ) → Option (ℕ × List (List ℕ))
@@ -163,18 +163,18 @@ first-behind b (word ∷ []) = refl
 first-behind b (word ∷ next ∷ ws) =
     ap (option_map (λ k. (k, next ∷ ws))) (read_number-some (b ∷ word) (grind (arith, nat_tests)))
 
-no_digit_first : (ws : List (List ℕ)) → first_number ([] ∷ ws) ≡ None
-no_digit_first [] = refl
-no_digit_first (word ∷ ws) = refl
+no-digit-first : (ws : List (List ℕ)) → first_number ([] ∷ ws) ≡ None
+no-digit-first [] = refl
+no-digit-first (word ∷ ws) = refl
 
-pub not_space : (b : ℕ) → is_ascii_digit b ≡ true → is_space b ≡ false
-not_space b h = grind (arith, nat_tests)
+pub not-space : (b : ℕ) → is_ascii_digit b ≡ true → is_space b ≡ false
+not-space b h = grind (arith, nat_tests)
 
 -- the first octet of a text is the first digit of its number, or there is no number
 pub first_number-some : (b m : ℕ) (bs : List ℕ) → with_digit 0 b ≡ Some m
     → first_number (slice_split is_space (b ∷ bs)) ≡ number_behind m (slice_split is_space bs)
 first_number-some b m bs e =
-    let no = slice_split-cons_no is_space b bs (not_space b (with_digit-some 0 b m e).0) in
+    let no = slice_split-cons_no is_space b bs (not-space b (with_digit-some 0 b m e).0) in
     ap first_number no ∙ first-behind b (slice_split is_space bs)
     ∙ behind-some 0 b m (slice_split is_space bs) e
 
@@ -185,7 +185,7 @@ first_number-none b bs e = by_test (is_space b) refl
     by_test : (v : Bool) → is_space b ≡ v → first_number (slice_split is_space (b ∷ bs)) ≡ None
     by_test true s =
         ap first_number (slice_split-cons_yes is_space b bs s)
-        ∙ no_digit_first (slice_split is_space bs)
+        ∙ no-digit-first (slice_split is_space bs)
     by_test false s =
         ap first_number (slice_split-cons_no is_space b bs s)
         ∙ first-behind b (slice_split is_space bs) ∙ behind-none 0 b (slice_split is_space bs) e
@@ -207,11 +207,11 @@ behind-other n (b ∷ bs) l other e =
 pub behind-space : (n b : ℕ) (bs : List ℕ) → n < 2 ^ 64 → is_space b ≡ true
     → number_behind n (slice_split is_space (b ∷ bs)) ≡ Some (n, slice_split is_space bs)
 behind-space n b bs lt s =
-    ap (number_behind n) (slice_split-cons_yes is_space b bs s) ∙ by_words (some_word bs)
+    ap (number_behind n) (slice_split-cons_yes is_space b bs s) ∙ by-words (some-word bs)
   where
-    by_words : HasFirst (slice_split is_space bs)
+    by-words : HasFirst (slice_split is_space bs)
         → number_behind n ([] ∷ slice_split is_space bs) ≡ Some (n, slice_split is_space bs)
-    by_words h = rw h.2 (ap (option_map (λ k. (k, h.0 ∷ h.1))) (number_from-end n lt))
+    by-words h = rw h.2 (ap (option_map (λ k. (k, h.0 ∷ h.1))) (number_from-end n lt))
 
 -- what says something of a word only where it is this text, or where something is said further on,
 -- says it of what has the text's property
@@ -227,8 +227,8 @@ pub none-chosen : {X : Type 0} (P : List ℕ → Type 0) (word : List ℕ) (y : 
     → P word
 none-chosen P word y e = absurd cc
 
-pub is_utf8_false : (bs : List ℕ) → ¬ (IsUtf8 bs) → is_utf8 bs ≡ false
-is_utf8_false bs bad = by_test (is_utf8 bs) refl
+pub is-utf8-false : (bs : List ℕ) → ¬ (IsUtf8 bs) → is_utf8 bs ≡ false
+is-utf8-false bs bad = by_test (is_utf8 bs) refl
   where
     by_test : (v : Bool) → is_utf8 bs ≡ v → v ≡ false
     by_test true e = absurd (bad (IsUtf8-from_is_utf8 bs e))
@@ -241,7 +241,7 @@ name_of-text (b ∷ bs) e text =
 
 pub name_of-no_text : (bs : List ℕ) → eqb (length bs) 0 ≡ false → ¬ (IsUtf8 bs) → name_of bs ≡ None
 name_of-no_text [] e bad = absurd (grind (arith, nat_tests))
-name_of-no_text (b ∷ bs) e bad = ap (λ v. cond v (Some (b ∷ bs)) None) (is_utf8_false (b ∷ bs) bad)
+name_of-no_text (b ∷ bs) e bad = ap (λ v. cond v (Some (b ∷ bs)) None) (is-utf8-false (b ∷ bs) bad)
 
 -- what doesn't begin with `-` and is no number is no integer
 pub read_integer-none : (bs : List ℕ) → ((rest : List ℕ) → bs ≢ 45 ∷ rest) → read_number bs ≡ None

@@ -11,36 +11,36 @@ use Rattle.bay_transport.specs.declared.frame.Front.{Front}
 use Rattle.bay_transport.specs.declared.frame.Front.TheVariants.{Begun, NoFrame, Whole}
 use Rattle.bay_transport.specs.declared.fault.TransportFault.{TransportFault}
 use Rattle.bay_transport.specs.declared.fault.TransportFault.TheVariants.{BadTpkt, BadCotp, ClassRefused, TsduTooLong, Failed, OutOfMemory}
-use Rattle.bay_transport.specs.Frame.{pair_of, tpdu_of, front_of, wanted}
-use Rattle.bay_transport.specs.Doings.{Fails, TransportConnection, Left, Broken, Run, TpduEffect, Refuses, effect_of, data_effect, kind_effect, alone, run}
+use Rattle.bay_transport.specs.Frame.{pair_of, tpdu_of, front_of, octets_wanted}
+use Rattle.bay_transport.specs.Doings.{Fails, TransportConnection, Left, Broken, Run, TpduEffect, Refuses, effect_of, data_effect, kind_effect, alone, run_of}
 use Rattle.bay_transport.specs.Assembly.{connection_of, rest_of, left_of, body_of, HoldsFrame, run_for, FailsWhere, Takes, Reaches}
-use Rattle.bay_transport.proofs.FrameLemmas.{is_whole, whole_within, whole_length, whole_part}
+use Rattle.bay_transport.proofs.FrameLemmas.{is_whole, whole-within, whole-length, whole-part}
 use Rattle.bay_transport.proofs.RunLemmas.{run-append, run-begun, run-none, run-whole, run-part, run-front}
 
 -- ---- faults
 
-pub fails_weaker : {P Q : Type 0} (fault : TransportFault) → (P → Q) → FailsWhere fault P
+pub fails-weaker : {P Q : Type 0} (fault : TransportFault) → (P → Q) → FailsWhere fault P
     → FailsWhere fault Q
-fails_weaker BadTpkt f h = f h
-fails_weaker BadCotp f h = f h
-fails_weaker ClassRefused f h = f h
-fails_weaker TsduTooLong f h = f h
-fails_weaker Failed f h = h
-fails_weaker OutOfMemory f h = tt
+fails-weaker BadTpkt f h = f h
+fails-weaker BadCotp f h = f h
+fails-weaker ClassRefused f h = f h
+fails-weaker TsduTooLong f h = f h
+fails-weaker Failed f h = h
+fails-weaker OutOfMemory f h = tt
 
 pub err_weaker : {X : Type 0} (result : Result X TransportFault) (P Q : TransportFault → Type 0)
     → ((fault : TransportFault) → P fault → Q fault)
     → IfErr result (λ fault. FailsWhere fault (P fault))
     → IfErr result (λ fault. FailsWhere fault (Q fault))
 err_weaker (Ok x) P Q f h = tt
-err_weaker (Err fault) P Q f h = fails_weaker fault (f fault) h
+err_weaker (Err fault) P Q f h = fails-weaker fault (f fault) h
 
 -- ---- one TPDU
 
-pub three_parts : (octets : List ℕ) (at : ℕ) → at + 6 ≤ length octets
+pub three-parts : (octets : List ℕ) (at : ℕ) → at + 6 ≤ length octets
     → drop 4 (drop at octets)
     ≡ get_or octets (at + 4) 0 ∷ get_or octets (at + 5) 0 ∷ drop (at + 6) octets
-three_parts octets at within =
+three-parts octets at within =
     let a : at + 4 < length octets = omega arith in
     let b : at + 5 < length octets = omega arith in
     let p : at + 4 + 1 ≡ at + 5 = omega arith in
@@ -50,31 +50,31 @@ three_parts octets at within =
     ∙ ap (λ (ys : List ℕ). get_or octets (at + 4) 0 ∷ ys)
     (drop_more octets (at + 5) 0 b ∙ ap (λ (n : ℕ). get_or octets (at + 5) 0 ∷ drop n octets) q)
 
-pub frame_behind : (octets : List ℕ) (at : ℕ) → at ≤ length octets
+pub frame-behind : (octets : List ℕ) (at : ℕ) → at ≤ length octets
     → front_of (drop at octets) ≡ Whole (length (drop at octets)) → at + 7 ≤ length octets
-frame_behind octets at bounds whole =
+frame-behind octets at bounds whole =
     let some : 7 ≤ length (drop at octets) =
     (is_whole (drop at octets) (length (drop at octets)) whole).some in
     omega (arith, length-drop at octets)
 
-effect_at : (number : ℕ) (connection : TransportConnection) (octets : List ℕ)
+effect-at : (number : ℕ) (connection : TransportConnection) (octets : List ℕ)
     (at indicator code : ℕ) → at + 6 ≤ length octets → indicator ≡ get_or octets (at + 4) 0
     → code ≡ get_or octets (at + 5) 0
     → effect_of number connection (drop at octets)
     ≡ kind_effect number connection (tpdu_of code) indicator (drop (at + 6) octets)
-effect_at number connection octets at indicator code within i k =
-    rw (three_parts octets at within, ← i, ← k) refl
+effect-at number connection octets at indicator code within i k =
+    rw (three-parts octets at within, ← i, ← k) refl
 
 -- the frame that the assembly holds, by the indicator and the code that are read
-pub frame_effect : (a : Assembly) (indicator code : ℕ) (kind : Tpdu) → HoldsFrame a
+pub frame-effect : (a : Assembly) (indicator code : ℕ) (kind : Tpdu) → HoldsFrame a
     → indicator ≡ get_or a.buffer.items (a.group + 4) indicator
     → code ≡ get_or a.buffer.items (a.group + 5) code → kind ≡ tpdu_of code
     → effect_of a.number (connection_of a) (rest_of a)
     ≡ kind_effect a.number (connection_of a) kind indicator (body_of a)
-frame_effect a indicator code kind holds i k is =
+frame-effect a indicator code kind holds i k is =
     let h : a.group + 7 ≤ length a.buffer.items =
-    frame_behind a.buffer.items a.group holds.bounds holds.whole in
-    rw is (effect_at a.number (connection_of a) a.buffer.items a.group indicator code (omega arith)
+    frame-behind a.buffer.items a.group holds.bounds holds.whole in
+    rw is (effect-at a.number (connection_of a) a.buffer.items a.group indicator code (omega arith)
     (get_or_read a.buffer.items (a.group + 4) indicator (omega arith) i 0)
     (get_or_read a.buffer.items (a.group + 5) code (omega arith) k 0))
 
@@ -97,33 +97,33 @@ too_long size octets at there within long =
 -- ---- steps
 
 -- the beginning of a frame is shorter than the frame
-begun_more : (rest octets : List ℕ) (k : ℕ) → front_of rest ≡ Begun
+begun-more : (rest octets : List ℕ) (k : ℕ) → front_of rest ≡ Begun
     → front_of (rest ++ octets) ≡ Whole k → length rest < k
-begun_more rest octets k begun e =
+begun-more rest octets k begun e =
     elim (cases_lt (length rest) k) [
       | inl few ↦ few
       | inr all ↦ absurd (let f : Begun ≡ Whole k =
-          sym begun ∙ whole_part rest octets k (is_whole (rest ++ octets) k e) all in cc)
+          sym begun ∙ whole-part rest octets k (is_whole (rest ++ octets) k e) all in cc)
     ]
 
 -- the octets that can follow the beginning of a frame do not pass its end
-pub wanted_fits : (rest octets : List ℕ) (k : ℕ) → front_of rest ≡ Begun
-    → length octets ≤ wanted rest → front_of (rest ++ octets) ≡ Whole k
+pub wanted-fits : (rest octets : List ℕ) (k : ℕ) → front_of rest ≡ Begun
+    → length octets ≤ octets_wanted rest → front_of (rest ++ octets) ≡ Whole k
     → k ≡ length (rest ++ octets)
-wanted_fits [] octets k begun few e = let w = is_whole octets k e in let some = w.some in let n =
-    whole_within octets k w in absurd (omega arith)
-wanted_fits (v ∷ []) octets k begun few e = let w = is_whole (v ∷ octets) k e in let some =
-    w.some in let n = whole_within (v ∷ octets) k w in absurd (omega arith)
-wanted_fits (v ∷ r ∷ []) octets k begun few e = let w = is_whole (v ∷ r ∷ octets) k e in let some =
-    w.some in let n = whole_within (v ∷ r ∷ octets) k w in absurd (omega arith)
-wanted_fits (v ∷ r ∷ h ∷ []) octets k begun few e = let w = is_whole (v ∷ r ∷ h ∷ octets) k e in
-    let some = w.some in let n = whole_within (v ∷ r ∷ h ∷ octets) k w in absurd (omega arith)
-wanted_fits (v ∷ r ∷ h ∷ l ∷ tpdu) octets k begun few e =
+wanted-fits [] octets k begun few e = let w = is_whole octets k e in let some = w.some in let n =
+    whole-within octets k w in absurd (omega arith)
+wanted-fits (v ∷ []) octets k begun few e = let w = is_whole (v ∷ octets) k e in let some =
+    w.some in let n = whole-within (v ∷ octets) k w in absurd (omega arith)
+wanted-fits (v ∷ r ∷ []) octets k begun few e = let w = is_whole (v ∷ r ∷ octets) k e in let some =
+    w.some in let n = whole-within (v ∷ r ∷ octets) k w in absurd (omega arith)
+wanted-fits (v ∷ r ∷ h ∷ []) octets k begun few e = let w = is_whole (v ∷ r ∷ h ∷ octets) k e in
+    let some = w.some in let n = whole-within (v ∷ r ∷ h ∷ octets) k w in absurd (omega arith)
+wanted-fits (v ∷ r ∷ h ∷ l ∷ tpdu) octets k begun few e =
     let w = is_whole (v ∷ r ∷ h ∷ l ∷ (tpdu ++ octets)) k e in
-    let counted : k ≡ pair_of h l = whole_length v r h l k (tpdu ++ octets) w in
-    let n = whole_within (v ∷ r ∷ h ∷ l ∷ (tpdu ++ octets)) k w in
+    let counted : k ≡ pair_of h l = whole-length v r h l k (tpdu ++ octets) w in
+    let n = whole-within (v ∷ r ∷ h ∷ l ∷ (tpdu ++ octets)) k w in
     let more : length (v ∷ r ∷ h ∷ l ∷ tpdu) < k =
-    begun_more (v ∷ r ∷ h ∷ l ∷ tpdu) octets k begun e in
+    begun-more (v ∷ r ∷ h ∷ l ∷ tpdu) octets k begun e in
     omega (arith, length-append tpdu octets)
 
 shorter : (octets : List ℕ) (used : ℕ)
@@ -132,13 +132,13 @@ shorter octets used =
     sym (take-append-drop (used - 1) (take used octets))
     ∙ rw (take-take (used - 1) used octets (omega arith)) refl
 
-pub takes_more : (old new : Assembly) (piece : List ℕ) (used : ℕ) → used ≤ length piece
+pub takes-more : (old new : Assembly) (piece : List ℕ) (used : ℕ) → used ≤ length piece
     → (0 < length piece → 0 < used)
     → rest_of new ≡ rest_of old ++ take used piece → connection_of new ≡ connection_of old
     → front_of (rest_of new) ≡ Begun → Takes old piece used More new
-takes_more old new piece used within moves rest connection begun =
+takes-more old new piece used within moves rest connection begun =
     let b : front_of (rest_of old ++ take used piece) ≡ Begun = rw (← rest) begun in
-    let does : run old.number (left_of old) (take used piece) ≡ run_for More new =
+    let does : run_of old.number (left_of old) (take used piece) ≡ run_for More new =
     rw (connection, rest) (run-begun old.number (connection_of old) (rest_of old)
     (take used piece) b) in
     record {
@@ -151,23 +151,23 @@ takes_more old new piece used within moves rest connection begun =
           (rw (← shorter piece used) (ap (λ (r : Run). r.doings) does));
     }
 
-used_some : (rest piece : List ℕ) (used : ℕ) → front_of rest ≡ Begun
+used-some : (rest piece : List ℕ) (used : ℕ) → front_of rest ≡ Begun
     → front_of (rest ++ take used piece) ≡ Whole (length (rest ++ take used piece)) → 0 < used
-used_some rest piece zero begun whole =
+used-some rest piece zero begun whole =
     absurd (let f : Begun ≡ Whole (length rest) = sym begun ∙ rw (append-nil rest) at whole in cc)
-used_some rest piece (suc used) begun whole = omega arith
+used-some rest piece (suc used) begun whole = omega arith
 
-pub takes_frame : (old new : Assembly) (frame piece : List ℕ) (used : ℕ) (kind : Got)
+pub takes-frame : (old new : Assembly) (frame piece : List ℕ) (used : ℕ) (kind : Got)
     → used ≤ length piece → (0 < length piece → 0 < used)
     → frame ≡ rest_of old ++ take used piece → front_of frame ≡ Whole (length frame)
     → front_of (rest_of old) ≡ Begun
     → alone (effect_of old.number (connection_of old) frame) (connection_of old)
     ≡ run_for kind new → Takes old piece used kind new
-takes_frame old new frame piece used kind within moves rest whole begun does =
+takes-frame old new frame piece used kind within moves rest whole begun does =
     let n : front_of (rest_of old ++ take used piece)
     ≡ Whole (length (rest_of old ++ take used piece)) = rw (← rest) whole in
     let parts = shorter piece used in
-    let some : 0 < used = used_some (rest_of old) piece used begun n in
+    let some : 0 < used = used-some (rest_of old) piece used begun n in
     let left : length (drop (used - 1) (take used piece)) ≡ 1 =
     length-drop (used - 1) (take used piece)
     ∙ rw (length-take-le used piece within) (omega arith) in
@@ -181,96 +181,96 @@ takes_frame old new frame piece used kind within moves rest whole begun does =
           (drop (used - 1) (take used piece)) (rw (← parts) n) more;
     }
 
-pub front_seen : (a : Assembly) (items : List ℕ) (f : Front) → items ≡ a.buffer.items
+pub front-seen : (a : Assembly) (items : List ℕ) (f : Front) → items ≡ a.buffer.items
     → f ≡ front_of (take (length items - a.group) (drop a.group items)) → front_of (rest_of a) ≡ f
-front_seen a items f is seen =
+front-seen a items f is seen =
     sym (seen ∙ ap front_of (take_rest items a.group)
     ∙ ap (λ (ys : List ℕ). front_of (drop a.group ys)) is)
 
 -- a whole frame that is seen behind the group is all that stands there
-pub whole_seen : (old new : Assembly) (piece : List ℕ) (used k : ℕ) → front_of (rest_of old) ≡ Begun
-    → used ≤ wanted (rest_of old) → used ≤ length piece
+pub whole-seen : (old new : Assembly) (piece : List ℕ) (used k : ℕ) → front_of (rest_of old) ≡ Begun
+    → used ≤ octets_wanted (rest_of old) → used ≤ length piece
     → rest_of new ≡ rest_of old ++ take used piece → front_of (rest_of new) ≡ Whole k
     → front_of (rest_of new) ≡ Whole (length (rest_of new))
-whole_seen old new piece used k begun few within rest whole =
+whole-seen old new piece used k begun few within rest whole =
     let n : length (take used piece) ≡ used = length-take-le used piece within in
     let fits : k ≡ length (rest_of old ++ take used piece) =
-    wanted_fits (rest_of old) (take used piece) k begun (omega arith) (rw (← rest) whole) in
+    wanted-fits (rest_of old) (take used piece) k begun (omega arith) (rw (← rest) whole) in
     let all : k ≡ length (rest_of new) = rw rest fits in
     whole ∙ ap (λ (m : ℕ). Whole m) all
 
 -- a frame that is refused
-pub refuses_frame : (old : Assembly) (frame piece : List ℕ) (used : ℕ) (fault : TransportFault)
+pub refuses-frame : (old : Assembly) (frame piece : List ℕ) (used : ℕ) (fault : TransportFault)
     → frame ≡ rest_of old ++ take used piece → front_of frame ≡ Whole (length frame)
     → effect_of old.number (connection_of old) frame ≡ Refuses fault
-    → (run old.number (left_of old) piece).doings ≡ Fails fault ∷ []
-refuses_frame old frame piece used fault rest whole effect =
+    → (run_of old.number (left_of old) piece).doings ≡ Fails fault ∷ []
+refuses-frame old frame piece used fault rest whole effect =
     let n : front_of (rest_of old ++ take used piece)
     ≡ Whole (length (rest_of old ++ take used piece)) = rw (← rest) whole in
-    let r : run old.number (left_of old) (take used piece)
+    let r : run_of old.number (left_of old) (take used piece)
     ≡ record { doings = Fails fault ∷ []; left = Broken } =
     run-whole old.number (connection_of old) (rest_of old) (take used piece) n
     ∙ ap (λ (ys : List ℕ). alone (effect_of old.number (connection_of old) ys)
     (connection_of old)) (sym rest)
     ∙ ap (λ (e : TpduEffect). alone e (connection_of old)) effect in
-    ap (λ (ys : List ℕ). (run old.number (left_of old) ys).doings)
+    ap (λ (ys : List ℕ). (run_of old.number (left_of old) ys).doings)
     (sym (take-append-drop used piece))
     ∙ ap (λ (d : Run). d.doings)
     (run-append old.number (left_of old) (take used piece) (drop used piece)) ∙ rw r refl
 
-pub refuses_front : (old : Assembly) (begun piece : List ℕ) (used : ℕ)
+pub refuses-front : (old : Assembly) (begun piece : List ℕ) (used : ℕ)
     → begun ≡ rest_of old ++ take used piece → front_of begun ≡ NoFrame
-    → (run old.number (left_of old) piece).doings ≡ Fails BadTpkt ∷ []
-refuses_front old begun piece used rest none =
-    ap (λ (ys : List ℕ). (run old.number (left_of old) ys).doings)
+    → (run_of old.number (left_of old) piece).doings ≡ Fails BadTpkt ∷ []
+refuses-front old begun piece used rest none =
+    ap (λ (ys : List ℕ). (run_of old.number (left_of old) ys).doings)
     (sym (take-append-drop used piece))
     ∙ ap (λ (d : Run). d.doings)
     (run-none old.number (connection_of old) (rest_of old) (take used piece) (drop used piece)
     (rw (← rest) none))
 
-same_effect : (old new : Assembly) (frame : List ℕ) → new.number ≡ old.number
+same-effect : (old new : Assembly) (frame : List ℕ) → new.number ≡ old.number
     → connection_of new ≡ connection_of old
     → effect_of old.number (connection_of old) frame
     ≡ effect_of new.number (connection_of new) frame
-same_effect old new frame number connection =
+same-effect old new frame number connection =
     ap (λ (n : ℕ). effect_of n (connection_of old) frame) (sym number)
     ∙ ap (λ (l : TransportConnection). effect_of new.number l frame) (sym connection)
 
-same_alone : (old new : Assembly) (frame : List ℕ) → new.number ≡ old.number
+same-alone : (old new : Assembly) (frame : List ℕ) → new.number ≡ old.number
     → connection_of new ≡ connection_of old
     → alone (effect_of old.number (connection_of old) frame) (connection_of old)
     ≡ alone (effect_of new.number (connection_of new) frame) (connection_of new)
-same_alone old new frame number connection =
+same-alone old new frame number connection =
     ap (λ (e : TpduEffect). alone e (connection_of old))
-    (same_effect old new frame number connection)
+    (same-effect old new frame number connection)
     ∙ ap (λ (l : TransportConnection). alone (effect_of new.number (connection_of new) frame) l)
     (sym connection)
 
 -- octets are taken, and then the frame that they end is done
-pub takes_whole : (old middle new : Assembly) (piece : List ℕ) (used k : ℕ) (kind : Got)
+pub takes-whole : (old middle new : Assembly) (piece : List ℕ) (used k : ℕ) (kind : Got)
     → front_of (rest_of old) ≡ Begun → used ≤ length piece → (0 < length piece → 0 < used)
-    → used ≤ wanted (rest_of old)
+    → used ≤ octets_wanted (rest_of old)
     → rest_of middle ≡ rest_of old ++ take used piece → connection_of middle ≡ connection_of old
     → middle.number ≡ old.number → front_of (rest_of middle) ≡ Whole k
     → alone (effect_of middle.number (connection_of middle) (rest_of middle)) (connection_of middle)
     ≡ run_for kind new → Takes old piece used kind new
-takes_whole old middle new piece used k kind begun within moves few rest connection number whole
+takes-whole old middle new piece used k kind begun within moves few rest connection number whole
     does =
-    takes_frame old new (rest_of middle) piece used kind within moves rest
-    (whole_seen old middle piece used k begun few within rest whole) begun
-    (same_alone old middle (rest_of middle) number connection ∙ does)
+    takes-frame old new (rest_of middle) piece used kind within moves rest
+    (whole-seen old middle piece used k begun few within rest whole) begun
+    (same-alone old middle (rest_of middle) number connection ∙ does)
 
-pub refuses_whole : (old middle : Assembly) (piece : List ℕ) (used k : ℕ) (fault : TransportFault)
-    → front_of (rest_of old) ≡ Begun → used ≤ length piece → used ≤ wanted (rest_of old)
+pub refuses-whole : (old middle : Assembly) (piece : List ℕ) (used k : ℕ) (fault : TransportFault)
+    → front_of (rest_of old) ≡ Begun → used ≤ length piece → used ≤ octets_wanted (rest_of old)
     → rest_of middle ≡ rest_of old ++ take used piece → connection_of middle ≡ connection_of old
     → middle.number ≡ old.number → front_of (rest_of middle) ≡ Whole k
     → FailsWhere fault (effect_of middle.number (connection_of middle) (rest_of middle)
     ≡ Refuses fault) → FailsWhere fault
-    ((run old.number (left_of old) piece).doings ≡ Fails fault ∷ [])
-refuses_whole old middle piece used k fault begun within few rest connection number whole refused =
-    fails_weaker fault (λ r. refuses_frame old (rest_of middle) piece used fault rest
-    (whole_seen old middle piece used k begun few within rest whole)
-    (same_effect old middle (rest_of middle) number connection ∙ r)) refused
+    ((run_of old.number (left_of old) piece).doings ≡ Fails fault ∷ [])
+refuses-whole old middle piece used k fault begun within few rest connection number whole refused =
+    fails-weaker fault (λ r. refuses-frame old (rest_of middle) piece used fault rest
+    (whole-seen old middle piece used k begun few within rest whole)
+    (same-effect old middle (rest_of middle) number connection ∙ r)) refused
 
 -- ---- one step after another
 
@@ -281,34 +281,36 @@ take-add at more xs =
 
 -- octets that came to nothing, and what comes next
 pub run-quiet : (number : ℕ) (old middle : Left) (front octets : List ℕ)
-    → run number old front ≡ record { doings = []; left = middle }
-    → run number old (front ++ octets) ≡ run number middle octets
+    → run_of number old front ≡ record { doings = []; left = middle }
+    → run_of number old (front ++ octets) ≡ run_of number middle octets
 run-quiet number old middle front octets quiet = run-append number old front octets ∙ rw quiet refl
 
-pub nothing_yet : (a : Assembly) → front_of (rest_of a) ≡ Begun
-    → run a.number (left_of a) [] ≡ record { doings = []; left = left_of a }
-nothing_yet a begun =
+pub nothing-yet : (a : Assembly) → front_of (rest_of a) ≡ Begun
+    → run_of a.number (left_of a) [] ≡ record { doings = []; left = left_of a }
+nothing-yet a begun =
     run-begun a.number (connection_of a) (rest_of a) [] (rw (append-nil (rest_of a)) begun)
     ∙ rw (append-nil (rest_of a)) refl
 
-pub quiet_more : (old middle new : Assembly) (piece : List ℕ) (at used : ℕ)
+pub quiet-more : (old middle new : Assembly) (piece : List ℕ) (at used : ℕ)
     → middle.number ≡ old.number
-    → run old.number (left_of old) (take at piece) ≡ record { doings = []; left = left_of middle }
+    → run_of old.number (left_of old) (take at piece)
+    ≡ record { doings = []; left = left_of middle }
     → Takes middle (drop at piece) used More new
-    → run old.number (left_of old) (take (at + used) piece)
+    → run_of old.number (left_of old) (take (at + used) piece)
     ≡ record { doings = []; left = left_of new }
-quiet_more old middle new piece at used number quiet t =
+quiet-more old middle new piece at used number quiet t =
     rw (take-add at used piece)
     (run-quiet old.number (left_of old) (left_of middle) (take at piece)
     (take used (drop at piece)) quiet
-    ∙ ap (λ (n : ℕ). run n (left_of middle) (take used (drop at piece))) (sym number) ∙ t.does)
+    ∙ ap (λ (n : ℕ). run_of n (left_of middle) (take used (drop at piece))) (sym number) ∙ t.does)
 
-pub reaches_kind : (old middle new : Assembly) (piece : List ℕ) (at used : ℕ) (kind : Got)
+pub reaches-kind : (old middle new : Assembly) (piece : List ℕ) (at used : ℕ) (kind : Got)
     → at < length piece → middle.number ≡ old.number
-    → run old.number (left_of old) (take at piece) ≡ record { doings = []; left = left_of middle }
+    → run_of old.number (left_of old) (take at piece)
+    ≡ record { doings = []; left = left_of middle }
     → Takes middle (drop at piece) used kind new → (kind ≡ More → ⊥)
     → Reaches old piece (at + used) kind new
-reaches_kind old middle new piece at used kind within number quiet t done =
+reaches-kind old middle new piece at used kind within number quiet t done =
     let n : length (drop at piece) ≡ length piece - at = length-drop at piece in
     let some : 0 < used = t.moves (omega arith) in
     let w = t.within in
@@ -320,21 +322,21 @@ reaches_kind old middle new piece at used kind within number quiet t done =
       does = rw (take-add at used piece)
           (run-quiet old.number (left_of old) (left_of middle) (take at piece)
           (take used (drop at piece)) quiet
-          ∙ ap (λ (n : ℕ). run n (left_of middle) (take used (drop at piece))) (sym number)
+          ∙ ap (λ (n : ℕ). run_of n (left_of middle) (take used (drop at piece))) (sym number)
           ∙ t.does);
       quiet =
           λ _. rw (e, take-add at (used - 1) piece)
           (ap (λ (d : Run). d.doings)
           (run-quiet old.number (left_of old) (left_of middle) (take at piece)
           (take (used - 1) (drop at piece)) quiet)
-          ∙ ap (λ (n : ℕ). (run n (left_of middle) (take (used - 1) (drop at piece))).doings)
+          ∙ ap (λ (n : ℕ). (run_of n (left_of middle) (take (used - 1) (drop at piece))).doings)
           (sym number) ∙ t.quiet);
     }
 
-pub reaches_end : (old new : Assembly) (piece : List ℕ) (at : ℕ) → at ≤ length piece
-    → length piece ≤ at → run old.number (left_of old) (take at piece)
+pub reaches-end : (old new : Assembly) (piece : List ℕ) (at : ℕ) → at ≤ length piece
+    → length piece ≤ at → run_of old.number (left_of old) (take at piece)
     ≡ record { doings = []; left = left_of new } → Reaches old piece at More new
-reaches_end old new piece at within all quiet =
+reaches-end old new piece at within all quiet =
     record {
       within = within;
       all = λ _. omega arith;
@@ -343,15 +345,16 @@ reaches_end old new piece at within all quiet =
       quiet = λ more. absurd (more refl);
     }
 
-pub refuses_later : (old middle : Assembly) (piece : List ℕ) (at : ℕ) (fault : TransportFault)
+pub refuses-later : (old middle : Assembly) (piece : List ℕ) (at : ℕ) (fault : TransportFault)
     → middle.number ≡ old.number
-    → run old.number (left_of old) (take at piece) ≡ record { doings = []; left = left_of middle }
-    → FailsWhere fault ((run middle.number (left_of middle) (drop at piece)).doings
+    → run_of old.number (left_of old) (take at piece)
+    ≡ record { doings = []; left = left_of middle }
+    → FailsWhere fault ((run_of middle.number (left_of middle) (drop at piece)).doings
     ≡ Fails fault ∷ []) → FailsWhere fault
-    ((run old.number (left_of old) piece).doings ≡ Fails fault ∷ [])
-refuses_later old middle piece at fault number quiet refused =
-    fails_weaker fault (λ r. ap (λ (ys : List ℕ). (run old.number (left_of old) ys).doings)
+    ((run_of old.number (left_of old) piece).doings ≡ Fails fault ∷ [])
+refuses-later old middle piece at fault number quiet refused =
+    fails-weaker fault (λ r. ap (λ (ys : List ℕ). (run_of old.number (left_of old) ys).doings)
     (sym (take-append-drop at piece))
     ∙ ap (λ (d : Run). d.doings)
     (run-quiet old.number (left_of old) (left_of middle) (take at piece) (drop at piece) quiet)
-    ∙ ap (λ (n : ℕ). (run n (left_of middle) (drop at piece)).doings) (sym number) ∙ r) refused
+    ∙ ap (λ (n : ℕ). (run_of n (left_of middle) (drop at piece)).doings) (sym number) ∙ r) refused

@@ -5,7 +5,7 @@ use Rattle.std.specs.Option.{option_map}
 use Rattle.std.proofs.lemmas.Bool.{cases_eq, cases_lt, ne_eqb, lt-ltb, le-ltb}
 use Rattle.std.proofs.lemmas.List.{length-append, length-take-le, take-append-drop, take_at, drop_at}
 use Rattle.bay_transport.specs.declared.fault.TransportFault.TheVariants.{BadCotp}
-use Rattle.bay_transport.specs.Connect.{Parameter, spelled, length_octet, with_parameter, parameters_behind, parameters_of, or_else, last_value, size_of, where_there, size_value, answered, frame_header, confirm_front, confirm, with_parameters}
+use Rattle.bay_transport.specs.Connect.{Parameter, parameter_octets, length_octet, with_parameter, parameters_behind, parameters_of, or_else, last_value, size_of, where_there, size_value, answer_parameters, frame_header, confirm_front, confirm, with_parameters}
 use Rattle.bay_transport.proofs.RequestLemmas.{parameters_behind-is}
 
 -- ---- in one way
@@ -13,49 +13,50 @@ use Rattle.bay_transport.proofs.RequestLemmas.{parameters_behind-is}
 -- what parameters that were read say of the octets behind so many others
 pub record Spells (k : ℕ) (octets : List ℕ) (ps : List Parameter) : Type 0 where
   pub within : k ≤ length octets
-  pub is : drop k octets ≡ spelled ps
+  pub is : drop k octets ≡ parameter_octets ps
 
-spells_one : (code : ℕ) (octets : List ℕ) (ps : List Parameter) (o : Option (List Parameter))
+spells-one : (code : ℕ) (octets : List ℕ) (ps : List Parameter) (o : Option (List Parameter))
     → with_parameter code octets o ≡ Some ps
     → ((later : List Parameter) → o ≡ Some later → Spells (suc (length_octet octets)) octets later)
-    → code ∷ octets ≡ spelled ps
-spells_one code octets ps None e ih = absurd (cc)
-spells_one code [] ps (Some later) e ih = absurd (cc)
-spells_one code (n ∷ behind) ps (Some later) e ih =
+    → code ∷ octets ≡ parameter_octets ps
+spells-one code octets ps None e ih = absurd (cc)
+spells-one code [] ps (Some later) e ih = absurd (cc)
+spells-one code (n ∷ behind) ps (Some later) e ih =
     let s = ih later refl in
     let w = s.within in
     let t : length (take n behind) ≡ n = length-take-le n behind (omega arith) in
     let p : record { code = code; value = take n behind } ∷ later ≡ ps = cc in
-    let parts : take n behind ++ spelled later ≡ behind =
+    let parts : take n behind ++ parameter_octets later ≡ behind =
     ap (λ (ys : List ℕ). take n behind ++ ys) (sym s.is) ∙ take-append-drop n behind in
-    sym (ap spelled (sym p) ∙ rw (t, parts) refl)
+    sym (ap parameter_octets (sym p) ∙ rw (t, parts) refl)
 
-spells_behind : (k : ℕ) (octets : List ℕ) (ps : List Parameter)
+spells-behind : (k : ℕ) (octets : List ℕ) (ps : List Parameter)
     → parameters_behind k octets ≡ Some ps → Spells k octets ps
-spells_behind zero [] ps e =
-    record { within = omega arith; is = let p : [] ≡ ps = cc in ap spelled p }
-spells_behind (suc k) [] ps e = absurd (cc)
-spells_behind zero (code ∷ octets) ps e = record {
+spells-behind zero [] ps e =
+    record { within = omega arith; is = let p : [] ≡ ps = cc in ap parameter_octets p }
+spells-behind (suc k) [] ps e = absurd (cc)
+spells-behind zero (code ∷ octets) ps e = record {
   within = omega arith;
-  is = spells_one code octets ps (parameters_behind (suc (length_octet octets)) octets) e
-      (λ later f. spells_behind (suc (length_octet octets)) octets later f);
+  is = spells-one code octets ps (parameters_behind (suc (length_octet octets)) octets) e
+      (λ later f. spells-behind (suc (length_octet octets)) octets later f);
 }
-spells_behind (suc k) (x ∷ octets) ps e = let s = spells_behind k octets ps e in let w =
+spells-behind (suc k) (x ∷ octets) ps e = let s = spells-behind k octets ps e in let w =
     s.within in record { within = omega arith; is = s.is }
 
-pub spelled_read : (octets : List ℕ) (ps : List Parameter) → parameters_of octets ≡ Some ps
-    → octets ≡ spelled ps
-spelled_read octets ps e = (spells_behind 0 octets ps e).is
+pub spelled-read : (octets : List ℕ) (ps : List Parameter) → parameters_of octets ≡ Some ps
+    → octets ≡ parameter_octets ps
+spelled-read octets ps e = (spells-behind 0 octets ps e).is
 
-pub read_spelled : (ps : List Parameter) → parameters_of (spelled ps) ≡ Some ps
-read_spelled [] = refl
-read_spelled (p ∷ ps) =
-    let within : length p.value ≤ length (p.value ++ spelled ps) =
-    omega (arith, length-append p.value (spelled ps)) in
-    let rest : parameters_behind (length p.value) (p.value ++ spelled ps) ≡ Some ps =
-    parameters_behind-is (length p.value) (p.value ++ spelled ps) within
-    ∙ ap parameters_of (drop_at p.value (spelled ps) (length p.value) refl) ∙ read_spelled ps in
-    rw (rest, take_at p.value (spelled ps) (length p.value) refl) refl
+pub read-spelled : (ps : List Parameter) → parameters_of (parameter_octets ps) ≡ Some ps
+read-spelled [] = refl
+read-spelled (p ∷ ps) =
+    let within : length p.value ≤ length (p.value ++ parameter_octets ps) =
+    omega (arith, length-append p.value (parameter_octets ps)) in
+    let rest : parameters_behind (length p.value) (p.value ++ parameter_octets ps) ≡ Some ps =
+    parameters_behind-is (length p.value) (p.value ++ parameter_octets ps) within
+    ∙ ap parameters_of (drop_at p.value (parameter_octets ps) (length p.value) refl)
+    ∙ read-spelled ps in
+    rw (rest, take_at p.value (parameter_octets ps) (length p.value) refl) refl
 
 -- ---- lengths
 
@@ -74,12 +75,12 @@ part_at code false None value = omega arith
 part_at code true (Some x) value = omega arith
 part_at code false (Some x) value = omega arith
 
-part_more : (code : ℕ) (p : Parameter) (ps : List Parameter)
+part-more : (code : ℕ) (p : Parameter) (ps : List Parameter)
     → part code (p ∷ ps) ≤ part code ps + its_own code p
-part_more code p ps = part_at code (eqb p.code code) (last_value code ps) p.value
+part-more code p ps = part_at code (eqb p.code code) (last_value code ps) p.value
 
-own_one : (p : Parameter) → its_own 192 p + its_own 194 p + its_own 193 p ≤ length p.value + 2
-own_one p =
+own-one : (p : Parameter) → its_own 192 p + its_own 194 p + its_own 193 p ≤ length p.value + 2
+own-one p =
     elim (cases_eq p.code 192) [
       | inl is ↦ rw is (omega arith)
       | inr a ↦ elim (cases_eq p.code 194) [
@@ -91,57 +92,58 @@ own_one p =
       ]
     ]
 
-pub parts_within : (ps : List Parameter)
-    → part 192 ps + part 194 ps + part 193 ps ≤ length (spelled ps)
-parts_within [] = omega arith
-parts_within (p ∷ ps) =
-    let a = part_more 192 p ps in
-    let b = part_more 194 p ps in
-    let d = part_more 193 p ps in
-    let own = own_one p in
-    let ih = parts_within ps in
-    omega (arith, length-append p.value (spelled ps))
+pub parts-within : (ps : List Parameter)
+    → part 192 ps + part 194 ps + part 193 ps ≤ length (parameter_octets ps)
+parts-within [] = omega arith
+parts-within (p ∷ ps) =
+    let a = part-more 192 p ps in
+    let b = part-more 194 p ps in
+    let d = part-more 193 p ps in
+    let own = own-one p in
+    let ih = parts-within ps in
+    omega (arith, length-append p.value (parameter_octets ps))
 
-some_is : {A : Type 0} {x y : A} → Some x ≡ Some y → x ≡ y
-some_is e = cc
+some-is : {A : Type 0} {x y : A} → Some x ≡ Some y → x ≡ y
+some-is e = cc
 
-size_part : (v : Option (List ℕ)) (power : Option ℕ) (size : ℕ) → size_of v ≡ Some (power, size)
+size-part : (v : Option (List ℕ)) (power : Option ℕ) (size : ℕ) → size_of v ≡ Some (power, size)
     → length (where_there 192 (size_value power)) ≡ length (where_there 192 v)
-size_part None power size e = let p : None ≡ power =
-    ap (λ (s : Option ℕ × ℕ). s.0) (some_is e) in rw (← p) refl
-size_part (Some []) power size e = absurd (cc)
-size_part (Some (x ∷ [])) power size e =
+size-part None power size e = let p : None ≡ power =
+    ap (λ (s : Option ℕ × ℕ). s.0) (some-is e) in rw (← p) refl
+size-part (Some []) power size e = absurd (cc)
+size-part (Some (x ∷ [])) power size e =
     elim (cases_lt x 7) [
       | inl few ↦ absurd (let f : None ≡ Some (power, size) = rw (lt-ltb x 7 few) at e in cc)
       | inr some ↦ let f = rw (le-ltb x 7 some) at e in let p : Some (min x 13) ≡ power =
-          ap (λ (s : Option ℕ × ℕ). s.0) (some_is f) in rw (← p) refl
+          ap (λ (s : Option ℕ × ℕ). s.0) (some-is f) in rw (← p) refl
     ]
-size_part (Some (x ∷ y ∷ more)) power size e = absurd (cc)
+size-part (Some (x ∷ y ∷ more)) power size e = absurd (cc)
 
 -- ---- the answer
 
-read_value : (code : ℕ) (ps : List Parameter) (value : Option (List ℕ))
+read-value : (code : ℕ) (ps : List Parameter) (value : Option (List ℕ))
     → option_map (last_value code) (Some ps) ≡ Some value → last_value code ps ≡ value
-read_value code ps value e = some_is e
+read-value code ps value e = some-is e
 
 -- the answer's parameters take no more octets than the request's
-pub answered_within : (octets : List ℕ) (o : Option (List Parameter))
+pub answered-within : (octets : List ℕ) (o : Option (List Parameter))
     (size called calling : Option (List ℕ)) (power : Option ℕ) (limit : ℕ)
     → parameters_of octets ≡ o → option_map (last_value 192) o ≡ Some size
     → option_map (last_value 194) o ≡ Some called → option_map (last_value 193) o ≡ Some calling
-    → size_of size ≡ Some (power, limit) → length (answered power called calling) ≤ length octets
-answered_within octets None size called calling power limit e s d g w = absurd (cc)
-answered_within octets (Some ps) size called calling power limit e s d g w =
-    let n : length octets ≡ length (spelled ps) = ap length (spelled_read octets ps e) in
-    let all = parts_within ps in
+    → size_of size ≡ Some (power, limit)
+    → length (answer_parameters power called calling) ≤ length octets
+answered-within octets None size called calling power limit e s d g w = absurd (cc)
+answered-within octets (Some ps) size called calling power limit e s d g w =
+    let n : length octets ≡ length (parameter_octets ps) = ap length (spelled-read octets ps e) in
+    let all = parts-within ps in
     let a : part 192 ps ≡ length (where_there 192 size) =
-    ap (λ (v : Option (List ℕ)). length (where_there 192 v)) (read_value 192 ps size s) in
+    ap (λ (v : Option (List ℕ)). length (where_there 192 v)) (read-value 192 ps size s) in
     let b : part 194 ps ≡ length (where_there 194 called) =
-    ap (λ (v : Option (List ℕ)). length (where_there 194 v)) (read_value 194 ps called d) in
+    ap (λ (v : Option (List ℕ)). length (where_there 194 v)) (read-value 194 ps called d) in
     let f : part 193 ps ≡ length (where_there 193 calling) =
-    ap (λ (v : Option (List ℕ)). length (where_there 193 v)) (read_value 193 ps calling g) in
-    let h = size_part size power limit w in
-    let l : length (answered power called calling)
+    ap (λ (v : Option (List ℕ)). length (where_there 193 v)) (read-value 193 ps calling g) in
+    let h = size-part size power limit w in
+    let l : length (answer_parameters power called calling)
     ≡ length (where_there 192 (size_value power)) + length (where_there 194 called)
     + length (where_there 193 calling) =
     length-append (where_there 192 (size_value power) ++ where_there 194 called)
@@ -151,7 +153,7 @@ answered_within octets (Some ps) size called calling power limit e s d g w =
     omega arith
 
 -- what the last values give
-pub with_values : (number high low limit : ℕ) (o : Option (List Parameter))
+pub with-values : (number high low limit : ℕ) (o : Option (List Parameter))
     (size called calling : Option (List ℕ)) (power : Option ℕ)
     → option_map (last_value 192) o ≡ Some size → option_map (last_value 194) o ≡ Some called
     → option_map (last_value 193) o ≡ Some calling
@@ -159,22 +161,22 @@ pub with_values : (number high low limit : ℕ) (o : Option (List Parameter))
     → with_parameters number high low o
     ≡ Ok (record {
       size = limit;
-      reply = confirm number high low (answered power called calling);
+      reply = confirm number high low (answer_parameters power called calling);
     })
-with_values number high low limit None size called calling power s d g w = absurd (cc)
-with_values number high low limit (Some ps) size called calling power s d g w =
-    rw (read_value 192 ps size s, w)
-    (rw (read_value 194 ps called d, read_value 193 ps calling g) refl)
+with-values number high low limit None size called calling power s d g w = absurd (cc)
+with-values number high low limit (Some ps) size called calling power s d g w =
+    rw (read-value 192 ps size s, w)
+    (rw (read-value 194 ps called d, read-value 193 ps calling g) refl)
 
-pub without_size : (number high low : ℕ) (o : Option (List Parameter)) (size : Option (List ℕ))
+pub without-size : (number high low : ℕ) (o : Option (List Parameter)) (size : Option (List ℕ))
     → option_map (last_value 192) o ≡ Some size → size_of size ≡ None
     → with_parameters number high low o ≡ Err BadCotp
-without_size number high low None size s w = refl
-without_size number high low (Some ps) size s w = rw (read_value 192 ps size s, w) refl
+without-size number high low None size s w = refl
+without-size number high low (Some ps) size s w = rw (read-value 192 ps size s, w) refl
 
 -- the frame of the confirmation, up to its parameters
-pub confirm_parts : (number high low n : ℕ) (ps : List ℕ) → n ≡ length ps
+pub confirm-parts : (number high low n : ℕ) (ps : List ℕ) → n ≡ length ps
     → confirm number high low ps ≡ frame_header (n + 7) ++ confirm_front number high low n ++ ps
-confirm_parts number high low n ps is =
+confirm-parts number high low n ps is =
     let e : length (confirm_front number high low (length ps) ++ ps) ≡ n + 7 = omega arith in
     rw (e, ← is) refl

@@ -30,113 +30,113 @@ Keeps code octets left found =
     option_map (last_value code) (parameters_of octets)
     ≡ option_map (or_found code found) (parameters_of left)
 
-or_else_none : (x : Option (List ℕ)) → x ≡ or_else x None
-or_else_none None = refl
-or_else_none (Some x) = refl
+or-else-none : (x : Option (List ℕ)) → x ≡ or_else x None
+or-else-none None = refl
+or-else-none (Some x) = refl
 
-keeps_at_first : (code : ℕ) (o : Option (List Parameter))
+keeps-at-first : (code : ℕ) (o : Option (List Parameter))
     → option_map (last_value code) o ≡ option_map (or_found code None) o
-keeps_at_first code None = refl
-keeps_at_first code (Some ps) =
-    ap (λ (x : Option (List ℕ)). Some x) (or_else_none (last_value code ps))
+keeps-at-first code None = refl
+keeps-at-first code (Some ps) =
+    ap (λ (x : Option (List ℕ)). Some x) (or-else-none (last_value code ps))
 
-pub keeps_first : (code : ℕ) (octets : List ℕ) → Keeps code octets (drop 0 octets) None
-keeps_first code octets = keeps_at_first code (parameters_of octets)
+pub keeps-first : (code : ℕ) (octets : List ℕ) → Keeps code octets (drop 0 octets) None
+keeps-first code octets = keeps-at-first code (parameters_of octets)
 
-or_else_assoc : (b : Bool) (later found : Option (List ℕ)) (value : List ℕ)
+or-else-assoc : (b : Bool) (later found : Option (List ℕ)) (value : List ℕ)
     → or_else (or_else later (cond b (Some value) None)) found
     ≡ or_else later (cond b (Some value) found)
-or_else_assoc b (Some x) found value = refl
-or_else_assoc true None found value = refl
-or_else_assoc false None found value = refl
+or-else-assoc b (Some x) found value = refl
+or-else-assoc true None found value = refl
+or-else-assoc false None found value = refl
 
-one_more : (code here count : ℕ) (behind : List ℕ) (found : Option (List ℕ))
+one-more : (code here count : ℕ) (behind : List ℕ) (found : Option (List ℕ))
     (o : Option (List Parameter))
     → option_map (or_found code found) (with_parameter here (count ∷ behind) o)
     ≡ option_map (or_found code (found_then code here (take count behind) found)) o
-one_more code here count behind found None = refl
-one_more code here count behind found (Some later) =
+one-more code here count behind found None = refl
+one-more code here count behind found (Some later) =
     ap (λ (x : Option (List ℕ)). Some x)
-    (or_else_assoc (eqb here code) (last_value code later) found (take count behind))
+    (or-else-assoc (eqb here code) (last_value code later) found (take count behind))
 
 -- two octets and what stands behind them
-two_parts : (octets : List ℕ) (at : ℕ) → at + 2 ≤ length octets
+two-parts : (octets : List ℕ) (at : ℕ) → at + 2 ≤ length octets
     → drop at octets ≡ get_or octets at 0 ∷ get_or octets (at + 1) 0 ∷ drop (at + 2) octets
-two_parts octets at within =
+two-parts octets at within =
     let a : at < length octets = omega arith in
     let b : at + 1 < length octets = omega arith in
     let e : at + 1 + 1 ≡ at + 2 = omega arith in
     drop_more octets at 0 a ∙ ap (λ (ys : List ℕ). get_or octets at 0 ∷ ys)
     (drop_more octets (at + 1) 0 b ∙ ap (λ (n : ℕ). get_or octets (at + 1) 0 ∷ drop n octets) e)
 
-pub keeps_more : (code : ℕ) (all octets : List ℕ) (at here count next : ℕ) (found : Option (List ℕ))
+pub keeps-more : (code : ℕ) (all octets : List ℕ) (at here count next : ℕ) (found : Option (List ℕ))
     → at + 2 ≤ length octets → here ≡ get_or octets at 0 → count ≡ get_or octets (at + 1) 0
     → count ≤ length octets - at - 2 → next ≡ at + 2 + count
     → Keeps code all (drop at octets) found
     → Keeps code all (drop next octets)
     (found_then code here (take count (drop (at + 2) octets)) found)
-keeps_more code all octets at here count next found within h n fits is keeps =
+keeps-more code all octets at here count next found within h n fits is keeps =
     let behind = drop (at + 2) octets in
     let long : count ≤ length behind = omega (arith, length-drop (at + 2) octets) in
     let rest : parameters_behind count behind ≡ parameters_of (drop next octets) =
     parameters_behind-is count behind long
     ∙ ap parameters_of (drop-drop count (at + 2) octets
     ∙ ap (λ (k : ℕ). drop k octets) (sym is)) in
-    let parts : drop at octets ≡ here ∷ count ∷ behind = rw (h, n) (two_parts octets at within) in
+    let parts : drop at octets ≡ here ∷ count ∷ behind = rw (h, n) (two-parts octets at within) in
     keeps ∙ ap (λ (ys : List ℕ). option_map (or_found code found) (parameters_of ys)) parts
-    ∙ one_more code here count behind found (parameters_behind count behind)
+    ∙ one-more code here count behind found (parameters_behind count behind)
     ∙ ap (option_map (or_found code (found_then code here (take count behind) found))) rest
 
-none_from : (code : ℕ) (o : Option (List Parameter)) → option_map (last_value code) o ≡ None
+none-from : (code : ℕ) (o : Option (List Parameter)) → option_map (last_value code) o ≡ None
     → o ≡ None
-none_from code None e = refl
-none_from code (Some ps) e = absurd (cc)
+none-from code None e = refl
+none-from code (Some ps) e = absurd (cc)
 
-pub keeps_none : (code : ℕ) (octets left : List ℕ) (found : Option (List ℕ))
+pub keeps-none : (code : ℕ) (octets left : List ℕ) (found : Option (List ℕ))
     → Keeps code octets left found → parameters_of left ≡ None → parameters_of octets ≡ None
-keeps_none code octets left found keeps none =
-    none_from code (parameters_of octets) (keeps ∙ rw none refl)
+keeps-none code octets left found keeps none =
+    none-from code (parameters_of octets) (keeps ∙ rw none refl)
 
 -- one octet alone is no parameter
-pub one_alone : (octets : List ℕ) (at : ℕ) → at < length octets → length octets - at < 2
+pub one-alone : (octets : List ℕ) (at : ℕ) → at < length octets → length octets - at < 2
     → parameters_of (drop at octets) ≡ None
-one_alone octets at within few =
+one-alone octets at within few =
     let last : drop (at + 1) octets ≡ [] = drop_all (at + 1) octets (omega arith) in
     ap parameters_of (drop_more octets at 0 within
     ∙ ap (λ (ys : List ℕ). get_or octets at 0 ∷ ys) last)
 
-pub value_past : (octets : List ℕ) (at count : ℕ) → at + 2 ≤ length octets
+pub value-past : (octets : List ℕ) (at count : ℕ) → at + 2 ≤ length octets
     → count ≡ get_or octets (at + 1) 0 → length octets - at - 2 < count
     → parameters_of (drop at octets) ≡ None
-value_past octets at count within n past =
+value-past octets at count within n past =
     let behind = drop (at + 2) octets in
     let few : length behind < count = omega (arith, length-drop (at + 2) octets) in
     let parts : drop at octets ≡ get_or octets at 0 ∷ count ∷ behind =
-    rw n (two_parts octets at within) in
+    rw n (two-parts octets at within) in
     ap parameters_of parts ∙ ap (with_parameter (get_or octets at 0) (count ∷ behind))
     (parameters_behind-past count behind few)
 
-pub keeps_all : (code : ℕ) (octets : List ℕ) (at : ℕ) (found : Option (List ℕ)) → length octets ≤ at
+pub keeps-all : (code : ℕ) (octets : List ℕ) (at : ℕ) (found : Option (List ℕ)) → length octets ≤ at
     → Keeps code octets (drop at octets) found
     → option_map (last_value code) (parameters_of octets) ≡ Some found
-keeps_all code octets at found all keeps =
+keeps-all code octets at found all keeps =
     keeps ∙ ap (λ (ys : List ℕ). option_map (or_found code found) (parameters_of ys))
     (drop_all at octets all)
 
-pub keeps_found : (code : ℕ) (octets : List ℕ) (at next : ℕ) (found last : Option (List ℕ))
+pub keeps-found : (code : ℕ) (octets : List ℕ) (at next : ℕ) (found last : Option (List ℕ))
     (value : List ℕ) → at + 2 ≤ length octets → get_or octets (at + 1) 0 ≤ length octets - at - 2
     → next ≡ at + (2 + get_or octets (at + 1) 0)
     → value ≡ take (get_or octets (at + 1) 0) (drop (at + 2) octets)
     → last ≡ found_then code (get_or octets at 0) value found
     → Keeps code octets (drop at octets) found → Keeps code octets (drop next octets) last
-keeps_found code octets at next found last value within fits is value_is last_is keeps =
-    let k = keeps_more code octets octets at (get_or octets at 0) (get_or octets (at + 1) 0) next
+keeps-found code octets at next found last value within fits is value_is last_is keeps =
+    let k = keeps-more code octets octets at (get_or octets at 0) (get_or octets (at + 1) 0) next
     found within refl refl fits (omega arith) keeps in
     rw (last_is, value_is) k
 
-pub size_of_power : (power : ℕ) → 7 ≤ power → power ≤ 13
+pub size-of-power : (power : ℕ) → 7 ≤ power → power ≤ 13
     → IsSize (1 * 2 ^ power % 18446744073709551616)
-size_of_power power some few =
+size-of-power power some few =
     let low : 2 ^ 7 ≤ 2 ^ power = pow-le-pow_right {n = 2} (omega arith) some in
     let high : 2 ^ power ≤ 2 ^ 13 = pow-le-pow_right {n = 2} (omega arith) few in
     record { some = omega arith; few = omega arith }

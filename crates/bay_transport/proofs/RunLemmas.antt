@@ -4,46 +4,47 @@ use Rattle.std.proofs.lemmas.List.{append_assoc, length-append, take_all, drop_a
 use Rattle.bay_transport.specs.declared.frame.Front.{Front}
 use Rattle.bay_transport.specs.declared.frame.Front.TheVariants.{Begun, NoFrame, Whole}
 use Rattle.bay_transport.specs.declared.fault.TransportFault.TheVariants.{BadTpkt}
-use Rattle.bay_transport.specs.Frame.{front_of, cut}
-use Rattle.bay_transport.specs.Doings.{Fails, TransportConnection, Left, Going, Over, Broken, Run, TpduEffect, Joins, Finishes, Agrees, Closes, Refuses, effect_of, connection_after, on_effect, at_rest, frames_run, alone, run, and_then, Stream, doings, after}
-use Rattle.bay_transport.proofs.FrameLemmas.{is_whole, none_append, front_part, cut_rest, cut_whole, cut-append}
+use Rattle.bay_transport.specs.Frame.{front_of, cut_of}
+use Rattle.bay_transport.specs.Doings.{Fails, TransportConnection, Left, Going, Over, Broken, Run, TpduEffect, Joins, Finishes, Agrees, Closes, Refuses, effect_of, connection_after, on_effect, at_rest, frames_run, alone, run_of, and_then, Stream, doings, after}
+use Rattle.bay_transport.proofs.FrameLemmas.{is_whole, none-append, front-part, cut-rest, cut-whole, cut-append}
 
-rest_run : (f : Front) (number : ℕ) (connection : TransportConnection) (rest more : List ℕ)
+rest-run : (f : Front) (number : ℕ) (connection : TransportConnection) (rest more : List ℕ)
     → front_of rest ≡ f
-    → frames_run number connection (cut (rest ++ more)).frames (cut (rest ++ more)).rest
+    → frames_run number connection (cut_of (rest ++ more)).frames (cut_of (rest ++ more)).rest
     ≡ and_then number (at_rest (front_of rest) connection rest) more
-rest_run Begun number connection rest more e = rw e refl
-rest_run (Whole k) number connection rest more e = rw e refl
-rest_run NoFrame number connection rest more e =
-    let n : front_of (rest ++ more) ≡ NoFrame = none_append rest more e in
-    rw (e, cut_rest NoFrame (rest ++ more) n (λ k h. cc), n) refl
+rest-run Begun number connection rest more e = rw e refl
+rest-run (Whole k) number connection rest more e = rw e refl
+rest-run NoFrame number connection rest more e =
+    let n : front_of (rest ++ more) ≡ NoFrame = none-append rest more e in
+    rw (e, cut-rest NoFrame (rest ++ more) n (λ k h. cc), n) refl
 
-effect_run : (effect : TpduEffect) (number : ℕ) (later longer : Run) (more : List ℕ)
+effect-run : (effect : TpduEffect) (number : ℕ) (later longer : Run) (more : List ℕ)
     → longer ≡ and_then number later more
     → on_effect effect longer ≡ and_then number (on_effect effect later) more
-effect_run (Joins group) number later longer more e = e
-effect_run (Finishes group) number later longer more e = rw e refl
-effect_run (Agrees size reply) number later longer more e = rw e refl
-effect_run Closes number later longer more e = refl
-effect_run (Refuses fault) number later longer more e = refl
+effect-run (Joins group) number later longer more e = e
+effect-run (Finishes group) number later longer more e = rw e refl
+effect-run (Agrees size reply) number later longer more e = rw e refl
+effect-run Closes number later longer more e = refl
+effect-run (Refuses fault) number later longer more e = refl
 
 frames_run-append : (number : ℕ) (connection : TransportConnection) (frames : List (List ℕ))
     (rest more : List ℕ)
-    → frames_run number connection (frames ++ (cut (rest ++ more)).frames) (cut (rest ++ more)).rest
+    → frames_run number connection (frames ++ (cut_of (rest ++ more)).frames)
+    (cut_of (rest ++ more)).rest
     ≡ and_then number (frames_run number connection frames rest) more
 frames_run-append number connection [] rest more =
-    rest_run (front_of rest) number connection rest more refl
+    rest-run (front_of rest) number connection rest more refl
 frames_run-append number connection (frame ∷ frames) rest more =
-    effect_run (effect_of number connection frame) number _ _ more
+    effect-run (effect_of number connection frame) number _ _ more
     (frames_run-append number (connection_after (effect_of number connection frame) connection)
     frames rest more)
 
 pub run-append : (number : ℕ) (left : Left) (octets more : List ℕ)
-    → run number left (octets ++ more) ≡ and_then number (run number left octets) more
+    → run_of number left (octets ++ more) ≡ and_then number (run_of number left octets) more
 run-append number (Going connection rest) octets more =
     rw (← append_assoc rest octets more, cut-append (rest ++ octets) more)
-    (frames_run-append number connection (cut (rest ++ octets)).frames
-    (cut (rest ++ octets)).rest more)
+    (frames_run-append number connection (cut_of (rest ++ octets)).frames
+    (cut_of (rest ++ octets)).rest more)
 run-append number Over octets more = refl
 run-append number Broken octets more = refl
 
@@ -51,31 +52,31 @@ run-append number Broken octets more = refl
 
 pub run-begun : (number : ℕ) (connection : TransportConnection) (rest octets : List ℕ)
     → front_of (rest ++ octets) ≡ Begun
-    → run number (Going connection rest) octets
+    → run_of number (Going connection rest) octets
     ≡ record { doings = []; left = Going connection (rest ++ octets) }
 run-begun number connection rest octets e =
-    rw (cut_rest Begun (rest ++ octets) e (λ k h. cc), e) refl
+    rw (cut-rest Begun (rest ++ octets) e (λ k h. cc), e) refl
 
 pub run-none : (number : ℕ) (connection : TransportConnection) (rest octets more : List ℕ)
     → front_of (rest ++ octets) ≡ NoFrame
-    → run number (Going connection rest) (octets ++ more)
+    → run_of number (Going connection rest) (octets ++ more)
     ≡ record { doings = Fails BadTpkt ∷ []; left = Broken }
 run-none number connection rest octets more e =
-    let n : front_of ((rest ++ octets) ++ more) ≡ NoFrame = none_append (rest ++ octets) more e in
+    let n : front_of ((rest ++ octets) ++ more) ≡ NoFrame = none-append (rest ++ octets) more e in
     rw (
       ← append_assoc rest octets more,
-      cut_rest NoFrame ((rest ++ octets) ++ more) n (λ k h. cc),
+      cut-rest NoFrame ((rest ++ octets) ++ more) n (λ k h. cc),
       n,
     ) refl
 
 pub run-whole : (number : ℕ) (connection : TransportConnection) (rest octets : List ℕ)
     → front_of (rest ++ octets) ≡ Whole (length (rest ++ octets))
-    → run number (Going connection rest) octets
+    → run_of number (Going connection rest) octets
     ≡ alone (effect_of number connection (rest ++ octets)) connection
 run-whole number connection rest octets e =
     let frame = rest ++ octets in
     rw (
-      cut_whole frame (length frame) (is_whole frame (length frame) e),
+      cut-whole frame (length frame) (is_whole frame (length frame) e),
       take_all (length frame) frame (omega arith),
       drop_all (length frame) frame (omega arith),
     )
@@ -84,25 +85,26 @@ run-whole number connection rest octets e =
 -- less than the frame comes to nothing
 pub run-part : (number : ℕ) (connection : TransportConnection) (rest octets more : List ℕ)
     → front_of (rest ++ (octets ++ more)) ≡ Whole (length (rest ++ (octets ++ more)))
-    → 0 < length more → (run number (Going connection rest) octets).doings ≡ []
+    → 0 < length more → (run_of number (Going connection rest) octets).doings ≡ []
 run-part number connection rest octets more e some =
     let w = is_whole (rest ++ (octets ++ more)) (length (rest ++ (octets ++ more))) e in
     let few : length (rest ++ octets) < length (rest ++ (octets ++ more)) =
     omega (arith, length-append {A = ℕ}) in
     let begun : front_of (rest ++ octets) ≡ Begun =
-    front_part (rest ++ octets) more (length (rest ++ (octets ++ more)))
+    front-part (rest ++ octets) more (length (rest ++ (octets ++ more)))
     (rw (append_assoc rest octets more) w) few in
     rw (run-begun number connection rest octets begun) refl
 
-nil_front : {A : Type 0} (xs ys : List A) → xs ++ ys ≡ [] → xs ≡ []
-nil_front [] ys e = refl
-nil_front (x ∷ xs) ys e = absurd (cc)
+nil-front : {A : Type 0} (xs ys : List A) → xs ++ ys ≡ [] → xs ≡ []
+nil-front [] ys e = refl
+nil-front (x ∷ xs) ys e = absurd (cc)
 
 -- what comes to nothing came to nothing before
 pub run-front : (number : ℕ) (left : Left) (octets more : List ℕ)
-    → (run number left (octets ++ more)).doings ≡ [] → (run number left octets).doings ≡ []
+    → (run_of number left (octets ++ more)).doings ≡ [] → (run_of number left octets).doings ≡ []
 run-front number left octets more e =
-    nil_front (run number left octets).doings (run number (run number left octets).left more).doings
+    nil-front (run_of number left octets).doings
+    (run_of number (run_of number left octets).left more).doings
     (rw (run-append number left octets more) at e)
 
 -- ---- streams

@@ -6,10 +6,10 @@ use Rattle.bay_transport.specs.declared.frame.Front.{Front}
 use Rattle.bay_transport.specs.declared.frame.Front.TheVariants.{Begun, NoFrame, Whole}
 use Rattle.bay_transport.specs.declared.frame.Tpdu.{Tpdu}
 use Rattle.bay_transport.specs.declared.frame.Tpdu.TheVariants.{Request, Data, Release, Unknown}
-use Rattle.bay_transport.specs.Frame.{front_of, tpdu_of, cut}
+use Rattle.bay_transport.specs.Frame.{front_of, tpdu_of, cut_of}
 use Rattle.bay_transport.specs.Connect.{Confirmation}
-use Rattle.bay_transport.specs.Doings.{Doing, Delivers, TransportConnection, Left, Going, Over, Broken, Run, TpduEffect, Joins, Finishes, Agrees, Closes, Refuses, connected, data_effect, kind_effect, tpdu_effect, effect_of, connection_after, on_effect, at_rest, frames_run, run, Stream, doings, after}
-use Rattle.bay_transport.specs.Feeding.{IsGoing, agreed_from, agreed, size_after}
+use Rattle.bay_transport.specs.Doings.{Doing, Delivers, TransportConnection, Left, Going, Over, Broken, Run, TpduEffect, Joins, Finishes, Agrees, Closes, Refuses, connect_effect, data_effect, kind_effect, tpdu_effect, effect_of, connection_after, on_effect, at_rest, frames_run, run_of, Stream, doings, after}
+use Rattle.bay_transport.specs.Feeding.{IsGoing, agreed_from, size_agreed, size_after}
 
 -- ---- one TPDU
 
@@ -21,153 +21,154 @@ Gathers (Agrees size reply) = ⊥
 Gathers Closes = ⊥
 Gathers (Refuses fault) = ⊥
 
-connected_not : (c : Result Confirmation TransportFault) → Gathers (connected c) → ⊥
-connected_not (Ok c) h = h
-connected_not (Err fault) h = h
+connected-not : (c : Result Confirmation TransportFault) → Gathers (connect_effect c) → ⊥
+connected-not (Ok c) h = h
+connected-not (Err fault) h = h
 
 -- data come where a size was agreed
-data_sized : (size : Option ℕ) (group : List ℕ) (indicator : ℕ) (octets : List ℕ)
+data-sized : (size : Option ℕ) (group : List ℕ) (indicator : ℕ) (octets : List ℕ)
     → Gathers (data_effect (record { size = size; group = group }) indicator octets) → IsSome size
-data_sized size group indicator [] h = absurd h
-data_sized (Some size) group indicator (mark ∷ octets) h = refl
-data_sized None group indicator (mark ∷ octets) h =
+data-sized size group indicator [] h = absurd h
+data-sized (Some size) group indicator (mark ∷ octets) h = refl
+data-sized None group indicator (mark ∷ octets) h =
     absurd (elim (indicator == 2) as
     (λ b. Gathers (cond b (Refuses BadCotp) (Refuses BadCotp)) → ⊥)
     [ true ↦ λ k. k | false ↦ λ k. k ] h)
 
-kind_sized : (number : ℕ) (connection : TransportConnection) (kind : Tpdu) (indicator : ℕ)
+kind-sized : (number : ℕ) (connection : TransportConnection) (kind : Tpdu) (indicator : ℕ)
     (octets : List ℕ) → Gathers (kind_effect number connection kind indicator octets)
     → IsSome connection.size
-kind_sized number connection Request indicator octets h = absurd (connected_not _ h)
-kind_sized number connection Data indicator octets h =
-    data_sized connection.size connection.group indicator octets h
-kind_sized number connection Release indicator octets h = absurd h
-kind_sized number connection Unknown indicator octets h = absurd h
+kind-sized number connection Request indicator octets h = absurd (connected-not _ h)
+kind-sized number connection Data indicator octets h =
+    data-sized connection.size connection.group indicator octets h
+kind-sized number connection Release indicator octets h = absurd h
+kind-sized number connection Unknown indicator octets h = absurd h
 
-tpdu_sized : (number : ℕ) (connection : TransportConnection) (tpdu : List ℕ)
+tpdu-sized : (number : ℕ) (connection : TransportConnection) (tpdu : List ℕ)
     → Gathers (tpdu_effect number connection tpdu) → IsSome connection.size
-tpdu_sized number connection [] h = absurd h
-tpdu_sized number connection (indicator ∷ []) h = absurd h
-tpdu_sized number connection (indicator ∷ code ∷ octets) h =
-    kind_sized number connection (tpdu_of code) indicator octets h
+tpdu-sized number connection [] h = absurd h
+tpdu-sized number connection (indicator ∷ []) h = absurd h
+tpdu-sized number connection (indicator ∷ code ∷ octets) h =
+    kind-sized number connection (tpdu_of code) indicator octets h
 
 -- ---- the size that is left
 
-rest_size : (front : Front) (connection : TransportConnection) (rest : List ℕ)
+rest-size : (front : Front) (connection : TransportConnection) (rest : List ℕ)
     → agreed_from (at_rest front connection rest).left
     ≡ size_after connection.size (at_rest front connection rest).doings
-rest_size Begun connection rest = refl
-rest_size NoFrame connection rest = refl
-rest_size (Whole frame) connection rest = refl
+rest-size Begun connection rest = refl
+rest-size NoFrame connection rest = refl
+rest-size (Whole frame) connection rest = refl
 
-effect_size : (effect : TpduEffect) (connection : TransportConnection) (later : Run)
+effect-size : (effect : TpduEffect) (connection : TransportConnection) (later : Run)
     → agreed_from later.left ≡ size_after (connection_after effect connection).size later.doings
     → agreed_from (on_effect effect later).left
     ≡ size_after connection.size (on_effect effect later).doings
-effect_size (Joins group) connection later same = same
-effect_size (Finishes group) connection later same = same
-effect_size (Agrees size reply) connection later same = same
-effect_size Closes connection later same = refl
-effect_size (Refuses fault) connection later same = refl
+effect-size (Joins group) connection later same = same
+effect-size (Finishes group) connection later same = same
+effect-size (Agrees size reply) connection later same = same
+effect-size Closes connection later same = refl
+effect-size (Refuses fault) connection later same = refl
 
-frames_size : (number : ℕ) (connection : TransportConnection) (frames : List (List ℕ))
+frames-size : (number : ℕ) (connection : TransportConnection) (frames : List (List ℕ))
     (rest : List ℕ) → agreed_from (frames_run number connection frames rest).left
     ≡ size_after connection.size (frames_run number connection frames rest).doings
-frames_size number connection [] rest = rest_size (front_of rest) connection rest
-frames_size number connection (frame ∷ frames) rest =
-    effect_size (effect_of number connection frame) connection
+frames-size number connection [] rest = rest-size (front_of rest) connection rest
+frames-size number connection (frame ∷ frames) rest =
+    effect-size (effect_of number connection frame) connection
     (frames_run number (connection_after (effect_of number connection frame) connection) frames
-    rest) (frames_size number (connection_after (effect_of number connection frame) connection)
+    rest) (frames-size number (connection_after (effect_of number connection frame) connection)
     frames rest)
 
-left_size : (number : ℕ) (left : Left) (octets : List ℕ)
-    → agreed_from (run number left octets).left
-    ≡ size_after (agreed_from left) (run number left octets).doings
-left_size number (Going connection rest) octets =
-    frames_size number connection (cut (rest ++ octets)).frames (cut (rest ++ octets)).rest
-left_size number Over octets = refl
-left_size number Broken octets = refl
+left-size : (number : ℕ) (left : Left) (octets : List ℕ)
+    → agreed_from (run_of number left octets).left
+    ≡ size_after (agreed_from left) (run_of number left octets).doings
+left-size number (Going connection rest) octets =
+    frames-size number connection (cut_of (rest ++ octets)).frames (cut_of (rest ++ octets)).rest
+left-size number Over octets = refl
+left-size number Broken octets = refl
 
 pub after-size : (s : Stream) (octets : List ℕ)
-    → agreed (after s octets) ≡ size_after (agreed s) (doings s octets)
-after-size s octets = left_size s.number s.left octets
+    → size_agreed (after s octets) ≡ size_after (size_agreed s) (doings s octets)
+after-size s octets = left-size s.number s.left octets
 
 -- ---- a TSDU
 
-rest_delivers : (front : Front) (connection : TransportConnection) (rest tsdu : List ℕ)
+rest-delivers : (front : Front) (connection : TransportConnection) (rest tsdu : List ℕ)
     (more : List Doing) → (at_rest front connection rest).doings ≡ Delivers tsdu ∷ more
     → IsSome connection.size
-rest_delivers Begun connection rest tsdu more e = cc
-rest_delivers NoFrame connection rest tsdu more e = cc
-rest_delivers (Whole frame) connection rest tsdu more e = cc
+rest-delivers Begun connection rest tsdu more e = cc
+rest-delivers NoFrame connection rest tsdu more e = cc
+rest-delivers (Whole frame) connection rest tsdu more e = cc
 
-effect_delivers : (effect : TpduEffect) (connection : TransportConnection) (later : Run)
+effect-delivers : (effect : TpduEffect) (connection : TransportConnection) (later : Run)
     (tsdu : List ℕ) (more : List Doing) → (Gathers effect → IsSome connection.size)
     → (on_effect effect later).doings ≡ Delivers tsdu ∷ more
     → (later.doings ≡ Delivers tsdu ∷ more → IsSome (connection_after effect connection).size)
     → IsSome connection.size
-effect_delivers (Joins group) connection later tsdu more sized e some = some e
-effect_delivers (Finishes group) connection later tsdu more sized e some = sized tt
-effect_delivers (Agrees size reply) connection later tsdu more sized e some = cc
-effect_delivers Closes connection later tsdu more sized e some = cc
-effect_delivers (Refuses fault) connection later tsdu more sized e some = cc
+effect-delivers (Joins group) connection later tsdu more sized e some = some e
+effect-delivers (Finishes group) connection later tsdu more sized e some = sized tt
+effect-delivers (Agrees size reply) connection later tsdu more sized e some = cc
+effect-delivers Closes connection later tsdu more sized e some = cc
+effect-delivers (Refuses fault) connection later tsdu more sized e some = cc
 
-frames_deliver : (number : ℕ) (connection : TransportConnection) (frames : List (List ℕ))
+frames-deliver : (number : ℕ) (connection : TransportConnection) (frames : List (List ℕ))
     (rest tsdu : List ℕ) (more : List Doing)
     → (frames_run number connection frames rest).doings ≡ Delivers tsdu ∷ more
     → IsSome connection.size
-frames_deliver number connection [] rest tsdu more e =
-    rest_delivers (front_of rest) connection rest tsdu more e
-frames_deliver number connection (frame ∷ frames) rest tsdu more e =
+frames-deliver number connection [] rest tsdu more e =
+    rest-delivers (front_of rest) connection rest tsdu more e
+frames-deliver number connection (frame ∷ frames) rest tsdu more e =
     let next = connection_after (effect_of number connection frame) connection in
-    effect_delivers (effect_of number connection frame) connection
-    (frames_run number next frames rest) tsdu more (tpdu_sized number connection (drop 4 frame))
-    e (frames_deliver number next frames rest tsdu more)
+    effect-delivers (effect_of number connection frame) connection
+    (frames_run number next frames rest) tsdu more (tpdu-sized number connection (drop 4 frame))
+    e (frames-deliver number next frames rest tsdu more)
 
-left_delivers : (number : ℕ) (left : Left) (octets tsdu : List ℕ) (more : List Doing)
-    → (run number left octets).doings ≡ Delivers tsdu ∷ more → IsSome (agreed_from left)
-left_delivers number (Going connection rest) octets tsdu more e =
-    frames_deliver number connection (cut (rest ++ octets)).frames (cut (rest ++ octets)).rest tsdu
+left-delivers : (number : ℕ) (left : Left) (octets tsdu : List ℕ) (more : List Doing)
+    → (run_of number left octets).doings ≡ Delivers tsdu ∷ more → IsSome (agreed_from left)
+left-delivers number (Going connection rest) octets tsdu more e =
+    frames-deliver number connection (cut_of (rest ++ octets)).frames (cut_of (rest ++ octets)).rest
+    tsdu
     more e
-left_delivers number Over octets tsdu more e = cc
-left_delivers number Broken octets tsdu more e = cc
+left-delivers number Over octets tsdu more e = cc
+left-delivers number Broken octets tsdu more e = cc
 
 pub delivers-size : (s : Stream) (octets tsdu : List ℕ) (later : List Doing)
-    → doings s octets ≡ Delivers tsdu ∷ later → IsSome (agreed s)
-delivers-size s octets tsdu later e = left_delivers s.number s.left octets tsdu later e
+    → doings s octets ≡ Delivers tsdu ∷ later → IsSome (size_agreed s)
+delivers-size s octets tsdu later e = left-delivers s.number s.left octets tsdu later e
 
 -- ---- what comes to nothing
 
-rest_going : (front : Front) (connection : TransportConnection) (rest : List ℕ)
+rest-going : (front : Front) (connection : TransportConnection) (rest : List ℕ)
     → (at_rest front connection rest).doings ≡ [] → IsGoing (at_rest front connection rest).left
-rest_going Begun connection rest e = tt
-rest_going NoFrame connection rest e = cc
-rest_going (Whole frame) connection rest e = tt
+rest-going Begun connection rest e = tt
+rest-going NoFrame connection rest e = cc
+rest-going (Whole frame) connection rest e = tt
 
-effect_going : (effect : TpduEffect) (later : Run) → (on_effect effect later).doings ≡ []
+effect-going : (effect : TpduEffect) (later : Run) → (on_effect effect later).doings ≡ []
     → (later.doings ≡ [] → IsGoing later.left) → IsGoing (on_effect effect later).left
-effect_going (Joins group) later e going = going e
-effect_going (Finishes group) later e going = cc
-effect_going (Agrees size reply) later e going = cc
-effect_going Closes later e going = cc
-effect_going (Refuses fault) later e going = cc
+effect-going (Joins group) later e going = going e
+effect-going (Finishes group) later e going = cc
+effect-going (Agrees size reply) later e going = cc
+effect-going Closes later e going = cc
+effect-going (Refuses fault) later e going = cc
 
-frames_going : (number : ℕ) (connection : TransportConnection) (frames : List (List ℕ))
+frames-going : (number : ℕ) (connection : TransportConnection) (frames : List (List ℕ))
     (rest : List ℕ) → (frames_run number connection frames rest).doings ≡ []
     → IsGoing (frames_run number connection frames rest).left
-frames_going number connection [] rest e = rest_going (front_of rest) connection rest e
-frames_going number connection (frame ∷ frames) rest e =
+frames-going number connection [] rest e = rest-going (front_of rest) connection rest e
+frames-going number connection (frame ∷ frames) rest e =
     let next = connection_after (effect_of number connection frame) connection in
-    effect_going (effect_of number connection frame) (frames_run number next frames rest) e
-    (frames_going number next frames rest)
+    effect-going (effect_of number connection frame) (frames_run number next frames rest) e
+    (frames-going number next frames rest)
 
-left_going : (number : ℕ) (left : Left) (octets : List ℕ) → IsGoing left
-    → (run number left octets).doings ≡ [] → IsGoing (run number left octets).left
-left_going number (Going connection rest) octets going e =
-    frames_going number connection (cut (rest ++ octets)).frames (cut (rest ++ octets)).rest e
-left_going number Over octets going e = absurd going
-left_going number Broken octets going e = absurd going
+left-going : (number : ℕ) (left : Left) (octets : List ℕ) → IsGoing left
+    → (run_of number left octets).doings ≡ [] → IsGoing (run_of number left octets).left
+left-going number (Going connection rest) octets going e =
+    frames-going number connection (cut_of (rest ++ octets)).frames (cut_of (rest ++ octets)).rest e
+left-going number Over octets going e = absurd going
+left-going number Broken octets going e = absurd going
 
 pub quiet-going : (s : Stream) (octets : List ℕ) → IsGoing s.left → doings s octets ≡ []
     → IsGoing (after s octets).left
-quiet-going s octets going e = left_going s.number s.left octets going e
+quiet-going s octets going e = left-going s.number s.left octets going e

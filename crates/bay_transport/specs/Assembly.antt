@@ -7,7 +7,7 @@ use Rattle.bay_transport.specs.declared.assembly.Assembly.{Assembly}
 use Rattle.bay_transport.specs.declared.fed.Got.{Got}
 use Rattle.bay_transport.specs.declared.fed.Got.TheVariants.{More, Answer, Tsdu, Ended}
 use Rattle.bay_transport.specs.Frame.{front_of}
-use Rattle.bay_transport.specs.Doings.{Doing, Answers, Delivers, Ends, TransportConnection, Left, Going, Over, Run, run}
+use Rattle.bay_transport.specs.Doings.{Doing, Answers, Delivers, Ends, TransportConnection, Left, Going, Over, Run, run_of}
 
 -- the octets of the unfinished group stand first in the buffer, and then the rest
 abbrev pub connection_of : Assembly → TransportConnection
@@ -94,8 +94,8 @@ pub record Takes (old : Assembly) (piece : List ℕ) (used : ℕ) (kind : Got) (
     : Type 0 where
   pub within : used ≤ length piece
   pub moves : 0 < length piece → 0 < used
-  pub does : run old.number (left_of old) (take used piece) ≡ run_for kind new
-  pub quiet : (run old.number (left_of old) (take (used - 1) piece)).doings ≡ []
+  pub does : run_of old.number (left_of old) (take used piece) ≡ run_for kind new
+  pub quiet : (run_of old.number (left_of old) (take (used - 1) piece)).doings ≡ []
 
 -- The same up to the end of the TPDU that completes something, or of the piece.
 pub record Reaches (old : Assembly) (piece : List ℕ) (used : ℕ) (kind : Got) (new : Assembly)
@@ -103,5 +103,6 @@ pub record Reaches (old : Assembly) (piece : List ℕ) (used : ℕ) (kind : Got)
   pub within : used ≤ length piece
   pub all : kind ≡ More → used ≡ length piece
   pub moves : (kind ≡ More → ⊥) → 0 < used
-  pub does : run old.number (left_of old) (take used piece) ≡ run_for kind new
-  pub quiet : (kind ≡ More → ⊥) → (run old.number (left_of old) (take (used - 1) piece)).doings ≡ []
+  pub does : run_of old.number (left_of old) (take used piece) ≡ run_for kind new
+  pub quiet : (kind ≡ More → ⊥)
+      → (run_of old.number (left_of old) (take (used - 1) piece)).doings ≡ []

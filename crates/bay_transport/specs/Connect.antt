@@ -10,9 +10,9 @@ pub record Parameter : Type 0 where
 
 -- how parameters are spelled: the code, the number of octets of the value, and the value (X.224
 -- 13.2.3)
-abbrev pub spelled : List Parameter → List ℕ
-spelled [] = []
-spelled (p ∷ ps) = p.code ∷ length p.value ∷ (p.value ++ spelled ps)
+abbrev pub parameter_octets : List Parameter → List ℕ
+parameter_octets [] = []
+parameter_octets (p ∷ ps) = p.code ∷ length p.value ∷ (p.value ++ parameter_octets ps)
 
 -- the number of a value's octets stands at the front, behind the code
 abbrev pub length_octet : List ℕ → ℕ
@@ -65,8 +65,8 @@ abbrev pub frame_header : ℕ → List ℕ
 frame_header count = 3 ∷ 0 ∷ ((count + 4) / 256) ∷ ((count + 4) % 256) ∷ []
 
 -- the frame of a TPDU
-abbrev pub framed : List ℕ → List ℕ
-framed tpdu = frame_header (length tpdu) ++ tpdu
+abbrev pub frame_of : List ℕ → List ℕ
+frame_of tpdu = frame_header (length tpdu) ++ tpdu
 
 -- the spelling of one parameter, where it is there
 abbrev pub where_there : ℕ → Option (List ℕ) → List ℕ
@@ -79,8 +79,8 @@ size_value None = None
 size_value (Some power) = Some (power ∷ [])
 
 -- the parameters of the answer: the size, the called and the calling selector, each where it came
-abbrev pub answered : Option ℕ → Option (List ℕ) → Option (List ℕ) → List ℕ
-answered power called calling =
+abbrev pub answer_parameters : Option ℕ → Option (List ℕ) → Option (List ℕ) → List ℕ
+answer_parameters power called calling =
     where_there 0xC0 (size_value power) ++ where_there 0xC2 called ++ where_there 0xC1 calling
 
 -- a confirmation up to its parameters, which take so many octets: its length indicator, D0, the
@@ -92,7 +92,7 @@ confirm_front number high low count =
 -- the confirmation in its frame
 abbrev pub confirm : ℕ → ℕ → ℕ → List ℕ → List ℕ
 confirm number high low parameters =
-    framed (confirm_front number high low (length parameters) ++ parameters)
+    frame_of (confirm_front number high low (length parameters) ++ parameters)
 
 -- the confirmation of a connection: the size of its TPDUs in octets, and the frame that is the
 -- answer
@@ -107,7 +107,8 @@ with_size number high low ps None = Err BadCotp
 with_size number high low ps (Some size) =
     Ok (record {
       size = size.1;
-      reply = confirm number high low (answered size.0 (last_value 0xC2 ps) (last_value 0xC1 ps));
+      reply = confirm number high low
+          (answer_parameters size.0 (last_value 0xC2 ps) (last_value 0xC1 ps));
     })
 
 -- the confirmation of a request with these parameters; BadCotp where there are none or the size is

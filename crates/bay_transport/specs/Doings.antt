@@ -6,7 +6,7 @@ use Rattle.bay_transport.specs.declared.frame.Front.{Front}
 use Rattle.bay_transport.specs.declared.frame.Front.TheVariants.{Begun, NoFrame, Whole}
 use Rattle.bay_transport.specs.declared.frame.Tpdu.{Tpdu}
 use Rattle.bay_transport.specs.declared.frame.Tpdu.TheVariants.{Request, Data, Release, Unknown}
-use Rattle.bay_transport.specs.Frame.{tpdu_of, front_of, cut}
+use Rattle.bay_transport.specs.Frame.{tpdu_of, front_of, cut_of}
 use Rattle.bay_transport.specs.Connect.{Confirmation, connect}
 
 -- one thing that octets come to: a size of TPDUs is agreed, with the answer to the request for it;
@@ -45,14 +45,14 @@ pub data TpduEffect : Type 0 where
   Refuses : TransportFault → TpduEffect
 
 -- what a request for a connection comes to, by its confirmation
-abbrev pub connected : Result Confirmation TransportFault → TpduEffect
-connected (Ok c) = Agrees c.size c.reply
-connected (Err fault) = Refuses fault
+abbrev pub connect_effect : Result Confirmation TransportFault → TpduEffect
+connect_effect (Ok c) = Agrees c.size c.reply
+connect_effect (Err fault) = Refuses fault
 
 -- A data TPDU whose data make the group this, and whose third octet is `mark`: at most 70,000
 -- octets are joined, and bit 8 of the mark stands on the last of a group (X.224 13.7).
-abbrev pub gathered : ℕ → List ℕ → TpduEffect
-gathered mark group =
+abbrev pub group_effect : ℕ → List ℕ → TpduEffect
+group_effect mark group =
     if nat_lt 70000 (length group) then Refuses TsduTooLong
     else (if (mark / 128) % 2 == 1 then Finishes group else Joins group)
 
@@ -62,14 +62,14 @@ abbrev pub data_effect : TransportConnection → ℕ → List ℕ → TpduEffect
 data_effect connection indicator [] = Refuses BadCotp
 data_effect connection indicator (mark ∷ octets) =
     if indicator == 2
-    then (if is_some connection.size then gathered mark (connection.group ++ octets)
+    then (if is_some connection.size then group_effect mark (connection.group ++ octets)
     else Refuses BadCotp)
     else Refuses BadCotp
 
 -- a TPDU of a kind, behind its code
 abbrev pub kind_effect : ℕ → TransportConnection → Tpdu → ℕ → List ℕ → TpduEffect
 kind_effect number connection Request indicator octets =
-    connected (connect number (is_some connection.size) indicator octets)
+    connect_effect (connect number (is_some connection.size) indicator octets)
 kind_effect number connection Data indicator octets = data_effect connection indicator octets
 kind_effect number connection Release indicator octets = Closes
 kind_effect number connection Unknown indicator octets = Refuses BadCotp
@@ -120,11 +120,11 @@ frames_run number connection (frame ∷ frames) rest =
     rest)
 
 -- What octets come to, from what was left: the octets behind the rest are cut into frames anew.
-abbrev pub run : ℕ → Left → List ℕ → Run
-run number (Going connection rest) octets =
-    frames_run number connection (cut (rest ++ octets)).frames (cut (rest ++ octets)).rest
-run number Over octets = record { doings = []; left = Over }
-run number Broken octets = record { doings = []; left = Broken }
+abbrev pub run_of : ℕ → Left → List ℕ → Run
+run_of number (Going connection rest) octets =
+    frames_run number connection (cut_of (rest ++ octets)).frames (cut_of (rest ++ octets)).rest
+run_of number Over octets = record { doings = []; left = Over }
+run_of number Broken octets = record { doings = []; left = Broken }
 
 -- what a frame comes to that stands alone
 abbrev pub alone : TpduEffect → TransportConnection → Run
@@ -135,8 +135,8 @@ alone effect connection =
 abbrev pub and_then : ℕ → Run → List ℕ → Run
 and_then number first octets =
     record {
-      doings = first.doings ++ (run number first.left octets).doings;
-      left = (run number first.left octets).left;
+      doings = first.doings ++ (run_of number first.left octets).doings;
+      left = (run_of number first.left octets).left;
     }
 
 -- a stream on the association of this number, after some octets
@@ -150,8 +150,8 @@ start = Going (record { size = None; group = [] }) []
 
 -- what the octets come to, from what the stream left
 abbrev pub doings : Stream → List ℕ → List Doing
-doings s octets = (run s.number s.left octets).doings
+doings s octets = (run_of s.number s.left octets).doings
 
 -- the stream that the octets leave
 abbrev pub after : Stream → List ℕ → Stream
-after s octets = record { number = s.number; left = (run s.number s.left octets).left }
+after s octets = record { number = s.number; left = (run_of s.number s.left octets).left }

@@ -57,8 +57,8 @@ agreed_from Over = None
 agreed_from Broken = None
 
 -- the size agreed on a stream
-abbrev pub agreed : Stream → Option ℕ
-agreed s = agreed_from s.left
+abbrev pub size_agreed : Stream → Option ℕ
+size_agreed s = agreed_from s.left
 
 -- what a transport has received: what its octets leave, and the octets of what they completed last
 pub record Received : Type 0 where
@@ -68,14 +68,14 @@ pub record Received : Type 0 where
 -- what is answered, and what was completed last, as a doing
 abbrev pub doing_for : Got → Received → Option Doing
 doing_for More r = None
-doing_for Answer r = Some (Answers (unwrap_or (agreed r.stream) 0) r.shown)
+doing_for Answer r = Some (Answers (unwrap_or (size_agreed r.stream) 0) r.shown)
 doing_for Tsdu r = Some (Delivers r.shown)
 doing_for Ended r = Some Ends
 
 -- the size agreed behind doings, where it was this before them; none behind an end or a fault
 abbrev pub size_after : Option ℕ → List Doing → Option ℕ
 size_after size [] = size
-size_after size (Answers agreed reply ∷ doings) = size_after (Some agreed) doings
+size_after size (Answers size_agreed reply ∷ doings) = size_after (Some size_agreed) doings
 size_after size (Delivers tsdu ∷ doings) = size_after size doings
 size_after size (Ends ∷ doings) = None
 size_after size (Fails fault ∷ doings) = None
@@ -93,8 +93,8 @@ abbrev pub IsWithinLimits : Received → Type 0
 IsWithinLimits r = KeepsWithin r.stream.left r.shown
 
 -- the same stream after the end of its connection, and after a refusal
-abbrev pub ended : Stream → Stream
-ended s = record { number = s.number; left = Over }
+abbrev pub end_of_stream : Stream → Stream
+end_of_stream s = record { number = s.number; left = Over }
 
 abbrev pub broken : Stream → Stream
 broken s = record { number = s.number; left = Broken }

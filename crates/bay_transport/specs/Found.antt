@@ -3,7 +3,7 @@ use Rattle.std.specs.Prelude.{ℕ, ◌≡◌, ◌==◌, List, Option, Some, if�
 use Rattle.std.specs.Option.{option_copied, option_map}
 use Rattle.bay_transport.specs.declared.request.ParameterValues.{ParameterValues}
 use Rattle.bay_transport.specs.declared.request.ConnectRequest.{ConnectRequest}
-use Rattle.bay_transport.specs.Connect.{parameters_of, last_value, answered}
+use Rattle.bay_transport.specs.Connect.{parameters_of, last_value, answer_parameters}
 
 -- what is found of a code once a parameter has been read
 abbrev pub found_then : ℕ → ℕ → List ℕ → Option (List ℕ) → Option (List ℕ)
@@ -20,4 +20,4 @@ pub record HaveValues (octets : List ℕ) (values : ParameterValues) : Type 0 wh
 -- the parameters of the answer to a request
 abbrev pub answered_to : ConnectRequest → List ℕ
 answered_to request =
-    answered request.power (option_copied request.called) (option_copied request.calling)
+    answer_parameters request.power (option_copied request.called) (option_copied request.calling)

@@ -33,9 +33,9 @@ AreFrames [] = Unit {0}
 AreFrames (frame ∷ frames) = IsFrame frame × AreFrames frames
 
 -- lists joined end to end
-abbrev pub joined : List (List ℕ) → List ℕ
-joined [] = []
-joined (xs ∷ lists) = xs ++ joined lists
+abbrev pub concatenation : List (List ℕ) → List ℕ
+concatenation [] = []
+concatenation (xs ∷ lists) = xs ++ concatenation lists
 
 -- whole frames, and the octets behind them
 pub record Cut : Type 0 where
@@ -43,10 +43,10 @@ pub record Cut : Type 0 where
   pub rest : List ℕ
 
 -- The octets are these whole frames, and a rest that begins with no whole frame.
-pub record IsCut (octets : List ℕ) (cut : Cut) : Type 0 where
-  pub whole : AreFrames cut.frames
-  pub parts : octets ≡ joined cut.frames ++ cut.rest
-  pub ended : (frame behind : List ℕ) → IsFrame frame → cut.rest ≡ frame ++ behind → ⊥
+pub record IsCut (octets : List ℕ) (cut_of : Cut) : Type 0 where
+  pub whole : AreFrames cut_of.frames
+  pub parts : octets ≡ concatenation cut_of.frames ++ cut_of.rest
+  pub ended : (frame behind : List ℕ) → IsFrame frame → cut_of.rest ≡ frame ++ behind → ⊥
 
 -- ---- cutting, which the law above ties to the frames
 
@@ -66,12 +66,12 @@ front_of (version ∷ reserved ∷ high ∷ low ∷ octets) =
     if version == 3 then of_length (pair_of high low) (length octets + 4) else NoFrame
 
 -- how many octets can follow the beginning of a frame before more has to be known
-abbrev pub wanted : List ℕ → ℕ
-wanted [] = 4
-wanted (version ∷ []) = 3
-wanted (version ∷ reserved ∷ []) = 2
-wanted (version ∷ reserved ∷ high ∷ []) = 1
-wanted (version ∷ reserved ∷ high ∷ low ∷ octets) = pair_of high low - (length octets + 4)
+abbrev pub octets_wanted : List ℕ → ℕ
+octets_wanted [] = 4
+octets_wanted (version ∷ []) = 3
+octets_wanted (version ∷ reserved ∷ []) = 2
+octets_wanted (version ∷ reserved ∷ high ∷ []) = 1
+octets_wanted (version ∷ reserved ∷ high ∷ low ∷ octets) = pair_of high low - (length octets + 4)
 
 -- how many octets of a front stand behind its first
 abbrev pub behind : Front → ℕ
@@ -94,5 +94,5 @@ cut_behind zero (x ∷ xs) =
 cut_behind (suc skipped) (x ∷ xs) = cut_behind skipped xs
 
 -- the cut of octets into whole frames and the rest
-abbrev pub cut : List ℕ → Cut
-cut octets = cut_behind 0 octets
+abbrev pub cut_of : List ℕ → Cut
+cut_of octets = cut_behind 0 octets

@@ -1,12 +1,12 @@
 -- The data TPDUs that a TSDU is sent in (X.224 13.7).
 use Rattle.std.specs.Prelude.{ℕ, ◌≡◌, Some, zero, suc, ◌+◌, ◌-◌, ◌/◌, ◌≤◌, Bool, true, false, List, [], ◌∷◌, ◌++◌, length, take, drop, if◌then◌else◌}
-use Rattle.bay_transport.specs.Frame.{cut}
-use Rattle.bay_transport.specs.Connect.{framed}
-use Rattle.bay_transport.specs.Doings.{Delivers, Going, run}
+use Rattle.bay_transport.specs.Frame.{cut_of}
+use Rattle.bay_transport.specs.Connect.{frame_of}
+use Rattle.bay_transport.specs.Doings.{Delivers, Going, run_of}
 
 -- a data TPDU in its frame: its third octet has bit 8 on the last of a TSDU
 abbrev pub data_frame : Bool → List ℕ → List ℕ
-data_frame is_last octets = framed (2 ∷ 0xF0 ∷ (if is_last then 0x80 else 0x00) ∷ octets)
+data_frame is_last octets = frame_of (2 ∷ 0xF0 ∷ (if is_last then 0x80 else 0x00) ∷ octets)
 
 -- so many data TPDUs that are full, and then the last
 abbrev pub data_frames : ℕ → ℕ → List ℕ → List ℕ
@@ -19,8 +19,8 @@ abbrev pub full_before : ℕ → List ℕ → ℕ
 full_before room octets = (length octets - 1) / room
 
 -- A TPDU has three octets before its data.
-abbrev pub wrapped : ℕ → List ℕ → List ℕ
-wrapped size octets = data_frames (size - 3) (full_before (size - 3) octets) octets
+abbrev pub tpdus_of : ℕ → List ℕ → List ℕ
+tpdus_of size octets = data_frames (size - 3) (full_before (size - 3) octets) octets
 
 -- each frame holds a TPDU of at most this size, behind four octets
 abbrev pub AreWithin : ℕ → List (List ℕ) → Type 0
@@ -30,9 +30,10 @@ AreWithin size (frame ∷ frames) = (length frame ≤ size + 4) × AreWithin siz
 -- The octets are whole frames whose one doing is the TSDU, at any side that agreed this size and
 -- has no unfinished group.
 pub record Carries (size : ℕ) (tsdu octets : List ℕ) : Type 0 where
-  pub does : (number : ℕ) → run number (Going (record { size = Some size; group = [] }) []) octets
+  pub does : (number : ℕ) → run_of number (Going (record { size = Some size; group = [] }) [])
+      octets
       ≡ record {
         doings = Delivers tsdu ∷ [];
         left = Going (record { size = Some size; group = [] }) [];
       }
-  pub within : AreWithin size (cut octets).frames
+  pub within : AreWithin size (cut_of octets).frames

@@ -1,8 +1,8 @@
 // Octets of a stream, assembled to frames, and the data of frames to TSDUs.
 ghost use Rattle.std.specs.Prelude.{◌≡◌, ◌+◌, ◌-◌, ◌<◌, ◌≤◌, Ok, Err, [], ◌∷◌, length, take, drop, ◌++◌, IfOk, IfErr, OnErr, OnOk, IfSome, is_some};
-ghost use Rattle.bay_transport.specs.Frame.{wanted};
+ghost use Rattle.bay_transport.specs.Frame.{octets_wanted};
 ghost use Rattle.bay_transport.specs.Connect as spec;
-ghost use Rattle.bay_transport.specs.Doings.{Fails, Refuses, effect_of, data_effect, connected, alone, run};
+ghost use Rattle.bay_transport.specs.Doings.{Fails, Refuses, effect_of, data_effect, connect_effect, alone, run_of};
 ghost use Rattle.bay_transport.specs.Assembly.{connection_of, rest_of, left_of, body_of, IsSound, HoldsFrame, HasNoRoom, run_for, FailsWhere, KeepsShown, Takes, Reaches};
 
 use crate::fault::TransportFault;
@@ -80,7 +80,7 @@ impl Assembly {
         ensures sound { OnOk result (IsSound self.new) }
         ensures number { self.new.number ≡ self.old.number }
         ensures ok { IfOk result
-            (λ kind. alone (connected
+            (λ kind. alone (connect_effect
             (spec.connect self.old.number (is_some self.old.size) indicator (body_of self.old)))
             (connection_of self.old) ≡ run_for kind self.new) }
         ensures shown { IfOk result
@@ -167,7 +167,7 @@ impl Assembly {
         requires { IsSound self.old }
         ensures within { IfOk result (λ taken. taken ≤ length piece.now) }
         ensures moves { IfOk result (λ taken. 0 < length piece.now → 0 < taken) }
-        ensures few { IfOk result (λ taken. taken ≤ wanted (rest_of self.old)) }
+        ensures few { IfOk result (λ taken. taken ≤ octets_wanted (rest_of self.old)) }
         ensures rest { IfOk result
             (λ taken. rest_of self.new ≡ rest_of self.old ++ take taken piece.now) }
         ensures connection { connection_of self.new ≡ connection_of self.old }
@@ -191,7 +191,7 @@ impl Assembly {
             (λ taken. KeepsShown taken.1 self.old.shown.items self.new.shown.items) }
         ensures err { IfErr result
             (λ fault. FailsWhere fault
-            ((run self.old.number (left_of self.old) piece.now).doings ≡ Fails fault ∷ [])) }
+            ((run_of self.old.number (left_of self.old) piece.now).doings ≡ Fails fault ∷ [])) }
     {
         let taken = self.extend(piece)?;
         match front_of(&self.buffer[self.group..]) {
@@ -215,7 +215,7 @@ impl Assembly {
             (λ taken. KeepsShown taken.1 self.old.shown.items self.new.shown.items) }
         ensures err { IfErr result
             (λ fault. FailsWhere fault
-            ((run self.old.number (left_of self.old) piece.now).doings ≡ Fails fault ∷ [])) }
+            ((run_of self.old.number (left_of self.old) piece.now).doings ≡ Fails fault ∷ [])) }
         ensures some { OnErr result (0 < length piece.now) }
     {
         let mut used = 0;

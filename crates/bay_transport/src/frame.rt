@@ -81,7 +81,7 @@ pub(crate) fn front_of(octets: &[u8]) -> Front
 /// end of the length, or else those up to the end of the frame.
 pub(crate) fn wanted(begun: &[u8]) -> usize
     requires { spec.front_of begun.now ≡ Front.Begun }
-    ensures wanted { result ≡ spec.wanted begun.now }
+    ensures wanted { result ≡ spec.octets_wanted begun.now }
     ensures some { 0 < result }
 {
     match begun {

@@ -1,14 +1,14 @@
 // Laws of the definitions. Each function does nothing, and its contract is the law.
 ghost use Rattle.std.specs.Prelude.{◌≡◌, ◌++◌, ◌∷◌, [], ◌↔◌, List, ℕ, Some, IsSome, take, drop};
-ghost use Rattle.bay_transport.specs.Frame.{Cut, IsCut, cut};
-ghost use Rattle.bay_transport.specs.Connect.{Parameter, spelled, parameters_of};
-ghost use Rattle.bay_transport.specs.Doings.{Doing, Delivers, Left, Stream, run, and_then, doings, after};
-ghost use Rattle.bay_transport.specs.Feeding.{CompletesDoing, GoesOn, IsGoing, agreed, size_after};
+ghost use Rattle.bay_transport.specs.Frame.{Cut, IsCut, cut_of};
+ghost use Rattle.bay_transport.specs.Connect.{Parameter, parameter_octets, parameters_of};
+ghost use Rattle.bay_transport.specs.Doings.{Doing, Delivers, Left, Stream, run_of, and_then, doings, after};
+ghost use Rattle.bay_transport.specs.Feeding.{CompletesDoing, GoesOn, IsGoing, size_agreed, size_after};
 
 /// A list of octets is whole frames followed by a rest that begins with no whole frame, in one way
 /// (RFC 1006 6).
 pub fn one_cutting()
-    ensures cut { (octets : List ℕ) → IsCut octets (cut octets) }
+    ensures cut { (octets : List ℕ) → IsCut octets (cut_of octets) }
     ensures only { (octets : List ℕ) (first second : Cut) → IsCut octets first → IsCut octets second
         → first ≡ second }
 {}
@@ -17,7 +17,7 @@ pub fn one_cutting()
 /// piece are the list's, and then the piece's from what the list leaves.
 pub fn any_cutting()
     ensures run { (number : ℕ) (left : Left) (octets piece : List ℕ)
-        → run number left (octets ++ piece) ≡ and_then number (run number left octets) piece }
+        → run_of number left (octets ++ piece) ≡ and_then number (run_of number left octets) piece }
     ensures doings { (s : Stream) (octets piece : List ℕ)
         → doings s (octets ++ piece) ≡ doings s octets ++ doings (after s octets) piece }
     ensures after { (s : Stream) (octets piece : List ℕ)
@@ -38,9 +38,9 @@ pub fn feeding_goes_on()
 /// TSDU comes only where one is agreed.
 pub fn one_size()
     ensures after { (s : Stream) (octets : List ℕ)
-        → agreed (after s octets) ≡ size_after (agreed s) (doings s octets) }
+        → size_agreed (after s octets) ≡ size_after (size_agreed s) (doings s octets) }
     ensures delivers { (s : Stream) (octets tsdu : List ℕ) (later : List Doing)
-        → doings s octets ≡ Delivers tsdu ∷ later → IsSome (agreed s) }
+        → doings s octets ≡ Delivers tsdu ∷ later → IsSome (size_agreed s) }
 {}
 
 /// Octets that come to nothing leave a stream that goes on.
@@ -52,5 +52,5 @@ pub fn quiet_goes_on()
 /// Octets are parameters in one way: just those that spell them (X.224 13.2.3).
 pub fn one_reading()
     ensures { (octets : List ℕ) (ps : List Parameter) → (parameters_of octets ≡ Some ps)
-        ↔ (octets ≡ spelled ps) }
+        ↔ (octets ≡ parameter_octets ps) }
 {}

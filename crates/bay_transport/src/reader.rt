@@ -2,7 +2,7 @@
 ghost use Rattle.std.specs.Prelude.{◌≡◌, ◌≤◌, [], IfOk, IfErr, OnErr, length, take};
 ghost use Rattle.bay_transport.specs.Doings.{start, after};
 ghost use Rattle.bay_transport.specs.Assembly.{HasNoRoom, KeepsShown};
-ghost use Rattle.bay_transport.specs.Feeding.{stream_of, received_of, IsKept, Feeds, RefusesPiece, IsWithinLimits, ended, broken, doing_for};
+ghost use Rattle.bay_transport.specs.Feeding.{stream_of, received_of, IsKept, Feeds, RefusesPiece, IsWithinLimits, end_of_stream, broken, doing_for};
 
 use crate::assembly::Assembly;
 use crate::fault::TransportFault;
@@ -55,7 +55,7 @@ impl Reader {
     pub(crate) fn end(&mut self)
         ensures kept { IsKept self.new }
         ensures ended { received_of self.new
-            ≡ record { stream = ended (stream_of self.old); shown = [] } }
+            ≡ record { stream = end_of_stream (stream_of self.old); shown = [] } }
     {
         self.stop(ReaderState::Closed);
     }

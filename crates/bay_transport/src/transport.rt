@@ -2,8 +2,8 @@
 ghost use Rattle.std.specs.Prelude.{◌≡◌, ◌+◌, ◌<◌, ◌≤◌, ◌++◌, [], ℕ, List, None, IfOk, IfErr, OnErr, IsSome, IfSome, length, take};
 ghost use Rattle.bay_transport.specs.Assembly.{KeepsShown};
 ghost use Rattle.bay_transport.specs.Doings.{start, after};
-ghost use Rattle.bay_transport.specs.Feeding.{Feeds, RefusesPiece, IsWithinLimits, agreed, ended, broken, doing_for};
-ghost use Rattle.bay_transport.specs.Wrap.{wrapped, Carries};
+ghost use Rattle.bay_transport.specs.Feeding.{Feeds, RefusesPiece, IsWithinLimits, size_agreed, end_of_stream, broken, doing_for};
+ghost use Rattle.bay_transport.specs.Wrap.{tpdus_of, Carries};
 
 use crate::fault::TransportFault;
 use crate::fed::Fed;
@@ -83,7 +83,7 @@ impl Transport {
     /// Ends the connection from this side: no more octets are taken, and the buffers are given
     /// back.
     pub fn end(&mut self)
-        ensures { self.new ≡ record { stream = ended self.old.stream; shown = [] } }
+        ensures { self.new ≡ record { stream = end_of_stream self.old.stream; shown = [] } }
     {
         self.reader.end();
     }
@@ -91,7 +91,7 @@ impl Transport {
     /// The size agreed for a TPDU in octets, where a request came and the connection has neither
     /// ended nor failed.
     pub fn agreed_size(&self) -> Option<usize>
-        ensures { result ≡ agreed self.now.stream }
+        ensures { result ≡ size_agreed self.now.stream }
     {
         match self.reader.state {
             ReaderState::Open => self.reader.assembly.size,
@@ -102,11 +102,11 @@ impl Transport {
     /// What stands before a TSDU of so many octets where one data TPDU of the size agreed holds it,
     /// so that these octets and then the TSDU's are what `wrap` gives; None where it takes several.
     pub fn header(&self, count: usize) -> Option<[u8; 7]>
-        requires { IsSome (agreed self.now.stream) }
+        requires { IsSome (size_agreed self.now.stream) }
         ensures exact { IfSome result (λ header. (tsdu : List ℕ) → length tsdu ≡ count
-            → IfSome (agreed self.now.stream) (λ size. header ++ tsdu ≡ wrapped size tsdu)) }
+            → IfSome (size_agreed self.now.stream) (λ size. header ++ tsdu ≡ tpdus_of size tsdu)) }
         ensures several { result ≡ None
-            → IfSome (agreed self.now.stream) (λ size. size < count + 3) }
+            → IfSome (size_agreed self.now.stream) (λ size. size < count + 3) }
     {
         let _ = &self.reader.assembly;
         match self.agreed_size() {
@@ -123,14 +123,14 @@ impl Transport {
     /// The front has at most 125 octets, which is what the smallest data TPDU holds, and the TSDU
     /// at most 70,000.
     pub fn wrap(&self, front: &[u8], rest: &[u8]) -> Result<Vec<u8>, AllocError>
-        requires agreed { IsSome (agreed self.now.stream) }
+        requires agreed { IsSome (size_agreed self.now.stream) }
         requires front { length front.now ≤ 125 }
         requires short { length front.now + length rest.now ≤ 70_000 }
         ensures exact { IfOk result
-            (λ octets. IfSome (agreed self.now.stream)
-            (λ size. octets.items ≡ wrapped size (front.now ++ rest.now))) }
+            (λ octets. IfSome (size_agreed self.now.stream)
+            (λ size. octets.items ≡ tpdus_of size (front.now ++ rest.now))) }
         ensures carries { IfOk result
-            (λ octets. IfSome (agreed self.now.stream)
+            (λ octets. IfSome (size_agreed self.now.stream)
             (λ size. Carries size (front.now ++ rest.now) octets.items)) }
     {
         match self.agreed_size() {

@@ -1,6 +1,6 @@
 // TSDUs to be sent: data TPDUs in their frames (X.224 13.7).
 ghost use Rattle.std.specs.Prelude.{◌≡◌, ◌+◌, ◌<◌, ◌≤◌, ◌++◌, ℕ, List, None, length, IfOk, IfSome, OnOk};
-ghost use Rattle.bay_transport.specs.Wrap.{data_frame, wrapped, Carries};
+ghost use Rattle.bay_transport.specs.Wrap.{data_frame, tpdus_of, Carries};
 ghost use Rattle.bay_transport.specs.Assembly.{IsSize};
 
 use crate::frame::frame_header;
@@ -27,7 +27,7 @@ fn append(out: &mut Vec<u8>, is_last: bool, front: &[u8], rest: &[u8]) -> Result
 fn append_all(out: &mut Vec<u8>, size: usize, octets: &[u8]) -> Result<(), AllocError>
     requires size { IsSize size }
     requires short { length octets.now ≤ 70_000 }
-    ensures { OnOk result (out.new.items ≡ out.old.items ++ wrapped size octets.now) }
+    ensures { OnOk result (out.new.items ≡ out.old.items ++ tpdus_of size octets.now) }
 {
     let room = size - 3;
     let mut at = 0;
@@ -53,7 +53,7 @@ fn frames_length(room: usize, count: usize) -> usize
 pub(crate) fn header(size: usize, count: usize) -> Option<[u8; BEFORE_DATA]>
     requires { IsSize size }
     ensures exact { IfSome result (λ header. (tsdu : List ℕ) → length tsdu ≡ count
-        → header ++ tsdu ≡ wrapped size tsdu) }
+        → header ++ tsdu ≡ tpdus_of size tsdu) }
     ensures several { result ≡ None → size < count + 3 }
 {
     if size - 3 < count {
@@ -74,7 +74,7 @@ pub(crate) fn wrap(
     requires size { IsSize size }
     requires front { length front.now ≤ 125 }
     requires short { length front.now + length rest.now ≤ 70_000 }
-    ensures exact { IfOk result (λ octets. octets.items ≡ wrapped size (front.now ++ rest.now)) }
+    ensures exact { IfOk result (λ octets. octets.items ≡ tpdus_of size (front.now ++ rest.now)) }
     ensures carries { IfOk result (λ octets. Carries size (front.now ++ rest.now) octets.items) }
 {
     let room = size - 3;

@@ -11,7 +11,7 @@ use Rattle.std.specs.Str.{IsUtf8, bytes_eq}
 use Rattle.bay_tree.specs.declared.row.Row.{Row}
 use Rattle.bay_tree.specs.declared.leaf.Leaf.{Leaf}
 use Rattle.bay_tree.specs.declared.node.Node.{Node}
-use Rattle.bay_tree.specs.Arena.{IsArena, node_at, row_of, rows_of, unlinked}
+use Rattle.bay_tree.specs.Arena.{IsArena, node_at, row_of, rows_of, unlinked_node}
 use Rattle.bay_tree.specs.Names.{parent_of, is_below}
 use Rattle.bay_tree.specs.declared.page.Names.{Names}
 use Rattle.bay_tree.specs.Page.{page_after, rows_after, start_after}
@@ -77,9 +77,9 @@ place_of-same a b name same =
 
 -- the row of a node, as a row of the list
 pub row_at-node : (nodes : List Node) (k : ℕ) → row_at (rows_of nodes) k ≡ row_of (node_at nodes k)
-row_at-node nodes k = get_or-map row_of nodes k (unlinked (record { name = []; leaf = None }))
+row_at-node nodes k = get_or-map row_of nodes k (unlinked_node (record { name = []; leaf = None }))
 
-pub rows_of-unlinked : (rows : List Row) → rows_of (map unlinked rows) ≡ rows
+pub rows_of-unlinked : (rows : List Row) → rows_of (map unlinked_node rows) ≡ rows
 rows_of-unlinked [] = refl
 rows_of-unlinked (row ∷ rows) = ap (λ rest. row ∷ rest) (rows_of-unlinked rows)
 
@@ -90,9 +90,9 @@ written old new n same all =
     ap (λ rest. take n (new ++ rest)) (drop_all (length new) old (omega arith))
     ∙ ap (take n) (append-nil new) ∙ take_all n new (omega arith)
 
-row_is : (row : Row) (name : List ℕ) (leaf : Option Leaf) → row.name ≡ name → row.leaf ≡ leaf
+row-is : (row : Row) (name : List ℕ) (leaf : Option Leaf) → row.name ≡ name → row.leaf ≡ leaf
     → row ≡ record { name = name; leaf = leaf }
-row_is row name leaf e f =
+row-is row name leaf e f =
     ap (λ (n : List ℕ). let r : Row = record { name = n; leaf = row.leaf } in r) e
     ∙ ap (λ (l : Option Leaf). let r : Row = record { name = name; leaf = l } in r) f
 
@@ -103,7 +103,7 @@ pub with_leaf-set : (nodes : List Node) (place : ℕ) (node : Node) (leaf : Leaf
 with_leaf-set nodes place node leaf name value =
     map-set row_of nodes place node
     ∙ ap (set (rows_of nodes) place)
-    (row_is (row_of node) (name_at (rows_of nodes) place) (Some leaf)
+    (row-is (row_of node) (name_at (rows_of nodes) place) (Some leaf)
     (name ∙ sym (ap (λ (r : Row). r.name) (row_at-node nodes place))) value)
 
 link-set : (link : Node → Option ℕ) (nodes : List Node) (place : ℕ) (node : Node) (k : ℕ)
@@ -149,23 +149,23 @@ IsArena-set nodes index place node within leaf name below beside arena =
     }
 
 -- the rows after a name, by where they begin
-rest_either : (rows : List Row) (b : Bool) (n start : ℕ)
+rest-either : (rows : List Row) (b : Bool) (n start : ℕ)
     → option_map (λ p. p + 1) (cond b (Some n) None) ≡ Some start
     → drop start rows ≡ drop (n + 1) rows
-rest_either rows true n start h = let same : n + 1 ≡ start = cc in rw (← same)
-rest_either rows false n start h = absurd cc
+rest-either rows true n start h = let same : n + 1 ≡ start = cc in rw (← same)
+rest-either rows false n start h = absurd cc
 
 pub rows_after-start : (rows : List Row) (name : Option (List ℕ)) (start : ℕ)
     → start_after rows name ≡ Some start → drop start rows ≡ rows_after rows name
 rows_after-start rows None start h = let same : 0 ≡ start = cc in rw (← same)
 rows_after-start rows (Some name) start h =
-    rest_either rows (ltb (position_or_len (λ (row : Row). bytes_eq row.name name) rows)
+    rest-either rows (ltb (position_or_len (λ (row : Row). bytes_eq row.name name) rows)
     (length rows)) (position_or_len (λ (row : Row). bytes_eq row.name name) rows) start h
 
-page_is : (a b : List (List ℕ)) (m n : Bool) → a ≡ b → m ≡ n
+page-is : (a b : List (List ℕ)) (m n : Bool) → a ≡ b → m ≡ n
     → (let p : Names = record { names = a; more = m } in p)
     ≡ (let p : Names = record { names = b; more = n } in p)
-page_is a b m n e f =
+page-is a b m n e f =
     ap (λ (x : List (List ℕ)). let p : Names = record { names = x; more = m } in p) e
     ∙ ap (λ (x : Bool). let p : Names = record { names = b; more = x } in p) f
 
@@ -187,7 +187,7 @@ page-made nodes rows name start count names same begins made =
     let all : rows_of rest ≡ rows_after rows name =
     ap rows_of whole ∙ sym (drop-map row_of start nodes) ∙ ap (drop start) same
     ∙ rows_after-start rows name start begins in
-    page_is names (names_of (take count (rows_after rows name))) (ltb count (length rest))
+    page-is names (names_of (take count (rows_after rows name))) (ltb count (length rest))
     (ltb count (length (rows_after rows name)))
     (made ∙ ap names_of (sym (take-map row_of count rest))
     ∙ ap (λ (rs : List Row). names_of (take count rs)) all)

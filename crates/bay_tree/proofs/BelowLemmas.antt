@@ -20,20 +20,20 @@ position_from-skip test (row ∷ rows) (suc n) start past is within none =
     rw here (position_from-skip test rows n (start + 1) past (omega arith) (omega arith)
     (λ k lt. none (suc k) (omega arith)))
 
-false_unless : (b : Bool) → (b ≡ true → ⊥) → b ≡ false
-false_unless true h = absurd (h refl)
-false_unless false h = refl
+false-unless : (b : Bool) → (b ≡ true → ⊥) → b ≡ false
+false-unless true h = absurd (h refl)
+false-unless false h = refl
 
 is_parent-not : (parent : List ℕ) (own : Option (List ℕ)) → (own ≡ Some parent → ⊥)
     → is_parent parent own ≡ false
 is_parent-not parent None h = refl
 is_parent-not parent (Some own) h =
-    false_unless (bytes_eq own parent) (λ same. h (ap Some ((bytes_eq-Decides own parent).0 same)))
+    false-unless (bytes_eq own parent) (λ same. h (ap Some ((bytes_eq-Decides own parent).0 same)))
 
 -- a row's parent stands before it
-parent_before : (rows : List Row) (place k : ℕ) → IsTree rows → place < length rows → k ≤ place
+parent-before : (rows : List Row) (place k : ℕ) → IsTree rows → place < length rows → k ≤ place
     → parent_of (name_at rows k) ≡ Some (name_at rows place) → ⊥
-parent_before rows place k tree within le own =
+parent-before rows place k tree within le own =
     let P : Option (List ℕ) → Type 0 =
     λ o. IfSome o (λ parent. (j : ℕ) × (j < k) × IsStructureNamed parent (row_at rows j)) in
     let above = subst P own (tree.parents k (omega arith)) in
@@ -46,20 +46,20 @@ first_below-skip rows place tree within =
     position_from-skip (λ (row : Row). is_below (name_at rows place) row.name) rows (place + 1) 0
     (place + 1) (omega arith) (omega arith)
     (λ k lt. is_parent-not (name_at rows place) (parent_of (name_at rows k))
-    (parent_before rows place k tree within (omega arith)))
+    (parent-before rows place k tree within (omega arith)))
 
-within_either : (test : Row → Bool) (row : Row) (rows : List Row) (start k : ℕ) (here : Bool)
+within-either : (test : Row → Bool) (row : Row) (rows : List Row) (start k : ℕ) (here : Bool)
     → cond here (Some start) (position_from test (start + 1) rows) ≡ Some k
     → (position_from test (start + 1) rows ≡ Some k → start + 1 ≤ k) → start ≤ k
-within_either test row rows start k true found later = let same : start ≡ k = cc in omega arith
-within_either test row rows start k false found later = omega (arith, later found)
+within-either test row rows start k true found later = let same : start ≡ k = cc in omega arith
+within-either test row rows start k false found later = omega (arith, later found)
 
 -- what a search finds stands at its start or behind it
 position_from-start : (test : Row → Bool) (rows : List Row) (start k : ℕ)
     → position_from test start rows ≡ Some k → start ≤ k
 position_from-start test [] start k found = absurd cc
 position_from-start test (row ∷ rows) start k found =
-    within_either test row rows start k (test row) found
+    within-either test row rows start k (test row) found
     (λ later. position_from-start test rows (start + 1) k later)
 
 -- the first place found, and the places in the rest of the list
@@ -76,10 +76,10 @@ since-shift start row rows parent (Some k) h =
     let same : (k + 1) - start ≡ suc ((k + 1) - (start + 1)) = omega arith in
     rw same
 
-found_behind : (start : ℕ) (rows : List Row) (parent : List ℕ) (o : Option ℕ)
+found-behind : (start : ℕ) (rows : List Row) (parent : List ℕ) (o : Option ℕ)
     → first_below_from start rows parent ≡ o → IfSome o (λ k. start ≤ k)
-found_behind start rows parent None h = tt
-found_behind start rows parent (Some k) h =
+found-behind start rows parent None h = tt
+found-behind start rows parent (Some k) h =
     position_from-start (λ (row : Row). is_below parent row.name) rows start k h
 
 since-either : (start : ℕ) (row : Row) (rows : List Row) (parent : List ℕ) (here : Bool)
@@ -94,7 +94,7 @@ since-either start row rows parent true later =
     rw same
 since-either start row rows parent false later =
     later ∙ since-shift start row rows parent (first_below_from (start + 1) rows parent)
-    (found_behind (start + 1) rows parent (first_below_from (start + 1) rows parent) refl)
+    (found-behind (start + 1) rows parent (first_below_from (start + 1) rows parent) refl)
 
 places_below_from-first : (start : ℕ) (rows : List Row) (parent : List ℕ)
     → places_below_from start rows parent
@@ -119,7 +119,7 @@ pub places_since-first : (rows : List Row) (parent : List ℕ) (start : ℕ)
 places_since-first rows parent start =
     places_below_from-first start (drop start rows) parent
     ∙ since-drop rows parent start (first_below_from start (drop start rows) parent)
-    (found_behind start (drop start rows) parent
+    (found-behind start (drop start rows) parent
     (first_below_from start (drop start rows) parent) refl)
 
 -- a structure's places are the first that is found below it and those behind that
@@ -128,11 +128,11 @@ pub places_below-first : (rows : List Row) (place : ℕ) (found : Option ℕ)
     → places_below rows (name_at rows place) ≡ places_since rows (name_at rows place) found
 places_below-first rows place found is = rw is (places_since-first rows (name_at rows place) 0)
 
-next_since : (rows : List Row) (place : ℕ) (parent : Option (List ℕ))
+next-since : (rows : List Row) (place : ℕ) (parent : Option (List ℕ))
     → IfSome parent (λ name. places_behind rows name place
     ≡ places_since rows name (next_below rows place parent))
-next_since rows place None = tt
-next_since rows place (Some name) = places_since-first rows name (place + 1)
+next-since rows place None = tt
+next-since rows place (Some name) = places_since-first rows name (place + 1)
 
 -- the places behind a row are the next beside it and those behind that
 pub places_behind-next : (rows : List Row) (place : ℕ) (found : Option ℕ)
@@ -140,28 +140,28 @@ pub places_behind-next : (rows : List Row) (place : ℕ) (found : Option ℕ)
     → IfSome (parent_of (name_at rows place))
     (λ parent. places_behind rows parent place ≡ places_since rows parent found)
 places_behind-next rows place found is =
-    rw is (next_since rows place (parent_of (name_at rows place)))
+    rw is (next-since rows place (parent_of (name_at rows place)))
 
-end_either : (test : Row → Bool) (row : Row) (rows : List Row) (start k : ℕ) (here : Bool)
+end-either : (test : Row → Bool) (row : Row) (rows : List Row) (start k : ℕ) (here : Bool)
     → cond here (Some start) (position_from test (start + 1) rows) ≡ Some k
     → (position_from test (start + 1) rows ≡ Some k → k < start + 1 + length rows)
     → k < start + length (row ∷ rows)
-end_either test row rows start k true found later = let same : start ≡ k = cc in omega arith
-end_either test row rows start k false found later = omega (arith, later found)
+end-either test row rows start k true found later = let same : start ≡ k = cc in omega arith
+end-either test row rows start k false found later = omega (arith, later found)
 
 -- what a search finds stands within the list
 position_from-end : (test : Row → Bool) (rows : List Row) (start k : ℕ)
     → position_from test start rows ≡ Some k → k < start + length rows
 position_from-end test [] start k found = absurd cc
 position_from-end test (row ∷ rows) start k found =
-    end_either test row rows start k (test row) found
+    end-either test row rows start k (test row) found
     (λ later. position_from-end test rows (start + 1) k later)
 
 -- what is found behind a place stands behind it, and within the rows
-found_after : (rows : List Row) (place k : ℕ) (parent : List ℕ) → place < length rows
+found-after : (rows : List Row) (place k : ℕ) (parent : List ℕ) → place < length rows
     → first_below_from (place + 1) (drop (place + 1) rows) parent ≡ Some k
     → (place < k) × (k < length rows)
-found_after rows place k parent within found =
+found-after rows place k parent within found =
     let behind : place + 1 ≤ k =
     position_from-start (λ (row : Row). is_below parent row.name) (drop (place + 1) rows)
     (place + 1) k found in
@@ -175,16 +175,16 @@ found_after rows place k parent within found =
 pub first_below-after : (rows : List Row) (place k : ℕ) → IsTree rows → place < length rows
     → Some k ≡ first_below rows place → (place < k) × (k < length rows)
 first_below-after rows place k tree within found =
-    found_after rows place k (name_at rows place) within
+    found-after rows place k (name_at rows place) within
     (sym (found ∙ first_below-skip rows place tree within))
 
-next_after : (rows : List Row) (place k : ℕ) (parent : Option (List ℕ)) → place < length rows
+next-after : (rows : List Row) (place k : ℕ) (parent : Option (List ℕ)) → place < length rows
     → Some k ≡ next_below rows place parent → (place < k) × (k < length rows)
-next_after rows place k None within found = absurd cc
-next_after rows place k (Some parent) within found =
-    found_after rows place k parent within (sym found)
+next-after rows place k None within found = absurd cc
+next-after rows place k (Some parent) within found =
+    found-after rows place k parent within (sym found)
 
 pub next_beside-after : (rows : List Row) (place k : ℕ) → place < length rows
     → Some k ≡ next_beside rows place → (place < k) × (k < length rows)
 next_beside-after rows place k within found =
-    next_after rows place k (parent_of (name_at rows place)) within found
+    next-after rows place k (parent_of (name_at rows place)) within found

@@ -46,9 +46,9 @@ IsTree-set rows place row within leaf same tree =
           (tree.parents k (omega arith)));
     }
 
-pub leaf_from_type : (rows : List Row) (place : ℕ) (leaf_type : LeafType)
+pub leaf-from-type : (rows : List Row) (place : ℕ) (leaf_type : LeafType)
     → leaf_type_at rows place ≡ Some leaf_type → leaf_at rows place ≢ None
-leaf_from_type rows place leaf_type h =
+leaf-from-type rows place leaf_type h =
     λ none. let e : option_map leaf_type_of None ≡ Some leaf_type = rw none at h in cc
 
 pub leaf_at-own : (rows : List Row) (row : ℕ) (leaf : Leaf) → row < length rows

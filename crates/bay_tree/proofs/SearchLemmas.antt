@@ -11,7 +11,7 @@ use Rattle.bay_tree.specs.declared.fault.TreeFault.{TreeFault}
 use Rattle.bay_tree.specs.declared.row.Row.{Row}
 use Rattle.bay_tree.specs.Page.{IsUnknown, start_after}
 use Rattle.bay_tree.specs.Rows.{name_at, names_of, place_of, IsHandle, IsTree}
-use Rattle.bay_tree.proofs.NamedLemmas.{AreApart, other_text}
+use Rattle.bay_tree.proofs.NamedLemmas.{AreApart, other-text}
 
 -- the place found is a row's, and that row has the name
 pub place_of-found : (rows : List Row) (name : List ℕ) (place : ℕ) → place_of rows name ≡ Some place
@@ -22,14 +22,14 @@ place_of-found rows name place h =
     (record { name = []; leaf = None }) h in
     (found.0, (bytes_eq-Decides (name_at rows place) name).0 found.1)
 
-none_either : (test : Row → Bool) (row : Row) (rows : List Row) (start : ℕ) (here : Bool)
+none-either : (test : Row → Bool) (row : Row) (rows : List Row) (start : ℕ) (here : Bool)
     → test row ≡ here → cond here (Some start) (position_from test (start + 1) rows) ≡ None
     → (position_from test (start + 1) rows ≡ None → (k : ℕ) (d : Row) → k < length rows
     → test (get_or rows k d) ≡ false) → (k : ℕ) (d : Row) → k < length (row ∷ rows)
     → test (get_or (row ∷ rows) k d) ≡ false
-none_either test row rows start true is none later k d lt = absurd cc
-none_either test row rows start false is none later zero d lt = is
-none_either test row rows start false is none later (suc k) d lt = later none k d (omega arith)
+none-either test row rows start true is none later k d lt = absurd cc
+none-either test row rows start false is none later zero d lt = is
+none-either test row rows start false is none later (suc k) d lt = later none k d (omega arith)
 
 -- a search that finds nothing has missed no row
 position_from-none : (test : Row → Bool) (rows : List Row) (start : ℕ)
@@ -37,7 +37,7 @@ position_from-none : (test : Row → Bool) (rows : List Row) (start : ℕ)
     → test (get_or rows k d) ≡ false
 position_from-none test [] start none k d lt = absurd (omega arith)
 position_from-none test (row ∷ rows) start none k d lt =
-    none_either test row rows start (test row) refl none (position_from-none test rows (start + 1))
+    none-either test row rows start (test row) refl none (position_from-none test rows (start + 1))
     k d lt
 
 -- where no place is found, no row has the name
@@ -57,25 +57,25 @@ place_of-some rows name place h lacking =
     let found = place_of-found rows name place h in
     lacking place (record { name = []; leaf = None }) found.0 found.1
 
-start_with : (place : Option ℕ) → option_map (λ p. p + 1) place ≡ None → place ≡ None
-start_with None h = refl
-start_with (Some p) h = absurd cc
+start-with : (place : Option ℕ) → option_map (λ p. p + 1) place ≡ None → place ≡ None
+start-with None h = refl
+start-with (Some p) h = absurd cc
 
-started_with : (place : Option ℕ) (start : ℕ) → option_map (λ p. p + 1) place ≡ Some start
+started-with : (place : Option ℕ) (start : ℕ) → option_map (λ p. p + 1) place ≡ Some start
     → (p : ℕ) × (place ≡ Some p)
-started_with None start h = absurd cc
-started_with (Some p) start h = (p, refl)
+started-with None start h = absurd cc
+started-with (Some p) start h = (p, refl)
 
 pub start_after-none : (rows : List Row) (name : Option (List ℕ)) → start_after rows name ≡ None
     → IsUnknown rows name
 start_after-none rows None h = cc
-start_after-none rows (Some name) h = place_of-none rows name (start_with (place_of rows name) h)
+start_after-none rows (Some name) h = place_of-none rows name (start-with (place_of rows name) h)
 
 pub start_after-some : (rows : List Row) (name : Option (List ℕ)) (start : ℕ)
     → start_after rows name ≡ Some start → IsUnknown rows name → ⊥
 start_after-some rows None start h unknown = unknown
 start_after-some rows (Some name) start h unknown =
-    let found = started_with (place_of rows name) start h in
+    let found = started-with (place_of rows name) start h in
     place_of-some rows name found.0 found.1 unknown
 
 no_text : (rows : List Row) (name : List ℕ) (place : Option ℕ) → AreTexts rows → ¬ IsUtf8 name
@@ -91,10 +91,10 @@ pub place_of-no_text : (rows : List Row) (name : List ℕ) → AreTexts rows →
 place_of-no_text rows name texts bad = no_text rows name (place_of rows name) texts bad refl
 
 -- a look-up that is refused has found no row
-pub not_found : (rows : List Row) (name : List ℕ) (fault other : TreeFault) (place : Option ℕ)
+pub not-found : (rows : List Row) (name : List ℕ) (fault other : TreeFault) (place : Option ℕ)
     → place_of rows name ≡ place → Err fault ≡ ok_or place other → place_of rows name ≡ None
-not_found rows name fault other None is h = is
-not_found rows name fault other (Some place) is h = absurd cc
+not-found rows name fault other None is h = is
+not-found rows name fault other (Some place) is h = absurd cc
 
 -- A row that stands in a tree is the first of its name: a search that counts from `start` ends
 -- there.
@@ -109,7 +109,7 @@ own-place (r ∷ rows) zero start name apart within named =
     ((bytes_eq-Decides r.name name).1 named) ∙ ap Some none
 own-place (r ∷ rows) (suc place) start name apart within named =
     let other : bytes_eq r.name name ≡ false =
-    other_text r.name name (λ same. apart zero (suc place) (omega arith) within
+    other-text r.name name (λ same. apart zero (suc place) (omega arith) within
     (same ∙ sym named)) in
     let more : start + 1 + place ≡ start + suc place = omega arith in
     ap (λ b. cond b (Some start)

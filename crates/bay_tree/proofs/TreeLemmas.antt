@@ -14,11 +14,11 @@ pub record IsInPlace (rows : List Row) (place : ℕ) : Type 0 where
   pub first : place_of rows (name_at rows place) ≡ Some place
   pub below : IsBelowStructure rows place
 
-above_stands : (rows : List Row) (k : ℕ) (parent : List ℕ) (o : Option ℕ) → place_of rows parent ≡ o
+above-stands : (rows : List Row) (k : ℕ) (parent : List ℕ) (o : Option ℕ) → place_of rows parent ≡ o
     → IsSomeAnd o (λ above. (above < k) × (leaf_at rows above ≡ None))
     → (j : ℕ) × (j < k) × IsStructureNamed parent (row_at rows j)
-above_stands rows k parent None is h = absurd h
-above_stands rows k parent (Some above) is h =
+above-stands rows k parent None is h = absurd h
+above-stands rows k parent (Some above) is h =
     (above, h.0, record { named = (place_of-found rows parent above is).1; structure = h.1 })
 
 pub IsTree-in_place : (rows : List Row) → ((k : ℕ) → k < length rows → IsInPlace rows k)
@@ -35,36 +35,36 @@ IsTree-in_place rows in_place = record {
       (λ parent. IsSomeAnd (place_of rows parent)
       (λ above. (above < k) × (leaf_at rows above ≡ None)))
       (λ parent. (j : ℕ) × (j < k) × IsStructureNamed parent (row_at rows j))
-      (λ parent found. above_stands rows k parent (place_of rows parent) refl found)
+      (λ parent found. above-stands rows k parent (place_of rows parent) refl found)
       (in_place k within).below;
 }
 
-one_place : (rows : List Row) (i j : ℕ) → IsTree rows → i < length rows → j < length rows
+one-place : (rows : List Row) (i j : ℕ) → IsTree rows → i < length rows → j < length rows
     → name_at rows i ≡ name_at rows j → i ≡ j
-one_place rows i j tree in_i in_j same =
+one-place rows i j tree in_i in_j same =
     ⊎_elim (λ (lt : i < j). absurd (tree.distinct i j lt in_j same))
     (λ (le : j ≤ i). ⊎_elim (λ (lt : j < i). absurd (tree.distinct j i lt in_i (sym same)))
     (λ (ge : i ≤ j). let e : i ≡ j = omega arith in e) (cases_lt j i)) (cases_lt i j)
 
-first_with : (rows : List Row) (k : ℕ) (o : Option ℕ) → IsTree rows → k < length rows
+first-with : (rows : List Row) (k : ℕ) (o : Option ℕ) → IsTree rows → k < length rows
     → place_of rows (name_at rows k) ≡ o → o ≡ Some k
-first_with rows k None tree within is =
+first-with rows k None tree within is =
     absurd (place_of-none rows (name_at rows k) is k (record { name = []; leaf = None }) within
     refl)
-first_with rows k (Some place) tree within is =
+first-with rows k (Some place) tree within is =
     let found = place_of-found rows (name_at rows k) place is in
-    ap (λ n. Some n) (one_place rows place k tree found.0 within found.1)
+    ap (λ n. Some n) (one-place rows place k tree found.0 within found.1)
 
 -- in a tree the first row with a row's name is that row
 pub place_of-own : (rows : List Row) (k : ℕ) → IsTree rows → k < length rows
     → place_of rows (name_at rows k) ≡ Some k
 place_of-own rows k tree within =
-    first_with rows k (place_of rows (name_at rows k)) tree within refl
+    first-with rows k (place_of rows (name_at rows k)) tree within refl
 
-above_is : (rows : List Row) (k : ℕ) (parent : List ℕ) → IsTree rows → k < length rows
+above-is : (rows : List Row) (k : ℕ) (parent : List ℕ) → IsTree rows → k < length rows
     → (j : ℕ) × (j < k) × IsStructureNamed parent (row_at rows j)
     → IsSomeAnd (place_of rows parent) (λ above. (above < k) × (leaf_at rows above ≡ None))
-above_is rows k parent tree within w =
+above-is rows k parent tree within w =
     let named : name_at rows w.0 ≡ parent = w.2.named in
     let own : place_of rows parent ≡ Some w.0 =
     sym (ap (place_of rows) named) ∙ place_of-own rows w.0 tree (omega (arith, w.1)) in
@@ -77,17 +77,17 @@ IsInPlace-tree rows k within tree = record {
       (λ parent. (j : ℕ) × (j < k) × IsStructureNamed parent (row_at rows j))
       (λ parent. IsSomeAnd (place_of rows parent)
       (λ above. (above < k) × (leaf_at rows above ≡ None)))
-      (λ parent w. above_is rows k parent tree within w) (tree.parents k within);
+      (λ parent w. above-is rows k parent tree within w) (tree.parents k within);
 }
 
-pub first_is : (o : Option ℕ) (first place : ℕ) → o ≡ Some first → IsTrue (first == place)
+pub first-is : (o : Option ℕ) (first place : ℕ) → o ≡ Some first → IsTrue (first == place)
     ↔ (o ≡ Some place)
-first_is o first place is =
+first-is o first place is =
     ⊎_elim (λ (same : (first == place ≡ true) × (first ≡ place)).
     (λ _. is ∙ ap (λ n. Some n) same.1, λ _. same.0))
     (λ (other : (first == place ≡ false) × (first ≢ place)).
     (λ e. absurd cc, λ some. let one : first ≡ place = cc in absurd (other.1 one)))
     (eqb_tells first place)
 
-pub none_is : (o : Option ℕ) (place : ℕ) → o ≡ None → IsTrue false ↔ (o ≡ Some place)
-none_is o place is = (λ e. absurd cc, λ some. absurd cc)
+pub none-is : (o : Option ℕ) (place : ℕ) → o ≡ None → IsTrue false ↔ (o ≡ Some place)
+none-is o place is = (λ e. absurd cc, λ some. absurd cc)

@@ -15,12 +15,12 @@ abbrev pub rows_of : List Node → List Row
 rows_of nodes = map row_of nodes
 
 -- a row that is not linked yet
-abbrev pub unlinked : Row → Node
-unlinked row = record { name = row.name; leaf = row.leaf; below = None; beside = None }
+abbrev pub unlinked_node : Row → Node
+unlinked_node row = record { name = row.name; leaf = row.leaf; below = None; beside = None }
 
 -- the node at a place; past the last place one without a name
 abbrev pub node_at : List Node → ℕ → Node
-node_at nodes place = slice_index_or nodes place (unlinked (record { name = []; leaf = None }))
+node_at nodes place = slice_index_or nodes place (unlinked_node (record { name = []; leaf = None }))
 
 -- each node knows the first row below its row and the next beside it
 pub record IsLinked (rows : List Row) (nodes : List Node) : Type 0 where

@@ -1,6 +1,6 @@
 // The nodes of the arena, and their links.
 ghost use Rattle.std.specs.Prelude.{◌≡◌, ◌<◌, IfOk, IfSome, map, length, option_and_then, Some, if◌then◌else◌, ◌==◌, ℕ};
-ghost use Rattle.bay_tree.specs.Arena.{IsIndex, IsLinked, node_at, rows_of, unlinked};
+ghost use Rattle.bay_tree.specs.Arena.{IsIndex, IsLinked, node_at, rows_of, unlinked_node};
 ghost use Rattle.bay_tree.specs.Names.{parent_of};
 ghost use Rattle.bay_tree.specs.Rows.{IsTree, name_at, place_of};
 
@@ -24,7 +24,7 @@ pub struct Node {
 
 /// Nodes for these rows, without links.
 pub fn nodes_of(alloc: Global, rows: Vec<Row>) -> Result<Vec<Node>, AllocError>
-    ensures { IfOk result (λ nodes. nodes.items ≡ map unlinked rows.items) }
+    ensures { IfOk result (λ nodes. nodes.items ≡ map unlinked_node rows.items) }
 {
     let mut nodes = Vec::with_capacity(alloc, rows.len())?;
     for row in rows {
@@ -68,7 +68,7 @@ fn put_below(nodes: &mut [Node], place: usize, above: usize)
 /// Links the nodes of a tree, from the last to the first.
 pub fn link(nodes: &mut [Node], index: &Index)
     requires tree { IsTree (rows_of nodes.old) }
-    requires unlinked { nodes.old ≡ map unlinked (rows_of nodes.old) }
+    requires unlinked { nodes.old ≡ map unlinked_node (rows_of nodes.old) }
     requires indexed { IsIndex (rows_of nodes.old) index.now }
     ensures rows { rows_of nodes.new ≡ rows_of nodes.old }
     ensures linked { IsLinked (rows_of nodes.old) nodes.new }

@@ -22,42 +22,42 @@ faultless-refused : (kinds : Kinds) (kind : ErrorKind) (read : Option (Text × L
 faultless-refused [] kind read h = absurd h
 faultless-refused (first ∷ others) kind read h = refl
 
-refused_by_kind : (words : List Text) (error : Error) (fault : WordsFault)
+refused-by-kind : (words : List Text) (error : Error) (fault : WordsFault)
     → (kind_of error ≡ OutOfMemory → fault ≡ ran_out)
     → HasKind (fault_of job_app words) error → (fault ≡ ran_out) ⊎ (asked_in words ≡ None)
-refused_by_kind words error fault told (inl memory) = inl (told memory)
-refused_by_kind words error fault told (inr among) =
+refused-by-kind words error fault told (inl memory) = inl (told memory)
+refused-by-kind words error fault told (inr among) =
     inr (faultless-refused (fault_of job_app words) (kind_of error) (subcommand_of job_app words)
     among)
 
-is_job_app_free : is_simple_and_free job_app ≡ true
-is_job_app_free = refl
+is-job-app-free : is_simple_and_free job_app ≡ true
+is-job-app-free = refl
 
-is_job_app_simple : is_simple job_app ≡ true
-is_job_app_simple = refl
+is-job-app-simple : is_simple job_app ≡ true
+is-job-app-simple = refl
 
 -- what is told of words that `clap` refuses: want of memory, or that they ask for nothing
-pub refused_words : (app : App) (words : List Text) (error : Error) (fault : WordsFault)
+pub refused-words : (app : App) (words : List Text) (error : Error) (fault : WordsFault)
     → (kind_of error ≡ OutOfMemory → fault ≡ ran_out)
     → app ≡ job_app → (is_simple_and_free app ≡ true → HasKind (fault_of app words) error)
     → (fault ≡ ran_out) ⊎ (asked_in words ≡ None)
-refused_words app words error fault told is kinds =
+refused-words app words error fault told is kinds =
     let known =
     subst (λ (a : App). is_simple_and_free a ≡ true → HasKind (fault_of a words) error) is kinds
     in
-    refused_by_kind words error fault told (known is_job_app_free)
+    refused-by-kind words error fault told (known is-job-app-free)
 
 -- what is found of words that `clap` takes is what they ask for
-pub taken_words : (app : App) (words : List Text) (matches : ArgMatches)
+pub taken-words : (app : App) (words : List Text) (matches : ArgMatches)
     → app ≡ job_app → HasMatchesOf app words matches
     → (is_simple_and_free app ≡ true → fault_of app words ≡ [])
     → asked_in words ≡ subcommand_rows_of matches
-taken_words app words matches is found faultless_words =
+taken-words app words matches is found faultless_words =
     let known = subst (λ (a : App). HasMatchesOf a words matches) is found in
     let none =
     subst (λ (a : App). is_simple_and_free a ≡ true → fault_of a words ≡ []) is faultless_words in
-    ap (λ kinds. faultless kinds (subcommand_of job_app words)) (none is_job_app_free)
-    ∙ sym (known is_job_app_simple).1
+    ap (λ kinds. faultless kinds (subcommand_of job_app words)) (none is-job-app-free)
+    ∙ sym (known is-job-app-simple).1
 
 -- ---- numbers
 

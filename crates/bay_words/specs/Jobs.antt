@@ -115,15 +115,15 @@ abbrev pub is_apart : ℕ → Option ℕ → Bool
 is_apart port None = true
 is_apart port (Some process) = not (process == port)
 
-abbrev pub served : Text → Program Text → ℕ → ℕ → Option Text → Option ℕ → Option (Task Text)
-served bay program port turns trace process =
+abbrev pub serve_task : Text → Program Text → ℕ → ℕ → Option Text → Option ℕ → Option (Task Text)
+serve_task bay program port turns trace process =
     if is_apart port process then Some (Serve bay program port turns trace process) else None
 
 -- what `serve` asks for: the same, both numbers, and a trace and a process, if they were named
 abbrev pub serve_in : List Row → Option (Task Text)
 serve_in rows =
     option_and_then (λ bay. option_and_then (λ program. option_and_then (λ port. option_and_then
-    (λ turns. served bay program port turns (first_of (codes "trace") rows) (process_in rows))
+    (λ turns. serve_task bay program port turns (first_of (codes "trace") rows) (process_in rows))
     (turns_in rows)) (port_in rows)) (program_in rows)) (first_of (codes "bay") rows)
 
 -- what `compile` asks for: its three files

@@ -170,7 +170,8 @@ fn compile_from<'a>(found: &ArgMatches<'a>) -> Option<Task<&'a str>>
 
 /// What a subcommand asks for with its options.
 fn named_task<'a>(name: &str, found: &ArgMatches<'a>) -> Option<Task<&'a str>>
-    ensures { option_map task_view result ≡ spec.named_task name.now (rows_of (found_of found.now)) }
+    ensures { option_map task_view result
+        ≡ spec.named_task name.now (rows_of (found_of found.now)) }
 {
     match name {
         "check" => check_from(found),
@@ -331,10 +332,11 @@ fn matches_of<'a>(alloc: Global, words: &'a [&'a str]) -> Result<ArgMatches<'a>,
 
 /// What the words after the program's name ask for: a check of a bay file and either a program or
 /// an image, a replay, to serve the same as a check on a port for a number of turns, which may have
-/// a trace and a process on another port, or to compile a bay file and a program to an image. Words that ask for help are refused
-/// with it.
+/// a trace and a process on another port, or to compile a bay file and a program to an image. Words
+/// that ask for help are refused with it.
 pub fn task_of<'a>(alloc: Global, words: &'a [&'a str]) -> Result<Task<&'a str>, WordsFault>
-    ensures ok { IfOk result (λ t. task_in (map (λ w. w.now) words.entry.now) ≡ Some (task_view t)) }
+    ensures ok { IfOk result
+        (λ t. task_in (map (λ w. w.now) words.entry.now) ≡ Some (task_view t)) }
     ensures refused { IfErr result
         (λ e. (e ≡ WordsFault.OutOfMemory) ⊎ (task_in (map (λ w. w.now) words.entry.now) ≡ None)) }
 {

@@ -1,0 +1,2 @@
+-- The binary has no definitions of its own. It hands the words of its command line to bay_main;
+-- `Commands` of bay_main says what becomes of them.

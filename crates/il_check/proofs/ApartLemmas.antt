@@ -24,30 +24,30 @@ use Rattle.il_check.proofs.NameLemmas.{looked_up-more}
 use Rattle.il_check.proofs.NotedLemmas.{append-none}
 use Rattle.il_check.proofs.DeclarationsViewLemmas.{meanings-more}
 
-or_false : (a b : Bool) → a || b ≡ false → (a ≡ false) × (b ≡ false)
-or_false true b none = absurd (cc)
-or_false false b none = (refl, none)
+or-false : (a b : Bool) → a || b ≡ false → (a ≡ false) × (b ≡ false)
+or-false true b none = absurd (cc)
+or-false false b none = (refl, none)
 
-both_false : (a b : Bool) → a ≡ false → b ≡ false → a || b ≡ false
-both_false true b e f = absurd (cc)
-both_false false b e f = f
+both-false : (a b : Bool) → a ≡ false → b ≡ false → a || b ≡ false
+both-false true b e f = absurd (cc)
+both-false false b e f = f
 
 abbrev Distinct : List (List ℕ) → Type 0
 Distinct [] = Unit {0}
 Distinct (x ∷ xs) = (list_any (same_name x) xs ≡ false) × Distinct xs
 
-absent_at : (x : List ℕ) (ys : List (List ℕ)) (j : ℕ) → list_any (same_name x) ys ≡ false
+absent-at : (x : List ℕ) (ys : List (List ℕ)) (j : ℕ) → list_any (same_name x) ys ≡ false
     → j < length ys → same_name x (name_at ys j) ≡ false
-absent_at x [] j none within = absurd (omega arith)
-absent_at x (y ∷ ys) zero none within =
-    (or_false (same_name x y) (list_any (same_name x) ys) none).0
-absent_at x (y ∷ ys) (suc j) none within =
-    absent_at x ys j (or_false (same_name x y) (list_any (same_name x) ys) none).1 (omega arith)
+absent-at x [] j none within = absurd (omega arith)
+absent-at x (y ∷ ys) zero none within =
+    (or-false (same_name x y) (list_any (same_name x) ys) none).0
+absent-at x (y ∷ ys) (suc j) none within =
+    absent-at x ys j (or-false (same_name x y) (list_any (same_name x) ys) none).1 (omega arith)
 
 pub distinct-apart : (xs : List (List ℕ)) → Distinct xs → AreApart xs
 distinct-apart [] d i j below within = absurd (omega arith)
 distinct-apart (x ∷ xs) d zero zero below within = absurd (omega arith)
-distinct-apart (x ∷ xs) d zero (suc j) below within = absent_at x xs j d.0 (omega arith)
+distinct-apart (x ∷ xs) d zero (suc j) below within = absent-at x xs j d.0 (omega arith)
 distinct-apart (x ∷ xs) d (suc i) zero below within = absurd (omega arith)
 distinct-apart (x ∷ xs) d (suc i) (suc j) below within =
     distinct-apart xs d.1 i j (omega arith) (omega arith)
@@ -56,18 +56,18 @@ absent-append : (x : List ℕ) (ys zs : List (List ℕ)) → list_any (same_name
     → list_any (same_name x) zs ≡ false → list_any (same_name x) (ys ++ zs) ≡ false
 absent-append x [] zs e f = f
 absent-append x (y ∷ ys) zs e f =
-    let both = or_false (same_name x y) (list_any (same_name x) ys) e in
-    both_false (same_name x y) (list_any (same_name x) (ys ++ zs)) both.0
+    let both = or-false (same_name x y) (list_any (same_name x) ys) e in
+    both-false (same_name x y) (list_any (same_name x) (ys ++ zs)) both.0
     (absent-append x ys zs both.1 f)
 
-not_true : (b : Bool) → (b ≡ true → ⊥) → b ≡ false
-not_true true h = absurd (h refl)
-not_true false h = refl
+not-true : (b : Bool) → (b ≡ true → ⊥) → b ≡ false
+not-true true h = absurd (h refl)
+not-true false h = refl
 
-same_other : (a b : List ℕ) → same_name a b ≡ false → same_name b a ≡ false
+same-other : (a b : List ℕ) → same_name a b ≡ false → same_name b a ≡ false
 unfolding same_name
-same_other a b none =
-    not_true (bytes_eq (upper b) (upper a)) (λ (yes : bytes_eq (upper b) (upper a) ≡ true).
+same-other a b none =
+    not-true (bytes_eq (upper b) (upper a)) (λ (yes : bytes_eq (upper b) (upper a) ≡ true).
     let e : upper b ≡ upper a = (bytes_eq-Decides (upper b) (upper a)).0 yes in
     let t : bytes_eq (upper a) (upper b) ≡ true =
     ap (bytes_eq (upper a)) e ∙ (ap (λ u. bytes_eq u (upper a)) (sym e) ∙ yes) in
@@ -75,18 +75,18 @@ same_other a b none =
 
 between : (y x : List ℕ) (ys zs : List (List ℕ)) → same_name y x ≡ false
     → list_any (same_name y) (ys ++ zs) ≡ false → list_any (same_name y) (ys ++ x ∷ zs) ≡ false
-between y x [] zs e f = both_false (same_name y x) (list_any (same_name y) zs) e f
+between y x [] zs e f = both-false (same_name y x) (list_any (same_name y) zs) e f
 between y x (w ∷ ys) zs e f =
-    let both = or_false (same_name y w) (list_any (same_name y) (ys ++ zs)) f in
-    both_false (same_name y w) (list_any (same_name y) (ys ++ x ∷ zs)) both.0
+    let both = or-false (same_name y w) (list_any (same_name y) (ys ++ zs)) f in
+    both-false (same_name y w) (list_any (same_name y) (ys ++ x ∷ zs)) both.0
     (between y x ys zs e both.1)
 
 inserted : (x : List ℕ) (ys zs : List (List ℕ)) → list_any (same_name x) ys ≡ false
     → list_any (same_name x) zs ≡ false → Distinct (ys ++ zs) → Distinct (ys ++ x ∷ zs)
 inserted x [] zs e f d = (f, d)
 inserted x (y ∷ ys) zs e f d =
-    let both = or_false (same_name x y) (list_any (same_name x) ys) e in
-    (between y x ys zs (same_other x y both.0) d.0, inserted x ys zs both.1 f d.1)
+    let both = or-false (same_name x y) (list_any (same_name x) ys) e in
+    (between y x ys zs (same-other x y both.0) d.0, inserted x ys zs both.1 f d.1)
 
 -- what a declaration is known to differ from
 abbrev Fresh : List ℕ → List text.Declared → Type 0
@@ -97,45 +97,45 @@ no_fault : (test : Bool) (f : CheckFault) → fault_if test f ≡ [] → test �
 no_fault true f none = absurd (cc)
 no_fault false f none = refl
 
-not_declared : (points : List Point) (before : List text.Declared) (d : text.Declared)
+not-declared : (points : List Point) (before : List text.Declared) (d : text.Declared)
     → declaration_faults points before d ≡ []
     → is_some (looked_up (meanings_of points before) (upper d.name)) ≡ false
-not_declared points before d none = no_fault _ _ (append-none _ _ (append-none _ _ none).1).0
+not-declared points before d none = no_fault _ _ (append-none _ _ (append-none _ _ none).1).0
 
 kept : (o last : Option Meaning) → is_some o ≡ true → is_some (cond (is_some o) o last) ≡ true
 kept None last e = absurd (cc)
 kept (Some m) last e = refl
 
-last_known : (o : Option Meaning) (same : Bool) (m : Meaning) → same ≡ true
+last-known : (o : Option Meaning) (same : Bool) (m : Meaning) → same ≡ true
     → is_some (cond (is_some o) o (cond same (Some m) None)) ≡ true
-last_known None true m e = refl
-last_known None false m e = absurd (cc)
-last_known (Some n) same m e = refl
+last-known None true m e = refl
+last-known None false m e = absurd (cc)
+last-known (Some n) same m e = refl
 
 -- what is known of a key in one declaration more
-known_more : (points : List Point) (before : List text.Declared) (d : text.Declared) (k : List ℕ)
+known-more : (points : List Point) (before : List text.Declared) (d : text.Declared) (k : List ℕ)
     → is_some (looked_up (meanings_of points before) k) ≡ true
     → is_some (looked_up (meanings_of points (before ++ d ∷ [])) k) ≡ true
-known_more points before d k known =
+known-more points before d k known =
     ap (λ (es : List (List ℕ × Meaning)). is_some (looked_up es k))
     (meanings-more points [] before d)
     ∙ ap is_some (looked_up-more (meanings_of points before) (upper d.name)
     (meaning_at (counts_of points before) d.scope d.kind (point_of points d.name)) k)
     ∙ kept (looked_up (meanings_of points before) k) _ known
 
-self_same : (a : List ℕ) → bytes_eq a a ≡ true
-self_same a = (bytes_eq-Decides a a).1 refl
+self-same : (a : List ℕ) → bytes_eq a a ≡ true
+self-same a = (bytes_eq-Decides a a).1 refl
 
-known_last : (points : List Point) (before : List text.Declared) (d : text.Declared)
+known-last : (points : List Point) (before : List text.Declared) (d : text.Declared)
     → is_some (looked_up (meanings_of points (before ++ d ∷ [])) (upper d.name)) ≡ true
-known_last points before d =
+known-last points before d =
     ap (λ (es : List (List ℕ × Meaning)). is_some (looked_up es (upper d.name)))
     (meanings-more points [] before d)
     ∙ ap is_some (looked_up-more (meanings_of points before) (upper d.name)
     (meaning_at (counts_of points before) d.scope d.kind (point_of points d.name))
     (upper d.name))
-    ∙ last_known (looked_up (meanings_of points before) (upper d.name))
-    (bytes_eq (upper d.name) (upper d.name)) _ (self_same (upper d.name))
+    ∙ last-known (looked_up (meanings_of points before) (upper d.name))
+    (bytes_eq (upper d.name) (upper d.name)) _ (self-same (upper d.name))
 
 fresh : (points : List Point) (before ds : List text.Declared)
     → declarations_faults points before ds ≡ [] → (k : List ℕ)
@@ -145,126 +145,126 @@ fresh points before (d ∷ ds) none k known =
     let two =
     append-none (declaration_faults points before d)
     (declarations_faults points (before ++ d ∷ []) ds) none in (
-      not_true (bytes_eq k (upper d.name)) (λ (yes : bytes_eq k (upper d.name) ≡ true).
+      not-true (bytes_eq k (upper d.name)) (λ (yes : bytes_eq k (upper d.name) ≡ true).
           let e : k ≡ upper d.name = (bytes_eq-Decides k (upper d.name)).0 yes in
           let t : is_some (looked_up (meanings_of points before) (upper d.name)) ≡ true =
           ap (λ q. is_some (looked_up (meanings_of points before) q)) (sym e) ∙ known in
           let f : is_some (looked_up (meanings_of points before) (upper d.name)) ≡ false =
-          not_declared points before d two.0 in
+          not-declared points before d two.0 in
           absurd (cc)),
-      fresh points (before ++ d ∷ []) ds two.1 k (known_more points before d k known),
+      fresh points (before ++ d ∷ []) ds two.1 k (known-more points before d k known),
     )
 
-upper_other : (a b : List ℕ) → bytes_eq (upper a) (upper b) ≡ false
+upper-other : (a b : List ℕ) → bytes_eq (upper a) (upper b) ≡ false
     → same_name (upper a) (upper b) ≡ false
 unfolding same_name
-upper_other a b e =
+upper-other a b e =
     ap (λ u. bytes_eq u (upper (upper b))) (upper-upper a) ∙ ap (bytes_eq (upper a)) (upper-upper b)
     ∙ e
 
-external_at_other : (x name : List ℕ) (kind : ElementaryType) (p : Option Point)
+external-at-other : (x name : List ℕ) (kind : ElementaryType) (p : Option Point)
     (es : List External) → same_name x (upper name) ≡ false
     → list_any (same_name x) (map (λ e. e.name) es) ≡ false
     → list_any (same_name x) (map (λ e. e.name) (cons_option (external_at name kind p) es))
     ≡ false
-external_at_other x name kind None es e f = f
-external_at_other x name kind (Some p) es e f =
-    both_false (same_name x (upper name)) (list_any (same_name x) (map (λ e. e.name) es)) e f
+external-at-other x name kind None es e f = f
+external-at-other x name kind (Some p) es e f =
+    both-false (same_name x (upper name)) (list_any (same_name x) (map (λ e. e.name) es)) e f
 
 -- a name is none of those that a declaration adds
-external_other : (x : List ℕ) (points : List Point) (d : text.Declared) (s : Scope)
+external-other : (x : List ℕ) (points : List Point) (d : text.Declared) (s : Scope)
     (k : DeclaredType) (es : List External) → same_name x (upper d.name) ≡ false
     → list_any (same_name x) (map (λ e. e.name) es) ≡ false
     → list_any (same_name x) (map (λ e. e.name) (cons_option (external_in points d s k) es))
     ≡ false
-external_other x points d scope.External (type.Elementary kind) es e f =
-    external_at_other x d.name kind (point_of points d.name) es e f
-external_other x points d scope.External (type.Timer kind) es e f = f
-external_other x points d scope.Local (type.Elementary kind) es e f = f
-external_other x points d scope.Local (type.Timer kind) es e f = f
+external-other x points d scope.External (type.Elementary kind) es e f =
+    external-at-other x d.name kind (point_of points d.name) es e f
+external-other x points d scope.External (type.Timer kind) es e f = f
+external-other x points d scope.Local (type.Elementary kind) es e f = f
+external-other x points d scope.Local (type.Timer kind) es e f = f
 
-variable_at_other : (x name : List ℕ) (v : Option Value) (vs : List Variable)
+variable-at-other : (x name : List ℕ) (v : Option Value) (vs : List Variable)
     → same_name x (upper name) ≡ false
     → list_any (same_name x) (map (λ v. v.name) vs) ≡ false
     → list_any (same_name x) (map (λ v. v.name) (cons_option (variable_at name v) vs)) ≡ false
-variable_at_other x name None vs e f = f
-variable_at_other x name (Some v) vs e f =
-    both_false (same_name x (upper name)) (list_any (same_name x) (map (λ v. v.name) vs)) e f
+variable-at-other x name None vs e f = f
+variable-at-other x name (Some v) vs e f =
+    both-false (same_name x (upper name)) (list_any (same_name x) (map (λ v. v.name) vs)) e f
 
-variable_other : (x : List ℕ) (d : text.Declared) (s : Scope) (k : DeclaredType)
+variable-other : (x : List ℕ) (d : text.Declared) (s : Scope) (k : DeclaredType)
     (vs : List Variable) → same_name x (upper d.name) ≡ false
     → list_any (same_name x) (map (λ v. v.name) vs) ≡ false
     → list_any (same_name x) (map (λ v. v.name) (cons_option (variable_in d s k) vs)) ≡ false
-variable_other x d scope.Local (type.Elementary kind) vs e f =
-    variable_at_other x d.name (initial_in kind d.initial) vs e f
-variable_other x d scope.Local (type.Timer kind) vs e f = f
-variable_other x d scope.External (type.Elementary kind) vs e f = f
-variable_other x d scope.External (type.Timer kind) vs e f = f
+variable-other x d scope.Local (type.Elementary kind) vs e f =
+    variable-at-other x d.name (initial_in kind d.initial) vs e f
+variable-other x d scope.Local (type.Timer kind) vs e f = f
+variable-other x d scope.External (type.Elementary kind) vs e f = f
+variable-other x d scope.External (type.Timer kind) vs e f = f
 
-externals_other : (a : List ℕ) (points : List Point) (ds : List text.Declared) → Fresh (upper a) ds
+externals-other : (a : List ℕ) (points : List Point) (ds : List text.Declared) → Fresh (upper a) ds
     → list_any (same_name (upper a)) (map (λ e. e.name) (externals_of points ds)) ≡ false
-externals_other a points [] f = refl
-externals_other a points (d ∷ ds) f =
-    external_other (upper a) points d d.scope d.kind (externals_of points ds)
-    (upper_other a d.name f.0) (externals_other a points ds f.1)
+externals-other a points [] f = refl
+externals-other a points (d ∷ ds) f =
+    external-other (upper a) points d d.scope d.kind (externals_of points ds)
+    (upper-other a d.name f.0) (externals-other a points ds f.1)
 
-variables_other : (a : List ℕ) (ds : List text.Declared) → Fresh (upper a) ds
+variables-other : (a : List ℕ) (ds : List text.Declared) → Fresh (upper a) ds
     → list_any (same_name (upper a)) (map (λ v. v.name) (variables_of ds)) ≡ false
-variables_other a [] f = refl
-variables_other a (d ∷ ds) f =
-    variable_other (upper a) d d.scope d.kind (variables_of ds) (upper_other a d.name f.0)
-    (variables_other a ds f.1)
+variables-other a [] f = refl
+variables-other a (d ∷ ds) f =
+    variable-other (upper a) d d.scope d.kind (variables_of ds) (upper-other a d.name f.0)
+    (variables-other a ds f.1)
 
-external_step : (name : List ℕ) (kind : ElementaryType) (p : Option Point) (es : List External)
+external-step : (name : List ℕ) (kind : ElementaryType) (p : Option Point) (es : List External)
     (ns : List (List ℕ))
     → list_any (same_name (upper name)) (map (λ e. e.name) es) ≡ false
     → list_any (same_name (upper name)) ns ≡ false
     → Distinct (map (λ e. e.name) es ++ ns)
     → Distinct (map (λ e. e.name) (cons_option (external_at name kind p) es) ++ ns)
-external_step name kind None es ns e f d = d
-external_step name kind (Some p) es ns e f d =
+external-step name kind None es ns e f d = d
+external-step name kind (Some p) es ns e f d =
     (absent-append (upper name) (map (λ e. e.name) es) ns e f, d)
 
-variable_step : (name : List ℕ) (v : Option Value) (ns : List (List ℕ)) (vs : List Variable)
+variable-step : (name : List ℕ) (v : Option Value) (ns : List (List ℕ)) (vs : List Variable)
     → list_any (same_name (upper name)) ns ≡ false
     → list_any (same_name (upper name)) (map (λ v. v.name) vs) ≡ false
     → Distinct (ns ++ map (λ v. v.name) vs)
     → Distinct (ns ++ map (λ v. v.name) (cons_option (variable_at name v) vs))
-variable_step name None ns vs e f d = d
-variable_step name (Some v) ns vs e f d = inserted (upper name) ns (map (λ v. v.name) vs) e f d
+variable-step name None ns vs e f d = d
+variable-step name (Some v) ns vs e f d = inserted (upper name) ns (map (λ v. v.name) vs) e f d
 
-one_step : (points : List Point) (d : text.Declared) (s : Scope) (k : DeclaredType)
+one-step : (points : List Point) (d : text.Declared) (s : Scope) (k : DeclaredType)
     (es : List External) (vs : List Variable)
     → list_any (same_name (upper d.name)) (map (λ e. e.name) es) ≡ false
     → list_any (same_name (upper d.name)) (map (λ v. v.name) vs) ≡ false
     → Distinct (map (λ e. e.name) es ++ map (λ v. v.name) vs)
     → Distinct (map (λ e. e.name) (cons_option (external_in points d s k) es)
     ++ map (λ v. v.name) (cons_option (variable_in d s k) vs))
-one_step points d scope.External (type.Elementary kind) es vs e f x =
-    external_step d.name kind (point_of points d.name) es (map (λ v. v.name) vs) e f x
-one_step points d scope.Local (type.Elementary kind) es vs e f x =
-    variable_step d.name (initial_in kind d.initial) (map (λ e. e.name) es) vs e f x
-one_step points d scope.External (type.Timer kind) es vs e f x = x
-one_step points d scope.Local (type.Timer kind) es vs e f x = x
+one-step points d scope.External (type.Elementary kind) es vs e f x =
+    external-step d.name kind (point_of points d.name) es (map (λ v. v.name) vs) e f x
+one-step points d scope.Local (type.Elementary kind) es vs e f x =
+    variable-step d.name (initial_in kind d.initial) (map (λ e. e.name) es) vs e f x
+one-step points d scope.External (type.Timer kind) es vs e f x = x
+one-step points d scope.Local (type.Timer kind) es vs e f x = x
 
-distinct_names : (points : List Point) (before ds : List text.Declared)
+distinct-names : (points : List Point) (before ds : List text.Declared)
     → declarations_faults points before ds ≡ []
     → Distinct (map (λ e. e.name) (externals_of points ds) ++ map (λ v. v.name) (variables_of ds))
-distinct_names points before [] none = tt
-distinct_names points before (d ∷ ds) none =
+distinct-names points before [] none = tt
+distinct-names points before (d ∷ ds) none =
     let two =
     append-none (declaration_faults points before d)
     (declarations_faults points (before ++ d ∷ []) ds) none in
     let f : Fresh (upper d.name) ds =
-    fresh points (before ++ d ∷ []) ds two.1 (upper d.name) (known_last points before d) in
-    one_step points d d.scope d.kind (externals_of points ds) (variables_of ds)
-    (externals_other d.name points ds f) (variables_other d.name ds f)
-    (distinct_names points (before ++ d ∷ []) ds two.1)
+    fresh points (before ++ d ∷ []) ds two.1 (upper d.name) (known-last points before d) in
+    one-step points d d.scope d.kind (externals_of points ds) (variables_of ds)
+    (externals-other d.name points ds f) (variables-other d.name ds f)
+    (distinct-names points (before ++ d ∷ []) ds two.1)
 
 -- where no declaration has a fault, no two names are the same
-pub all_apart : (points : List Point) (ds : List text.Declared)
+pub all-apart : (points : List Point) (ds : List text.Declared)
     → declarations_faults points [] ds ≡ []
     → AreApart (map (λ e. e.name) (externals_of points ds) ++ map (λ v. v.name) (variables_of ds))
-all_apart points ds none =
+all-apart points ds none =
     distinct-apart (map (λ e. e.name) (externals_of points ds)
-    ++ map (λ v. v.name) (variables_of ds)) (distinct_names points [] ds none)
+    ++ map (λ v. v.name) (variables_of ds)) (distinct-names points [] ds none)

@@ -2,7 +2,7 @@
 use Rattle.std.proofs.Common.{◌≡◌, ℕ, List, [], ◌++◌, map, Option, None, Some, Ok, Err, refl, ap, sym, ◌∙◌, subst}
 use Rattle.std.proofs.Math.Path.{fun_ext}
 use Rattle.std.specs.BTreeMap.{get_by_text}
-use Rattle.bay_base.specs.Exact.{judged}
+use Rattle.bay_base.specs.Exact.{unless_refused}
 use Rattle.bay_base.specs.Names.{upper}
 use Rattle.bay_config.specs.declared.bay.Point.{Point}
 use Rattle.il_text.specs.Listing as text
@@ -12,13 +12,13 @@ use Rattle.il_text.specs.declared.program.Item as source
 use Rattle.il_text.specs.declared.program.Program as program
 use Rattle.il_check.specs.Checking.{faults_of, checked_program, checked_of}
 use Rattle.il_check.specs.Declaring.{names_in, labels_from, looked_up, meanings_of, variables_of, timers_of, declarations_faults}
-use Rattle.il_check.specs.Faults.{noted, least_fault}
+use Rattle.il_check.specs.Faults.{first_fault_of, least_fault}
 use Rattle.il_check.specs.Given.{Names}
 use Rattle.il_check.specs.LabelsView.{StandsAs}
 use Rattle.il_check.specs.NamesView.{names_of}
 use Rattle.il_check.specs.Program.{Checked, Item}
 use Rattle.il_check.specs.DeclarationsView.{StandsFor}
-use Rattle.il_check.specs.WellTyped.{Standing, first, unreached, items_faults, items_left}
+use Rattle.il_check.specs.WellTyped.{Progress, first, no_reach, items_faults, items_left}
 use Rattle.il_check.specs.declared.declare.Declarations.{Declarations}
 use Rattle.il_check.specs.declared.labels.Labels.{Labels}
 use Rattle.il_check.specs.declared.given.Meaning.{Meaning}
@@ -28,7 +28,7 @@ use Rattle.il_check.specs.declared.typed.External.{External}
 use Rattle.il_check.specs.declared.typed.Variable.{Variable}
 use Rattle.il_check.specs.declared.typed.Timer.{Timer}
 use Rattle.il_check.specs.Sound.{AreApart}
-use Rattle.il_check.proofs.ApartLemmas.{all_apart}
+use Rattle.il_check.proofs.ApartLemmas.{all-apart}
 use Rattle.il_check.proofs.NotedLemmas.{noted-append, least_fault-none, append-none}
 
 -- what is known once all is read
@@ -42,69 +42,71 @@ pub record IsRead (points : List Point) (program : text.PlainProgram) (d : Decla
   pub numbers : names.labels ≡ l.numbers
   pub items_read : answer ≡ None
       → items ≡ items_left (names_of names) program.items (first l.arrivals.items)
-  pub found : answer ≡ noted d.found
+  pub found : answer ≡ first_fault_of d.found
       (items_faults (names_of names) program.items (first l.arrivals.items))
 
 module _ (points : List Point) (program : text.PlainProgram) (d : Declarations) (l : Labels)
     (names : code.Names) (items : List Item) (answer : Option CheckFault)
     (read : IsRead points program d l names items answer) where
-  meanings_same : (let f : List ℕ
+  meanings-same : (let f : List ℕ
       → Option Meaning = λ name. get_by_text names.meanings (upper name) in
       let g : List ℕ → Option Meaning =
       λ name. looked_up (meanings_of points program.declarations) (upper name) in f ≡ g)
-  meanings_same =
+  meanings-same =
       fun_ext (λ name. ap (λ m. get_by_text m (upper name)) read.meanings
       ∙ read.stands.meanings (upper name))
 
-  labels_same : (let f : List ℕ → Option ℕ = λ name. get_by_text names.labels (upper name) in
+  labels-same : (let f : List ℕ → Option ℕ = λ name. get_by_text names.labels (upper name) in
       let g : List ℕ → Option ℕ =
       λ name. looked_up (labels_from 0 program.items) (upper name) in f ≡ g)
-  labels_same =
+  labels-same =
       fun_ext (λ name. ap (λ m. get_by_text m (upper name)) read.numbers
       ∙ read.labels.numbers (upper name))
 
-  names_same : names_of names ≡ names_in points program
-  names_same =
+  names-same : names_of names ≡ names_in points program
+  names-same =
       let with_both : (List ℕ → Option Meaning) → (List ℕ → Option ℕ) → Names =
       λ m n. record { meaning = m; label = n } in
       ap (λ (m : List ℕ → Option Meaning). with_both m
-      (λ name. get_by_text names.labels (upper name))) meanings_same
+      (λ name. get_by_text names.labels (upper name))) meanings-same
       ∙ ap (λ (n : List ℕ → Option ℕ). with_both
-      (λ name. looked_up (meanings_of points program.declarations) (upper name)) n) labels_same
+      (λ name. looked_up (meanings_of points program.declarations) (upper name)) n) labels-same
 
-  started : first l.arrivals.items ≡ first (map (λ x. unreached) (labels_from 0 program.items))
+  started : first l.arrivals.items ≡ first (map (λ x. no_reach) (labels_from 0 program.items))
   started = ap first read.labels.arrivals
 
   found-is : answer ≡ least_fault (faults_of points program)
   found-is =
       read.found
-      ∙ ap (λ (n : Names). noted d.found (items_faults n program.items (first l.arrivals.items)))
-      names_same
-      ∙ ap (λ (s : Standing). noted d.found
+      ∙ ap (λ (n : Names). first_fault_of d.found
+      (items_faults n program.items (first l.arrivals.items)))
+      names-same
+      ∙ ap (λ (s : Progress). first_fault_of d.found
       (items_faults (names_in points program) program.items s)) started
-      ∙ ap (λ (o : Option CheckFault). noted o
+      ∙ ap (λ (o : Option CheckFault). first_fault_of o
       (items_faults (names_in points program) program.items
-      (first (map (λ x. unreached) (labels_from 0 program.items))))) read.declared
+      (first (map (λ x. no_reach) (labels_from 0 program.items))))) read.declared
       ∙ sym (noted-append None (declarations_faults points [] program.declarations)
       (items_faults (names_in points program) program.items
-      (first (map (λ x. unreached) (labels_from 0 program.items)))))
+      (first (map (λ x. no_reach) (labels_from 0 program.items)))))
 
   -- the fault that is found is the answer
   pub refused : (f : CheckFault) → answer ≡ Some f → checked_of points program ≡ Err f
   refused f is =
-      ap (λ (o : Option CheckFault). judged o (checked_program points program)) (sym found-is ∙ is)
+      ap (λ (o : Option CheckFault). unless_refused o (checked_program points program))
+      (sym found-is ∙ is)
 
-  items_same : answer ≡ None
+  items-same : answer ≡ None
       → items ≡ items_left (names_in points program) program.items
-      (first (map (λ x. unreached) (labels_from 0 program.items)))
-  items_same none =
+      (first (map (λ x. no_reach) (labels_from 0 program.items)))
+  items-same none =
       read.items_read none
-      ∙ ap (λ (n : Names). items_left n program.items (first l.arrivals.items)) names_same
-      ∙ ap (λ (s : Standing). items_left (names_in points program) program.items s) started
+      ∙ ap (λ (n : Names). items_left n program.items (first l.arrivals.items)) names-same
+      ∙ ap (λ (s : Progress). items_left (names_in points program) program.items s) started
 
   -- no declaration has a fault where none is found
-  pub declared_right : answer ≡ None → declarations_faults points [] program.declarations ≡ []
-  declared_right none =
+  pub declared-right : answer ≡ None → declarations_faults points [] program.declarations ≡ []
+  declared-right none =
       (append-none _ _ (least_fault-none (faults_of points program) (sym found-is ∙ none))).0
 
   -- without a fault, the answer is what is left
@@ -118,10 +120,10 @@ module _ (points : List Point) (program : text.PlainProgram) (d : Declarations) 
   passed none =
       let left : List Item =
       items_left (names_in points program) program.items
-      (first (map (λ x. unreached) (labels_from 0 program.items))) in
+      (first (map (λ x. no_reach) (labels_from 0 program.items))) in
       let with_all : List External → List Variable → List Timer → List Item → Checked =
       λ es vs ts is. record { externals = es; variables = vs; timers = ts; items = is } in
-      ap (λ (o : Option CheckFault). judged o (checked_program points program))
+      ap (λ (o : Option CheckFault). unless_refused o (checked_program points program))
       (sym found-is ∙ none)
       ∙ ap Ok
       (ap (λ (es : List External). with_all es (variables_of program.declarations)
@@ -131,18 +133,18 @@ module _ (points : List Point) (program : text.PlainProgram) (d : Declarations) 
       ∙ ap (λ (ts : List Timer). with_all d.externals.items d.variables.items ts left)
       (sym read.stands.timers)
       ∙ ap (λ (is : List Item). with_all d.externals.items d.variables.items d.timers.items is)
-      (sym (items_same none)))
+      (sym (items-same none)))
 
   -- without a fault, the names of the slots differ
-  pub apart_names : answer ≡ None
+  pub apart-names : answer ≡ None
       → AreApart (map (λ e. e.name) d.externals.items ++ map (λ v. v.name) d.variables.items)
-  apart_names none =
+  apart-names none =
       subst (λ (vs : List Variable). AreApart
       (map (λ e. e.name) d.externals.items ++ map (λ v. v.name) vs)) (sym read.stands.variables)
       (subst (λ (es : List External). AreApart
       (map (λ e. e.name) es ++ map (λ v. v.name) (variables_of program.declarations)))
       (sym read.stands.externals)
-      (all_apart points program.declarations (declared_right none)))
+      (all-apart points program.declarations (declared-right none)))
 
 pub is_read : (points : List Point) (p : program.Program) (declarations : List Declaration)
     (first_items items : List source.Item) (d : Declarations) (l : Labels) (left : List Item)
@@ -154,7 +156,7 @@ pub is_read : (points : List Point) (p : program.Program) (declarations : List D
     → (answer ≡ None → left ≡ items_left
     (names_of (record { meanings = d.meanings; labels = l.numbers })) (map entry_of items)
     (first l.arrivals.items))
-    → answer ≡ noted d.found
+    → answer ≡ first_fault_of d.found
     (items_faults (names_of (record { meanings = d.meanings; labels = l.numbers }))
     (map entry_of items) (first l.arrivals.items))
     → IsRead points (plain_program p) d l (record { meanings = d.meanings; labels = l.numbers })
@@ -176,7 +178,7 @@ is_read points p declarations first_items items d l left answer these those them
           ∙ ap (λ (is : List source.Item). items_left
           (names_of (record { meanings = d.meanings; labels = l.numbers })) (map entry_of is)
           (first l.arrivals.items)) them;
-      found = found ∙ ap (λ (is : List source.Item). noted d.found
+      found = found ∙ ap (λ (is : List source.Item). first_fault_of d.found
           (items_faults (names_of (record { meanings = d.meanings; labels = l.numbers }))
           (map entry_of is) (first l.arrivals.items))) them;
     }

@@ -10,7 +10,7 @@ use Rattle.bay_config.specs.declared.bay.Point.{Point}
 use Rattle.il_text.specs.Listing as text
 use Rattle.il_text.specs.Views.{declared_of}
 use Rattle.il_text.specs.declared.program.Declaration.{Declaration}
-use Rattle.il_check.specs.Faults.{noted, least_fault}
+use Rattle.il_check.specs.Faults.{first_fault_of, least_fault}
 use Rattle.il_check.specs.NamesView.{with_value}
 use Rattle.il_check.specs.Declaring.{Counts, externals_of, variables_of, external_in, variable_in, timer_in, counts_of, meaning_at, point_of, meanings_from, meanings_of, looked_up, name_faults, is_full, declaration_faults, declarations_faults}
 use Rattle.il_check.specs.DeclarationsView.{counts_in, Takes, StandsFor}
@@ -20,21 +20,21 @@ use Rattle.il_check.specs.declared.fault.CheckFault.{CheckFault}
 use Rattle.il_check.proofs.NotedLemmas.{noted-append, noted-nil}
 use Rattle.il_check.proofs.NameLemmas.{with_value-more, with_value-same}
 
-one_option : {X : Type 0} → (o : Option X) → cons_option o [] ≡ option_to_list o
-one_option None = refl
-one_option (Some x) = refl
+one-option : {X : Type 0} → (o : Option X) → cons_option o [] ≡ option_to_list o
+one-option None = refl
+one-option (Some x) = refl
 
-option_ahead : {X : Type 0} → (o : Option X) (xs ys : List X)
+option-ahead : {X : Type 0} → (o : Option X) (xs ys : List X)
     → cons_option o (xs ++ ys) ≡ cons_option o xs ++ ys
-option_ahead None xs ys = refl
-option_ahead (Some x) xs ys = refl
+option-ahead None xs ys = refl
+option-ahead (Some x) xs ys = refl
 
 pub filter_map-more : {X Y : Type 0} → (f : X → Option Y) (xs : List X) (x : X)
     → filter_map f (xs ++ x ∷ []) ≡ filter_map f xs ++ option_to_list (f x)
-filter_map-more f [] x = one_option (f x)
+filter_map-more f [] x = one-option (f x)
 filter_map-more {X} {Y} f (y ∷ ys) x =
     ap (λ (zs : List Y). cons_option (f y) zs) (filter_map-more f ys x)
-    ∙ option_ahead (f y) (filter_map f ys) (option_to_list (f x))
+    ∙ option-ahead (f y) (filter_map f ys) (option_to_list (f x))
 
 -- the meaning of one name more
 pub meanings-more : (points : List Point) (before ds : List text.Declared) (d : text.Declared)
@@ -116,35 +116,36 @@ stands-more points before x old new known taken = record {
 found-more : (points : List Point) (before after : List text.Declared) (x : text.Declared)
     (old new : Declarations) (all : Option CheckFault)
     → StandsFor points before old → Takes points x old new
-    → noted old.found (declarations_faults points before (x ∷ after)) ≡ all
-    → noted new.found (declarations_faults points (before ++ x ∷ []) after) ≡ all
+    → first_fault_of old.found (declarations_faults points before (x ∷ after)) ≡ all
+    → first_fault_of new.found (declarations_faults points (before ++ x ∷ []) after) ≡ all
 found-more points before after x old new all known taken total =
-    let here : new.found ≡ noted old.found (declaration_faults points before x) =
+    let here : new.found ≡ first_fault_of old.found (declaration_faults points before x) =
     taken.found
-    ∙ ap (λ (o : Option Meaning). noted old.found
+    ∙ ap (λ (o : Option Meaning). first_fault_of old.found
     (name_faults (point_of points x.name) (is_some o) (is_full (counts_in old) x.kind) x))
     (known.meanings (upper x.name))
-    ∙ ap (λ (c : Counts). noted old.found
+    ∙ ap (λ (c : Counts). first_fault_of old.found
     (name_faults (point_of points x.name)
     (is_some (looked_up (meanings_of points before) (upper x.name))) (is_full c x.kind) x))
     (counts-same points before old known) in
-    ap (λ (o : Option CheckFault). noted o (declarations_faults points (before ++ x ∷ []) after))
+    ap (λ (o : Option CheckFault). first_fault_of o
+    (declarations_faults points (before ++ x ∷ []) after))
     here
     ∙ sym (noted-append old.found (declaration_faults points before x)
     (declarations_faults points (before ++ x ∷ []) after))
     ∙ total
 
-none_left : {X : Type 0} → (xs : List X) (i : ℕ) → length xs ≤ i → drop i xs ≡ []
-none_left xs i h = grind (arith, common_steps)
+none-left : {X : Type 0} → (xs : List X) (i : ℕ) → length xs ≤ i → drop i xs ≡ []
+none-left xs i h = grind (arith, common_steps)
 
-take_all : {X : Type 0} → (xs : List X) (i : ℕ) → length xs ≤ i → take i xs ≡ xs
-take_all xs i h = grind (arith, common_steps)
+take-all : {X : Type 0} → (xs : List X) (i : ℕ) → length xs ≤ i → take i xs ≡ xs
+take-all xs i h = grind (arith, common_steps)
 
 -- what is known after so many declarations
 pub record SoFar (points : List Point) (all : List Declaration) (i : ℕ) (d : Declarations)
     : Type 0 where
   pub stands : StandsFor points (map declared_of (take i all)) d
-  pub found : noted d.found
+  pub found : first_fault_of d.found
       (declarations_faults points (map declared_of (take i all)) (map declared_of (drop i all)))
       ≡ least_fault (declarations_faults points [] (map declared_of all))
 
@@ -160,15 +161,16 @@ so_far-more points all i other old new within so_far taken =
     sym (map_more declared_of all i other within) in
     let front : drop i all ≡ x ∷ drop (i + 1) all = rw (add-one, drop-cons all i other) refl in
     let left : map declared_of (drop i all) ≡ declared_of x ∷ after = ap (map declared_of) front in
-    let total : noted old.found (declarations_faults points before (declared_of x ∷ after))
+    let total : first_fault_of old.found (declarations_faults points before (declared_of x ∷ after))
     ≡ least_fault (declarations_faults points [] (map declared_of all)) =
-    ap (λ (ds : List text.Declared). noted old.found (declarations_faults points before ds))
+    ap (λ (ds : List text.Declared). first_fault_of old.found
+    (declarations_faults points before ds))
     (sym left) ∙ so_far.found in
     record {
       stands =
           subst (λ (ds : List text.Declared). StandsFor points ds new) longer
           (stands-more points before (declared_of x) old new so_far.stands taken);
-      found = subst (λ (ds : List text.Declared). noted new.found
+      found = subst (λ (ds : List text.Declared). first_fault_of new.found
           (declarations_faults points ds after)
           ≡ least_fault (declarations_faults points [] (map declared_of all))) longer
           (found-more points before after (declared_of x) old new _ so_far.stands taken total);
@@ -178,7 +180,7 @@ pub so_far-none : (points : List Point) (all : List Declaration) (d : Declaratio
     → StandsFor points [] d → d.found ≡ None → SoFar points all 0 d
 so_far-none points all d known none = record {
   stands = known;
-  found = ap (λ (o : Option CheckFault). noted o
+  found = ap (λ (o : Option CheckFault). first_fault_of o
       (declarations_faults points [] (map declared_of all))) none;
 }
 
@@ -187,14 +189,14 @@ pub so_far-stands : (points : List Point) (all : List Declaration) (i : ℕ) (d 
     → length all ≤ i → SoFar points all i d → StandsFor points (map declared_of all) d
 so_far-stands points all i d within so_far =
     subst (λ (ds : List Declaration). StandsFor points (map declared_of ds) d)
-    (take_all all i within) so_far.stands
+    (take-all all i within) so_far.stands
 
 pub so_far-found : (points : List Point) (all : List Declaration) (i : ℕ) (d : Declarations)
     → length all ≤ i → SoFar points all i d
     → d.found ≡ least_fault (declarations_faults points [] (map declared_of all))
 so_far-found points all i d within so_far =
-    let left : drop i all ≡ [] = none_left all i within in
+    let left : drop i all ≡ [] = none-left all i within in
     sym (noted-nil d.found)
-    ∙ ap (λ (ds : List Declaration). noted d.found
+    ∙ ap (λ (ds : List Declaration). first_fault_of d.found
     (declarations_faults points (map declared_of (take i all)) (map declared_of ds))) (sym left)
     ∙ so_far.found

@@ -24,8 +24,8 @@ use Rattle.il_image.specs.Images.{Each, IsName, IsValue, is_name_octet}
 use Rattle.il_image.specs.Values.{default_value, number_of, type_of, value_of}
 use Rattle.il_image.specs.declared.value.Value.{Value}
 use Rattle.il_image.specs.declared.value.Value.TheVariants as value
-use Rattle.il_image.proofs.KindLemmas.{same_is}
-use Rattle.il_image.proofs.ValueLemmas.{default_typed, value_is}
+use Rattle.il_image.proofs.KindLemmas.{same-is}
+use Rattle.il_image.proofs.ValueLemmas.{default-typed, value_is}
 use Rattle.il_check.specs.Declaring.{may_stand, is_name, point_of, of_type, literal_value, initial_in, is_typed, is_external, is_writable, external_at, external_in, variable_at, variable_in, timer_in, externals_of, variables_of, timers_of, counts_of, meaning_at, meanings_of, looked_up, is_full, declaration_faults, declarations_faults}
 use Rattle.il_check.specs.Given.{typed_value}
 use Rattle.il_check.specs.Rules.{number_in}
@@ -36,8 +36,8 @@ use Rattle.il_check.specs.declared.typed.External.{External}
 use Rattle.il_check.specs.declared.typed.Variable.{Variable}
 use Rattle.il_check.specs.declared.typed.Timer.{Timer}
 use Rattle.il_check.specs.declared.typed.Slot.TheVariants as slot
-use Rattle.il_check.proofs.FaultlessLemmas.{both_none, if_none, not_false}
-use Rattle.il_check.proofs.LabellingLemmas.{if_some, some_is}
+use Rattle.il_check.proofs.FaultlessLemmas.{both-none, if-none, not-false}
+use Rattle.il_check.proofs.LabellingLemmas.{if-some, some-is}
 use Rattle.il_check.proofs.NameLemmas.{looked_up-more}
 use Rattle.il_check.proofs.DeclarationsViewLemmas.{filter_map-more, meanings-more}
 
@@ -52,80 +52,80 @@ is_value kind z v e =
     ∙ e in
     (ap is_some same, of.type)
 
-truth_value : (b : Bool) → IsValue (value.Truth b)
-truth_value true = refl
-truth_value false = refl
+truth-value : (b : Bool) → IsValue (value.Truth b)
+truth-value true = refl
+truth-value false = refl
 
-pub typed_is : (l : Literal) (v : Value) → typed_value l ≡ Some v → IsValue v
-typed_is (literal.Truth b) v e = subst IsValue (some_is (value.Truth b) v e) (truth_value b)
-typed_is (literal.Number z) v e = absurd (cc)
-typed_is (literal.Int z) v e = (is_value elementary.Int z v e).0
-typed_is (literal.Dint z) v e = (is_value elementary.Dint z v e).0
-typed_is (literal.Lint z) v e = (is_value elementary.Lint z v e).0
-typed_is (literal.Time n) v e = (is_value elementary.Time (pos n) v e).0
+pub typed-is : (l : Literal) (v : Value) → typed_value l ≡ Some v → IsValue v
+typed-is (literal.Truth b) v e = subst IsValue (some-is (value.Truth b) v e) (truth-value b)
+typed-is (literal.Number z) v e = absurd (cc)
+typed-is (literal.Int z) v e = (is_value elementary.Int z v e).0
+typed-is (literal.Dint z) v e = (is_value elementary.Dint z v e).0
+typed-is (literal.Lint z) v e = (is_value elementary.Lint z v e).0
+typed-is (literal.Time n) v e = (is_value elementary.Time (pos n) v e).0
 
-pub number_is : (kind : ElementaryType) (z : ℤ) (v : Value) → number_in kind z ≡ Some v
+pub number-is : (kind : ElementaryType) (z : ℤ) (v : Value) → number_in kind z ≡ Some v
     → value_of kind z ≡ Some v
-number_is elementary.Bool z v e = e
-number_is elementary.Int z v e = e
-number_is elementary.Dint z v e = e
-number_is elementary.Lint z v e = e
-number_is elementary.Time z v e = absurd (cc)
+number-is elementary.Bool z v e = e
+number-is elementary.Int z v e = e
+number-is elementary.Dint z v e = e
+number-is elementary.Lint z v e = e
+number-is elementary.Time z v e = absurd (cc)
 
-of_type_is : (kind : ElementaryType) (o : Option Value) (v : Value) → of_type kind o ≡ Some v
+of-type-is : (kind : ElementaryType) (o : Option Value) (v : Value) → of_type kind o ≡ Some v
     → (o ≡ Some v) × (type_of v ≡ kind)
-of_type_is kind None v e = absurd (cc)
-of_type_is kind (Some w) v e =
-    let c = if_some (same_type (type_of w) kind) w v e in
-    (ap Some c.1, subst (λ (x : Value). type_of x ≡ kind) c.1 (same_is (type_of w) kind c.0))
+of-type-is kind None v e = absurd (cc)
+of-type-is kind (Some w) v e =
+    let c = if-some (same_type (type_of w) kind) w v e in
+    (ap Some c.1, subst (λ (x : Value). type_of x ≡ kind) c.1 (same-is (type_of w) kind c.0))
 
 of_literal : (kind : ElementaryType) (l : Literal) (v : Value)
     → of_type kind (typed_value l) ≡ Some v → IsValue v × (type_of v ≡ kind)
-of_literal kind l v e = let h = of_type_is kind (typed_value l) v e in (typed_is l v h.0, h.1)
+of_literal kind l v e = let h = of-type-is kind (typed_value l) v e in (typed-is l v h.0, h.1)
 
-literal_value_is : (kind : ElementaryType) (l : Literal) (v : Value) → literal_value kind l ≡ Some v
+literal-value-is : (kind : ElementaryType) (l : Literal) (v : Value) → literal_value kind l ≡ Some v
     → IsValue v × (type_of v ≡ kind)
-literal_value_is kind (literal.Truth b) v e = of_literal kind (literal.Truth b) v e
-literal_value_is kind (literal.Number z) v e = is_value kind z v (number_is kind z v e)
-literal_value_is kind (literal.Int z) v e = of_literal kind (literal.Int z) v e
-literal_value_is kind (literal.Dint z) v e = of_literal kind (literal.Dint z) v e
-literal_value_is kind (literal.Lint z) v e = of_literal kind (literal.Lint z) v e
-literal_value_is kind (literal.Time n) v e = of_literal kind (literal.Time n) v e
+literal-value-is kind (literal.Truth b) v e = of_literal kind (literal.Truth b) v e
+literal-value-is kind (literal.Number z) v e = is_value kind z v (number-is kind z v e)
+literal-value-is kind (literal.Int z) v e = of_literal kind (literal.Int z) v e
+literal-value-is kind (literal.Dint z) v e = of_literal kind (literal.Dint z) v e
+literal-value-is kind (literal.Lint z) v e = of_literal kind (literal.Lint z) v e
+literal-value-is kind (literal.Time n) v e = of_literal kind (literal.Time n) v e
 
-pub initial_is : (kind : ElementaryType) (o : Option Literal) (v : Value)
+pub initial-is : (kind : ElementaryType) (o : Option Literal) (v : Value)
     → initial_in kind o ≡ Some v → IsValue v × (type_of v ≡ kind)
-initial_is kind None v e =
-    subst (λ (x : Value). IsValue x × (type_of x ≡ kind)) (some_is (default_value kind) v e)
-    (let h = default_typed kind in (h.1, h.0))
-initial_is kind (Some l) v e = literal_value_is kind l v e
+initial-is kind None v e =
+    subst (λ (x : Value). IsValue x × (type_of x ≡ kind)) (some-is (default_value kind) v e)
+    (let h = default-typed kind in (h.1, h.0))
+initial-is kind (Some l) v e = literal-value-is kind l v e
 
 -- ---- names of points
 
-some_octet : (n : ℕ) → nat_lt 0 n ≡ true → 0 < n
-some_octet n h = grind (arith, nat_tests)
+some-octet : (n : ℕ) → nat_lt 0 n ≡ true → 0 < n
+some-octet n h = grind (arith, nat_tests)
 
-few_octets : (n : ℕ) → nat_le n 64 ≡ true → n ≤ 64
-few_octets n h = grind (arith, nat_tests)
+few-octets : (n : ℕ) → nat_le n 64 ≡ true → n ≤ 64
+few-octets n h = grind (arith, nat_tests)
 
-name_is : (name : List ℕ) → is_name name ≡ true → IsName (upper name)
-name_is name e =
+name-is : (name : List ℕ) → is_name name ≡ true → IsName (upper name)
+name-is name e =
     let a = and_parts (nat_lt 0 (length name) && nat_le (length name) 64) (list_all may_stand name)
     e in
     let b = and_parts (nat_lt 0 (length name)) (nat_le (length name) 64) a.0 in
     let same : length (upper name) ≡ length name = length-map name to_ascii_uppercase in
     record {
-      some = subst (λ (n : ℕ). 0 < n) (sym same) (some_octet (length name) b.0);
-      few = subst (λ (n : ℕ). n ≤ 64) (sym same) (few_octets (length name) b.1);
+      some = subst (λ (n : ℕ). 0 < n) (sym same) (some-octet (length name) b.0);
+      few = subst (λ (n : ℕ). n ≤ 64) (sym same) (few-octets (length name) b.1);
       octets = list_all-map is_name_octet to_ascii_uppercase name ∙ a.1;
     }
 
-if_there : {A : Type 0} (b : Bool) (o : Option A) (x : A) → cond b o None ≡ Some x → b ≡ true
-if_there true o x e = refl
-if_there false o x e = absurd (cc)
+if-there : {A : Type 0} (b : Bool) (o : Option A) (x : A) → cond b o None ≡ Some x → b ≡ true
+if-there true o x e = refl
+if-there false o x e = absurd (cc)
 
-point_named : (points : List Point) (name : List ℕ) (p : Point) → point_of points name ≡ Some p
+point-named : (points : List Point) (name : List ℕ) (p : Point) → point_of points name ≡ Some p
     → IsName (upper name)
-point_named points name p e = name_is name (if_there (is_name name) _ p e)
+point-named points name p e = name-is name (if-there (is_name name) _ p e)
 
 -- ---- what a name means is there
 
@@ -136,28 +136,28 @@ IsMeant es vs ts (meaning.Variable (slot.Variable n) kind writable) =
     (v : Variable) × (slice_get vs n ≡ Some v) × (type_of v.initial ≡ kind)
 IsMeant es vs ts (meaning.Timer n) = n < length ts
 
-pub get_more : {A : Type 0} (xs ys : List A) (n : ℕ) (x : A) → slice_get xs n ≡ Some x
+pub get-more : {A : Type 0} (xs ys : List A) (n : ℕ) (x : A) → slice_get xs n ≡ Some x
     → slice_get (xs ++ ys) n ≡ Some x
-get_more [] ys n x e = absurd (cc)
-get_more (y ∷ xs) ys zero x e = e
-get_more (y ∷ xs) ys (suc n) x e = get_more xs ys n x e
+get-more [] ys n x e = absurd (cc)
+get-more (y ∷ xs) ys zero x e = e
+get-more (y ∷ xs) ys (suc n) x e = get-more xs ys n x e
 
-pub get_last : {A : Type 0} (xs : List A) (x : A) → slice_get (xs ++ x ∷ []) (length xs) ≡ Some x
-get_last [] x = refl
-get_last (y ∷ xs) x = get_last xs x
+pub get-last : {A : Type 0} (xs : List A) (x : A) → slice_get (xs ++ x ∷ []) (length xs) ≡ Some x
+get-last [] x = refl
+get-last (y ∷ xs) x = get-last xs x
 
-meant_more : (es es2 : List External) (vs vs2 : List Variable) (ts ts2 : List Timer) (m : Meaning)
+meant-more : (es es2 : List External) (vs vs2 : List Variable) (ts ts2 : List Timer) (m : Meaning)
     → IsMeant es vs ts m → IsMeant (es ++ es2) (vs ++ vs2) (ts ++ ts2) m
-meant_more es es2 vs vs2 ts ts2 (meaning.Variable (slot.External n) kind writable) h =
-    (h.0, get_more es es2 n h.0 h.1, h.2, h.3)
-meant_more es es2 vs vs2 ts ts2 (meaning.Variable (slot.Variable n) kind writable) h =
-    (h.0, get_more vs vs2 n h.0 h.1, h.2)
-meant_more es es2 vs vs2 ts ts2 (meaning.Timer n) h = let l = length-append ts ts2 in omega arith
+meant-more es es2 vs vs2 ts ts2 (meaning.Variable (slot.External n) kind writable) h =
+    (h.0, get-more es es2 n h.0 h.1, h.2, h.3)
+meant-more es es2 vs vs2 ts ts2 (meaning.Variable (slot.Variable n) kind writable) h =
+    (h.0, get-more vs vs2 n h.0 h.1, h.2)
+meant-more es es2 vs vs2 ts ts2 (meaning.Timer n) h = let l = length-append ts ts2 in omega arith
 
-each_more : {A : Type 0} (P : A → Type 0) (xs ys : List A) → Each P xs → Each P ys
+each-more : {A : Type 0} (P : A → Type 0) (xs ys : List A) → Each P xs → Each P ys
     → Each P (xs ++ ys)
-each_more P [] ys h k = k
-each_more P (x ∷ xs) ys h k = (h.0, each_more P xs ys h.1 k)
+each-more P [] ys h k = k
+each-more P (x ∷ xs) ys h k = (h.0, each-more P xs ys h.1 k)
 
 -- ---- one declaration
 
@@ -185,7 +185,7 @@ external_added name kind (Some p) es vs ts there named few timers =
       timers = let a = length-append ts [] in omega arith;
       names = (named p refl, tt);
       initial = tt;
-      meant = (e, get_last es e, refl, refl);
+      meant = (e, get-last es e, refl, refl);
     }
 
 variable_added : (name : List ℕ) (kind : ElementaryType) (o : Option Value) (es : List External)
@@ -203,7 +203,7 @@ variable_added name kind (Some w) es vs ts there right few timers =
       timers = let a = length-append ts [] in omega arith;
       names = tt;
       initial = (h.0, tt);
-      meant = (v, get_last vs v, h.1);
+      meant = (v, get-last vs v, h.1);
     }
 
 timer_added : (t : Timer) (es : List External) (vs : List Variable) (ts : List Timer)
@@ -217,11 +217,11 @@ timer_added t es vs ts slots few = record {
   meant = let a = length-append ts (t ∷ []) in omega arith;
 }
 
-few_slots : (n : ℕ) → nat_le 512 n ≡ false → n < 512
-few_slots n h = grind (arith, nat_tests)
+few-slots : (n : ℕ) → nat_le 512 n ≡ false → n < 512
+few-slots n h = grind (arith, nat_tests)
 
-few_timers : (n : ℕ) → nat_le 64 n ≡ false → n < 64
-few_timers n h = grind (arith, nat_tests)
+few-timers : (n : ℕ) → nat_le 64 n ≡ false → n < 64
+few-timers n h = grind (arith, nat_tests)
 
 added : (points : List Point) (d : text.Declared) (s : Scope) (k : DeclaredType)
     (es : List External) (vs : List Variable) (ts : List Timer)
@@ -236,14 +236,14 @@ added : (points : List Point) (d : text.Declared) (s : Scope) (k : DeclaredType)
     (point_of points d.name))
 added points d scope.External (type.Elementary kind) es vs ts there right room slots timers =
     external_added d.name kind (point_of points d.name) es vs ts there
-    (λ p e. point_named points d.name p e) (few_slots _ room) timers
+    (λ p e. point-named points d.name p e) (few-slots _ room) timers
 added points d scope.External (type.Timer kind) es vs ts there right room slots timers =
-    timer_added (record { name = upper d.name; kind = kind }) es vs ts slots (few_timers _ room)
+    timer_added (record { name = upper d.name; kind = kind }) es vs ts slots (few-timers _ room)
 added points d scope.Local (type.Elementary kind) es vs ts there right room slots timers =
     variable_added d.name kind (initial_in kind d.initial) es vs ts right
-    (λ v e. initial_is kind d.initial v e) (few_slots _ room) timers
+    (λ v e. initial-is kind d.initial v e) (few-slots _ room) timers
 added points d scope.Local (type.Timer kind) es vs ts there right room slots timers =
-    timer_added (record { name = upper d.name; kind = kind }) es vs ts slots (few_timers _ room)
+    timer_added (record { name = upper d.name; kind = kind }) es vs ts slots (few-timers _ room)
 
 -- ---- all declarations
 
@@ -256,24 +256,24 @@ pub record AreDeclared (es : List External) (vs : List Variable) (ts : List Time
   pub initial : Each BeginsRight vs
   pub meant : (key : List ℕ) (m : Meaning) → looked_up ms key ≡ Some m → IsMeant es vs ts m
 
-either_found : {A : Type 0} (o : Option A) (b : Bool) (x y : A)
+either-found : {A : Type 0} (o : Option A) (b : Bool) (x y : A)
     → cond (is_some o) o (cond b (Some x) None) ≡ Some y → (o ≡ Some y) ⊎ (x ≡ y)
-either_found (Some z) b x y e = inl e
-either_found None true x y e = inr (some_is x y e)
-either_found None false x y e = absurd (cc)
+either-found (Some z) b x y e = inl e
+either-found None true x y e = inr (some-is x y e)
+either-found None false x y e = absurd (cc)
 
-declared_added : (es es2 : List External) (vs vs2 : List Variable) (ts ts2 : List Timer)
+declared-added : (es es2 : List External) (vs vs2 : List Variable) (ts ts2 : List Timer)
     (ms : List (List ℕ × Meaning)) (name : List ℕ) (m : Meaning)
     → AreDeclared es vs ts ms → IsAdded es es2 vs vs2 ts ts2 m
     → AreDeclared (es ++ es2) (vs ++ vs2) (ts ++ ts2) (ms ++ (name, m) ∷ [])
-declared_added es es2 vs vs2 ts ts2 ms name m known more = record {
+declared-added es es2 vs vs2 ts ts2 ms name m known more = record {
   slots = more.slots;
   timers = more.timers;
-  names = each_more HasName es es2 known.names more.names;
-  initial = each_more BeginsRight vs vs2 known.initial more.initial;
-  meant = λ key n e. elim (either_found (looked_up ms key) (bytes_eq name key) m n
+  names = each-more HasName es es2 known.names more.names;
+  initial = each-more BeginsRight vs vs2 known.initial more.initial;
+  meant = λ key n e. elim (either-found (looked_up ms key) (bytes_eq name key) m n
       (sym (looked_up-more ms name m key) ∙ e)) [
-        | inl is ↦ meant_more es es2 vs vs2 ts ts2 n (known.meant key n is)
+        | inl is ↦ meant-more es es2 vs vs2 ts ts2 n (known.meant key n is)
         | inr is ↦ subst (IsMeant (es ++ es2) (vs ++ vs2) (ts ++ ts2)) is more.meant
       ];
 }
@@ -282,23 +282,23 @@ abbrev Declares : List Point → List text.Declared → Type 0
 Declares points ds =
     AreDeclared (externals_of points ds) (variables_of ds) (timers_of ds) (meanings_of points ds)
 
-declares_more : (points : List Point) (before : List text.Declared) (d : text.Declared)
+declares-more : (points : List Point) (before : List text.Declared) (d : text.Declared)
     → Declares points before → declaration_faults points before d ≡ []
     → Declares points (before ++ d ∷ [])
-declares_more points before d known none =
-    let missing = both_none _ _ none in
-    let twice = both_none _ _ missing.1 in
-    let wrong = both_none _ _ twice.1 in
+declares-more points before d known none =
+    let missing = both-none _ _ none in
+    let twice = both-none _ _ missing.1 in
+    let wrong = both-none _ _ twice.1 in
     let es = externals_of points before in
     let vs = variables_of before in
     let ts = timers_of before in
     let m : Meaning =
     meaning_at (counts_of points before) d.scope d.kind (point_of points d.name) in
     let more =
-    added points d d.scope d.kind es vs ts (if_none _ _ missing.0)
-    (not_false _ (if_none _ _ wrong.0)) (if_none _ _ wrong.1) known.slots known.timers in
+    added points d d.scope d.kind es vs ts (if-none _ _ missing.0)
+    (not-false _ (if-none _ _ wrong.0)) (if-none _ _ wrong.1) known.slots known.timers in
     let is =
-    declared_added es (option_to_list (external_in points d d.scope d.kind)) vs
+    declared-added es (option_to_list (external_in points d d.scope d.kind)) vs
     (option_to_list (variable_in d d.scope d.kind)) ts (option_to_list (timer_in d d.kind))
     (meanings_of points before) (upper d.name) m known more in
     subst (λ (xs : List External). AreDeclared xs (variables_of (before ++ d ∷ []))
@@ -319,13 +319,13 @@ declares_more points before d known none =
     (ts ++ option_to_list (timer_in d d.kind)) xs)
     (sym (meanings-more points [] before d)) is)))
 
-declares_all : (points : List Point) (before ds : List text.Declared) → Declares points before
+declares-all : (points : List Point) (before ds : List text.Declared) → Declares points before
     → declarations_faults points before ds ≡ [] → Declares points (before ++ ds)
-declares_all points before [] known none = subst (Declares points) (sym (append-nil before)) known
-declares_all points before (d ∷ ds) known none =
-    let two = both_none _ _ none in
+declares-all points before [] known none = subst (Declares points) (sym (append-nil before)) known
+declares-all points before (d ∷ ds) known none =
+    let two = both-none _ _ none in
     subst (Declares points) (append_assoc before (d ∷ []) ds)
-    (declares_all points (before ++ d ∷ []) ds (declares_more points before d known two.0)
+    (declares-all points (before ++ d ∷ []) ds (declares-more points before d known two.0)
     two.1)
 
 -- where no declaration has a fault, all is declared as it should be
@@ -333,7 +333,7 @@ pub declares : (points : List Point) (ds : List text.Declared)
     → declarations_faults points [] ds ≡ []
     → AreDeclared (externals_of points ds) (variables_of ds) (timers_of ds) (meanings_of points ds)
 declares points ds none =
-    declares_all points [] ds
+    declares-all points [] ds
     (record {
       slots = omega arith;
       timers = omega arith;

@@ -8,13 +8,13 @@ use Rattle.bay_base.specs.Names.{upper}
 use Rattle.il_text.specs.Listing as text
 use Rattle.il_text.specs.Views.{entry_of}
 use Rattle.il_text.specs.declared.program.Item.{Item}
-use Rattle.il_text.proofs.ListingLemmas.{front_item}
+use Rattle.il_text.proofs.ListingLemmas.{front-item}
 use Rattle.il_check.specs.Declaring.{labels_from, looked_up}
 use Rattle.il_check.specs.LabelsView.{label_in, with_labels, AddsLabels, StandsAs}
-use Rattle.il_check.specs.WellTyped.{unreached}
+use Rattle.il_check.specs.WellTyped.{no_reach}
 use Rattle.il_check.specs.declared.labels.Labels.{Labels}
 use Rattle.il_check.specs.declared.reach.Reach.{Reach}
-use Rattle.il_check.proofs.WalkLemmas.{nothing_left}
+use Rattle.il_check.proofs.WalkLemmas.{nothing-left}
 
 -- what is known after so many items
 pub record LabelsSoFar (all : List Item) (i : ℕ) (l : Labels) : Type 0 where
@@ -23,8 +23,8 @@ pub record LabelsSoFar (all : List Item) (i : ℕ) (l : Labels) : Type 0 where
       (looked_up (labels_from (length l.arrivals.items) (map entry_of (drop i all))) name)
       ≡ looked_up (labels_from 0 (map entry_of all)) name
   pub arrivals : l.arrivals.items
-      ++ map (λ x. unreached) (labels_from (length l.arrivals.items) (map entry_of (drop i all)))
-      ≡ map (λ x. unreached) (labels_from 0 (map entry_of all))
+      ++ map (λ x. no_reach) (labels_from (length l.arrivals.items) (map entry_of (drop i all)))
+      ≡ map (λ x. no_reach) (labels_from 0 (map entry_of all))
 
 pub labels-none : (all : List Item) (l : Labels)
     → ((name : List ℕ) → get_by_text l.numbers name ≡ None) → l.arrivals.items ≡ []
@@ -37,7 +37,7 @@ labels-none all l nothing none = record {
       ∙ ap (λ (rs : List Reach). looked_up (labels_from (length rs) (map entry_of all)) name) none;
   arrivals =
       ap (λ (rs : List Reach). rs
-      ++ map (λ x. unreached) (labels_from (length rs) (map entry_of all))) none;
+      ++ map (λ x. no_reach) (labels_from (length rs) (map entry_of all))) none;
 }
 
 -- the labels behind an item
@@ -71,13 +71,13 @@ put values n (text.action line a) rest name = refl
 put values n (text.block line operator negated items end) rest name = refl
 
 map-two : (xs ys : List (List ℕ × ℕ))
-    → map (λ x. unreached) (xs ++ ys) ≡ map (λ x. unreached) xs ++ map (λ x. unreached) ys
+    → map (λ x. no_reach) (xs ++ ys) ≡ map (λ x. no_reach) xs ++ map (λ x. no_reach) ys
 map-two [] ys = refl
-map-two (x ∷ xs) ys = ap (λ (rs : List Reach). unreached ∷ rs) (map-two xs ys)
+map-two (x ∷ xs) ys = ap (λ (rs : List Reach). no_reach ∷ rs) (map-two xs ys)
 
-map-count : (xs : List (List ℕ × ℕ)) → length (map (λ x. unreached) xs) ≡ length xs
+map-count : (xs : List (List ℕ × ℕ)) → length (map (λ x. no_reach) xs) ≡ length xs
 map-count [] = refl
-map-count (x ∷ xs) = let e : length (map (λ y. unreached) xs) ≡ length xs =
+map-count (x ∷ xs) = let e : length (map (λ y. no_reach) xs) ≡ length xs =
     map-count xs in omega arith
 
 pub labels-more : (all : List Item) (i : ℕ) (x : Item) (old new : Labels) → i < length all
@@ -88,14 +88,14 @@ labels-more all i x old new within is known added =
     let n : ℕ = length old.arrivals.items in
     let after : List text.Entry = map entry_of (drop (i + 1) all) in
     let left : map entry_of (drop i all) ≡ entry_of x ∷ after =
-    ap (map entry_of) (front_item all i x within is) in
+    ap (map entry_of) (front-item all i x within is) in
     let here : List (List ℕ × ℕ) = label_in n (entry_of x) in
     let given : AddsLabels here old new =
     subst (λ k. AddsLabels (label_in k (entry_of x)) old new) old.arrivals.ok.0 added in
-    let grown : new.arrivals.items ≡ old.arrivals.items ++ map (λ l. unreached) here =
+    let grown : new.arrivals.items ≡ old.arrivals.items ++ map (λ l. no_reach) here =
     given.arrivals in
     let counted : length new.arrivals.items ≡ n + length here =
-    ap length grown ∙ length-append old.arrivals.items (map (λ l. unreached) here)
+    ap length grown ∙ length-append old.arrivals.items (map (λ l. no_reach) here)
     ∙ ap (λ k. n + k) (map-count here) in
     let whole : labels_from n (map entry_of (drop i all))
     ≡ here ++ labels_from (n + length here) after =
@@ -113,30 +113,30 @@ labels-more all i x old new within is known added =
           ∙ ap (λ (ls : List (List ℕ × ℕ)). cond (is_some now) now (looked_up ls name)) (sym whole)
           ∙ known.numbers name;
       arrivals =
-          ap (λ k. new.arrivals.items ++ map (λ y. unreached) (labels_from k after)) counted
+          ap (λ k. new.arrivals.items ++ map (λ y. no_reach) (labels_from k after)) counted
           ∙ ap (λ (rs : List Reach). rs
-          ++ map (λ y. unreached) (labels_from (n + length here) after)) grown
-          ∙ append_assoc old.arrivals.items (map (λ y. unreached) here)
-          (map (λ y. unreached) (labels_from (n + length here) after))
+          ++ map (λ y. no_reach) (labels_from (n + length here) after)) grown
+          ∙ append_assoc old.arrivals.items (map (λ y. no_reach) here)
+          (map (λ y. no_reach) (labels_from (n + length here) after))
           ∙ ap (λ (rs : List Reach). old.arrivals.items ++ rs)
           (sym (map-two here (labels_from (n + length here) after)))
-          ∙ ap (λ (ls : List (List ℕ × ℕ)). old.arrivals.items ++ map (λ y. unreached) ls)
+          ∙ ap (λ (ls : List (List ℕ × ℕ)). old.arrivals.items ++ map (λ y. no_reach) ls)
           (sym whole)
           ∙ known.arrivals;
     }
 
-or_none : (o : Option ℕ) → cond (is_some o) o None ≡ o
-or_none None = refl
-or_none (Some x) = refl
+or-none : (o : Option ℕ) → cond (is_some o) o None ≡ o
+or-none None = refl
+or-none (Some x) = refl
 
 -- after all items
 pub labels-all : (all : List Item) (i : ℕ) (l : Labels) → length all ≤ i → LabelsSoFar all i l
     → StandsAs (labels_from 0 (map entry_of all)) l
 labels-all all i l within known =
-    let nothing : drop i all ≡ [] = nothing_left all i within in
+    let nothing : drop i all ≡ [] = nothing-left all i within in
     record {
       numbers = λ name.
-          sym (or_none (get_by_text l.numbers name))
+          sym (or-none (get_by_text l.numbers name))
           ∙ ap (λ (xs : List Item). cond (is_some (get_by_text l.numbers name))
           (get_by_text l.numbers name)
           (looked_up (labels_from (length l.arrivals.items) (map entry_of xs)) name))
@@ -145,7 +145,7 @@ labels-all all i l within known =
       arrivals =
           sym (append-nil l.arrivals.items)
           ∙ ap (λ (xs : List Item). l.arrivals.items
-          ++ map (λ y. unreached) (labels_from (length l.arrivals.items) (map entry_of xs)))
+          ++ map (λ y. no_reach) (labels_from (length l.arrivals.items) (map entry_of xs)))
           (sym nothing)
           ∙ known.arrivals;
     }

@@ -9,180 +9,180 @@ use Rattle.bay_base.specs.declared.types.ElementaryType.{ElementaryType}
 use Rattle.bay_config.specs.declared.bay.Point.{Point}
 use Rattle.il_text.specs.Listing as text
 use Rattle.il_text.specs.declared.program.Operator.{Operator}
-use Rattle.il_image.proofs.KindLemmas.{same_is, same_self}
+use Rattle.il_image.proofs.KindLemmas.{same-is, same-self}
 use Rattle.il_check.specs.Checking.{initial_standing}
 use Rattle.il_check.specs.Declaring.{labels_from, names_in, looked_up}
-use Rattle.il_check.specs.Given.{Names, resolved}
-use Rattle.il_check.specs.Labelling.{Labelling, Becomes, IsRight, Coming, Falls, Jumps, is_named, with_target, carried, beginning, coming_behind_label, coming_behind_action, with_result, Flows, IsWellTyped, behind_all, coming_behind}
+use Rattle.il_check.specs.Given.{Names, resolution_of}
+use Rattle.il_check.specs.Labelling.{Labelling, Becomes, IsRight, Coming, Falls, Jumps, is_named, with_target, carry_of, beginning, coming_behind_label, coming_behind_action, with_result, Flows, IsWellTyped, behind_all, coming_behind}
 use Rattle.il_check.specs.Rules.{type_after, jumps_back, gives, goes_on, target_of}
-use Rattle.il_check.specs.WellTyped.{Standing, is_first, items_faults, same_result, join_types, join, unreached, arrival, arrived, moved, behind}
+use Rattle.il_check.specs.WellTyped.{Progress, is_first, items_faults, same_result, join_types, join, no_reach, arrival, arrival_at, standing_after, behind}
 use Rattle.il_check.specs.declared.reach.Reach.{Reach}
 use Rattle.il_check.specs.declared.given.Resolved.{Resolved}
 use Rattle.il_check.specs.declared.given.Resolved.TheVariants.{Load, Store, Combine, Not, Convert, Jump, Return, Call}
-use Rattle.il_check.proofs.FaultlessLemmas.{two, both_none, none_both, if_none, none_if, not_false, right_from, right_to, entry_reached, becomes_along, becomes_under, right_under, after_under, or_true, entry_under, entry_to, entry_from}
+use Rattle.il_check.proofs.FaultlessLemmas.{two, both-none, none-both, if-none, none-if, not-false, right-from, right-to, entry-reached, becomes-along, becomes-under, right-under, after-under, or-true, entry-under, entry-to, entry-from}
 
 -- ---- where ways meet
 
-join_none : (a b : Reach) → a.is_reached ≡ false → join a b ≡ b
-join_none a b e = rw e refl
+join-none : (a b : Reach) → a.is_reached ≡ false → join a b ≡ b
+join-none a b e = rw e refl
 
-join_first : (a b : Reach) → a.is_reached ≡ true → b.is_reached ≡ false → join a b ≡ a
-join_first a b e f = rw (e, f) refl
+join-first : (a b : Reach) → a.is_reached ≡ true → b.is_reached ≡ false → join a b ≡ a
+join-first a b e f = rw (e, f) refl
 
-join_both : (a b : Reach) → a.is_reached ≡ true → b.is_reached ≡ true
+join-both : (a b : Reach) → a.is_reached ≡ true → b.is_reached ≡ true
     → join a b ≡ record { is_reached = true; kind = join_types a.kind b.kind }
-join_both a b e f = rw (e, f) refl
+join-both a b e f = rw (e, f) refl
 
-join_reached : (a b : Reach) → (join a b).is_reached ≡ a.is_reached || b.is_reached
-join_reached a b = elim (two a.is_reached) [
-  | inr e ↦ ap (λ (r : Reach). r.is_reached) (join_none a b e)
+join-reached : (a b : Reach) → (join a b).is_reached ≡ a.is_reached || b.is_reached
+join-reached a b = elim (two a.is_reached) [
+  | inr e ↦ ap (λ (r : Reach). r.is_reached) (join-none a b e)
       ∙ sym (ap (λ (x : Bool). x || b.is_reached) e)
   | inl e ↦ elim (two b.is_reached) [
-    | inr f ↦ ap (λ (r : Reach). r.is_reached) (join_first a b e f) ∙ e
+    | inr f ↦ ap (λ (r : Reach). r.is_reached) (join-first a b e f) ∙ e
         ∙ sym (ap (λ (x : Bool). x || b.is_reached) e)
-    | inl f ↦ ap (λ (r : Reach). r.is_reached) (join_both a b e f)
+    | inl f ↦ ap (λ (r : Reach). r.is_reached) (join-both a b e f)
         ∙ sym (ap (λ (x : Bool). x || b.is_reached) e)
   ]
 ]
 
-same_results : (t u : Option ElementaryType) → same_result t u ≡ true → t ≡ u
-same_results None None e = absurd (cc)
-same_results None (Some k) e = absurd (cc)
-same_results (Some j) None e = absurd (cc)
-same_results (Some j) (Some k) e = ap (λ (x : ElementaryType). Some x) (same_is j k e)
+same-results : (t u : Option ElementaryType) → same_result t u ≡ true → t ≡ u
+same-results None None e = absurd (cc)
+same-results None (Some k) e = absurd (cc)
+same-results (Some j) None e = absurd (cc)
+same-results (Some j) (Some k) e = ap (λ (x : ElementaryType). Some x) (same-is j k e)
 
-join_types_left : (t u : Option ElementaryType) → Becomes t (join_types t u)
-join_types_left t u = elim (two (same_result t u)) [
+join-types-left : (t u : Option ElementaryType) → Becomes t (join_types t u)
+join-types-left t u = elim (two (same_result t u)) [
   | inl e ↦ inl (ap (λ (b : Bool). cond b t None) e)
   | inr e ↦ inr (ap (λ (b : Bool). cond b t None) e)
 ]
 
-join_types_right : (t u : Option ElementaryType) → Becomes u (join_types t u)
-join_types_right t u = elim (two (same_result t u)) [
-  | inl e ↦ inl (ap (λ (b : Bool). cond b t None) e ∙ same_results t u e)
+join-types-right : (t u : Option ElementaryType) → Becomes u (join_types t u)
+join-types-right t u = elim (two (same_result t u)) [
+  | inl e ↦ inl (ap (λ (b : Bool). cond b t None) e ∙ same-results t u e)
   | inr e ↦ inr (ap (λ (b : Bool). cond b t None) e)
 ]
 
-self_same : (t : Option ElementaryType) → same_result t t ≡ false → t ≡ None
-self_same None e = refl
-self_same (Some k) e = absurd (let h = same_self k in cc)
+self-same : (t : Option ElementaryType) → same_result t t ≡ false → t ≡ None
+self-same None e = refl
+self-same (Some k) e = absurd (let h = same-self k in cc)
 
 -- the type that two ways have where they meet is above no other that both become
-join_types_least : (t u w : Option ElementaryType) → Becomes t w → Becomes u w
+join-types-least : (t u w : Option ElementaryType) → Becomes t w → Becomes u w
     → Becomes (join_types t u) w
-join_types_least t u w (inr e) h = inr e
-join_types_least t u w (inl e) (inr f) = inr f
-join_types_least t u w (inl e) (inl f) = elim (two (same_result t u)) [
+join-types-least t u w (inr e) h = inr e
+join-types-least t u w (inl e) (inr f) = inr f
+join-types-least t u w (inl e) (inl f) = elim (two (same_result t u)) [
   | inl s ↦ inl (e ∙ sym (ap (λ (b : Bool). cond b t None) s))
   | inr s ↦ (
       let same : t ≡ u = sym e ∙ f in
       let none : t ≡ None =
-      self_same t (subst (λ (v : Option ElementaryType). same_result t v ≡ false) (sym same) s)
+      self-same t (subst (λ (v : Option ElementaryType). same_result t v ≡ false) (sym same) s)
       in
       inr (e ∙ none))
 ]
 
-join_left : (a b : Reach) → a.is_reached ≡ true → Becomes a.kind (join a b).kind
-join_left a b e = elim (two b.is_reached) [
-  | inl f ↦ subst (λ (r : Reach). Becomes a.kind r.kind) (sym (join_both a b e f))
-      (join_types_left a.kind b.kind)
-  | inr f ↦ inl (ap (λ (r : Reach). r.kind) (join_first a b e f))
+join-left : (a b : Reach) → a.is_reached ≡ true → Becomes a.kind (join a b).kind
+join-left a b e = elim (two b.is_reached) [
+  | inl f ↦ subst (λ (r : Reach). Becomes a.kind r.kind) (sym (join-both a b e f))
+      (join-types-left a.kind b.kind)
+  | inr f ↦ inl (ap (λ (r : Reach). r.kind) (join-first a b e f))
 ]
 
-join_right : (a b : Reach) → b.is_reached ≡ true → Becomes b.kind (join a b).kind
-join_right a b f = elim (two a.is_reached) [
-  | inl e ↦ subst (λ (r : Reach). Becomes b.kind r.kind) (sym (join_both a b e f))
-      (join_types_right a.kind b.kind)
-  | inr e ↦ inl (ap (λ (r : Reach). r.kind) (join_none a b e))
+join-right : (a b : Reach) → b.is_reached ≡ true → Becomes b.kind (join a b).kind
+join-right a b f = elim (two a.is_reached) [
+  | inl e ↦ subst (λ (r : Reach). Becomes b.kind r.kind) (sym (join-both a b e f))
+      (join-types-right a.kind b.kind)
+  | inr e ↦ inl (ap (λ (r : Reach). r.kind) (join-none a b e))
 ]
 
-join_under : (a b : Reach) (w : Option ElementaryType) → (a.is_reached ≡ true → Becomes a.kind w)
+join-under : (a b : Reach) (w : Option ElementaryType) → (a.is_reached ≡ true → Becomes a.kind w)
     → (b.is_reached ≡ true → Becomes b.kind w) → (join a b).is_reached ≡ true
     → Becomes (join a b).kind w
-join_under a b w left right reached = elim (two a.is_reached) [
+join-under a b w left right reached = elim (two a.is_reached) [
   | inr e ↦ (
-      let same = join_none a b e in
+      let same = join-none a b e in
       subst (λ (r : Reach). Becomes r.kind w) (sym same)
       (right (ap (λ (r : Reach). r.is_reached) (sym same) ∙ reached)))
   | inl e ↦ elim (two b.is_reached) [
-    | inr f ↦ subst (λ (r : Reach). Becomes r.kind w) (sym (join_first a b e f)) (left e)
-    | inl f ↦ subst (λ (r : Reach). Becomes r.kind w) (sym (join_both a b e f))
-        (join_types_least a.kind b.kind w (left e) (right f))
+    | inr f ↦ subst (λ (r : Reach). Becomes r.kind w) (sym (join-first a b e f)) (left e)
+    | inl f ↦ subst (λ (r : Reach). Becomes r.kind w) (sym (join-both a b e f))
+        (join-types-least a.kind b.kind w (left e) (right f))
   ]
 ]
 
 -- ---- lists
 
-set_here : {A : Type 0} (xs : List A) (i : ℕ) (x : A) → i < length xs
+set-here : {A : Type 0} (xs : List A) (i : ℕ) (x : A) → i < length xs
     → slice_get (slice_set xs i x) i ≡ Some x
-set_here [] i x h = absurd (omega arith)
-set_here (y ∷ xs) zero x h = refl
-set_here (y ∷ xs) (suc i) x h = set_here xs i x (omega arith)
+set-here [] i x h = absurd (omega arith)
+set-here (y ∷ xs) zero x h = refl
+set-here (y ∷ xs) (suc i) x h = set-here xs i x (omega arith)
 
-set_elsewhere : {A : Type 0} (xs : List A) (i j : ℕ) (x : A) → (j ≡ i → ⊥)
+set-elsewhere : {A : Type 0} (xs : List A) (i j : ℕ) (x : A) → (j ≡ i → ⊥)
     → slice_get (slice_set xs i x) j ≡ slice_get xs j
-set_elsewhere [] i j x ne = refl
-set_elsewhere (y ∷ xs) zero zero x ne = absurd (ne refl)
-set_elsewhere (y ∷ xs) zero (suc j) x ne = refl
-set_elsewhere (y ∷ xs) (suc i) zero x ne = refl
-set_elsewhere (y ∷ xs) (suc i) (suc j) x ne = set_elsewhere xs i j x (λ e. ne (ap suc e))
+set-elsewhere [] i j x ne = refl
+set-elsewhere (y ∷ xs) zero zero x ne = absurd (ne refl)
+set-elsewhere (y ∷ xs) zero (suc j) x ne = refl
+set-elsewhere (y ∷ xs) (suc i) zero x ne = refl
+set-elsewhere (y ∷ xs) (suc i) (suc j) x ne = set-elsewhere xs i j x (λ e. ne (ap suc e))
 
-set_length : {A : Type 0} (xs : List A) (i : ℕ) (x : A) → length (slice_set xs i x) ≡ length xs
-set_length [] i x = refl
-set_length (y ∷ xs) zero x = refl
-set_length (y ∷ xs) (suc i) x = ap suc (set_length xs i x)
+set-length : {A : Type 0} (xs : List A) (i : ℕ) (x : A) → length (slice_set xs i x) ≡ length xs
+set-length [] i x = refl
+set-length (y ∷ xs) zero x = refl
+set-length (y ∷ xs) (suc i) x = ap suc (set-length xs i x)
 
-there_within : {A : Type 0} (xs : List A) (i : ℕ) (x : A) → slice_get xs i ≡ Some x → i < length xs
-there_within [] i x e = absurd (cc)
-there_within (y ∷ xs) zero x e = omega arith
-there_within (y ∷ xs) (suc i) x e = let h = there_within xs i x e in omega arith
+there-within : {A : Type 0} (xs : List A) (i : ℕ) (x : A) → slice_get xs i ≡ Some x → i < length xs
+there-within [] i x e = absurd (cc)
+there-within (y ∷ xs) zero x e = omega arith
+there-within (y ∷ xs) (suc i) x e = let h = there-within xs i x e in omega arith
 
-pub none_arrived : {A : Type 0} (xs : List A) (n : ℕ)
-    → (arrival (slice_get (map (λ x. unreached) xs) n)).is_reached ≡ false
-none_arrived [] zero = refl
-none_arrived [] (suc n) = refl
-none_arrived (x ∷ xs) zero = refl
-none_arrived (x ∷ xs) (suc n) = none_arrived xs n
+pub none-arrived : {A : Type 0} (xs : List A) (n : ℕ)
+    → (arrival (slice_get (map (λ x. no_reach) xs) n)).is_reached ≡ false
+none-arrived [] zero = refl
+none-arrived [] (suc n) = refl
+none-arrived (x ∷ xs) zero = refl
+none-arrived (x ∷ xs) (suc n) = none-arrived xs n
 
-pub mapped_length : {A : Type 0} (xs : List A) → length (map (λ x. unreached) xs) ≡ length xs
-mapped_length [] = refl
-mapped_length (x ∷ xs) = ap suc (mapped_length xs)
+pub mapped-length : {A : Type 0} (xs : List A) → length (map (λ x. no_reach) xs) ≡ length xs
+mapped-length [] = refl
+mapped-length (x ∷ xs) = ap suc (mapped-length xs)
 
-pub same_number : (n m : ℕ) → n ≡ m → (n == m) ≡ true
-same_number n m e = grind (arith, nat_tests)
+pub same-number : (n m : ℕ) → n ≡ m → (n == m) ≡ true
+same-number n m e = grind (arith, nat_tests)
 
-pub other_number : (n m : ℕ) → (n ≡ m → ⊥) → (n == m) ≡ false
-other_number n m ne = grind (arith, nat_tests)
+pub other-number : (n m : ℕ) → (n ≡ m → ⊥) → (n == m) ≡ false
+other-number n m ne = grind (arith, nat_tests)
 
 few : (n : ℕ) → n < 256 → nat_le 256 n ≡ false
 few n h = grind (arith, nat_tests)
 
-few_back : (n : ℕ) → nat_le 256 n ≡ false → n < 256
-few_back n h = grind (arith, nat_tests)
+few-back : (n : ℕ) → nat_le 256 n ≡ false → n < 256
+few-back n h = grind (arith, nat_tests)
 
 ahead : (n m : ℕ) → nat_lt m n ≡ false → n ≤ m
 ahead n m h = grind (arith, nat_tests)
 
-no_less : (n : ℕ) → n ≤ n
-no_less n = omega arith
+no-less : (n : ℕ) → n ≤ n
+no-less n = omega arith
 
-less_one : (n m : ℕ) → n + 1 ≤ m → n ≤ m
-less_one n m le = omega arith
+less-one : (n m : ℕ) → n + 1 ≤ m → n ≤ m
+less-one n m le = omega arith
 
 not_before : (n m : ℕ) → n + 1 ≤ m → m ≡ n → ⊥
 not_before n m le e = absurd (omega arith)
 
-some_if : {A : Type 0} (b : Bool) (x : A) → is_some (cond b (Some x) None) ≡ b
-some_if true x = refl
-some_if false x = refl
+some-if : {A : Type 0} (b : Bool) (x : A) → is_some (cond b (Some x) None) ≡ b
+some-if true x = refl
+some-if false x = refl
 
-pub some_is : {A : Type 0} (x y : A) → Some x ≡ Some y → x ≡ y
-some_is x y e = cc
+pub some-is : {A : Type 0} (x y : A) → Some x ≡ Some y → x ≡ y
+some-is x y e = cc
 
-pub if_some : {A : Type 0} (b : Bool) (x y : A) → cond b (Some x) None ≡ Some y
+pub if-some : {A : Type 0} (b : Bool) (x y : A) → cond b (Some x) None ≡ Some y
     → (b ≡ true) × (x ≡ y)
-if_some true x y e = (refl, cc)
-if_some false x y e = absurd (cc)
+if-some true x y e = (refl, cc)
+if-some false x y e = absurd (cc)
 
 -- ---- labels that are there
 
@@ -190,28 +190,28 @@ if_some false x y e = absurd (cc)
 abbrev pub InRange : Names → ℕ → Type 0
 InRange names count = (name : List ℕ) (n : ℕ) → names.label name ≡ Some n → n < count
 
-pub target_in : (names : Names) (count : ℕ) (a : text.Action) (n : ℕ) → InRange names count
-    → target_of (resolved names a) ≡ Some n → n < count
-target_in names count (text.load negated source) n range e = absurd (cc)
-target_in names count (text.store kind place) n range e = absurd (cc)
-target_in names count (text.combine operator negated source) n range e = absurd (cc)
-target_in names count text.invert n range e = absurd (cc)
-target_in names count (text.convert conversion) n range e = absurd (cc)
-target_in names count (text.jump condition name) n range e = range name n e
-target_in names count (text.leave condition) n range e = absurd (cc)
-target_in names count (text.call timer arguments) n range e = absurd (cc)
+pub target-in : (names : Names) (count : ℕ) (a : text.Action) (n : ℕ) → InRange names count
+    → target_of (resolution_of names a) ≡ Some n → n < count
+target-in names count (text.load negated source) n range e = absurd (cc)
+target-in names count (text.store kind place) n range e = absurd (cc)
+target-in names count (text.combine operator negated source) n range e = absurd (cc)
+target-in names count text.invert n range e = absurd (cc)
+target-in names count (text.convert conversion) n range e = absurd (cc)
+target-in names count (text.jump condition name) n range e = range name n e
+target-in names count (text.leave condition) n range e = absurd (cc)
+target-in names count (text.call timer arguments) n range e = absurd (cc)
 
-pub target_ahead : (passed : ℕ) (r : Resolved) (n : ℕ) → target_of r ≡ Some n
+pub target-ahead : (passed : ℕ) (r : Resolved) (n : ℕ) → target_of r ≡ Some n
     → jumps_back passed r ≡ false → passed ≤ n
-target_ahead passed (Load negated given) n e h = absurd (cc)
-target_ahead passed (Store how target) n e h = absurd (cc)
-target_ahead passed (Combine operator negated given is_nonzero) n e h = absurd (cc)
-target_ahead passed Not n e h = absurd (cc)
-target_ahead passed (Convert conversion) n e h = absurd (cc)
-target_ahead passed (Jump condition label) n e h =
+target-ahead passed (Load negated given) n e h = absurd (cc)
+target-ahead passed (Store how target) n e h = absurd (cc)
+target-ahead passed (Combine operator negated given is_nonzero) n e h = absurd (cc)
+target-ahead passed Not n e h = absurd (cc)
+target-ahead passed (Convert conversion) n e h = absurd (cc)
+target-ahead passed (Jump condition label) n e h =
     ahead passed n (subst (λ (l : Option ℕ). jumps_back passed (Jump condition l) ≡ false) e h)
-target_ahead passed (Return condition) n e h = absurd (cc)
-target_ahead passed (Call called arguments) n e h = absurd (cc)
+target-ahead passed (Return condition) n e h = absurd (cc)
+target-ahead passed (Call called arguments) n e h = absurd (cc)
 
 -- ---- what jumps have brought
 
@@ -223,7 +223,7 @@ pub record Brought (named : List ℕ) (arrivals : List Reach) (count : ℕ) : Ty
 brings : (target : Option ℕ) (now : Reach) (named : List ℕ) (arrivals : List Reach) (count : ℕ)
     → now.is_reached ≡ true → ((n : ℕ) → target ≡ Some n → n < count)
     → Brought named arrivals count
-    → Brought (with_target target named) (arrived target now arrivals) count
+    → Brought (with_target target named) (arrival_at target now arrivals) count
 brings None now named arrivals count reached range b = b
 brings (Some m) now named arrivals count reached range b =
     let here = join (arrival (slice_get arrivals m)) now in
@@ -232,59 +232,59 @@ brings (Some m) now named arrivals count reached range b =
         | inl e ↦ (
             let there : slice_get (slice_set arrivals m here) n ≡ Some here =
             subst (λ (q : ℕ). slice_get (slice_set arrivals m here) q ≡ Some here) (sym e)
-            (set_here arrivals m here (let h = range m refl in let k = b.size in omega arith))
+            (set-here arrivals m here (let h = range m refl in let k = b.size in omega arith))
             in
             let join_here : here.is_reached ≡ true =
-            join_reached (arrival (slice_get arrivals m)) now
+            join-reached (arrival (slice_get arrivals m)) now
             ∙ ap (λ (x : Bool). (arrival (slice_get arrivals m)).is_reached || x) reached
-            ∙ or_true (arrival (slice_get arrivals m)).is_reached in
+            ∙ or-true (arrival (slice_get arrivals m)).is_reached in
             ap (λ (o : Option Reach). (arrival o).is_reached) there ∙ join_here
-            ∙ sym (ap (λ (x : Bool). x || is_named named n) (same_number m n (sym e))))
+            ∙ sym (ap (λ (x : Bool). x || is_named named n) (same-number m n (sym e))))
         | inr ne ↦ (
-            ap (λ (o : Option Reach). (arrival o).is_reached) (set_elsewhere arrivals m n here ne)
+            ap (λ (o : Option Reach). (arrival o).is_reached) (set-elsewhere arrivals m n here ne)
             ∙ b.arrived n ∙ sym (ap (λ (x : Bool). x || is_named named n)
-            (other_number m n (λ e. ne (sym e)))))
+            (other-number m n (λ e. ne (sym e)))))
       ];
-      size = set_length arrivals m here ∙ b.size;
+      size = set-length arrivals m here ∙ b.size;
     }
 
-brings_under : (labels : Labelling) (target : Option ℕ) (now : Reach) (t : Option ElementaryType)
+brings-under : (labels : Labelling) (target : Option ℕ) (now : Reach) (t : Option ElementaryType)
     (named : List ℕ) (arrivals : List Reach) (count : ℕ) → now.is_reached ≡ true
     → Becomes now.kind t → Jumps labels target t
     → ((n : ℕ) → target ≡ Some n → n < count) → Brought named arrivals count
     → ((n : ℕ) → is_named named n ≡ true → Becomes (arrival (slice_get arrivals n)).kind (labels n))
     → (n : ℕ) → is_named (with_target target named) n ≡ true
-    → Becomes (arrival (slice_get (arrived target now arrivals) n)).kind (labels n)
-brings_under labels None now t named arrivals count reached under jumps range b brought n is =
+    → Becomes (arrival (slice_get (arrival_at target now arrivals) n)).kind (labels n)
+brings-under labels None now t named arrivals count reached under jumps range b brought n is =
     brought n is
-brings_under labels (Some m) now t named arrivals count reached under jumps range b brought n is =
+brings-under labels (Some m) now t named arrivals count reached under jumps range b brought n is =
     let old = arrival (slice_get arrivals m) in
     let here = join old now in
     elim (cases_eq n m) [
       | inl e ↦ (
           let there : slice_get (slice_set arrivals m here) n ≡ Some here =
           subst (λ (q : ℕ). slice_get (slice_set arrivals m here) q ≡ Some here) (sym e)
-          (set_here arrivals m here (let h = range m refl in let k = b.size in omega arith)) in
+          (set-here arrivals m here (let h = range m refl in let k = b.size in omega arith)) in
           let join_here : here.is_reached ≡ true =
-          join_reached old now ∙ ap (λ (x : Bool). old.is_reached || x) reached
-          ∙ or_true old.is_reached in
+          join-reached old now ∙ ap (λ (x : Bool). old.is_reached || x) reached
+          ∙ or-true old.is_reached in
           let is_so =
-          join_under old now (labels m) (λ r. brought m (sym (b.arrived m) ∙ r))
-          (λ r. becomes_along now.kind t (labels m) under jumps) join_here in
+          join-under old now (labels m) (λ r. brought m (sym (b.arrived m) ∙ r))
+          (λ r. becomes-along now.kind t (labels m) under jumps) join_here in
           subst (λ (o : Option Reach). Becomes (arrival o).kind (labels n)) (sym there)
           (subst (λ (q : ℕ). Becomes here.kind (labels q)) (sym e) is_so))
       | inr ne ↦ (
           let before : is_named named n ≡ true =
-          sym (ap (λ (x : Bool). x || is_named named n) (other_number m n (λ e. ne (sym e))))
+          sym (ap (λ (x : Bool). x || is_named named n) (other-number m n (λ e. ne (sym e))))
           ∙ is in
           subst (λ (o : Option Reach). Becomes (arrival o).kind (labels n))
-          (sym (set_elsewhere arrivals m n here ne)) (brought n before))
+          (sym (set-elsewhere arrivals m n here ne)) (brought n before))
     ]
 
 -- ---- with a labelling there is no fault
 
 -- What is known before items with the least types, beside what flows there with a labelling.
-record Stands (labels : Labelling) (count : ℕ) (named : List ℕ) (s : Standing) (now : Coming)
+record Stands (labels : Labelling) (count : ℕ) (named : List ℕ) (s : Progress) (now : Coming)
     : Type 0 where
   reached : s.now.is_reached ≡ is_some now
   typed : (t : Option ElementaryType) → now ≡ Some t → Becomes s.now.kind t
@@ -292,160 +292,162 @@ record Stands (labels : Labelling) (count : ℕ) (named : List ℕ) (s : Standin
   under : (n : ℕ) → is_named named n ≡ true
       → Becomes (arrival (slice_get s.arrivals n)).kind (labels n)
 
-falls_in : (labels : Labelling) (number : ℕ) (kind : Option ElementaryType) (now : Coming)
+falls-in : (labels : Labelling) (number : ℕ) (kind : Option ElementaryType) (now : Coming)
     → Falls labels number now → is_some now ≡ true
     → ((t : Option ElementaryType) → now ≡ Some t → Becomes kind t) → Becomes kind (labels number)
-falls_in labels number kind None falls is typed = absurd (cc)
-falls_in labels number kind (Some t) falls is typed =
-    becomes_along kind t (labels number) (typed t refl) falls
+falls-in labels number kind None falls is typed = absurd (cc)
+falls-in labels number kind (Some t) falls is typed =
+    becomes-along kind t (labels number) (typed t refl) falls
 
-stands_behind_label : (labels : Labelling) (count line : ℕ) (names : Names) (name : List ℕ)
-    (named : List ℕ) (s : Standing) (now : Coming) → Falls labels s.passed now
+stands-behind-label : (labels : Labelling) (count line : ℕ) (names : Names) (name : List ℕ)
+    (named : List ℕ) (s : Progress) (now : Coming) → Falls labels s.passed now
     → Stands labels count named s now
     → Stands labels count named (behind names (text.label line name) s)
-    (coming_behind_label labels (carried s.passed named now))
-stands_behind_label labels count line names name named s now falls st =
+    (coming_behind_label labels (carry_of s.passed named now))
+stands-behind-label labels count line names name named s now falls st =
     let come = arrival (slice_get s.arrivals s.passed) in
     let either : (join s.now come).is_reached ≡ is_some now || is_named named s.passed =
-    join_reached s.now come ∙ ap (λ (x : Bool). x || come.is_reached) st.reached
+    join-reached s.now come ∙ ap (λ (x : Bool). x || come.is_reached) st.reached
     ∙ ap (λ (x : Bool). is_some now || x) (st.brought.arrived s.passed) in
     record {
-      reached = either ∙ sym (some_if (is_some now || is_named named s.passed) (labels s.passed));
+      reached = either ∙ sym (some-if (is_some now || is_named named s.passed) (labels s.passed));
       typed = λ t e.
-          let c = if_some (is_some now || is_named named s.passed) (labels s.passed) t e in
+          let c = if-some (is_some now || is_named named s.passed) (labels s.passed) t e in
           let left =
-          λ (r : s.now.is_reached ≡ true). falls_in labels s.passed s.now.kind now falls
+          λ (r : s.now.is_reached ≡ true). falls-in labels s.passed s.now.kind now falls
           (sym st.reached ∙ r) st.typed in
           let right =
           λ (r : come.is_reached ≡ true). st.under s.passed
           (sym (st.brought.arrived s.passed) ∙ r) in
           subst (λ (u : Option ElementaryType). Becomes (join s.now come).kind u) c.1
-          (join_under s.now come (labels s.passed) left right (either ∙ c.0));
+          (join-under s.now come (labels s.passed) left right (either ∙ c.0));
       brought = st.brought;
       under = st.under;
     }
 
-stands_behind_action : (labels : Labelling) (count : ℕ) (r : Resolved) (t : Option ElementaryType)
-    (named : List ℕ) (s : Standing) (now : Coming) → now ≡ Some t → Jumps labels (target_of r) t
+stands-behind-action : (labels : Labelling) (count : ℕ) (r : Resolved) (t : Option ElementaryType)
+    (named : List ℕ) (s : Progress) (now : Coming) → now ≡ Some t → Jumps labels (target_of r) t
     → ((n : ℕ) → target_of r ≡ Some n → n < count)
     → Stands labels count named s now
-    → Stands labels count (with_target (target_of r) named) (moved r s)
+    → Stands labels count (with_target (target_of r) named) (standing_after r s)
     (coming_behind_action r t)
-stands_behind_action labels count r t named s now is jumps range st =
+stands-behind-action labels count r t named s now is jumps range st =
     let reached : s.now.is_reached ≡ true = st.reached ∙ ap is_some is in
     let goes : s.now.is_reached && goes_on r ≡ goes_on r =
     ap (λ (x : Bool). x && goes_on r) reached in
     record {
-      reached = goes ∙ sym (some_if (goes_on r) (type_after r t));
+      reached = goes ∙ sym (some-if (goes_on r) (type_after r t));
       typed = λ u e. subst (λ (v : Option ElementaryType). Becomes (type_after r s.now.kind) v)
-          (if_some (goes_on r) (type_after r t) u e).1 (after_under r s.now.kind t (st.typed t is));
+          (if-some (goes_on r) (type_after r t) u e).1 (after-under r s.now.kind t (st.typed t is));
       brought = brings (target_of r) s.now named s.arrivals count reached range st.brought;
-      under = brings_under labels (target_of r) s.now t named s.arrivals count reached
+      under = brings-under labels (target_of r) s.now t named s.arrivals count reached
           (st.typed t is) jumps range st.brought st.under;
     }
 
-stands_behind_block : (labels : Labelling) (count : ℕ) (names : Names) (line : ℕ)
+stands-behind-block : (labels : Labelling) (count : ℕ) (names : Names) (line : ℕ)
     (operator : Operator) (negated : Bool) (items : text.Entries) (end : ℕ)
-    (t : Option ElementaryType) (named : List ℕ) (s : Standing) (now : Coming) → now ≡ Some t
+    (t : Option ElementaryType) (named : List ℕ) (s : Progress) (now : Coming) → now ≡ Some t
     → Stands labels count named s now
     → Stands labels count named (behind names (text.block line operator negated items end) s)
     (Some (option_map (gives operator) t))
-stands_behind_block labels count names line operator negated items end t named s now is st =
+stands-behind-block labels count names line operator negated items end t named s now is st =
     record {
       reached = st.reached ∙ ap is_some is;
       typed = λ u e. subst (λ (v : Option ElementaryType). Becomes
-          (option_map (gives operator) s.now.kind) v) (some_is (option_map (gives operator) t) u e)
-          (becomes_under (gives operator) s.now.kind t (st.typed t is));
+          (option_map (gives operator) s.now.kind) v) (some-is (option_map (gives operator) t) u e)
+          (becomes-under (gives operator) s.now.kind t (st.typed t is));
       brought = st.brought;
       under = st.under;
     }
 
-flows_to : (names : Names) (labels : Labelling) (count : ℕ) → InRange names count
-    → (es : List text.Entry) (s : Standing) (named : List ℕ) (now : Coming)
-    → Flows names labels es (carried s.passed named now) → Stands labels count named s now
+flows-to : (names : Names) (labels : Labelling) (count : ℕ) → InRange names count
+    → (es : List text.Entry) (s : Progress) (named : List ℕ) (now : Coming)
+    → Flows names labels es (carry_of s.passed named now) → Stands labels count named s now
     → items_faults names es s ≡ []
-flows_to names labels count range [] s named now f st = refl
-flows_to names labels count range (text.label line name ∷ es) s named now f st =
-    none_both _ _
-    (none_both _ _ (none_if _ _ (ap not f.0.0)) (none_if _ _ (few s.passed f.0.1)))
-    (flows_to names labels count range es (behind names (text.label line name) s) named
-    (coming_behind_label labels (carried s.passed named now)) f.1
-    (stands_behind_label labels count line names name named s now f.0.2 st))
-flows_to names labels count range (text.action line a ∷ es) s named now f st =
-    let r = resolved names a in
+flows-to names labels count range [] s named now f st = refl
+flows-to names labels count range (text.label line name ∷ es) s named now f st =
+    none-both _ _
+    (none-both _ _ (none-if _ _ (ap not f.0.0)) (none-if _ _ (few s.passed f.0.1)))
+    (flows-to names labels count range es (behind names (text.label line name) s) named
+    (coming_behind_label labels (carry_of s.passed named now)) f.1
+    (stands-behind-label labels count line names name named s now f.0.2 st))
+flows-to names labels count range (text.action line a ∷ es) s named now f st =
+    let r = resolution_of names a in
     let reached : s.now.is_reached ≡ true = st.reached ∙ ap is_some f.1.0 in
-    none_both _ _
-    (right_to s.now.is_reached s.passed line r s.now.kind reached
-    (right_under s.passed r s.now.kind f.0 (st.typed f.0 f.1.0) f.1.1))
-    (flows_to names labels count range es (moved r s) (with_target (target_of r) named)
+    none-both _ _
+    (right-to s.now.is_reached s.passed line r s.now.kind reached
+    (right-under s.passed r s.now.kind f.0 (st.typed f.0 f.1.0) f.1.1))
+    (flows-to names labels count range es (standing_after r s) (with_target (target_of r) named)
     (coming_behind_action r f.0) f.2
-    (stands_behind_action labels count r f.0 named s now f.1.0 f.1.2
-    (λ n e. target_in names count a n range e) st))
-flows_to names labels count range (text.block line operator negated items end ∷ es) s named now f
+    (stands-behind-action labels count r f.0 named s now f.1.0 f.1.2
+    (λ n e. target-in names count a n range e) st))
+flows-to names labels count range (text.block line operator negated items end ∷ es) s named now f
     st =
     let b = text.block line operator negated items end in
     let reached : s.now.is_reached ≡ true = st.reached ∙ ap is_some f.1.0 in
-    none_both _ _
-    (entry_to names 16 s.now.is_reached s.passed b s.now.kind reached
-    (entry_under names 16 s.passed b s.now.kind f.0 (st.typed f.0 f.1.0) f.1.1))
-    (flows_to names labels count range es (behind names b s) named
+    none-both _ _
+    (entry-to names 16 s.now.is_reached s.passed b s.now.kind reached
+    (entry-under names 16 s.passed b s.now.kind f.0 (st.typed f.0 f.1.0) f.1.1))
+    (flows-to names labels count range es (behind names b s) named
     (Some (option_map (gives operator) f.0)) f.2
-    (stands_behind_block labels count names line operator negated items end f.0 named s now
+    (stands-behind-block labels count names line operator negated items end f.0 named s now
     f.1.0 st))
 
-stands_behind_all : (names : Names) (labels : Labelling) (count : ℕ) → InRange names count
-    → (es : List text.Entry) (s : Standing) (named : List ℕ) (now : Coming)
-    (t : Option ElementaryType) → Flows names labels es (carried s.passed named now)
+stands-behind-all : (names : Names) (labels : Labelling) (count : ℕ) → InRange names count
+    → (es : List text.Entry) (s : Progress) (named : List ℕ) (now : Coming)
+    (t : Option ElementaryType) → Flows names labels es (carry_of s.passed named now)
     → Stands labels count named s now
-    → coming_behind names labels es (carried s.passed named now) ≡ Some t
+    → coming_behind names labels es (carry_of s.passed named now) ≡ Some t
     → Becomes (behind_all names es s).now.kind t
-stands_behind_all names labels count range [] s named now t f st is = st.typed t is
-stands_behind_all names labels count range (text.label line name ∷ es) s named now t f st is =
-    stands_behind_all names labels count range es (behind names (text.label line name) s) named
-    (coming_behind_label labels (carried s.passed named now)) t f.1
-    (stands_behind_label labels count line names name named s now f.0.2 st) is
-stands_behind_all names labels count range (text.action line a ∷ es) s named now t f st is =
-    let r = resolved names a in
-    stands_behind_all names labels count range es (moved r s) (with_target (target_of r) named)
+stands-behind-all names labels count range [] s named now t f st is = st.typed t is
+stands-behind-all names labels count range (text.label line name ∷ es) s named now t f st is =
+    stands-behind-all names labels count range es (behind names (text.label line name) s) named
+    (coming_behind_label labels (carry_of s.passed named now)) t f.1
+    (stands-behind-label labels count line names name named s now f.0.2 st) is
+stands-behind-all names labels count range (text.action line a ∷ es) s named now t f st is =
+    let r = resolution_of names a in
+    stands-behind-all names labels count range es (standing_after r s)
+    (with_target (target_of r) named)
     (coming_behind_action r f.0) t f.2
-    (stands_behind_action labels count r f.0 named s now f.1.0 f.1.2
-    (λ n e. target_in names count a n range e) st)
+    (stands-behind-action labels count r f.0 named s now f.1.0 f.1.2
+    (λ n e. target-in names count a n range e) st)
     (subst (λ (c : Coming). coming_behind names labels es
-    (carried s.passed (with_target (target_of r) named)
+    (carry_of s.passed (with_target (target_of r) named)
     (with_result (coming_behind_action r) c)) ≡ Some t) f.1.0 is)
-stands_behind_all names labels count range (text.block line operator negated items end ∷ es) s named
+stands-behind-all names labels count range (text.block line operator negated items end ∷ es) s named
     now t f st is =
-    stands_behind_all names labels count range es
+    stands-behind-all names labels count range es
     (behind names (text.block line operator negated items end) s) named
     (Some (option_map (gives operator) f.0)) t f.2
-    (stands_behind_block labels count names line operator negated items end f.0 named s now f.1.0
+    (stands-behind-block labels count names line operator negated items end f.0 named s now f.1.0
     st)
     (subst (λ (c : Coming). coming_behind names labels es
-    (carried s.passed named (with_result (λ u. Some (option_map (gives operator) u)) c))
+    (carry_of s.passed named (with_result (λ u. Some (option_map (gives operator) u)) c))
     ≡ Some t) f.1.0 is)
 
 -- ---- without a fault there is a labelling
 
 -- the type of the current result at the label of this number with the least types
-abbrev pub least : Names → List text.Entry → Standing → ℕ → Option ElementaryType
+abbrev pub least : Names → List text.Entry → Progress → ℕ → Option ElementaryType
 least names [] s n = None
 least names (text.label line name ∷ es) s n =
     cond (n == s.passed) (join s.now (arrival (slice_get s.arrivals s.passed))).kind
     (least names es (behind names (text.label line name) s) n)
-least names (text.action line a ∷ es) s n = least names es (moved (resolved names a) s) n
+least names (text.action line a ∷ es) s n =
+    least names es (standing_after (resolution_of names a) s) n
 least names (text.block line operator negated items end ∷ es) s n =
     least names es (behind names (text.block line operator negated items end) s) n
 
 -- what one more jump brings to a label
-brought_by : (names : Names) (es : List text.Entry) (r : Resolved) (s : Standing) (n : ℕ)
+brought-by : (names : Names) (es : List text.Entry) (r : Resolved) (s : Progress) (n : ℕ)
     (v : Reach) (target : Option ℕ) → target_of r ≡ target → slice_get s.arrivals n ≡ Some v
     → v.is_reached ≡ true
-    → ((w : Reach) → slice_get (arrived (target_of r) s.now s.arrivals) n ≡ Some w
-    → w.is_reached ≡ true → Becomes w.kind (least names es (moved r s) n))
-    → Becomes v.kind (least names es (moved r s) n)
-brought_by names es r s n v None t is reached more =
-    more v (ap (λ (o : Option ℕ). slice_get (arrived o s.now s.arrivals) n) t ∙ is) reached
-brought_by names es r s n v (Some m) t is reached more =
+    → ((w : Reach) → slice_get (arrival_at (target_of r) s.now s.arrivals) n ≡ Some w
+    → w.is_reached ≡ true → Becomes w.kind (least names es (standing_after r s) n))
+    → Becomes v.kind (least names es (standing_after r s) n)
+brought-by names es r s n v None t is reached more =
+    more v (ap (λ (o : Option ℕ). slice_get (arrival_at o s.now s.arrivals) n) t ∙ is) reached
+brought-by names es r s n v (Some m) t is reached more =
     let old = arrival (slice_get s.arrivals m) in
     let here = join old s.now in
     elim (cases_eq n m) [
@@ -454,130 +456,131 @@ brought_by names es r s n v (Some m) t is reached more =
           ap (λ (q : ℕ). arrival (slice_get s.arrivals q)) (sym e) ∙ ap arrival is in
           let there : slice_get (slice_set s.arrivals m here) n ≡ Some here =
           subst (λ (q : ℕ). slice_get (slice_set s.arrivals m here) q ≡ Some here) (sym e)
-          (set_here s.arrivals m here
-          (subst (λ (q : ℕ). q < length s.arrivals) e (there_within s.arrivals n v is))) in
+          (set-here s.arrivals m here
+          (subst (λ (q : ℕ). q < length s.arrivals) e (there-within s.arrivals n v is))) in
           let is_met : here.is_reached ≡ true =
-          join_reached old s.now
+          join-reached old s.now
           ∙ ap (λ (x : Bool). x || s.now.is_reached)
           (ap (λ (x : Reach). x.is_reached) was ∙ reached) in
           let left : Becomes old.kind here.kind =
-          join_left old s.now (ap (λ (x : Reach). x.is_reached) was ∙ reached) in
-          becomes_along v.kind here.kind _
+          join-left old s.now (ap (λ (x : Reach). x.is_reached) was ∙ reached) in
+          becomes-along v.kind here.kind _
           (subst (λ (x : Reach). Becomes x.kind here.kind) was left)
-          (more here (ap (λ (o : Option ℕ). slice_get (arrived o s.now s.arrivals) n) t ∙ there)
+          (more here (ap (λ (o : Option ℕ). slice_get (arrival_at o s.now s.arrivals) n) t ∙ there)
           is_met))
-      | inr ne ↦ more v (ap (λ (o : Option ℕ). slice_get (arrived o s.now s.arrivals) n) t
-          ∙ set_elsewhere s.arrivals m n here ne ∙ is) reached
+      | inr ne ↦ more v (ap (λ (o : Option ℕ). slice_get (arrival_at o s.now s.arrivals) n) t
+          ∙ set-elsewhere s.arrivals m n here ne ∙ is) reached
     ]
 
 -- what has come to a label becomes its type
-brought_becomes : (names : Names) (es : List text.Entry) (s : Standing) (n : ℕ) (v : Reach)
+brought-becomes : (names : Names) (es : List text.Entry) (s : Progress) (n : ℕ) (v : Reach)
     → slice_get s.arrivals n ≡ Some v → v.is_reached ≡ true → Becomes v.kind (least names es s n)
-brought_becomes names [] s n v is reached = inr refl
-brought_becomes names (text.label line name ∷ es) s n v is reached = elim (cases_eq n s.passed) [
+brought-becomes names [] s n v is reached = inr refl
+brought-becomes names (text.label line name ∷ es) s n v is reached = elim (cases_eq n s.passed) [
   | inl e ↦ (
       let come : arrival (slice_get s.arrivals s.passed) ≡ v =
       ap (λ (q : ℕ). arrival (slice_get s.arrivals q)) (sym e) ∙ ap arrival is in
       let here : Becomes v.kind (join s.now (arrival (slice_get s.arrivals s.passed))).kind =
       subst (λ (b : Reach). Becomes v.kind (join s.now b).kind) (sym come)
-      (join_right s.now v reached) in
+      (join-right s.now v reached) in
       subst (λ (b : Bool). Becomes v.kind
       (cond b (join s.now (arrival (slice_get s.arrivals s.passed))).kind
       (least names es (behind names (text.label line name) s) n)))
-      (sym (same_number n s.passed e)) here)
+      (sym (same-number n s.passed e)) here)
   | inr ne ↦
       subst (λ (b : Bool). Becomes v.kind
       (cond b (join s.now (arrival (slice_get s.arrivals s.passed))).kind
       (least names es (behind names (text.label line name) s) n)))
-      (sym (other_number n s.passed ne))
-      (brought_becomes names es (behind names (text.label line name) s) n v is reached)
+      (sym (other-number n s.passed ne))
+      (brought-becomes names es (behind names (text.label line name) s) n v is reached)
 ]
-brought_becomes names (text.action line a ∷ es) s n v is reached =
-    brought_by names es (resolved names a) s n v (target_of (resolved names a)) refl is reached
-    (λ w. brought_becomes names es (moved (resolved names a) s) n w)
-brought_becomes names (text.block line operator negated items end ∷ es) s n v is reached =
-    brought_becomes names es (behind names (text.block line operator negated items end) s) n v is
+brought-becomes names (text.action line a ∷ es) s n v is reached =
+    brought-by names es (resolution_of names a) s n v (target_of (resolution_of names a)) refl is
+    reached
+    (λ w. brought-becomes names es (standing_after (resolution_of names a) s) n w)
+brought-becomes names (text.block line operator negated items end ∷ es) s n v is reached =
+    brought-becomes names es (behind names (text.block line operator negated items end) s) n v is
     reached
 
 -- What is known before items with the least types is just what flows there.
-pub record Exact (count : ℕ) (named : List ℕ) (s : Standing) (now : Coming) : Type 0 where
+pub record Exact (count : ℕ) (named : List ℕ) (s : Progress) (now : Coming) : Type 0 where
   pub is : now ≡ cond s.now.is_reached (Some s.now.kind) None
   pub brought : Brought named s.arrivals count
 
-exact_some : (count : ℕ) (named : List ℕ) (s : Standing) (now : Coming) → Exact count named s now
+exact-some : (count : ℕ) (named : List ℕ) (s : Progress) (now : Coming) → Exact count named s now
     → is_some now ≡ s.now.is_reached
-exact_some count named s now x = ap is_some x.is ∙ some_if s.now.is_reached s.now.kind
+exact-some count named s now x = ap is_some x.is ∙ some-if s.now.is_reached s.now.kind
 
-pub exact_now : (count : ℕ) (named : List ℕ) (s : Standing) (now : Coming) → Exact count named s now
+pub exact-now : (count : ℕ) (named : List ℕ) (s : Progress) (now : Coming) → Exact count named s now
     → s.now.is_reached ≡ true → now ≡ Some s.now.kind
-exact_now count named s now x reached =
+exact-now count named s now x reached =
     x.is ∙ ap (λ (b : Bool). cond b (Some s.now.kind) None) reached
 
-falls_out : (labels : Labelling) (number : ℕ) (r : Reach) (b : Bool) → r.is_reached ≡ b
+falls-out : (labels : Labelling) (number : ℕ) (r : Reach) (b : Bool) → r.is_reached ≡ b
     → (r.is_reached ≡ true → Becomes r.kind (labels number))
     → Falls labels number (cond b (Some r.kind) None)
-falls_out labels number r true e h = h e
-falls_out labels number r false e h = tt
+falls-out labels number r true e h = h e
+falls-out labels number r false e h = tt
 
-pub jumps_out : (labels : Labelling) (names : Names) (es : List text.Entry) (count : ℕ)
-    (r : Resolved) (s : Standing) (named : List ℕ) (target : Option ℕ) → target_of r ≡ target
+pub jumps-out : (labels : Labelling) (names : Names) (es : List text.Entry) (count : ℕ)
+    (r : Resolved) (s : Progress) (named : List ℕ) (target : Option ℕ) → target_of r ≡ target
     → s.now.is_reached ≡ true → IsRight s.passed r s.now.kind
     → ((n : ℕ) → target_of r ≡ Some n → n < count) → Brought named s.arrivals count
-    → ((n : ℕ) → s.passed ≤ n → labels n ≡ least names es (moved r s) n)
+    → ((n : ℕ) → s.passed ≤ n → labels n ≡ least names es (standing_after r s) n)
     → Jumps labels target s.now.kind
-jumps_out labels names es count r s named None t reached ok range b same = tt
-jumps_out labels names es count r s named (Some m) t reached ok range b same =
+jumps-out labels names es count r s named None t reached ok range b same = tt
+jumps-out labels names es count r s named (Some m) t reached ok range b same =
     let old = arrival (slice_get s.arrivals m) in
     let here = join old s.now in
     let there : slice_get (slice_set s.arrivals m here) m ≡ Some here =
-    set_here s.arrivals m here (let h = range m t in let k = b.size in omega arith) in
+    set-here s.arrivals m here (let h = range m t in let k = b.size in omega arith) in
     let is_met : here.is_reached ≡ true =
-    join_reached old s.now ∙ ap (λ (x : Bool). old.is_reached || x) reached
-    ∙ or_true old.is_reached in
+    join-reached old s.now ∙ ap (λ (x : Bool). old.is_reached || x) reached
+    ∙ or-true old.is_reached in
     let more =
-    brought_becomes names es (moved r s) m here
-    (ap (λ (o : Option ℕ). slice_get (arrived o s.now s.arrivals) m) t ∙ there) is_met in
+    brought-becomes names es (standing_after r s) m here
+    (ap (λ (o : Option ℕ). slice_get (arrival_at o s.now s.arrivals) m) t ∙ there) is_met in
     subst (λ (u : Option ElementaryType). Becomes s.now.kind u)
-    (sym (same m (target_ahead s.passed r m t ok.forward)))
-    (becomes_along s.now.kind here.kind (least names es (moved r s) m)
-    (join_right old s.now reached) more)
+    (sym (same m (target-ahead s.passed r m t ok.forward)))
+    (becomes-along s.now.kind here.kind (least names es (standing_after r s) m)
+    (join-right old s.now reached) more)
 
 -- the labels have the least types
-abbrev pub AreLeast : Labelling → Names → List text.Entry → Standing → Type 0
+abbrev pub AreLeast : Labelling → Names → List text.Entry → Progress → Type 0
 AreLeast labels names es s = (n : ℕ) → s.passed ≤ n → labels n ≡ least names es s n
 
-label_least : (names : Names) (labels : Labelling) (line : ℕ) (name : List ℕ) (es : List text.Entry)
-    (s : Standing) → AreLeast labels names (text.label line name ∷ es) s
+label-least : (names : Names) (labels : Labelling) (line : ℕ) (name : List ℕ) (es : List text.Entry)
+    (s : Progress) → AreLeast labels names (text.label line name ∷ es) s
     → labels s.passed ≡ (join s.now (arrival (slice_get s.arrivals s.passed))).kind
-label_least names labels line name es s same =
+label-least names labels line name es s same =
     let come = arrival (slice_get s.arrivals s.passed) in
     let after = behind names (text.label line name) s in
-    same s.passed (no_less s.passed)
+    same s.passed (no-less s.passed)
     ∙ ap (λ (b : Bool). cond b (join s.now come).kind (least names es after s.passed))
-    (same_number s.passed s.passed refl)
+    (same-number s.passed s.passed refl)
 
-pub least_behind_label : (names : Names) (labels : Labelling) (line : ℕ) (name : List ℕ)
-    (es : List text.Entry) (s : Standing) → AreLeast labels names (text.label line name ∷ es) s
+pub least-behind-label : (names : Names) (labels : Labelling) (line : ℕ) (name : List ℕ)
+    (es : List text.Entry) (s : Progress) → AreLeast labels names (text.label line name ∷ es) s
     → AreLeast labels names es (behind names (text.label line name) s)
-least_behind_label names labels line name es s same n le =
+least-behind-label names labels line name es s same n le =
     let come = arrival (slice_get s.arrivals s.passed) in
     let after = behind names (text.label line name) s in
-    same n (less_one s.passed n le)
+    same n (less-one s.passed n le)
     ∙ ap (λ (b : Bool). cond b (join s.now come).kind (least names es after n))
-    (other_number n s.passed (not_before s.passed n le))
+    (other-number n s.passed (not_before s.passed n le))
 
-pub exact_behind_label : (names : Names) (labels : Labelling) (count : ℕ) (line : ℕ) (name : List ℕ)
-    (es : List text.Entry) (s : Standing) (named : List ℕ) (now : Coming)
+pub exact-behind-label : (names : Names) (labels : Labelling) (count : ℕ) (line : ℕ) (name : List ℕ)
+    (es : List text.Entry) (s : Progress) (named : List ℕ) (now : Coming)
     → AreLeast labels names (text.label line name ∷ es) s → Exact count named s now
     → Exact count named (behind names (text.label line name) s)
-    (coming_behind_label labels (carried s.passed named now))
-exact_behind_label names labels count line name es s named now same x =
+    (coming_behind_label labels (carry_of s.passed named now))
+exact-behind-label names labels count line name es s named now same x =
     let come = arrival (slice_get s.arrivals s.passed) in
-    let here = label_least names labels line name es s same in
+    let here = label-least names labels line name es s same in
     let either : is_some now || is_named named s.passed ≡ (join s.now come).is_reached =
-    ap (λ (b : Bool). b || is_named named s.passed) (exact_some count named s now x)
+    ap (λ (b : Bool). b || is_named named s.passed) (exact-some count named s now x)
     ∙ ap (λ (b : Bool). s.now.is_reached || b) (sym (x.brought.arrived s.passed))
-    ∙ sym (join_reached s.now come) in
+    ∙ sym (join-reached s.now come) in
     record {
       is = ap (λ (b : Bool). cond b (Some (labels s.passed)) None) either
           ∙ ap (λ (u : Option ElementaryType). cond (join s.now come).is_reached (Some u) None)
@@ -585,124 +588,125 @@ exact_behind_label names labels count line name es s named now same x =
       brought = x.brought;
     }
 
-pub exact_behind_action : (names : Names) (count : ℕ) (range : InRange names count)
-    (a : text.Action) (s : Standing) (named : List ℕ) (now : Coming) → s.now.is_reached ≡ true
+pub exact-behind-action : (names : Names) (count : ℕ) (range : InRange names count)
+    (a : text.Action) (s : Progress) (named : List ℕ) (now : Coming) → s.now.is_reached ≡ true
     → Exact count named s now
-    → Exact count (with_target (target_of (resolved names a)) named) (moved (resolved names a) s)
-    (coming_behind_action (resolved names a) s.now.kind)
-exact_behind_action names count range a s named now reached x =
-    let r = resolved names a in
+    → Exact count (with_target (target_of (resolution_of names a)) named)
+    (standing_after (resolution_of names a) s)
+    (coming_behind_action (resolution_of names a) s.now.kind)
+exact-behind-action names count range a s named now reached x =
+    let r = resolution_of names a in
     record {
       is = ap (λ (b : Bool). cond (b && goes_on r) (Some (type_after r s.now.kind)) None)
           (sym reached);
       brought =
           brings (target_of r) s.now named s.arrivals count reached
-          (λ n e. target_in names count a n range e) x.brought;
+          (λ n e. target-in names count a n range e) x.brought;
     }
 
-pub exact_behind_block : (names : Names) (count line : ℕ) (operator : Operator) (negated : Bool)
-    (items : text.Entries) (end : ℕ) (s : Standing) (named : List ℕ) (now : Coming)
+pub exact-behind-block : (names : Names) (count line : ℕ) (operator : Operator) (negated : Bool)
+    (items : text.Entries) (end : ℕ) (s : Progress) (named : List ℕ) (now : Coming)
     → s.now.is_reached ≡ true → Exact count named s now
     → Exact count named (behind names (text.block line operator negated items end) s)
     (Some (option_map (gives operator) s.now.kind))
-exact_behind_block names count line operator negated items end s named now reached x = record {
+exact-behind-block names count line operator negated items end s named now reached x = record {
   is = ap (λ (b : Bool). cond b (Some (option_map (gives operator) s.now.kind)) None) (sym reached);
   brought = x.brought;
 }
 
-pub flows_from : (names : Names) (labels : Labelling) (count : ℕ) → InRange names count
-    → (es : List text.Entry) (s : Standing) (named : List ℕ) (now : Coming)
+pub flows-from : (names : Names) (labels : Labelling) (count : ℕ) → InRange names count
+    → (es : List text.Entry) (s : Progress) (named : List ℕ) (now : Coming)
     → AreLeast labels names es s → items_faults names es s ≡ []
-    → Exact count named s now → Flows names labels es (carried s.passed named now)
-flows_from names labels count range [] s named now same none x = tt
-flows_from names labels count range (text.label line name ∷ es) s named now same none x =
-    let h = both_none _ _ none in
-    let own = both_none _ _ h.0 in
-    let here = label_least names labels line name es s same in
+    → Exact count named s now → Flows names labels es (carry_of s.passed named now)
+flows-from names labels count range [] s named now same none x = tt
+flows-from names labels count range (text.label line name ∷ es) s named now same none x =
+    let h = both-none _ _ none in
+    let own = both-none _ _ h.0 in
+    let here = label-least names labels line name es s same in
     let fall =
     λ (r : s.now.is_reached ≡ true). subst (λ (u : Option ElementaryType). Becomes s.now.kind u)
-    (sym here) (join_left s.now (arrival (slice_get s.arrivals s.passed)) r) in
+    (sym here) (join-left s.now (arrival (slice_get s.arrivals s.passed)) r) in
     let falls : Falls labels s.passed now =
     subst (Falls labels s.passed) (sym x.is)
-    (falls_out labels s.passed s.now s.now.is_reached refl fall) in (
+    (falls-out labels s.passed s.now s.now.is_reached refl fall) in (
       (
-        not_false (is_first s.passed (names.label name)) (if_none _ _ own.0),
-        few_back s.passed (if_none _ _ own.1),
+        not-false (is_first s.passed (names.label name)) (if-none _ _ own.0),
+        few-back s.passed (if-none _ _ own.1),
         falls,
       ),
-      flows_from names labels count range es (behind names (text.label line name) s) named
-          (coming_behind_label labels (carried s.passed named now))
-          (least_behind_label names labels line name es s same) h.1
-          (exact_behind_label names labels count line name es s named now same x),
+      flows-from names labels count range es (behind names (text.label line name) s) named
+          (coming_behind_label labels (carry_of s.passed named now))
+          (least-behind-label names labels line name es s same) h.1
+          (exact-behind-label names labels count line name es s named now same x),
     )
-flows_from names labels count range (text.action line a ∷ es) s named now same none x =
-    let r = resolved names a in
-    let h = both_none _ _ none in
-    let right = right_from s.now.is_reached s.passed line r s.now.kind h.0 in
-    let range_here = λ (n : ℕ) (e : target_of r ≡ Some n). target_in names count a n range e in (
+flows-from names labels count range (text.action line a ∷ es) s named now same none x =
+    let r = resolution_of names a in
+    let h = both-none _ _ none in
+    let right = right-from s.now.is_reached s.passed line r s.now.kind h.0 in
+    let range_here = λ (n : ℕ) (e : target_of r ≡ Some n). target-in names count a n range e in (
       s.now.kind,
       (
-        exact_now count named s now x right.0,
+        exact-now count named s now x right.0,
         right.1,
-        jumps_out labels names es count r s named (target_of r) refl right.0 right.1 range_here
+        jumps-out labels names es count r s named (target_of r) refl right.0 right.1 range_here
             x.brought same,
       ),
-      flows_from names labels count range es (moved r s) (with_target (target_of r) named)
+      flows-from names labels count range es (standing_after r s) (with_target (target_of r) named)
           (coming_behind_action r s.now.kind) same h.1
-          (exact_behind_action names count range a s named now right.0 x),
+          (exact-behind-action names count range a s named now right.0 x),
     )
-flows_from names labels count range (text.block line operator negated items end ∷ es) s named now
+flows-from names labels count range (text.block line operator negated items end ∷ es) s named now
     same none x =
     let b = text.block line operator negated items end in
-    let h = both_none _ _ none in
+    let h = both-none _ _ none in
     let reached =
-    entry_reached names 16 s.now.is_reached s.passed line operator negated items end s.now.kind
+    entry-reached names 16 s.now.is_reached s.passed line operator negated items end s.now.kind
     h.0 in (
       s.now.kind,
       (
-        exact_now count named s now x reached,
-        entry_from names 16 s.now.is_reached s.passed b s.now.kind h.0,
+        exact-now count named s now x reached,
+        entry-from names 16 s.now.is_reached s.passed b s.now.kind h.0,
       ),
-      flows_from names labels count range es (behind names b s) named
+      flows-from names labels count range es (behind names b s) named
           (Some (option_map (gives operator) s.now.kind)) same h.1
-          (exact_behind_block names count line operator negated items end s named now reached x),
+          (exact-behind-block names count line operator negated items end s named now reached x),
     )
 
 -- ---- a program
 
-within_case : (from line : ℕ) (other : List ℕ) (es : List text.Entry) (name : List ℕ) (n : ℕ)
+within-case : (from line : ℕ) (other : List ℕ) (es : List text.Entry) (name : List ℕ) (n : ℕ)
     (b : Bool) → cond b (Some from) (looked_up (labels_from (from + 1) es) name) ≡ Some n
     → ((m : ℕ) → looked_up (labels_from (from + 1) es) name ≡ Some m
     → m < (from + 1) + length (labels_from (from + 1) es))
     → n < from + suc (length (labels_from (from + 1) es))
-within_case from line other es name n true e more = let same : from ≡ n =
-    some_is from n e in omega arith
-within_case from line other es name n false e more = let h = more n e in omega arith
+within-case from line other es name n true e more = let same : from ≡ n =
+    some-is from n e in omega arith
+within-case from line other es name n false e more = let h = more n e in omega arith
 
-labels_within : (from : ℕ) (es : List text.Entry) (name : List ℕ) (n : ℕ)
+labels-within : (from : ℕ) (es : List text.Entry) (name : List ℕ) (n : ℕ)
     → looked_up (labels_from from es) name ≡ Some n → n < from + length (labels_from from es)
-labels_within from [] name n e = absurd (cc)
-labels_within from (text.label line other ∷ es) name n e =
-    within_case from line other es name n (bytes_eq (upper other) name) e
-    (λ m f. labels_within (from + 1) es name m f)
-labels_within from (text.action line a ∷ es) name n e = labels_within from es name n e
-labels_within from (text.block line operator negated items end ∷ es) name n e =
-    labels_within from es name n e
+labels-within from [] name n e = absurd (cc)
+labels-within from (text.label line other ∷ es) name n e =
+    within-case from line other es name n (bytes_eq (upper other) name) e
+    (λ m f. labels-within (from + 1) es name m f)
+labels-within from (text.action line a ∷ es) name n e = labels-within from es name n e
+labels-within from (text.block line operator negated items end ∷ es) name n e =
+    labels-within from es name n e
 
-pub first_labels : (es : List text.Entry) (name : List ℕ) (n : ℕ)
+pub first-labels : (es : List text.Entry) (name : List ℕ) (n : ℕ)
     → looked_up (labels_from 0 es) name ≡ Some n → n < length (labels_from 0 es)
-first_labels es name n e = let h = labels_within 0 es name n e in omega arith
+first-labels es name n e = let h = labels-within 0 es name n e in omega arith
 
 -- the initial standing of a program is what the checks and any labelling begin with
 begins : (points : List Point) (program : text.PlainProgram) (labels : Labelling)
     → Stands labels (length (labels_from 0 program.items)) [] (initial_standing program) (Some None)
 begins points program labels = record {
   reached = refl;
-  typed = λ t e. inl (sym (some_is None t e));
+  typed = λ t e. inl (sym (some-is None t e));
   brought =
       record {
-        arrived = none_arrived (labels_from 0 program.items);
-        size = mapped_length (labels_from 0 program.items);
+        arrived = none-arrived (labels_from 0 program.items);
+        size = mapped-length (labels_from 0 program.items);
       };
   under = λ n e. absurd (cc);
 }
@@ -713,8 +717,8 @@ pub least_types : (points : List Point) (program : text.PlainProgram) (front mor
     → coming_behind (names_in points program) labels front beginning ≡ Some t
     → Becomes (behind_all (names_in points program) front (initial_standing program)).now.kind t
 least_types points program front more labels t parts f is =
-    stands_behind_all (names_in points program) labels (length (labels_from 0 program.items))
-    (λ name n e. first_labels program.items (upper name) n e) front (initial_standing program)
+    stands-behind-all (names_in points program) labels (length (labels_from 0 program.items))
+    (λ name n e. first-labels program.items (upper name) n e) front (initial_standing program)
     [] (Some None) t f (begins points program labels) is
 
 pub some_labelling : (points : List Point) (program : text.PlainProgram)
@@ -725,16 +729,16 @@ some_labelling points program =
     let labels = labels_from 0 program.items in
     let count = length labels in
     let range =
-    λ (name : List ℕ) (n : ℕ) (e : names.label name ≡ Some n). first_labels program.items
+    λ (name : List ℕ) (n : ℕ) (e : names.label name ≡ Some n). first-labels program.items
     (upper name) n e in
     let brought : Brought [] (initial_standing program).arrivals count =
-    record { arrived = none_arrived labels; size = mapped_length labels } in (
+    record { arrived = none-arrived labels; size = mapped-length labels } in (
       (λ none.
           let found = least names program.items (initial_standing program) in (
             found,
-            flows_from names found count range program.items (initial_standing program) []
+            flows-from names found count range program.items (initial_standing program) []
                 (Some None) (λ n le. refl) none (record { is = refl; brought = brought }),
           )),
-      (λ h. flows_to names h.0 count range program.items (initial_standing program) [] (Some None)
+      (λ h. flows-to names h.0 count range program.items (initial_standing program) [] (Some None)
           h.1 (begins points program h.0)),
     )

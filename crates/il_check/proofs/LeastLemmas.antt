@@ -13,17 +13,17 @@ number f = unwrap_or (code_of f) 0
 abbrev AtMost : CheckFault → CheckFault → Type 0
 AtMost f g = (line_of f < line_of g) ⊎ ((line_of f ≡ line_of g) × (number f ≤ number g))
 
-and_false : (b : Bool) → b && false ≡ false
-and_false true = refl
-and_false false = refl
+and-false : (b : Bool) → b && false ≡ false
+and-false true = refl
+and-false false = refl
 
-not_below : (a b c d : ℕ) → (a < c) ⊎ ((a ≡ c) × (b ≤ d)) → ltb c a || (eqb c a && ltb d b) ≡ false
-not_below a b c d (inl lt) = rw (le-ltb c a (omega arith), ne_eqb c a (λ e. omega arith)) refl
-not_below a b c d (inr e) = let same =
-    e.0 in rw (le-ltb c a (omega arith), le-ltb d b e.1) (and_false (eqb c a))
+not-below : (a b c d : ℕ) → (a < c) ⊎ ((a ≡ c) × (b ≤ d)) → ltb c a || (eqb c a && ltb d b) ≡ false
+not-below a b c d (inl lt) = rw (le-ltb c a (omega arith), ne_eqb c a (λ e. omega arith)) refl
+not-below a b c d (inr e) = let same =
+    e.0 in rw (le-ltb c a (omega arith), le-ltb d b e.1) (and-false (eqb c a))
 
-was_below : (a b c d : ℕ) → ltb c a || (eqb c a && ltb d b) ≡ false → (a < c) ⊎ ((a ≡ c) × (b ≤ d))
-was_below a b c d h = elim (cases_lt a c) [
+was-below : (a b c d : ℕ) → ltb c a || (eqb c a && ltb d b) ≡ false → (a < c) ⊎ ((a ≡ c) × (b ≤ d))
+was-below a b c d h = elim (cases_lt a c) [
   | inl lt ↦ inl lt
   | inr ge ↦ elim (cases_eq a c) [
     | inl same ↦ inr (
@@ -56,7 +56,7 @@ below a b c d h = elim (cases_lt a c) [
         | inr le ↦ le
       ],
     )
-    | inr ne ↦ absurd (no_way (ltb a c) (eqb a c) (ltb b d) (le-ltb a c ge) (ne_eqb a c ne) h)
+    | inr ne ↦ absurd (no-way (ltb a c) (eqb a c) (ltb b d) (le-ltb a c ge) (ne_eqb a c ne) h)
   ]
 ]
   where
@@ -65,25 +65,25 @@ below a b c d h = elim (cases_lt a c) [
     neither false true z e f h = cc
     neither false false z e f h = cc
 
-    no_way : (x y z : Bool) → x ≡ false → y ≡ false → x || (y && z) ≡ true → ⊥
-    no_way true y z e f h = cc
-    no_way false true z e f h = cc
-    no_way false false z e f h = cc
+    no-way : (x y z : Bool) → x ≡ false → y ≡ false → x || (y && z) ≡ true → ⊥
+    no-way true y z e f h = cc
+    no-way false true z e f h = cc
+    no-way false false z e f h = cc
 
 none_before : (f g : CheckFault) → AtMost f g → is_before g f ≡ false
-none_before f g h = not_below (line_of f) (number f) (line_of g) (number g) h
+none_before f g h = not-below (line_of f) (number f) (line_of g) (number g) h
 
-then_most : (a b c d e k : ℕ) → (a < c) ⊎ ((a ≡ c) × (b ≤ d)) → (c < e) ⊎ ((c ≡ e) × (d ≤ k))
+then-most : (a b c d e k : ℕ) → (a < c) ⊎ ((a ≡ c) × (b ≤ d)) → (c < e) ⊎ ((c ≡ e) × (d ≤ k))
     → (a < e) ⊎ ((a ≡ e) × (b ≤ k))
-then_most a b c d e k (inl x) (inl y) = inl (omega arith)
-then_most a b c d e k (inl x) (inr y) = let s = y.0 in inl (omega arith)
-then_most a b c d e k (inr x) (inl y) = let s = x.0 in inl (omega arith)
-then_most a b c d e k (inr x) (inr y) = let s = x.0 in let t = y.0 in let u = x.1 in let v =
+then-most a b c d e k (inl x) (inl y) = inl (omega arith)
+then-most a b c d e k (inl x) (inr y) = let s = y.0 in inl (omega arith)
+then-most a b c d e k (inr x) (inl y) = let s = x.0 in inl (omega arith)
+then-most a b c d e k (inr x) (inr y) = let s = x.0 in let t = y.0 in let u = x.1 in let v =
     y.1 in inr (omega arith, omega arith)
 
-most_then : (f g h : CheckFault) → AtMost f g → AtMost g h → AtMost f h
-most_then f g h a b =
-    then_most (line_of f) (number f) (line_of g) (number g) (line_of h) (number h) a b
+most-then : (f g h : CheckFault) → AtMost f g → AtMost g h → AtMost f h
+most-then f g h a b =
+    then-most (line_of f) (number f) (line_of g) (number g) (line_of h) (number h) a b
 
 -- the lesser of two
 record IsLesser (f g m : CheckFault) : Type 0 where
@@ -94,8 +94,8 @@ record IsLesser (f g m : CheckFault) : Type 0 where
 self : (f : CheckFault) → AtMost f f
 self f = inr (refl, omega arith)
 
-lesser_is : (f g : CheckFault) → IsLesser f g (lesser f g)
-lesser_is f g = go (is_before g f) refl
+lesser-is : (f g : CheckFault) → IsLesser f g (lesser f g)
+lesser-is f g = go (is_before g f) refl
   where
     go : (b : Bool) → is_before g f ≡ b → IsLesser f g (cond b g f)
     go true e =
@@ -108,7 +108,7 @@ lesser_is f g = go (is_before g f) refl
         record {
           one = inl refl;
           over = self f;
-          under = was_below (line_of f) (number f) (line_of g) (number g) e;
+          under = was-below (line_of f) (number f) (line_of g) (number g) e;
         }
 
 -- the least of one and others
@@ -124,13 +124,13 @@ in_rest g gs x c = (suc c.0, (let lt = c.1 in omega arith), c.2)
 in_front : (g : CheckFault) (gs : List CheckFault) → Contains (g ∷ gs) g
 in_front g gs = (0, omega arith, refl)
 
-of_front : (g x : CheckFault) (gs : List CheckFault) → Contains (g ∷ gs) x → (g ≡ x) ⊎ Contains gs x
-of_front g x gs (zero, lt, is) = inl is
-of_front g x gs (suc k, lt, is) = inr (k, (let le = lt in omega arith), is)
+of-front : (g x : CheckFault) (gs : List CheckFault) → Contains (g ∷ gs) x → (g ≡ x) ⊎ Contains gs x
+of-front g x gs (zero, lt, is) = inl is
+of-front g x gs (suc k, lt, is) = inr (k, (let le = lt in omega arith), is)
 
-one_more : (f g : CheckFault) (gs : List CheckFault) (m r : CheckFault) → IsLesser f g m
+one-more : (f g : CheckFault) (gs : List CheckFault) (m r : CheckFault) → IsLesser f g m
     → Least m gs r → Least f (g ∷ gs) r
-one_more f g gs m r l s = record {
+one-more f g gs m r l s = record {
   among = elim s.among [
     | inl e ↦ elim l.one [
       | inl a ↦ inl (e ∙ a)
@@ -139,27 +139,27 @@ one_more f g gs m r l s = record {
     ]
     | inr c ↦ inr (in_rest g gs r c)
   ];
-  over = most_then r m f s.over l.over;
-  each = λ x c. elim (of_front g x gs c)
-      [ inl e ↦ subst (AtMost r) e (most_then r m g s.over l.under) | inr d ↦ s.each x d ];
+  over = most-then r m f s.over l.over;
+  each = λ x c. elim (of-front g x gs c)
+      [ inl e ↦ subst (AtMost r) e (most-then r m g s.over l.under) | inr d ↦ s.each x d ];
 }
 
 least_is : (f : CheckFault) (gs : List CheckFault) → Least f gs (least_of f gs)
 least_is f [] =
     record { among = inl refl; over = self f; each = λ g c. absurd (let lt = c.1 in omega arith) }
 least_is f (g ∷ gs) =
-    one_more f g gs (lesser f g) (least_of (lesser f g) gs) (lesser_is f g)
+    one-more f g gs (lesser f g) (least_of (lesser f g) gs) (lesser-is f g)
     (least_is (lesser f g) gs)
 
-some_same : (x y : CheckFault) → Some x ≡ Some y → x ≡ y
-some_same x y e = cc
+some-same : (x y : CheckFault) → Some x ≡ Some y → x ≡ y
+some-same x y e = cc
 
-pub answered_is_least : (faults : List CheckFault) (f : CheckFault) → least_fault faults ≡ Some f
+pub answered-is-least : (faults : List CheckFault) (f : CheckFault) → least_fault faults ≡ Some f
     → IsLeast f faults
-answered_is_least [] f e = absurd cc
-answered_is_least (g ∷ gs) f e =
+answered-is-least [] f e = absurd cc
+answered-is-least (g ∷ gs) f e =
     let l = least_is g gs in
-    subst (λ (x : CheckFault). IsLeast x (g ∷ gs)) (some_same (least_of g gs) f e) (record {
+    subst (λ (x : CheckFault). IsLeast x (g ∷ gs)) (some-same (least_of g gs) f e) (record {
       among = elim l.among [
         | inl a
             ↦ subst (λ (x : CheckFault). Contains (g ∷ gs) x) (sym a) (in_front g gs)
@@ -167,6 +167,6 @@ answered_is_least (g ∷ gs) f e =
       ];
       none_before =
           λ other c. none_before (least_of g gs) other
-          (elim (of_front g other gs c)
+          (elim (of-front g other gs c)
           [ inl a ↦ subst (AtMost (least_of g gs)) a l.over | inr d ↦ l.each other d ]);
     })

@@ -33,11 +33,11 @@ pub with_value-old : {A : Type 0}
 with_value-old values name value other h =
     ap (λ b. cond b (Some value) (values other)) (sym (kept (bytes_eq name other) (values name) h))
 
-or_last : {A : Type 0} → (here : Bool) (new : A) (rest last : Option A)
+or-last : {A : Type 0} → (here : Bool) (new : A) (rest last : Option A)
     → cond here (Some new) (cond (is_some rest) rest last)
     ≡ cond (is_some (cond here (Some new) rest)) (cond here (Some new) rest) last
-or_last true new rest last = refl
-or_last false new rest last = refl
+or-last true new rest last = refl
+or-last false new rest last = refl
 
 -- a search in one entry more
 pub looked_up-more : {A : Type 0}
@@ -48,23 +48,23 @@ pub looked_up-more : {A : Type 0}
 looked_up-more [] name value key = refl
 looked_up-more {A} (e ∷ es) name value key =
     ap (λ (o : Option A). cond (bytes_eq e.0 key) (Some e.1) o) (looked_up-more es name value key)
-    ∙ or_last (bytes_eq e.0 key) e.1 (looked_up es key) (cond (bytes_eq name key) (Some value) None)
+    ∙ or-last (bytes_eq e.0 key) e.1 (looked_up es key) (cond (bytes_eq name key) (Some value) None)
 
-more_cases : {A : Type 0} → (same : Bool) (here other : Option A) (value : A)
+more-cases : {A : Type 0} → (same : Bool) (here other : Option A) (value : A)
     → (same ≡ true → here ≡ other)
     → cond (same && is_none here) (Some value) other
     ≡ cond (is_some other) other (cond same (Some value) None)
-more_cases true here None value e = rw (e refl) refl
-more_cases true here (Some x) value e = rw (e refl) refl
-more_cases false here None value e = refl
-more_cases false here (Some x) value e = refl
+more-cases true here None value e = rw (e refl) refl
+more-cases true here (Some x) value e = rw (e refl) refl
+more-cases false here None value e = refl
+more-cases false here (Some x) value e = refl
 
 -- the values after one entry more
 pub with_value-more : {A : Type 0}
     → (es : List (List ℕ × A)) (name : List ℕ) (value : A) (key : List ℕ)
     → with_value (looked_up es) name value key ≡ looked_up (es ++ (name, value) ∷ []) key
 with_value-more es name value key =
-    more_cases (bytes_eq name key) (looked_up es name) (looked_up es key) value
+    more-cases (bytes_eq name key) (looked_up es name) (looked_up es key) value
     (λ same. ap (looked_up es) ((bytes_eq-Decides name key).0 same))
     ∙ sym (looked_up-more es name value key)
 

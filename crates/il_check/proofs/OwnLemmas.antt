@@ -4,7 +4,7 @@ use Rattle.std.specs.Prelude.{Ok}
 use Rattle.std.specs.List.{cons_option, filter_map}
 use Rattle.std.specs.Str.{bytes_eq}
 use Rattle.std.proofs.lemmas.Slice.Eq.{bytes_eq-Decides}
-use Rattle.bay_base.specs.Exact.{judged}
+use Rattle.bay_base.specs.Exact.{unless_refused}
 use Rattle.bay_base.specs.Names.{upper}
 use Rattle.bay_base.proofs.NameLemmas.{upper-upper}
 use Rattle.bay_base.specs.declared.types.ElementaryType.{ElementaryType}
@@ -28,22 +28,22 @@ use Rattle.il_check.specs.declared.typed.External.{External}
 use Rattle.il_check.specs.declared.typed.Slot.TheVariants as slot
 use Rattle.il_check.specs.declared.typed.Timer.{Timer}
 use Rattle.il_check.specs.declared.typed.Variable.{Variable}
-use Rattle.il_check.proofs.DeclaredLemmas.{get_last, get_more, initial_is}
-use Rattle.il_check.proofs.FaultlessLemmas.{both_none, if_none, not_false}
-use Rattle.il_check.proofs.LabellingLemmas.{some_is}
+use Rattle.il_check.proofs.DeclaredLemmas.{get-last, get-more, initial-is}
+use Rattle.il_check.proofs.FaultlessLemmas.{both-none, if-none, not-false}
+use Rattle.il_check.proofs.LabellingLemmas.{some-is}
 use Rattle.il_check.proofs.NameLemmas.{looked_up-more}
 use Rattle.il_check.proofs.NotedLemmas.{least_fault-none}
 use Rattle.il_check.proofs.DeclarationsViewLemmas.{filter_map-more, meanings-more}
 
 -- ---- lists
 
-get_old_or_last : {A : Type 0} (xs : List A) (x y : A) (n : ℕ) → slice_get (xs ++ x ∷ []) n ≡ Some y
+get-old-or-last : {A : Type 0} (xs : List A) (x y : A) (n : ℕ) → slice_get (xs ++ x ∷ []) n ≡ Some y
     → (slice_get xs n ≡ Some y) ⊎ ((n ≡ length xs) × (x ≡ y))
-get_old_or_last [] x y zero e = inr (refl, some_is x y e)
-get_old_or_last [] x y (suc n) e = absurd cc
-get_old_or_last (z ∷ xs) x y zero e = inl e
-get_old_or_last (z ∷ xs) x y (suc n) e =
-    elim (get_old_or_last xs x y n e) [ inl h ↦ inl h | inr h ↦ inr (ap suc h.0, h.1) ]
+get-old-or-last [] x y zero e = inr (refl, some-is x y e)
+get-old-or-last [] x y (suc n) e = absurd cc
+get-old-or-last (z ∷ xs) x y zero e = inl e
+get-old-or-last (z ∷ xs) x y (suc n) e =
+    elim (get-old-or-last xs x y n e) [ inl h ↦ inl h | inr h ↦ inr (ap suc h.0, h.1) ]
 
 -- ---- what is declared so far
 
@@ -75,13 +75,13 @@ record Owns (l : Lists) (ms : List (List ℕ × Meaning)) : Type 0 where
   timers : (n : ℕ) (t : Timer) → slice_get l.timers n ≡ Some t
       → looked_up ms t.name ≡ Some (meaning.Timer n)
 
-own_more : (a b : Lists) (key : List ℕ) (m : Meaning) → IsOwn (program_of a) key m
+own-more : (a b : Lists) (key : List ℕ) (m : Meaning) → IsOwn (program_of a) key m
     → IsOwn (program_of (joined a b)) key m
-own_more a b key (meaning.Variable (slot.External n) kind writable) h =
-    (h.0, get_more a.externals b.externals n h.0 h.1, h.2, h.3, h.4)
-own_more a b key (meaning.Variable (slot.Variable n) kind writable) h =
-    (h.0, get_more a.variables b.variables n h.0 h.1, h.2, h.3, h.4)
-own_more a b key (meaning.Timer n) h = (h.0, get_more a.timers b.timers n h.0 h.1, h.2)
+own-more a b key (meaning.Variable (slot.External n) kind writable) h =
+    (h.0, get-more a.externals b.externals n h.0 h.1, h.2, h.3, h.4)
+own-more a b key (meaning.Variable (slot.Variable n) kind writable) h =
+    (h.0, get-more a.variables b.variables n h.0 h.1, h.2, h.3, h.4)
+own-more a b key (meaning.Timer n) h = (h.0, get-more a.timers b.timers n h.0 h.1, h.2)
 
 -- what one declaration adds: its name means it, and it alone is new
 record Adds (a b : Lists) (name : List ℕ) (m : Meaning) : Type 0 where
@@ -95,9 +95,9 @@ record Adds (a b : Lists) (name : List ℕ) (m : Meaning) : Type 0 where
   timers : (n : ℕ) (t : Timer) → slice_get (a.timers ++ b.timers) n ≡ Some t
       → (slice_get a.timers n ≡ Some t) ⊎ ((t.name ≡ name) × (m ≡ meaning.Timer n))
 
-none_more : {A : Type 0} (xs : List A) (n : ℕ) (x : A) → slice_get (xs ++ []) n ≡ Some x
+none-more : {A : Type 0} (xs : List A) (n : ℕ) (x : A) → slice_get (xs ++ []) n ≡ Some x
     → slice_get xs n ≡ Some x
-none_more xs n x e = ap (λ (ys : List _). slice_get ys n) (sym (append-nil xs)) ∙ e
+none-more xs n x e = ap (λ (ys : List _). slice_get ys n) (sym (append-nil xs)) ∙ e
 
 abbrev with_external : Option External → Lists
 with_external o = record { externals = option_to_list o; variables = []; timers = [] }
@@ -108,16 +108,16 @@ with_variable o = record { externals = []; variables = option_to_list o; timers 
 abbrev with_timer : Timer → Lists
 with_timer t = record { externals = []; variables = []; timers = t ∷ [] }
 
-adds_external : (a : Lists) (name : List ℕ) (kind : ElementaryType) (o : Option Point)
+adds-external : (a : Lists) (name : List ℕ) (kind : ElementaryType) (o : Option Point)
     → is_none o ≡ false → Adds a (with_external (external_at name kind o)) (upper name)
     (meaning.Variable (slot.External (length a.externals)) kind (is_writable o))
-adds_external a name kind None there = absurd cc
-adds_external a name kind (Some p) there =
+adds-external a name kind None there = absurd cc
+adds-external a name kind (Some p) there =
     let e : External =
     record { name = upper name; kind = kind; writable = p.writable; source = p.source } in
     record {
-      own = (e, get_last a.externals e, refl, refl, refl);
-      externals = λ n x h. elim (get_old_or_last a.externals e x n h) [
+      own = (e, get-last a.externals e, refl, refl, refl);
+      externals = λ n x h. elim (get-old-or-last a.externals e x n h) [
         | inl old ↦ inl old
         | inr new ↦ inr (
           ap (λ (y : External). y.name) (sym new.1),
@@ -125,21 +125,21 @@ adds_external a name kind (Some p) there =
               ∙ ap (λ (y : External). meaning.Variable (slot.External n) y.kind y.writable) new.1,
         )
       ];
-      variables = λ n x h. inl (none_more a.variables n x h);
-      timers = λ n x h. inl (none_more a.timers n x h);
+      variables = λ n x h. inl (none-more a.variables n x h);
+      timers = λ n x h. inl (none-more a.timers n x h);
     }
 
-adds_variable : (a : Lists) (name : List ℕ) (kind : ElementaryType) (o : Option Value)
+adds-variable : (a : Lists) (name : List ℕ) (kind : ElementaryType) (o : Option Value)
     → is_some o ≡ true → ((v : Value) → o ≡ Some v → type_of v ≡ kind)
     → Adds a (with_variable (variable_at name o)) (upper name)
     (meaning.Variable (slot.Variable (length a.variables)) kind true)
-adds_variable a name kind None there typed = absurd cc
-adds_variable a name kind (Some w) there typed =
+adds-variable a name kind None there typed = absurd cc
+adds-variable a name kind (Some w) there typed =
     let v : Variable = record { name = upper name; initial = w } in
     record {
-      own = (v, get_last a.variables v, refl, typed w refl, refl);
-      externals = λ n x h. inl (none_more a.externals n x h);
-      variables = λ n x h. elim (get_old_or_last a.variables v x n h) [
+      own = (v, get-last a.variables v, refl, typed w refl, refl);
+      externals = λ n x h. inl (none-more a.externals n x h);
+      variables = λ n x h. elim (get-old-or-last a.variables v x n h) [
         | inl old ↦ inl old
         | inr new ↦ inr (
           ap (λ (y : Variable). y.name) (sym new.1),
@@ -150,16 +150,16 @@ adds_variable a name kind (Some w) there typed =
               new.1,
         )
       ];
-      timers = λ n x h. inl (none_more a.timers n x h);
+      timers = λ n x h. inl (none-more a.timers n x h);
     }
 
-adds_timer : (a : Lists) (t : Timer)
+adds-timer : (a : Lists) (t : Timer)
     → Adds a (with_timer t) t.name (meaning.Timer (length a.timers))
-adds_timer a t = record {
-  own = (t, get_last a.timers t, refl);
-  externals = λ n x h. inl (none_more a.externals n x h);
-  variables = λ n x h. inl (none_more a.variables n x h);
-  timers = λ n x h. elim (get_old_or_last a.timers t x n h) [
+adds-timer a t = record {
+  own = (t, get-last a.timers t, refl);
+  externals = λ n x h. inl (none-more a.externals n x h);
+  variables = λ n x h. inl (none-more a.variables n x h);
+  timers = λ n x h. elim (get-old-or-last a.timers t x n h) [
     | inl old ↦ inl old
     | inr new ↦ inr (
       ap (λ (y : Timer). y.name) (sym new.1),
@@ -176,7 +176,7 @@ added_by points d s k =
       timers = option_to_list (timer_in d k);
     }
 
-adds_one : (points : List Point) (d : text.Declared) (s : Scope) (k : DeclaredType) (a : Lists)
+adds-one : (points : List Point) (d : text.Declared) (s : Scope) (k : DeclaredType) (a : Lists)
     → is_external s && is_none (point_of points d.name) ≡ false
     → is_typed s k (point_of points d.name) d.initial ≡ true
     → Adds a (added_by points d s k) (upper d.name)
@@ -186,78 +186,78 @@ adds_one : (points : List Point) (d : text.Declared) (s : Scope) (k : DeclaredTy
       variables = length a.variables;
       timers = length a.timers;
     }) s k (point_of points d.name))
-adds_one points d scope.External (type.Elementary kind) a there right =
-    adds_external a d.name kind (point_of points d.name) there
-adds_one points d scope.External (type.Timer kind) a there right =
-    adds_timer a (record { name = upper d.name; kind = kind })
-adds_one points d scope.Local (type.Elementary kind) a there right =
-    adds_variable a d.name kind (initial_in kind d.initial) right
-    (λ v e. (initial_is kind d.initial v e).1)
-adds_one points d scope.Local (type.Timer kind) a there right =
-    adds_timer a (record { name = upper d.name; kind = kind })
+adds-one points d scope.External (type.Elementary kind) a there right =
+    adds-external a d.name kind (point_of points d.name) there
+adds-one points d scope.External (type.Timer kind) a there right =
+    adds-timer a (record { name = upper d.name; kind = kind })
+adds-one points d scope.Local (type.Elementary kind) a there right =
+    adds-variable a d.name kind (initial_in kind d.initial) right
+    (λ v e. (initial-is kind d.initial v e).1)
+adds-one points d scope.Local (type.Timer kind) a there right =
+    adds-timer a (record { name = upper d.name; kind = kind })
 
 -- ---- one declaration more
 
-self_same : (name : List ℕ) → bytes_eq name name ≡ true
-self_same name = (bytes_eq-Decides name name).1 refl
+self-same : (name : List ℕ) → bytes_eq name name ≡ true
+self-same name = (bytes_eq-Decides name name).1 refl
 
-old_stays : {A : Type 0} (o : Option A) (b : Bool) (x y : A) → o ≡ Some y
+old-stays : {A : Type 0} (o : Option A) (b : Bool) (x y : A) → o ≡ Some y
     → cond (is_some o) o (cond b (Some x) None) ≡ Some y
-old_stays None b x y e = absurd cc
-old_stays (Some z) b x y e = e
+old-stays None b x y e = absurd cc
+old-stays (Some z) b x y e = e
 
-new_found : {A : Type 0} (o : Option A) (b : Bool) (x : A) → is_some o ≡ false → b ≡ true
+new-found : {A : Type 0} (o : Option A) (b : Bool) (x : A) → is_some o ≡ false → b ≡ true
     → cond (is_some o) o (cond b (Some x) None) ≡ Some x
-new_found None true x e f = refl
-new_found None false x e f = absurd cc
-new_found (Some z) b x e f = absurd cc
+new-found None true x e f = refl
+new-found None false x e f = absurd cc
+new-found (Some z) b x e f = absurd cc
 
-either_way : {A : Type 0} (o : Option A) (b : Bool) (x y : A)
+either-way : {A : Type 0} (o : Option A) (b : Bool) (x y : A)
     → cond (is_some o) o (cond b (Some x) None) ≡ Some y → (o ≡ Some y) ⊎ ((b ≡ true) × (x ≡ y))
-either_way (Some z) b x y e = inl e
-either_way None true x y e = inr (refl, some_is x y e)
-either_way None false x y e = absurd cc
+either-way (Some z) b x y e = inl e
+either-way None true x y e = inr (refl, some-is x y e)
+either-way None false x y e = absurd cc
 
 module _ (a b : Lists) (ms : List (List ℕ × Meaning)) (name : List ℕ) (m : Meaning)
     (known : Owns a ms) (more : Adds a b name m) (fresh : is_some (looked_up ms name) ≡ false) where
-  found_old : (key : List ℕ) (x : Meaning) → looked_up ms key ≡ Some x
+  found-old : (key : List ℕ) (x : Meaning) → looked_up ms key ≡ Some x
       → looked_up (ms ++ (name, m) ∷ []) key ≡ Some x
-  found_old key x e =
-      looked_up-more ms name m key ∙ old_stays (looked_up ms key) (bytes_eq name key) m x e
+  found-old key x e =
+      looked_up-more ms name m key ∙ old-stays (looked_up ms key) (bytes_eq name key) m x e
 
-  found_new : looked_up (ms ++ (name, m) ∷ []) name ≡ Some m
-  found_new =
+  found-new : looked_up (ms ++ (name, m) ∷ []) name ≡ Some m
+  found-new =
       looked_up-more ms name m name
-      ∙ new_found (looked_up ms name) (bytes_eq name name) m fresh (self_same name)
+      ∙ new-found (looked_up ms name) (bytes_eq name name) m fresh (self-same name)
 
-  found_named : (key : List ℕ) (x : Meaning) → key ≡ name → m ≡ x
+  found-named : (key : List ℕ) (x : Meaning) → key ≡ name → m ≡ x
       → looked_up (ms ++ (name, m) ∷ []) key ≡ Some x
-  found_named key x e is =
-      ap (looked_up (ms ++ (name, m) ∷ [])) e ∙ found_new ∙ ap (λ (y : Meaning). Some y) is
+  found-named key x e is =
+      ap (looked_up (ms ++ (name, m) ∷ [])) e ∙ found-new ∙ ap (λ (y : Meaning). Some y) is
 
-  owns_more : Owns (joined a b) (ms ++ (name, m) ∷ [])
-  owns_more = record {
-    own = λ key x e. elim (either_way (looked_up ms key) (bytes_eq name key) m x
+  owns-more : Owns (joined a b) (ms ++ (name, m) ∷ [])
+  owns-more = record {
+    own = λ key x e. elim (either-way (looked_up ms key) (bytes_eq name key) m x
         (sym (looked_up-more ms name m key) ∙ e)) [
-          | inl old ↦ own_more a b key x (known.own key x old)
+          | inl old ↦ own-more a b key x (known.own key x old)
           | inr new ↦ subst (λ (k : List ℕ). IsOwn (program_of (joined a b)) k x)
               ((bytes_eq-Decides name key).0 new.0)
               (subst (λ (y : Meaning). IsOwn (program_of (joined a b)) name y) new.1 more.own)
         ];
     externals =
         λ n e h. elim (more.externals n e h) [
-          | inl old ↦ found_old e.name _ (known.externals n e old)
-          | inr new ↦ found_named e.name _ new.0 new.1
+          | inl old ↦ found-old e.name _ (known.externals n e old)
+          | inr new ↦ found-named e.name _ new.0 new.1
         ];
     variables =
         λ n v h. elim (more.variables n v h) [
-          | inl old ↦ found_old v.name _ (known.variables n v old)
-          | inr new ↦ found_named v.name _ new.0 new.1
+          | inl old ↦ found-old v.name _ (known.variables n v old)
+          | inr new ↦ found-named v.name _ new.0 new.1
         ];
     timers =
         λ n t h. elim (more.timers n t h) [
-          | inl old ↦ found_old t.name _ (known.timers n t old)
-          | inr new ↦ found_named t.name _ new.0 new.1
+          | inl old ↦ found-old t.name _ (known.timers n t old)
+          | inr new ↦ found-named t.name _ new.0 new.1
         ];
   }
 
@@ -269,19 +269,19 @@ lists_of points ds =
       timers = timers_of ds;
     }
 
-lists_same : (es fs : List External) (vs ws : List Variable) (ts us : List Timer) → es ≡ fs
+lists-same : (es fs : List External) (vs ws : List Variable) (ts us : List Timer) → es ≡ fs
     → vs ≡ ws → ts ≡ us → ◌≡◌ {A = Lists} (record { externals = es; variables = vs; timers = ts })
     (record { externals = fs; variables = ws; timers = us })
-lists_same es fs vs ws ts us e v t =
+lists-same es fs vs ws ts us e v t =
     let made : List External → List Variable → List Timer → Lists =
     λ x y z. record { externals = x; variables = y; timers = z } in
     ap (λ x. made x vs ts) e ∙ ap (λ y. made fs y ts) v ∙ ap (λ z. made fs ws z) t
 
-lists_more : (points : List Point) (before : List text.Declared) (d : text.Declared)
+lists-more : (points : List Point) (before : List text.Declared) (d : text.Declared)
     → joined (lists_of points before) (added_by points d d.scope d.kind)
     ≡ lists_of points (before ++ d ∷ [])
-lists_more points before d =
-    lists_same _ _ _ _ _ _
+lists-more points before d =
+    lists-same _ _ _ _ _ _
     (sym (filter_map-more (λ (x : text.Declared). external_in points x x.scope x.kind) before d))
     (sym (filter_map-more (λ (x : text.Declared). variable_in x x.scope x.kind) before d))
     (sym (filter_map-more (λ (x : text.Declared). timer_in x x.kind) before d))
@@ -289,37 +289,37 @@ lists_more points before d =
 abbrev OwnsAll : List Point → List text.Declared → Type 0
 OwnsAll points ds = Owns (lists_of points ds) (meanings_of points ds)
 
-owns_next : (points : List Point) (before : List text.Declared) (d : text.Declared)
+owns-next : (points : List Point) (before : List text.Declared) (d : text.Declared)
     → OwnsAll points before → declaration_faults points before d ≡ []
     → OwnsAll points (before ++ d ∷ [])
-owns_next points before d known none =
-    let missing = both_none _ _ none in
-    let twice = both_none _ _ missing.1 in
-    let wrong = both_none _ _ twice.1 in
+owns-next points before d known none =
+    let missing = both-none _ _ none in
+    let twice = both-none _ _ missing.1 in
+    let wrong = both-none _ _ twice.1 in
     let m : Meaning =
     meaning_at (counts_of points before) d.scope d.kind (point_of points d.name) in
     let more =
-    adds_one points d d.scope d.kind (lists_of points before) (if_none _ _ missing.0)
-    (not_false _ (if_none _ _ wrong.0)) in
+    adds-one points d d.scope d.kind (lists_of points before) (if-none _ _ missing.0)
+    (not-false _ (if-none _ _ wrong.0)) in
     let is =
-    owns_more (lists_of points before) (added_by points d d.scope d.kind)
-    (meanings_of points before) (upper d.name) m known more (if_none _ _ twice.0) in
+    owns-more (lists_of points before) (added_by points d d.scope d.kind)
+    (meanings_of points before) (upper d.name) m known more (if-none _ _ twice.0) in
     subst (λ (l : Lists). Owns l (meanings_of points (before ++ d ∷ [])))
-    (lists_more points before d)
+    (lists-more points before d)
     (subst (λ (xs : List (List ℕ × Meaning)). Owns
     (joined (lists_of points before) (added_by points d d.scope d.kind)) xs)
     (sym (meanings-more points [] before d)) is)
 
-owns_from : (points : List Point) (before ds : List text.Declared) → OwnsAll points before
+owns-from : (points : List Point) (before ds : List text.Declared) → OwnsAll points before
     → declarations_faults points before ds ≡ [] → OwnsAll points (before ++ ds)
-owns_from points before [] known none = subst (OwnsAll points) (sym (append-nil before)) known
-owns_from points before (d ∷ ds) known none =
-    let two = both_none _ _ none in
+owns-from points before [] known none = subst (OwnsAll points) (sym (append-nil before)) known
+owns-from points before (d ∷ ds) known none =
+    let two = both-none _ _ none in
     subst (OwnsAll points) (append_assoc before (d ∷ []) ds)
-    (owns_from points (before ++ d ∷ []) ds (owns_next points before d known two.0) two.1)
+    (owns-from points (before ++ d ∷ []) ds (owns-next points before d known two.0) two.1)
 
-owns_none : (points : List Point) → OwnsAll points []
-owns_none points =
+owns-none : (points : List Point) → OwnsAll points []
+owns-none points =
     record {
       own = λ key m e. absurd (cc);
       externals = λ n e h. absurd (cc);
@@ -329,10 +329,10 @@ owns_none points =
 
 -- ---- labels
 
-label_case : (b : Bool) (here n : ℕ) (rest : Option ℕ) → cond b (Some here) rest ≡ Some n
+label-case : (b : Bool) (here n : ℕ) (rest : Option ℕ) → cond b (Some here) rest ≡ Some n
     → ((b ≡ true) × (here ≡ n)) ⊎ (rest ≡ Some n)
-label_case true here n rest e = inl (refl, some_is here n e)
-label_case false here n rest e = inr e
+label-case true here n rest e = inl (refl, some-is here n e)
+label-case false here n rest e = inr e
 
 -- the label of a number stands as many labels behind the first
 record Labelled (from : ℕ) (items : List text.Entry) (key : List ℕ) (n : ℕ) : Type 0 where
@@ -344,7 +344,7 @@ labelled : (from : ℕ) (items : List text.Entry) (key : List ℕ) (n : ℕ)
     → looked_up (labels_from from items) key ≡ Some n → Labelled from items key n
 labelled from [] key n e = absurd cc
 labelled from (text.label line name ∷ items) key n e =
-    elim (label_case (bytes_eq (upper name) key) from n
+    elim (label-case (bytes_eq (upper name) key) from n
     (looked_up (labels_from (from + 1) items) key) e) [
       | inl h ↦ (let k : upper name ≡ key = (bytes_eq-Decides (upper name) key).0 h.0 in
           let same = h.1 in
@@ -361,10 +361,10 @@ labelled from (text.action line a ∷ items) key n e = let l =
 labelled from (text.block line operator negated es end ∷ items) key n e = let l =
     labelled from items key n e in record { behind = l.behind; at = l.at; is = l.is }
 
-own_label : (items : List text.Entry) (key : List ℕ) (n : ℕ)
+own-label : (items : List text.Entry) (key : List ℕ) (n : ℕ)
     → looked_up (labels_from 0 items) key ≡ Some n
     → slice_get (labels_from 0 items) n ≡ Some (key, n)
-own_label items key n e =
+own-label items key n e =
     let l = labelled 0 items key n e in
     let at = l.at in
     let same : n ≡ l.behind = omega arith in
@@ -378,46 +378,46 @@ record AreUpper (l : Lists) : Type 0 where
   variables : (n : ℕ) (v : Variable) → slice_get l.variables n ≡ Some v → upper v.name ≡ v.name
   timers : (n : ℕ) (t : Timer) → slice_get l.timers n ≡ Some t → upper t.name ≡ t.name
 
-upper_external : (name : List ℕ) (kind : ElementaryType) (o : Option Point) (e : External)
+upper-external : (name : List ℕ) (kind : ElementaryType) (o : Option Point) (e : External)
     → external_at name kind o ≡ Some e → upper e.name ≡ e.name
-upper_external name kind None e h = absurd cc
-upper_external name kind (Some p) e h =
-    subst (λ (x : External). upper x.name ≡ x.name) (some_is _ e h) (upper-upper name)
+upper-external name kind None e h = absurd cc
+upper-external name kind (Some p) e h =
+    subst (λ (x : External). upper x.name ≡ x.name) (some-is _ e h) (upper-upper name)
 
-upper_variable : (name : List ℕ) (o : Option Value) (v : Variable) → variable_at name o ≡ Some v
+upper-variable : (name : List ℕ) (o : Option Value) (v : Variable) → variable_at name o ≡ Some v
     → upper v.name ≡ v.name
-upper_variable name None v h = absurd cc
-upper_variable name (Some w) v h =
-    subst (λ (x : Variable). upper x.name ≡ x.name) (some_is _ v h) (upper-upper name)
+upper-variable name None v h = absurd cc
+upper-variable name (Some w) v h =
+    subst (λ (x : Variable). upper x.name ≡ x.name) (some-is _ v h) (upper-upper name)
 
-external_upper : (points : List Point) (d : text.Declared) (s : Scope) (k : DeclaredType)
+external-upper : (points : List Point) (d : text.Declared) (s : Scope) (k : DeclaredType)
     (e : External) → external_in points d s k ≡ Some e → upper e.name ≡ e.name
-external_upper points d scope.External (type.Elementary kind) e h =
-    upper_external d.name kind (point_of points d.name) e h
-external_upper points d scope.External (type.Timer kind) e h = absurd cc
-external_upper points d scope.Local (type.Elementary kind) e h = absurd cc
-external_upper points d scope.Local (type.Timer kind) e h = absurd cc
+external-upper points d scope.External (type.Elementary kind) e h =
+    upper-external d.name kind (point_of points d.name) e h
+external-upper points d scope.External (type.Timer kind) e h = absurd cc
+external-upper points d scope.Local (type.Elementary kind) e h = absurd cc
+external-upper points d scope.Local (type.Timer kind) e h = absurd cc
 
-variable_upper : (d : text.Declared) (s : Scope) (k : DeclaredType) (v : Variable)
+variable-upper : (d : text.Declared) (s : Scope) (k : DeclaredType) (v : Variable)
     → variable_in d s k ≡ Some v → upper v.name ≡ v.name
-variable_upper d scope.Local (type.Elementary kind) v h =
-    upper_variable d.name (initial_in kind d.initial) v h
-variable_upper d scope.Local (type.Timer kind) v h = absurd cc
-variable_upper d scope.External (type.Elementary kind) v h = absurd cc
-variable_upper d scope.External (type.Timer kind) v h = absurd cc
+variable-upper d scope.Local (type.Elementary kind) v h =
+    upper-variable d.name (initial_in kind d.initial) v h
+variable-upper d scope.Local (type.Timer kind) v h = absurd cc
+variable-upper d scope.External (type.Elementary kind) v h = absurd cc
+variable-upper d scope.External (type.Timer kind) v h = absurd cc
 
-timer_upper : (d : text.Declared) (k : DeclaredType) (t : Timer) → timer_in d k ≡ Some t
+timer-upper : (d : text.Declared) (k : DeclaredType) (t : Timer) → timer_in d k ≡ Some t
     → upper t.name ≡ t.name
-timer_upper d (type.Timer kind) t h =
-    subst (λ (x : Timer). upper x.name ≡ x.name) (some_is _ t h) (upper-upper d.name)
-timer_upper d (type.Elementary kind) t h = absurd cc
+timer-upper d (type.Timer kind) t h =
+    subst (λ (x : Timer). upper x.name ≡ x.name) (some-is _ t h) (upper-upper d.name)
+timer-upper d (type.Elementary kind) t h = absurd cc
 
 -- what holds of all that is kept of a list
 kept_case : {X Y : Type 0} (f : X → Option Y) (P : Y → Type 0) (x : X) (rest : List Y) (y : Y)
     → ((z : Y) → f x ≡ Some z → P z) → ((n : ℕ) → slice_get rest n ≡ Some y → P y) → (o : Option Y)
     → f x ≡ o → (n : ℕ) → slice_get (cons_option o rest) n ≡ Some y → P y
 kept_case f P x rest y h more None is n e = more n e
-kept_case f P x rest y h more (Some z) is zero e = subst P (some_is z y e) (h z is)
+kept_case f P x rest y h more (Some z) is zero e = subst P (some-is z y e) (h z is)
 kept_case f P x rest y h more (Some z) is (suc n) e = more n e
 
 kept_all : {X Y : Type 0} (f : X → Option Y) (P : Y → Type 0) (xs : List X)
@@ -427,18 +427,18 @@ kept_all f P [] h n y e = absurd cc
 kept_all f P (x ∷ xs) h n y e =
     kept_case f P x (filter_map f xs) y (h x) (λ k g. kept_all f P xs h k y g) (f x) refl n e
 
-are_upper : (points : List Point) (ds : List text.Declared) → AreUpper (lists_of points ds)
-are_upper points ds = record {
+are-upper : (points : List Point) (ds : List text.Declared) → AreUpper (lists_of points ds)
+are-upper points ds = record {
   externals =
       kept_all (λ (x : text.Declared). external_in points x x.scope x.kind)
       (λ (e : External). upper e.name ≡ e.name) ds
-      (λ d e h. external_upper points d d.scope d.kind e h);
+      (λ d e h. external-upper points d d.scope d.kind e h);
   variables =
       kept_all (λ (x : text.Declared). variable_in x x.scope x.kind)
-      (λ (v : Variable). upper v.name ≡ v.name) ds (λ d v h. variable_upper d d.scope d.kind v h);
+      (λ (v : Variable). upper v.name ≡ v.name) ds (λ d v h. variable-upper d d.scope d.kind v h);
   timers =
       kept_all (λ (x : text.Declared). timer_in x x.kind) (λ (t : Timer). upper t.name ≡ t.name) ds
-      (λ d t h. timer_upper d d.kind t h);
+      (λ d t h. timer-upper d d.kind t h);
 }
 
 with_items : (l : Lists) (items : List Item) (key : List ℕ) (m : Meaning)
@@ -453,32 +453,33 @@ with_items l items key (meaning.Variable (slot.External n) kind writable) h = h
 with_items l items key (meaning.Variable (slot.Variable n) kind writable) h = h
 with_items l items key (meaning.Timer n) h = h
 
-own_places : (points : List Point) (program : text.PlainProgram)
+own-places : (points : List Point) (program : text.PlainProgram)
     → declarations_faults points [] program.declarations ≡ []
     → MeanOwnPlaces (names_in points program) (checked_program points program) program.items
-own_places points program none =
+own-places points program none =
     let l = lists_of points program.declarations in
     let ms = meanings_of points program.declarations in
-    let owns : Owns l ms = owns_from points [] program.declarations (owns_none points) none in
-    let up = are_upper points program.declarations in
+    let owns : Owns l ms = owns-from points [] program.declarations (owns-none points) none in
+    let up = are-upper points program.declarations in
     record {
       own = λ name m e. with_items l (checked_program points program).items (upper name) m
           (owns.own (upper name) m e);
       externals = λ n e h. ap (looked_up ms) (up.externals n e h) ∙ owns.externals n e h;
       variables = λ n v h. ap (looked_up ms) (up.variables n v h) ∙ owns.variables n v h;
       timers = λ n t h. ap (looked_up ms) (up.timers n t h) ∙ owns.timers n t h;
-      labels = λ name n e. own_label program.items (upper name) n e;
+      labels = λ name n e. own-label program.items (upper name) n e;
     }
 
-judged_ok : (o : Option CheckFault) (x c : Checked) → judged o x ≡ Ok c → (o ≡ None) × (x ≡ c)
-judged_ok None x c e = (refl, (let p : x ≡ c = cc in p))
-judged_ok (Some f) x c e = absurd cc
+judged-ok : (o : Option CheckFault) (x c : Checked) → unless_refused o x ≡ Ok c
+    → (o ≡ None) × (x ≡ c)
+judged-ok None x c e = (refl, (let p : x ≡ c = cc in p))
+judged-ok (Some f) x c e = absurd cc
 
-pub mean_own_places : (points : List Point) (program : text.PlainProgram) (c : Checked)
+pub mean-own-places : (points : List Point) (program : text.PlainProgram) (c : Checked)
     → checked_of points program ≡ Ok c → MeanOwnPlaces (names_in points program) c program.items
-mean_own_places points program c e =
-    let p = judged_ok (least_fault (faults_of points program)) (checked_program points program) c e
+mean-own-places points program c e =
+    let p = judged-ok (least_fault (faults_of points program)) (checked_program points program) c e
     in
     subst (λ (x : Checked). MeanOwnPlaces (names_in points program) x program.items) p.1
-    (own_places points program
-    (both_none _ _ (least_fault-none (faults_of points program) p.0)).0)
+    (own-places points program
+    (both-none _ _ (least_fault-none (faults_of points program) p.0)).0)

@@ -11,7 +11,7 @@ use Rattle.il_text.specs.declared.program.DeclaredType.TheVariants as type
 use Rattle.il_text.specs.declared.program.Scope.{Scope}
 use Rattle.il_text.specs.declared.program.Scope.TheVariants as scope
 use Rattle.il_image.specs.declared.value.Value.{Value}
-use Rattle.il_check.specs.Faults.{noted}
+use Rattle.il_check.specs.Faults.{first_fault_of}
 use Rattle.il_check.specs.NamesView.{with_value}
 use Rattle.il_check.specs.Declaring.{external_at, external_in, variable_at, variable_in, timer_in, initial_in, meaning_at, point_of, name_faults, is_full}
 use Rattle.il_check.specs.DeclarationsView.{counts_in, external_named, variable_named, external_added, variable_added, timer_added, Adds, Takes}
@@ -21,38 +21,38 @@ use Rattle.il_check.specs.declared.typed.External.{External}
 use Rattle.il_check.specs.declared.typed.Variable.{Variable}
 use Rattle.il_check.specs.declared.typed.Timer.{Timer}
 
-same_external : (name : List ℕ) (kind : ElementaryType) (point : Option Point)
+same-external : (name : List ℕ) (kind : ElementaryType) (point : Option Point)
     → external_named (upper name) kind point ≡ external_at name kind point
-same_external name kind None = refl
-same_external name kind (Some p) = refl
+same-external name kind None = refl
+same-external name kind (Some p) = refl
 
-external_same : (points : List Point) (d : text.Declared) (as_declared : Scope)
+external-same : (points : List Point) (d : text.Declared) (as_declared : Scope)
     (kind : DeclaredType)
     → external_added (upper d.name) as_declared kind (point_of points d.name)
     ≡ external_in points d as_declared kind
-external_same points d scope.External (type.Elementary kind) =
-    same_external d.name kind (point_of points d.name)
-external_same points d scope.External (type.Timer kind) = refl
-external_same points d scope.Local (type.Elementary kind) = refl
-external_same points d scope.Local (type.Timer kind) = refl
+external-same points d scope.External (type.Elementary kind) =
+    same-external d.name kind (point_of points d.name)
+external-same points d scope.External (type.Timer kind) = refl
+external-same points d scope.Local (type.Elementary kind) = refl
+external-same points d scope.Local (type.Timer kind) = refl
 
-same_variable : (name : List ℕ) (value : Option Value)
+same-variable : (name : List ℕ) (value : Option Value)
     → variable_named (upper name) value ≡ variable_at name value
-same_variable name None = refl
-same_variable name (Some v) = refl
+same-variable name None = refl
+same-variable name (Some v) = refl
 
-variable_same : (d : text.Declared) (as_declared : Scope) (kind : DeclaredType)
+variable-same : (d : text.Declared) (as_declared : Scope) (kind : DeclaredType)
     → variable_added (upper d.name) d as_declared kind ≡ variable_in d as_declared kind
-variable_same d scope.Local (type.Elementary kind) =
-    same_variable d.name (initial_in kind d.initial)
-variable_same d scope.Local (type.Timer kind) = refl
-variable_same d scope.External (type.Elementary kind) = refl
-variable_same d scope.External (type.Timer kind) = refl
+variable-same d scope.Local (type.Elementary kind) =
+    same-variable d.name (initial_in kind d.initial)
+variable-same d scope.Local (type.Timer kind) = refl
+variable-same d scope.External (type.Elementary kind) = refl
+variable-same d scope.External (type.Timer kind) = refl
 
-timer_same : (d : text.Declared) (kind : DeclaredType)
+timer-same : (d : text.Declared) (kind : DeclaredType)
     → timer_added (upper d.name) kind ≡ timer_in d kind
-timer_same d (type.Timer kind) = refl
-timer_same d (type.Elementary kind) = refl
+timer-same d (type.Timer kind) = refl
+timer-same d (type.Elementary kind) = refl
 
 -- what is noted of a declaration
 pub record Noted (d : text.Declared) (name : List ℕ) (point : Option Point)
@@ -63,7 +63,7 @@ pub record Noted (d : text.Declared) (name : List ℕ) (point : Option Point)
   pub meanings : (other : List ℕ)
       → get_by_text middle.meanings other
       ≡ with_value (λ q. get_by_text old.meanings q) name meaning other
-  pub found : middle.found ≡ noted old.found (name_faults point is_known is_beyond d)
+  pub found : middle.found ≡ first_fault_of old.found (name_faults point is_known is_beyond d)
   pub externals : middle.externals ≡ old.externals
   pub variables : middle.variables ≡ old.variables
   pub timers : middle.timers ≡ old.timers
@@ -84,7 +84,7 @@ taken points d old middle new name copy point is_known is_beyond meaning named c
           ∙ ap (λ (p : Option Point). old.externals.items
           ++ option_to_list (external_added (upper d.name) d.scope d.kind p)) pointed
           ∙ ap (λ (o : Option External). old.externals.items ++ option_to_list o)
-          (external_same points d d.scope d.kind);
+          (external-same points d d.scope d.kind);
       variables =
           added.variables
           ∙ ap (λ vs. vs.items ++ option_to_list (variable_added copy d d.scope d.kind))
@@ -92,13 +92,13 @@ taken points d old middle new name copy point is_known is_beyond meaning named c
           ∙ ap (λ (n : List ℕ). old.variables.items
           ++ option_to_list (variable_added n d d.scope d.kind)) (copied ∙ named)
           ∙ ap (λ (o : Option Variable). old.variables.items ++ option_to_list o)
-          (variable_same d d.scope d.kind);
+          (variable-same d d.scope d.kind);
       timers =
           added.timers
           ∙ ap (λ ts. ts.items ++ option_to_list (timer_added copy d.kind)) so.timers
           ∙ ap (λ (n : List ℕ). old.timers.items ++ option_to_list (timer_added n d.kind))
           (copied ∙ named)
-          ∙ ap (λ (o : Option Timer). old.timers.items ++ option_to_list o) (timer_same d d.kind);
+          ∙ ap (λ (o : Option Timer). old.timers.items ++ option_to_list o) (timer-same d d.kind);
       meanings = λ other.
           ap (λ m. get_by_text m other) added.meanings
           ∙ so.meanings other
@@ -110,10 +110,12 @@ taken points d old middle new name copy point is_known is_beyond meaning named c
       found =
           added.found
           ∙ so.found
-          ∙ ap (λ (p : Option Point). noted old.found (name_faults p is_known is_beyond d)) pointed
-          ∙ ap (λ (b : Bool). noted old.found (name_faults (point_of points d.name) b is_beyond d))
+          ∙ ap (λ (p : Option Point). first_fault_of old.found (name_faults p is_known is_beyond d))
+          pointed
+          ∙ ap (λ (b : Bool). first_fault_of old.found
+          (name_faults (point_of points d.name) b is_beyond d))
           (so.known ∙ ap (λ (n : List ℕ). is_some (get_by_text old.meanings n)) named)
-          ∙ ap (λ (b : Bool). noted old.found
+          ∙ ap (λ (b : Bool). first_fault_of old.found
           (name_faults (point_of points d.name) (is_some (get_by_text old.meanings (upper d.name)))
           b d)) so.beyond;
     }

@@ -3,64 +3,64 @@ use Rattle.std.proofs.Common.{◌≡◌, ℕ, zero, suc, ◌+◌, ◌-◌, ◌<�
 use Rattle.std.specs.Prelude.{◌==◌}
 use Rattle.std.specs.List.{cons_option}
 use Rattle.std.proofs.lemmas.Bool.{and_parts, cases_eq}
-use Rattle.bay_base.specs.Exact.{judged}
+use Rattle.bay_base.specs.Exact.{unless_refused}
 use Rattle.bay_base.specs.Names.{upper}
 use Rattle.bay_base.specs.Types.{same_type}
 use Rattle.bay_base.specs.declared.types.ElementaryType.{ElementaryType}
 use Rattle.bay_config.specs.declared.bay.Point.{Point}
 use Rattle.il_text.specs.Listing as text
 use Rattle.il_text.specs.declared.program.Operator.{Operator}
-use Rattle.il_image.proofs.KindLemmas.{same_is}
+use Rattle.il_image.proofs.KindLemmas.{same-is}
 use Rattle.il_check.specs.Checking.{initial_standing, faults_of, checked_program, checked_of}
 use Rattle.il_check.specs.Declaring.{labels_from, names_in, declarations_faults}
 use Rattle.il_check.specs.Faults.{least_fault}
-use Rattle.il_check.specs.Given.{Names, resolved}
-use Rattle.il_check.specs.Labelling.{Labelling, IsRight, IsCombined, IsRightEntry, AreRightEntries, Coming, Jumps, with_target, carried, coming_behind_label, coming_behind_action}
+use Rattle.il_check.specs.Given.{Names, resolution_of}
+use Rattle.il_check.specs.Labelling.{Labelling, IsRight, IsCombined, IsRightEntry, AreRightEntries, Coming, Jumps, with_target, carry_of, coming_behind_label, coming_behind_action}
 use Rattle.il_check.specs.Program.{Entry, operation, block, Entries, no_entries, entry, Item, label, transfer, plain, Checked, entry_before}
 use Rattle.il_check.specs.Rules as rules
 use Rattle.il_check.specs.Rules.{gives, works, type_after}
 use Rattle.il_check.specs.TypedProgram.{IsEntry, AreEntries, entry_depth, entries_depth, has_label, coming_behind_transfer, AreItems, IsTyped}
 use Rattle.il_check.specs.Typing.{operation_in, transfer_in, or_entry, block_in}
-use Rattle.il_check.specs.WellTyped.{Standing, type_behind, type_behind_all, items_faults, entry_left, entries_left, item_left, items_left, behind, moved}
+use Rattle.il_check.specs.WellTyped.{Progress, type_behind, type_behind_all, items_faults, entry_left, entries_left, item_left, items_left, behind, standing_after}
 use Rattle.il_check.specs.declared.fault.CheckFault.{CheckFault}
 use Rattle.il_check.specs.declared.given.Resolved.{Resolved}
 use Rattle.il_check.specs.declared.typed.SimpleOperation.{SimpleOperation}
 use Rattle.il_check.specs.declared.typed.SimpleOperation.TheVariants as op
 use Rattle.il_check.specs.declared.typed.Transfer.{Transfer}
 use Rattle.il_check.proofs.DeclaredLemmas.{declares}
-use Rattle.il_check.proofs.GivenLemmas.{AreNamed, IsFound, found, named_from, operation_typed, operation_goes_on, left_same, transfer_typed, nothing_left}
-use Rattle.il_check.proofs.FaultlessLemmas.{both_none, not_false, or_true, no_zero, right_from, entry_reached, entry_from}
-use Rattle.il_check.proofs.LabellingLemmas.{same_number, InRange, target_in, target_ahead, Brought, least, AreLeast, Exact, exact_now, exact_behind_label, exact_behind_action, exact_behind_block, least_behind_label, jumps_out, flows_from, first_labels, none_arrived, mapped_length}
+use Rattle.il_check.proofs.GivenLemmas.{AreNamed, IsFound, found, named-from, operation-typed, operation-goes-on, left-same, transfer-typed, nothing-left}
+use Rattle.il_check.proofs.FaultlessLemmas.{both-none, not-false, or-true, no-zero, right-from, entry-reached, entry-from}
+use Rattle.il_check.proofs.LabellingLemmas.{same-number, InRange, target-in, target-ahead, Brought, least, AreLeast, Exact, exact-now, exact-behind-label, exact-behind-action, exact-behind-block, least-behind-label, jumps-out, flows-from, first-labels, none-arrived, mapped-length}
 use Rattle.il_check.proofs.NotedLemmas.{least_fault-none}
 
 -- ---- within a parenthesis
 
 -- an entry that is right where the result is not set is right on any result, and leaves the same
-entry_on_any : (c : Checked) (e : Entry) (t w : Option ElementaryType) → IsEntry c e None w
+entry-on-any : (c : Checked) (e : Entry) (t w : Option ElementaryType) → IsEntry c e None w
     → IsEntry c e t w
-entry_on_any c (operation (op.Load negated x)) t w h = h
-entry_on_any c (operation (op.Store how s)) t w h = absurd (let e = h.4 in cc)
-entry_on_any c (operation (op.Combine operator kind negated x)) t w h = absurd (let e = h.3 in cc)
-entry_on_any c (operation op.Not) t w h = absurd (let e = h.0 in cc)
-entry_on_any c (operation (op.Convert conversion)) t w h = absurd (let e = h.0 in cc)
-entry_on_any c (block operator kind negated es) t w h = absurd (let e = h.3 in cc)
+entry-on-any c (operation (op.Load negated x)) t w h = h
+entry-on-any c (operation (op.Store how s)) t w h = absurd (let e = h.4 in cc)
+entry-on-any c (operation (op.Combine operator kind negated x)) t w h = absurd (let e = h.3 in cc)
+entry-on-any c (operation op.Not) t w h = absurd (let e = h.0 in cc)
+entry-on-any c (operation (op.Convert conversion)) t w h = absurd (let e = h.0 in cc)
+entry-on-any c (block operator kind negated es) t w h = absurd (let e = h.3 in cc)
 
-entries_on_any : (c : Checked) (es : Entries) (t : Option ElementaryType) (k : ElementaryType)
+entries-on-any : (c : Checked) (es : Entries) (t : Option ElementaryType) (k : ElementaryType)
     → AreEntries c es None (Some k) → AreEntries c es t (Some k)
-entries_on_any c no_entries t k h = absurd (cc)
-entries_on_any c (entry e es) t k h = (h.0, entry_on_any c e t h.0 h.1, h.2)
+entries-on-any c no_entries t k h = absurd (cc)
+entries-on-any c (entry e es) t k h = (h.0, entry-on-any c e t h.0 h.1, h.2)
 
 -- what is left of one instruction, before what is left of others
-action_case : (c : Checked) (passed : ℕ) (r : Resolved) (t : Option ElementaryType)
+action-case : (c : Checked) (passed : ℕ) (r : Resolved) (t : Option ElementaryType)
     (k : ElementaryType) (rest : Entries) (o : Option SimpleOperation) → IsFound c r
     → IsRight passed r t
     → AreEntries c rest (type_after r t) (Some k) → operation_in r t ≡ o
     → AreEntries c (entry_before (option_map operation o) rest) t (Some k)
-action_case c passed r t k rest (Some o) is ok more e =
-    (type_after r t, operation_typed c passed r t o is ok e, more)
-action_case c passed r t k rest None is ok more e = elim (left_same c passed r t is ok e) [
+action-case c passed r t k rest (Some o) is ok more e =
+    (type_after r t, operation-typed c passed r t o is ok e, more)
+action-case c passed r t k rest None is ok more e = elim (left-same c passed r t is ok e) [
   | inl same ↦ subst (λ (u : Option ElementaryType). AreEntries c rest u (Some k)) same more
-  | inr unset ↦ entries_on_any c rest t k
+  | inr unset ↦ entries-on-any c rest t k
       (subst (λ (u : Option ElementaryType). AreEntries c rest u (Some k)) unset more)
 ]
 
@@ -70,20 +70,20 @@ record IsBlock (c : Checked) (o : Option Entry) (t u : Option ElementaryType) : 
   is : o ≡ Some what
   right : IsEntry c what t u
 
-block_typed : (c : Checked) (operator : Operator) (negated : Bool) (inner t : Option ElementaryType)
+block-typed : (c : Checked) (operator : Operator) (negated : Bool) (inner t : Option ElementaryType)
     (es : Entries) → IsCombined operator negated inner t
     → ((k : ElementaryType) → inner ≡ Some k → AreEntries c es None (Some k))
     → IsBlock c (block_in operator negated es t) t (option_map (gives operator) t)
-block_typed c operator negated None t es ok are = absurd (let e = ok.set in cc)
-block_typed c operator negated (Some k) None es ok are = absurd (let e = ok.set in cc)
-block_typed c operator negated (Some k) (Some kind) es ok are =
+block-typed c operator negated None t es ok are = absurd (let e = ok.set in cc)
+block-typed c operator negated (Some k) None es ok are = absurd (let e = ok.set in cc)
+block-typed c operator negated (Some k) (Some kind) es ok are =
     let both =
-    and_parts (works operator negated kind) (same_type k kind) (not_false _ ok.allowed) in
+    and_parts (works operator negated kind) (same_type k kind) (not-false _ ok.allowed) in
     record {
       what = block operator kind negated es;
       is = refl;
       right = (
-        subst (λ (x : ElementaryType). AreEntries c es None (Some x)) (same_is k kind both.1)
+        subst (λ (x : ElementaryType). AreEntries c es None (Some x)) (same-is k kind both.1)
             (are k refl),
         both.0,
         ok.nonzero,
@@ -92,51 +92,51 @@ block_typed c operator negated (Some k) (Some kind) es ok are =
       );
     }
 
-with_room : {A : Type 0} (room : ℕ) (x y : A) → 0 < room → y ≡ cond (room == 0) x y
-with_room zero x y some = absurd (omega arith)
-with_room (suc room) x y some = sym (ap (λ (b : Bool). cond b x y) (no_zero room))
+with-room : {A : Type 0} (room : ℕ) (x y : A) → 0 < room → y ≡ cond (room == 0) x y
+with-room zero x y some = absurd (omega arith)
+with-room (suc room) x y some = sym (ap (λ (b : Bool). cond b x y) (no-zero room))
 
 module _ (c : Checked) (names : Names) (meant : AreNamed c names) where
-  entries_typed : (room passed : ℕ) (es : text.Entries) (t : Option ElementaryType)
+  entries-typed : (room passed : ℕ) (es : text.Entries) (t : Option ElementaryType)
       (k : ElementaryType) → AreRightEntries names room passed es t
       → type_behind_all names es t ≡ Some k
       → AreEntries c (entries_left names room es t) t (Some k)
-  entries_typed room passed text.no_entries t k ok e = sym e
-  entries_typed room passed (text.entry (text.label line name) es) t k ok e =
-      entries_typed room passed es t k ok.1 e
-  entries_typed room passed (text.entry (text.action line a) es) t k ok e =
-      action_case c passed (resolved names a) t k
-      (entries_left names room es (type_after (resolved names a) t))
-      (operation_in (resolved names a) t) (found c names meant a) ok.0
-      (entries_typed room passed es (type_after (resolved names a) t) k ok.1 e) refl
-  entries_typed room passed (text.entry (text.block line operator negated items end) es) t k ok e =
+  entries-typed room passed text.no_entries t k ok e = sym e
+  entries-typed room passed (text.entry (text.label line name) es) t k ok e =
+      entries-typed room passed es t k ok.1 e
+  entries-typed room passed (text.entry (text.action line a) es) t k ok e =
+      action-case c passed (resolution_of names a) t k
+      (entries_left names room es (type_after (resolution_of names a) t))
+      (operation_in (resolution_of names a) t) (found c names meant a) ok.0
+      (entries-typed room passed es (type_after (resolution_of names a) t) k ok.1 e) refl
+  entries-typed room passed (text.entry (text.block line operator negated items end) es) t k ok e =
       let u = option_map (gives operator) t in
       let inner =
-      λ (x : ElementaryType) (is : type_behind_all names items None ≡ Some x). entries_typed
+      λ (x : ElementaryType) (is : type_behind_all names items None ≡ Some x). entries-typed
       (room - 1) passed items None x ok.0.1 is in
-      let b = block_typed c operator negated (type_behind_all names items None) t
+      let b = block-typed c operator negated (type_behind_all names items None) t
       (entries_left names (room - 1) items None) ok.0.2 inner in
       let left : IsBlock c (entry_left names room (text.block line operator negated items end) t) t
       u =
       subst (λ (x : Entries). IsBlock c (block_in operator negated x t) t u)
-      (with_room room no_entries (entries_left names (room - 1) items None) ok.0.0) b in
+      (with-room room no_entries (entries_left names (room - 1) items None) ok.0.0) b in
       subst (λ (o : Option Entry). AreEntries c (entry_before o (entries_left names room es u)) t
-      (Some k)) (sym left.is) (u, left.right, entries_typed room passed es u k ok.1 e)
+      (Some k)) (sym left.is) (u, left.right, entries-typed room passed es u k ok.1 e)
 
-  block_left : (room passed line : ℕ) (operator : Operator) (negated : Bool) (items : text.Entries)
+  block-left : (room passed line : ℕ) (operator : Operator) (negated : Bool) (items : text.Entries)
       (end : ℕ) (t : Option ElementaryType)
       → IsRightEntry names room passed (text.block line operator negated items end) t
       → IsBlock c (entry_left names room (text.block line operator negated items end) t) t
       (option_map (gives operator) t)
-  block_left room passed line operator negated items end t ok =
+  block-left room passed line operator negated items end t ok =
       let inner =
-      λ (x : ElementaryType) (is : type_behind_all names items None ≡ Some x). entries_typed
+      λ (x : ElementaryType) (is : type_behind_all names items None ≡ Some x). entries-typed
       (room - 1) passed items None x ok.1 is in
-      let b = block_typed c operator negated (type_behind_all names items None) t
+      let b = block-typed c operator negated (type_behind_all names items None) t
       (entries_left names (room - 1) items None) ok.2 inner in
       subst (λ (x : Entries). IsBlock c (block_in operator negated x t) t
       (option_map (gives operator) t))
-      (with_room room no_entries (entries_left names (room - 1) items None) ok.0) b
+      (with-room room no_entries (entries_left names (room - 1) items None) ok.0) b
 
 -- ---- how deep parentheses are
 
@@ -144,196 +144,196 @@ abbrev option_depth : Option Entry → ℕ
 option_depth None = 0
 option_depth (Some e) = entry_depth e
 
-not_deeper : (a b n : ℕ) → a ≤ n → b ≤ n → max a b ≤ n
-not_deeper a b n h k = omega arith
+not-deeper : (a b n : ℕ) → a ≤ n → b ≤ n → max a b ≤ n
+not-deeper a b n h k = omega arith
 
-before_depth : (o : Option Entry) (es : Entries) (room : ℕ) → option_depth o ≤ room
+before-depth : (o : Option Entry) (es : Entries) (room : ℕ) → option_depth o ≤ room
     → entries_depth es ≤ room → entries_depth (entry_before o es) ≤ room
-before_depth None es room h k = k
-before_depth (Some e) es room h k = not_deeper (entry_depth e) (entries_depth es) room h k
+before-depth None es room h k = k
+before-depth (Some e) es room h k = not-deeper (entry_depth e) (entries_depth es) room h k
 
-operation_depth : (o : Option SimpleOperation) (room : ℕ)
+operation-depth : (o : Option SimpleOperation) (room : ℕ)
     → option_depth (option_map operation o) ≤ room
-operation_depth None room = omega arith
-operation_depth (Some o) room = omega arith
+operation-depth None room = omega arith
+operation-depth (Some o) room = omega arith
 
-block_depth : (operator : Operator) (negated : Bool) (es : Entries) (t : Option ElementaryType)
+block-depth : (operator : Operator) (negated : Bool) (es : Entries) (t : Option ElementaryType)
     (room : ℕ) → 0 < room → entries_depth es ≤ room - 1
     → option_depth (block_in operator negated es t) ≤ room
-block_depth operator negated es None room some h = omega arith
-block_depth operator negated es (Some kind) room some h = omega arith
+block-depth operator negated es None room some h = omega arith
+block-depth operator negated es (Some kind) room some h = omega arith
 
 mutual
-  entry_within : (names : Names) (room passed : ℕ) (e : text.Entry) (t : Option ElementaryType)
+  entry-within : (names : Names) (room passed : ℕ) (e : text.Entry) (t : Option ElementaryType)
       → IsRightEntry names room passed e t → option_depth (entry_left names room e t) ≤ room
-  entry_within names room passed (text.label line name) t ok = omega arith
-  entry_within names room passed (text.action line a) t ok =
-      operation_depth (operation_in (resolved names a) t) room
-  entry_within names room passed (text.block line operator negated items end) t ok =
-      block_depth operator negated _ t room ok.0
+  entry-within names room passed (text.label line name) t ok = omega arith
+  entry-within names room passed (text.action line a) t ok =
+      operation-depth (operation_in (resolution_of names a) t) room
+  entry-within names room passed (text.block line operator negated items end) t ok =
+      block-depth operator negated _ t room ok.0
       (subst (λ (es : Entries). entries_depth es ≤ room - 1)
-      (with_room room no_entries (entries_left names (room - 1) items None) ok.0)
-      (entries_within names (room - 1) passed items None ok.1))
+      (with-room room no_entries (entries_left names (room - 1) items None) ok.0)
+      (entries-within names (room - 1) passed items None ok.1))
 
-  entries_within : (names : Names) (room passed : ℕ) (es : text.Entries) (t : Option ElementaryType)
+  entries-within : (names : Names) (room passed : ℕ) (es : text.Entries) (t : Option ElementaryType)
       → AreRightEntries names room passed es t → entries_depth (entries_left names room es t) ≤ room
-  entries_within names room passed text.no_entries t ok = omega arith
-  entries_within names room passed (text.entry e es) t ok =
-      before_depth (entry_left names room e t) (entries_left names room es (type_behind names e t))
-      room (entry_within names room passed e t ok.0)
-      (entries_within names room passed es (type_behind names e t) ok.1)
+  entries-within names room passed text.no_entries t ok = omega arith
+  entries-within names room passed (text.entry e es) t ok =
+      before-depth (entry_left names room e t) (entries_left names room es (type_behind names e t))
+      room (entry-within names room passed e t ok.0)
+      (entries-within names room passed es (type_behind names e t) ok.1)
 
 -- ---- labels that stand below
 
-labels_more : (o : Option Item) (is : List Item) (n : ℕ) → has_label is n ≡ true
+labels-more : (o : Option Item) (is : List Item) (n : ℕ) → has_label is n ≡ true
     → has_label (cons_option o is) n ≡ true
-labels_more None is n h = h
-labels_more (Some (label m)) is n h = ap (λ (b : Bool). (m == n) || b) h ∙ or_true (m == n)
-labels_more (Some (transfer x)) is n h = h
-labels_more (Some (plain e)) is n h = h
+labels-more None is n h = h
+labels-more (Some (label m)) is n h = ap (λ (b : Bool). (m == n) || b) h ∙ or-true (m == n)
+labels-more (Some (transfer x)) is n h = h
+labels-more (Some (plain e)) is n h = h
 
 after : (n m : ℕ) → n ≤ m → (m ≡ n → ⊥) → n + 1 ≤ m
 after n m le ne = omega (arith, ne)
 
-labels_below : (names : Names) (es : List text.Entry) (s : Standing) (n : ℕ) → s.passed ≤ n
+labels-below : (names : Names) (es : List text.Entry) (s : Progress) (n : ℕ) → s.passed ≤ n
     → n < s.passed + length (labels_from s.passed es) → has_label (items_left names es s) n ≡ true
-labels_below names [] s n le lt = absurd (omega arith)
-labels_below names (text.label line name ∷ es) s n le lt = elim (cases_eq n s.passed) [
+labels-below names [] s n le lt = absurd (omega arith)
+labels-below names (text.label line name ∷ es) s n le lt = elim (cases_eq n s.passed) [
   | inl e ↦ ap (λ (b : Bool). b
       || has_label (items_left names es (behind names (text.label line name) s)) n)
-      (same_number s.passed n (sym e))
-  | inr ne ↦ labels_more (Some (label s.passed))
+      (same-number s.passed n (sym e))
+  | inr ne ↦ labels-more (Some (label s.passed))
       (items_left names es (behind names (text.label line name) s)) n
-      (labels_below names es (behind names (text.label line name) s) n (after s.passed n le ne)
+      (labels-below names es (behind names (text.label line name) s) n (after s.passed n le ne)
       (omega arith))
 ]
-labels_below names (text.action line a ∷ es) s n le lt =
-    labels_more (item_left names (text.action line a) s)
-    (items_left names es (moved (resolved names a) s)) n
-    (labels_below names es (moved (resolved names a) s) n le lt)
-labels_below names (text.block line operator negated items end ∷ es) s n le lt =
-    labels_more (item_left names (text.block line operator negated items end) s)
+labels-below names (text.action line a ∷ es) s n le lt =
+    labels-more (item_left names (text.action line a) s)
+    (items_left names es (standing_after (resolution_of names a) s)) n
+    (labels-below names es (standing_after (resolution_of names a) s) n le lt)
+labels-below names (text.block line operator negated items end ∷ es) s n le lt =
+    labels-more (item_left names (text.block line operator negated items end) s)
     (items_left names es (behind names (text.block line operator negated items end) s)) n
-    (labels_below names es (behind names (text.block line operator negated items end) s) n le
+    (labels-below names es (behind names (text.block line operator negated items end) s) n le
     lt)
 
 -- ---- the items
 
 -- what is left of an instruction, before what is left below
-item_case : (c : Checked) (labels : Labelling) (passed : ℕ) (named : List ℕ) (now : Coming)
+item-case : (c : Checked) (labels : Labelling) (passed : ℕ) (named : List ℕ) (now : Coming)
     (r : Resolved) (t : Option ElementaryType) (is : List Item) (x : Option Transfer)
     (o : Option SimpleOperation)
     → IsFound c r → IsRight passed r t → now ≡ Some t → Jumps labels (rules.target_of r) t
     → ((n : ℕ) → rules.target_of r ≡ Some n → has_label is n ≡ true)
     → transfer_in r ≡ x → operation_in r t ≡ o
-    → AreItems c labels is (carried passed (with_target (rules.target_of r) named)
+    → AreItems c labels is (carry_of passed (with_target (rules.target_of r) named)
     (coming_behind_action r t))
     → AreItems c labels (cons_option (or_entry x (option_map operation o)) is)
-    (carried passed named now)
-item_case c labels passed named now r t is (Some x) o known ok at jumps there goes leaves more =
-    let m = transfer_typed c is passed r t x known ok there goes in (
+    (carry_of passed named now)
+item-case c labels passed named now r t is (Some x) o known ok at jumps there goes leaves more =
+    let m = transfer-typed c is passed r t x known ok there goes in (
       t,
       (at, m.right, subst (λ (n : Option ℕ). Jumps labels n t) (sym m.target) jumps),
       subst (λ (n : Option ℕ). AreItems c labels is
-          (carried passed (with_target n named) (coming_behind_transfer x t))) (sym m.target)
+          (carry_of passed (with_target n named) (coming_behind_transfer x t))) (sym m.target)
           (subst (λ (w : Coming). AreItems c labels is
-          (carried passed (with_target (rules.target_of r) named) w)) (sym m.goes) more),
+          (carry_of passed (with_target (rules.target_of r) named) w)) (sym m.goes) more),
     )
-item_case c labels passed named now r t is None (Some o) known ok at jumps there goes leaves more =
-    let on = operation_goes_on r t o leaves in (
+item-case c labels passed named now r t is None (Some o) known ok at jumps there goes leaves more =
+    let on = operation-goes-on r t o leaves in (
       t,
       type_after r t,
-      (at, operation_typed c passed r t o known ok leaves, omega arith),
+      (at, operation-typed c passed r t o known ok leaves, omega arith),
       subst (λ (n : Option ℕ). AreItems c labels is
-          (carried passed (with_target n named) (Some (type_after r t)))) on.0
+          (carry_of passed (with_target n named) (Some (type_after r t)))) on.0
           (subst (λ (b : Bool). AreItems c labels is
-          (carried passed (with_target (rules.target_of r) named)
+          (carry_of passed (with_target (rules.target_of r) named)
           (cond b (Some (type_after r t)) None))) on.1 more),
     )
-item_case c labels passed named now r t is None None known ok at jumps there goes leaves more =
-    let on = nothing_left c passed r t known ok goes leaves in
-    subst (λ (w : Coming). AreItems c labels is (carried passed named w)) (on.1 ∙ sym at)
+item-case c labels passed named now r t is None None known ok at jumps there goes leaves more =
+    let on = nothing-left c passed r t known ok goes leaves in
+    subst (λ (w : Coming). AreItems c labels is (carry_of passed named w)) (on.1 ∙ sym at)
     (subst (λ (n : Option ℕ). AreItems c labels is
-    (carried passed (with_target n named) (coming_behind_action r t))) on.0 more)
+    (carry_of passed (with_target n named) (coming_behind_action r t))) on.0 more)
 
-block_case : (c : Checked) (labels : Labelling) (passed : ℕ) (named : List ℕ) (now : Coming)
+block-case : (c : Checked) (labels : Labelling) (passed : ℕ) (named : List ℕ) (now : Coming)
     (t u : Option ElementaryType) (is : List Item) (o : Option Entry)
     → now ≡ Some t → option_depth o ≤ 16 → IsBlock c o t u
-    → AreItems c labels is (carried passed named (Some u))
-    → AreItems c labels (cons_option (option_map plain o) is) (carried passed named now)
-block_case c labels passed named now t u is o at depth b more =
+    → AreItems c labels is (carry_of passed named (Some u))
+    → AreItems c labels (cons_option (option_map plain o) is) (carry_of passed named now)
+block-case c labels passed named now t u is o at depth b more =
     let deep : entry_depth b.what ≤ 16 =
     subst (λ (x : Option Entry). option_depth x ≤ 16) b.is depth in
     subst (λ (x : Option Entry). AreItems c labels (cons_option (option_map plain x) is)
-    (carried passed named now)) (sym b.is) (t, u, (at, b.right, deep), more)
+    (carry_of passed named now)) (sym b.is) (t, u, (at, b.right, deep), more)
 
 module _ (c : Checked) (names : Names) (meant : AreNamed c names) (labels : Labelling) (count : ℕ)
     (range : InRange names count) where
-  items_typed : (es : List text.Entry) (s : Standing) (named : List ℕ) (now : Coming)
+  items-typed : (es : List text.Entry) (s : Progress) (named : List ℕ) (now : Coming)
       → AreLeast labels names es s → items_faults names es s ≡ [] → Exact count named s now
       → s.passed + length (labels_from s.passed es) ≡ count
-      → AreItems c labels (items_left names es s) (carried s.passed named now)
-  items_typed [] s named now same none x size = tt
-  items_typed (text.label line name ∷ es) s named now same none x size =
-      let f = flows_from names labels count range (text.label line name ∷ es) s named now same none
+      → AreItems c labels (items_left names es s) (carry_of s.passed named now)
+  items-typed [] s named now same none x size = tt
+  items-typed (text.label line name ∷ es) s named now same none x size =
+      let f = flows-from names labels count range (text.label line name ∷ es) s named now same none
       x in
-      let later = (both_none _ _ none).1 in (
+      let later = (both-none _ _ none).1 in (
         (refl, f.0.1, f.0.2),
-        items_typed es (behind names (text.label line name) s) named
-            (coming_behind_label labels (carried s.passed named now))
-            (least_behind_label names labels line name es s same) later
-            (exact_behind_label names labels count line name es s named now same x) (omega arith),
+        items-typed es (behind names (text.label line name) s) named
+            (coming_behind_label labels (carry_of s.passed named now))
+            (least-behind-label names labels line name es s same) later
+            (exact-behind-label names labels count line name es s named now same x) (omega arith),
       )
-  items_typed (text.action line a ∷ es) s named now same none x size =
-      let r = resolved names a in
-      let h = both_none _ _ none in
-      let right = right_from s.now.is_reached s.passed line r s.now.kind h.0 in
-      let within = λ (n : ℕ) (e : rules.target_of r ≡ Some n). target_in names count a n range e in
+  items-typed (text.action line a ∷ es) s named now same none x size =
+      let r = resolution_of names a in
+      let h = both-none _ _ none in
+      let right = right-from s.now.is_reached s.passed line r s.now.kind h.0 in
+      let within = λ (n : ℕ) (e : rules.target_of r ≡ Some n). target-in names count a n range e in
       let below = λ (n : ℕ) (e : rules.target_of r ≡ Some n).
-      labels_below names es (moved r s) n (target_ahead s.passed r n e right.1.forward)
+      labels-below names es (standing_after r s) n (target-ahead s.passed r n e right.1.forward)
       (let k : n < count = within n e in omega arith) in
       let jumps =
-      jumps_out labels names es count r s named (rules.target_of r) refl right.0 right.1 within
+      jumps-out labels names es count r s named (rules.target_of r) refl right.0 right.1 within
       x.brought same in
-      item_case c labels s.passed named now r s.now.kind (items_left names es (moved r s))
+      item-case c labels s.passed named now r s.now.kind (items_left names es (standing_after r s))
       (transfer_in r) (operation_in r s.now.kind) (found c names meant a) right.1
-      (exact_now count named s now x right.0) jumps below refl refl
-      (items_typed es (moved r s) (with_target (rules.target_of r) named)
+      (exact-now count named s now x right.0) jumps below refl refl
+      (items-typed es (standing_after r s) (with_target (rules.target_of r) named)
       (coming_behind_action r s.now.kind) same h.1
-      (exact_behind_action names count range a s named now right.0 x) size)
-  items_typed (text.block line operator negated items end ∷ es) s named now same none x size =
+      (exact-behind-action names count range a s named now right.0 x) size)
+  items-typed (text.block line operator negated items end ∷ es) s named now same none x size =
       let b = text.block line operator negated items end in
-      let h = both_none _ _ none in
+      let h = both-none _ _ none in
       let reached =
-      entry_reached names 16 s.now.is_reached s.passed line operator negated items end
+      entry-reached names 16 s.now.is_reached s.passed line operator negated items end
       s.now.kind h.0 in
-      let right = entry_from names 16 s.now.is_reached s.passed b s.now.kind h.0 in
-      block_case c labels s.passed named now s.now.kind (option_map (gives operator) s.now.kind)
+      let right = entry-from names 16 s.now.is_reached s.passed b s.now.kind h.0 in
+      block-case c labels s.passed named now s.now.kind (option_map (gives operator) s.now.kind)
       (items_left names es (behind names b s)) (entry_left names 16 b s.now.kind)
-      (exact_now count named s now x reached)
-      (entry_within names 16 s.passed b s.now.kind right)
-      (block_left c names meant 16 s.passed line operator negated items end s.now.kind right)
-      (items_typed es (behind names b s) named (Some (option_map (gives operator) s.now.kind)) same
-      h.1 (exact_behind_block names count line operator negated items end s named now reached x)
+      (exact-now count named s now x reached)
+      (entry-within names 16 s.passed b s.now.kind right)
+      (block-left c names meant 16 s.passed line operator negated items end s.now.kind right)
+      (items-typed es (behind names b s) named (Some (option_map (gives operator) s.now.kind)) same
+      h.1 (exact-behind-block names count line operator negated items end s named now reached x)
       size)
 
 -- ---- a program
 
-program_typed : (points : List Point) (program : text.PlainProgram) → faults_of points program ≡ []
+program-typed : (points : List Point) (program : text.PlainProgram) → faults_of points program ≡ []
     → IsTyped (checked_program points program)
-program_typed points program none =
+program-typed points program none =
     let c = checked_program points program in
     let names = names_in points program in
     let parts =
-    both_none (declarations_faults points [] program.declarations)
+    both-none (declarations_faults points [] program.declarations)
     (items_faults names program.items (initial_standing program)) none in
     let are = declares points program.declarations parts.0 in
     let count = length (labels_from 0 program.items) in
     let labels = least names program.items (initial_standing program) in
     let brought : Brought [] (initial_standing program).arrivals count =
     record {
-      arrived = none_arrived (labels_from 0 program.items);
-      size = mapped_length (labels_from 0 program.items);
+      arrived = none-arrived (labels_from 0 program.items);
+      size = mapped-length (labels_from 0 program.items);
     } in
     record {
       slots = are.slots;
@@ -342,21 +342,22 @@ program_typed points program none =
       initial = are.initial;
       labels = labels;
       items =
-          items_typed c names (λ name m e. named_from c m (are.meant (upper name) m e)) labels count
-          (λ name n e. first_labels program.items (upper name) n e)
+          items-typed c names (λ name m e. named-from c m (are.meant (upper name) m e)) labels count
+          (λ name n e. first-labels program.items (upper name) n e)
           program.items (initial_standing program) [] (Some None) (λ n le. refl) parts.1
           (record { is = refl; brought = brought }) (omega arith);
     }
 
-judged_ok : (o : Option CheckFault) (c d : Checked) → judged o c ≡ Ok d → (o ≡ None) × (c ≡ d)
-judged_ok None c d e = (refl, cc)
-judged_ok (Some f) c d e = absurd (cc)
+judged-ok : (o : Option CheckFault) (c d : Checked) → unless_refused o c ≡ Ok d
+    → (o ≡ None) × (c ≡ d)
+judged-ok None c d e = (refl, cc)
+judged-ok (Some f) c d e = absurd (cc)
 
 -- what the checks leave is well typed
-pub typed_of : (points : List Point) (program : text.PlainProgram) (c : Checked)
+pub typed-of : (points : List Point) (program : text.PlainProgram) (c : Checked)
     → checked_of points program ≡ Ok c → IsTyped c
-typed_of points program c e =
-    let h = judged_ok (least_fault (faults_of points program)) (checked_program points program) c e
+typed-of points program c e =
+    let h = judged-ok (least_fault (faults_of points program)) (checked_program points program) c e
     in
-    subst IsTyped h.1 (program_typed points program
+    subst IsTyped h.1 (program-typed points program
     (least_fault-none (faults_of points program) h.0))

@@ -9,21 +9,21 @@ use Rattle.il_check.specs.declared.typed.SimpleOperation as code
 use Rattle.il_check.specs.declared.typed.TypedEntry.{TypedEntry, Operation, Block, the_lemmas}
 use Rattle.il_check.specs.declared.typed.TypedItem.{TypedItem}
 
-pub view_operation : (o : code.SimpleOperation) → entry_view (Operation o) ≡ plain.operation o
-view_operation o = search (rules, the_lemmas)
+pub view-operation : (o : code.SimpleOperation) → entry_view (Operation o) ≡ plain.operation o
+view-operation o = search (rules, the_lemmas)
 
-pub view_block : (operator : Operator) (kind : ElementaryType) (negated : Bool)
+pub view-block : (operator : Operator) (kind : ElementaryType) (negated : Bool)
     (entries : Vec TypedEntry Global)
     → entry_view (Block operator kind negated entries)
     ≡ plain.block operator kind negated (plain.entries_of (map entry_view entries.items))
-view_block operator kind negated entries = search (rules, the_lemmas)
+view-block operator kind negated entries = search (rules, the_lemmas)
 
-pub entries_more : (es : List TypedEntry) (e : TypedEntry)
+pub entries-more : (es : List TypedEntry) (e : TypedEntry)
     → map entry_view (es ++ e ∷ []) ≡ map entry_view es ++ entry_view e ∷ []
-entries_more es e = map-append entry_view es (e ∷ [])
+entries-more es e = map-append entry_view es (e ∷ [])
 
-pub items_more : (is : List TypedItem) (i : TypedItem)
+pub items-more : (is : List TypedItem) (i : TypedItem)
     → map item_view (is ++ i ∷ []) ≡ map item_view is ++ item_view i ∷ []
-items_more is i = map-append item_view is (i ∷ [])
+items-more is i = map-append item_view is (i ∷ [])
 
-pub ruleset view_rules = (view_operation, view_block, entries_more, items_more)
+pub ruleset view_rules = (view-operation, view-block, entries-more, items-more)

@@ -8,13 +8,13 @@ use Rattle.bay_base.specs.declared.types.ElementaryType.{ElementaryType}
 use Rattle.il_text.specs.Listing as text
 use Rattle.il_text.specs.Views.{entry_of}
 use Rattle.il_text.specs.declared.program.Item.{Item}
-use Rattle.il_text.proofs.ListingLemmas.{front_item}
-use Rattle.il_check.specs.Faults.{noted}
+use Rattle.il_text.proofs.ListingLemmas.{front-item}
+use Rattle.il_check.specs.Faults.{first_fault_of}
 use Rattle.il_check.specs.Given.{Names}
 use Rattle.il_check.specs.Program as plain
 use Rattle.il_check.specs.ProgramViews.{entry_view, item_view}
 use Rattle.il_check.specs.WalkView.{standing_of}
-use Rattle.il_check.specs.WellTyped.{Standing, type_behind, type_behind_all, entry_faults, entries_faults, entry_left, entries_left, behind, item_faults, items_faults, item_left, items_left}
+use Rattle.il_check.specs.WellTyped.{Progress, type_behind, type_behind_all, entry_faults, entries_faults, entry_left, entries_left, behind, item_faults, items_faults, item_left, items_left}
 use Rattle.il_check.specs.declared.walk.Walk.{Walk}
 use Rattle.il_check.specs.declared.walk.Passed.{Passed}
 use Rattle.il_check.specs.declared.typed.TypedEntry.{TypedEntry}
@@ -22,29 +22,31 @@ use Rattle.il_check.specs.declared.fault.CheckFault.{CheckFault}
 use Rattle.il_check.specs.declared.fault.CheckFault.TheVariants.{TooMany}
 use Rattle.il_check.proofs.NotedLemmas.{noted-append, noted-nil, noted-none}
 
-pub nothing_left : {X : Type 0} → (xs : List X) (i : ℕ) → length xs ≤ i → drop i xs ≡ []
-nothing_left xs i h = grind (arith, common_steps)
+pub nothing-left : {X : Type 0} → (xs : List X) (i : ℕ) → length xs ≤ i → drop i xs ≡ []
+nothing-left xs i h = grind (arith, common_steps)
 
-no_room : (room : ℕ) → room ≡ 0 → (room == 0) ≡ true
-no_room room e = grind (arith, nat_tests)
+no-room : (room : ℕ) → room ≡ 0 → (room == 0) ≡ true
+no-room room e = grind (arith, nat_tests)
 
-some_room : (room : ℕ) → (room ≡ 0 → ⊥) → (room == 0) ≡ false
-some_room room ne = grind (arith, nat_tests)
+some-room : (room : ℕ) → (room ≡ 0 → ⊥) → (room == 0) ≡ false
+some-room room ne = grind (arith, nat_tests)
 
 -- the faults of a parenthesis that is too deep, and of one that is not
-pub deep_found : (a b d : Option CheckFault) (room line : ℕ) (xs ys : List CheckFault) → room ≡ 0
-    → b ≡ noted a xs → d ≡ noted b (TooMany line ∷ [])
-    → d ≡ noted a (xs ++ cond (room == 0) (TooMany line ∷ []) ys)
-deep_found a b d room line xs ys none e f =
-    f ∙ ap (λ (o : Option CheckFault). noted o (TooMany line ∷ [])) e
+pub deep-found : (a b d : Option CheckFault) (room line : ℕ) (xs ys : List CheckFault) → room ≡ 0
+    → b ≡ first_fault_of a xs → d ≡ first_fault_of b (TooMany line ∷ [])
+    → d ≡ first_fault_of a (xs ++ cond (room == 0) (TooMany line ∷ []) ys)
+deep-found a b d room line xs ys none e f =
+    f ∙ ap (λ (o : Option CheckFault). first_fault_of o (TooMany line ∷ [])) e
     ∙ sym (noted-append a xs (TooMany line ∷ []))
-    ∙ ap (λ (t : Bool). noted a (xs ++ cond t (TooMany line ∷ []) ys)) (sym (no_room room none))
+    ∙ ap (λ (t : Bool). first_fault_of a (xs ++ cond t (TooMany line ∷ []) ys))
+    (sym (no-room room none))
 
-pub looked_found : (a d : Option CheckFault) (room line : ℕ) (xs ys : List CheckFault)
-    → (room ≡ 0 → ⊥) → d ≡ noted a (xs ++ ys)
-    → d ≡ noted a (xs ++ cond (room == 0) (TooMany line ∷ []) ys)
-looked_found a d room line xs ys some e =
-    e ∙ ap (λ (t : Bool). noted a (xs ++ cond t (TooMany line ∷ []) ys)) (sym (some_room room some))
+pub looked-found : (a d : Option CheckFault) (room line : ℕ) (xs ys : List CheckFault)
+    → (room ≡ 0 → ⊥) → d ≡ first_fault_of a (xs ++ ys)
+    → d ≡ first_fault_of a (xs ++ cond (room == 0) (TooMany line ∷ []) ys)
+looked-found a d room line xs ys some e =
+    e ∙ ap (λ (t : Bool). first_fault_of a (xs ++ cond t (TooMany line ∷ []) ys))
+    (sym (some-room room some))
 
 -- entries before others
 abbrev pub ahead : List plain.Entry → plain.Entries → plain.Entries
@@ -61,10 +63,10 @@ ahead-none : (xs : List plain.Entry) → ahead xs plain.no_entries ≡ plain.ent
 ahead-none [] = refl
 ahead-none (x ∷ xs) = ap (plain.entry x) (ahead-none xs)
 
-cons_after : {X : Type 0} → (xs : List X) (o : Option X) (rest : List X)
+cons-after : {X : Type 0} → (xs : List X) (o : Option X) (rest : List X)
     → (xs ++ option_to_list o) ++ rest ≡ xs ++ cons_option o rest
-cons_after xs None rest = ap (λ ys. ys ++ rest) (append-nil xs)
-cons_after xs (Some x) rest = append_assoc xs (x ∷ []) rest
+cons-after xs None rest = ap (λ ys. ys ++ rest) (append-nil xs)
+cons-after xs (Some x) rest = append_assoc xs (x ∷ []) rest
 
 rest_of : List Item → ℕ → text.Entries
 rest_of all i = text.entries_of (map entry_of (drop i all))
@@ -81,9 +83,9 @@ module _ (names : Names) (room : ℕ) (is_reached : Bool) (passed : ℕ) (all : 
     pub left : ahead (map entry_view p.entries.items)
         (entries_left names room (text.entries_of (map entry_of (drop i all))) p.kind)
         ≡ entries_left names room (text.entries_of (map entry_of all)) None
-    pub found : noted now (entries_faults names room is_reached passed
+    pub found : first_fault_of now (entries_faults names room is_reached passed
         (text.entries_of (map entry_of (drop i all))) p.kind)
-        ≡ noted begun (entries_faults names room is_reached passed
+        ≡ first_fault_of begun (entries_faults names room is_reached passed
         (text.entries_of (map entry_of all)) None)
 
   -- what an entry changes
@@ -91,7 +93,7 @@ module _ (names : Names) (room : ℕ) (is_reached : Bool) (passed : ℕ) (all : 
     pub kind : q.kind ≡ type_behind names e p.kind
     pub left : map entry_view q.entries.items
         ≡ map entry_view p.entries.items ++ option_to_list (entry_left names room e p.kind)
-    pub found : new ≡ noted old (entry_faults names room is_reached passed e p.kind)
+    pub found : new ≡ first_fault_of old (entry_faults names room is_reached passed e p.kind)
 
   pub entries-none : (p : Passed) → p.entries.items ≡ [] → p.kind ≡ None → EntriesSoFar 0 begun p
   entries-none p nothing unset = record {
@@ -100,7 +102,7 @@ module _ (names : Names) (room : ℕ) (is_reached : Bool) (passed : ℕ) (all : 
         ap (λ (es : List TypedEntry). ahead (map entry_view es)
         (entries_left names room (text.entries_of (map entry_of all)) p.kind)) nothing
         ∙ ap (entries_left names room (text.entries_of (map entry_of all))) unset;
-    found = ap (λ (k : Option ElementaryType). noted begun
+    found = ap (λ (k : Option ElementaryType). first_fault_of begun
         (entries_faults names room is_reached passed (text.entries_of (map entry_of all)) k)) unset;
   }
 
@@ -110,7 +112,7 @@ module _ (names : Names) (room : ℕ) (is_reached : Bool) (passed : ℕ) (all : 
   entries-more i x old new p q within is known taken =
       let after : text.Entries = text.entries_of (map entry_of (drop (i + 1) all)) in
       let left : text.entries_of (map entry_of (drop i all)) ≡ text.entry (entry_of x) after =
-      ap (λ (xs : List Item). text.entries_of (map entry_of xs)) (front_item all i x within is)
+      ap (λ (xs : List Item). text.entries_of (map entry_of xs)) (front-item all i x within is)
       in
       record {
         kind =
@@ -129,15 +131,15 @@ module _ (names : Names) (room : ℕ) (is_reached : Bool) (passed : ℕ) (all : 
             (entries_left names room es p.kind)) (sym left)
             ∙ known.left;
         found =
-            ap (λ (k : Option ElementaryType). noted new
+            ap (λ (k : Option ElementaryType). first_fault_of new
             (entries_faults names room is_reached passed after k)) taken.kind
-            ∙ ap (λ (o : Option CheckFault). noted o
+            ∙ ap (λ (o : Option CheckFault). first_fault_of o
             (entries_faults names room is_reached passed after
             (type_behind names (entry_of x) p.kind))) taken.found
             ∙ sym (noted-append old (entry_faults names room is_reached passed (entry_of x) p.kind)
             (entries_faults names room is_reached passed after
             (type_behind names (entry_of x) p.kind)))
-            ∙ ap (λ (es : text.Entries). noted old
+            ∙ ap (λ (es : text.Entries). first_fault_of old
             (entries_faults names room is_reached passed es p.kind)) (sym left)
             ∙ known.found;
       }
@@ -148,7 +150,7 @@ module _ (names : Names) (room : ℕ) (is_reached : Bool) (passed : ℕ) (all : 
       → p.kind ≡ type_behind_all names (text.entries_of (map entry_of all)) None
   entries-kind i found p within known =
       ap (λ (xs : List Item). type_behind_all names (text.entries_of (map entry_of xs)) p.kind)
-      (sym (nothing_left all i within)) ∙ known.kind
+      (sym (nothing-left all i within)) ∙ known.kind
 
   pub entries-left : (i : ℕ) (found : Option CheckFault) (p : Passed) → length all ≤ i
       → EntriesSoFar i found p
@@ -158,40 +160,40 @@ module _ (names : Names) (room : ℕ) (is_reached : Bool) (passed : ℕ) (all : 
       sym (ahead-none (map entry_view p.entries.items))
       ∙ ap (λ (xs : List Item). ahead (map entry_view p.entries.items)
       (entries_left names room (text.entries_of (map entry_of xs)) p.kind))
-      (sym (nothing_left all i within))
+      (sym (nothing-left all i within))
       ∙ known.left
 
   pub entries-found : (i : ℕ) (found : Option CheckFault) (p : Passed) → length all ≤ i
       → EntriesSoFar i found p
-      → found ≡ noted begun (entries_faults names room is_reached passed
+      → found ≡ first_fault_of begun (entries_faults names room is_reached passed
       (text.entries_of (map entry_of all)) None)
   entries-found i found p within known =
       sym (noted-nil found)
-      ∙ ap (λ (xs : List Item). noted found
+      ∙ ap (λ (xs : List Item). first_fault_of found
       (entries_faults names room is_reached passed (text.entries_of (map entry_of xs)) p.kind))
-      (sym (nothing_left all i within))
+      (sym (nothing-left all i within))
       ∙ known.found
 
-module _ (names : Names) (all : List Item) (begun : Option CheckFault) (start : Standing) where
+module _ (names : Names) (all : List Item) (begun : Option CheckFault) (start : Progress) where
   -- what is known after so many items; what is left of them is, as long as no fault is found
   pub record ItemsSoFar (i : ℕ) (now : Option CheckFault) (w : Walk) : Type 0 where
     pub left : now ≡ None → map item_view w.items.items
         ++ items_left names (map entry_of (drop i all)) (standing_of w)
         ≡ items_left names (map entry_of all) start
-    pub found : noted now (items_faults names (map entry_of (drop i all)) (standing_of w))
-        ≡ noted begun (items_faults names (map entry_of all) start)
+    pub found : first_fault_of now (items_faults names (map entry_of (drop i all)) (standing_of w))
+        ≡ first_fault_of begun (items_faults names (map entry_of all) start)
     pub few : w.passed ≤ i
 
   pub record ItemTaken (e : text.Entry) (old new : Option CheckFault) (v w : Walk) : Type 0 where
     pub standing : standing_of w ≡ behind names e (standing_of v)
     pub left : new ≡ None → map item_view w.items.items
         ≡ map item_view v.items.items ++ option_to_list (item_left names e (standing_of v))
-    pub found : new ≡ noted old (item_faults names e (standing_of v))
+    pub found : new ≡ first_fault_of old (item_faults names e (standing_of v))
 
-  few_more : (e : text.Entry) (s : Standing) → (behind names e s).passed ≤ s.passed + 1
-  few_more (text.label line name) s = omega arith
-  few_more (text.action line a) s = omega arith
-  few_more (text.block line operator negated items end) s = omega arith
+  few-more : (e : text.Entry) (s : Progress) → (behind names e s).passed ≤ s.passed + 1
+  few-more (text.label line name) s = omega arith
+  few-more (text.action line a) s = omega arith
+  few-more (text.block line operator negated items end) s = omega arith
 
   pub items-more : (i : ℕ) (x : Item) (old new : Option CheckFault) (v w : Walk) → i < length all
       → x ≡ get_or all i x
@@ -199,30 +201,32 @@ module _ (names : Names) (all : List Item) (begun : Option CheckFault) (start : 
   items-more i x old new v w within is known taken =
       let after : List text.Entry = map entry_of (drop (i + 1) all) in
       let left : map entry_of (drop i all) ≡ entry_of x ∷ after =
-      ap (map entry_of) (front_item all i x within is) in
-      let s : Standing = behind names (entry_of x) (standing_of v) in
+      ap (map entry_of) (front-item all i x within is) in
+      let s : Progress = behind names (entry_of x) (standing_of v) in
       record {
         left = λ (none : new ≡ None).
-            ap (λ (t : Standing). map item_view w.items.items ++ items_left names after t)
+            ap (λ (t : Progress). map item_view w.items.items ++ items_left names after t)
             taken.standing
             ∙ ap (λ (xs : List plain.Item). xs ++ items_left names after s) (taken.left none)
-            ∙ cons_after (map item_view v.items.items)
+            ∙ cons-after (map item_view v.items.items)
             (item_left names (entry_of x) (standing_of v)) (items_left names after s)
             ∙ ap (λ (es : List text.Entry). map item_view v.items.items
             ++ items_left names es (standing_of v)) (sym left)
             ∙ known.left (noted-none old (item_faults names (entry_of x) (standing_of v))
             (sym taken.found ∙ none));
         found =
-            ap (λ (t : Standing). noted new (items_faults names after t)) taken.standing
-            ∙ ap (λ (o : Option CheckFault). noted o (items_faults names after s)) taken.found
+            ap (λ (t : Progress). first_fault_of new (items_faults names after t)) taken.standing
+            ∙ ap (λ (o : Option CheckFault). first_fault_of o (items_faults names after s))
+            taken.found
             ∙ sym (noted-append old (item_faults names (entry_of x) (standing_of v))
             (items_faults names after s))
-            ∙ ap (λ (es : List text.Entry). noted old (items_faults names es (standing_of v)))
+            ∙ ap (λ (es : List text.Entry). first_fault_of old
+            (items_faults names es (standing_of v)))
             (sym left)
             ∙ known.found;
         few =
-            let e : w.passed ≡ s.passed = ap (λ (t : Standing). t.passed) taken.standing in
-            let f : s.passed ≤ v.passed + 1 = few_more (entry_of x) (standing_of v) in
+            let e : w.passed ≡ s.passed = ap (λ (t : Progress). t.passed) taken.standing in
+            let f : s.passed ≤ v.passed + 1 = few-more (entry_of x) (standing_of v) in
             let g : v.passed ≤ i = known.few in
             omega arith;
       }
@@ -233,13 +237,15 @@ module _ (names : Names) (all : List Item) (begun : Option CheckFault) (start : 
   items-left i found w within known none =
       sym (append-nil (map item_view w.items.items))
       ∙ ap (λ (xs : List Item). map item_view w.items.items
-      ++ items_left names (map entry_of xs) (standing_of w)) (sym (nothing_left all i within))
+      ++ items_left names (map entry_of xs) (standing_of w)) (sym (nothing-left all i within))
       ∙ known.left none
 
   pub items-found : (i : ℕ) (found : Option CheckFault) (w : Walk) → length all ≤ i
-      → ItemsSoFar i found w → found ≡ noted begun (items_faults names (map entry_of all) start)
+      → ItemsSoFar i found w → found
+      ≡ first_fault_of begun (items_faults names (map entry_of all) start)
   items-found i found w within known =
       sym (noted-nil found)
-      ∙ ap (λ (xs : List Item). noted found (items_faults names (map entry_of xs) (standing_of w)))
-      (sym (nothing_left all i within))
+      ∙ ap (λ (xs : List Item). first_fault_of found
+      (items_faults names (map entry_of xs) (standing_of w)))
+      (sym (nothing-left all i within))
       ∙ known.found

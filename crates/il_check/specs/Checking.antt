@@ -1,17 +1,17 @@
 -- What checking a program comes to: the checked program, or the fault that is answered.
 use Rattle.std.specs.Prelude.{◌+◌, ◌<◌, List, [], ◌++◌, length, map, Result}
-use Rattle.bay_base.specs.Exact.{judged}
+use Rattle.bay_base.specs.Exact.{unless_refused}
 use Rattle.bay_config.specs.declared.bay.Point.{Point}
 use Rattle.il_text.specs.Listing as text
 use Rattle.il_check.specs.Declaring.{names_in, labels_from, externals_of, variables_of, timers_of, declarations_faults}
 use Rattle.il_check.specs.Faults.{least_fault}
 use Rattle.il_check.specs.Program.{Checked}
-use Rattle.il_check.specs.WellTyped.{Standing, first, unreached, items_faults, items_left}
+use Rattle.il_check.specs.WellTyped.{Progress, first, no_reach, items_faults, items_left}
 use Rattle.il_check.specs.declared.fault.CheckFault.{CheckFault}
 
 -- before the first item no jump goes to a label
-abbrev pub initial_standing : text.PlainProgram → Standing
-initial_standing program = first (map (λ l. unreached) (labels_from 0 program.items))
+abbrev pub initial_standing : text.PlainProgram → Progress
+initial_standing program = first (map (λ l. no_reach) (labels_from 0 program.items))
 
 -- all faults of a program
 abbrev pub faults_of : List Point → text.PlainProgram → List CheckFault
@@ -35,4 +35,4 @@ TakesMemory program = 0 < length program.declarations + length program.items
 -- the checked program, or the fault that is answered
 abbrev pub checked_of : List Point → text.PlainProgram → Result Checked CheckFault
 checked_of points program =
-    judged (least_fault (faults_of points program)) (checked_program points program)
+    unless_refused (least_fault (faults_of points program)) (checked_program points program)

@@ -11,7 +11,7 @@ use Rattle.il_text.specs.declared.program.DeclaredType.TheVariants as type
 use Rattle.il_text.specs.declared.program.Scope.{Scope}
 use Rattle.il_text.specs.declared.program.Scope.TheVariants as scope
 use Rattle.il_image.specs.declared.value.Value.{Value}
-use Rattle.il_check.specs.Faults.{noted}
+use Rattle.il_check.specs.Faults.{first_fault_of}
 use Rattle.il_check.specs.NamesView.{with_value}
 use Rattle.il_check.specs.Declaring.{Counts, externals_of, variables_of, timers_of, meanings_of, looked_up, initial_in, meaning_at, is_full, name_faults, external_in, variable_in, timer_in, point_of}
 use Rattle.il_check.specs.declared.declare.Declarations.{Declarations}
@@ -96,7 +96,7 @@ pub record Takes (points : List Point) (d : text.Declared) (old new : Declaratio
       ≡ with_value (λ q. get_by_text old.meanings q) (upper d.name)
       (meaning_at (counts_in old) d.scope d.kind (point_of points d.name)) other
   pub found : new.found
-      ≡ noted old.found (name_faults (point_of points d.name)
+      ≡ first_fault_of old.found (name_faults (point_of points d.name)
       (is_some (get_by_text old.meanings (upper d.name))) (is_full (counts_in old) d.kind) d)
 
 -- these declarations were taken

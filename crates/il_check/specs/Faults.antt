@@ -32,9 +32,9 @@ least_fault [] = None
 least_fault (f ∷ fs) = Some (least_of f fs)
 
 -- the fault that is answered of those so far, if there are any, and of further ones
-abbrev pub noted : Option CheckFault → List CheckFault → Option CheckFault
-noted None fs = least_fault fs
-noted (Some f) fs = Some (least_of f fs)
+abbrev pub first_fault_of : Option CheckFault → List CheckFault → Option CheckFault
+first_fault_of None fs = least_fault fs
+first_fault_of (Some f) fs = Some (least_of f fs)
 
 -- The fault is one of these, and none of them comes before it.
 pub record IsLeast (fault : CheckFault) (faults : List CheckFault) : Type 0 where

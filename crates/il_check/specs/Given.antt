@@ -39,9 +39,10 @@ typed_value (literal.Lint z) = value_of elementary.Lint z
 typed_value (literal.Time n) = value_of elementary.Time (pos n)
 
 -- a literal's value as an operand; a number that is none of its type's is of no use
-abbrev pub known : Option Value → Given
-known None = Misused
-known (Some v) = Known (record { operand = operand.Literal v; kind = type_of v; writable = false })
+abbrev pub given_of : Option Value → Given
+given_of None = Misused
+given_of (Some v) =
+    Known (record { operand = operand.Literal v; kind = type_of v; writable = false })
 
 -- a number without a type, which is one of LINT at least
 abbrev pub number_given : ℤ → Given
@@ -49,12 +50,12 @@ number_given z = if is_some (value_of elementary.Lint z) then Number z else Misu
 
 -- a literal as an operand
 abbrev pub literal_given : Literal → Given
-literal_given (literal.Truth b) = known (typed_value (literal.Truth b))
+literal_given (literal.Truth b) = given_of (typed_value (literal.Truth b))
 literal_given (literal.Number z) = number_given z
-literal_given (literal.Int z) = known (typed_value (literal.Int z))
-literal_given (literal.Dint z) = known (typed_value (literal.Dint z))
-literal_given (literal.Lint z) = known (typed_value (literal.Lint z))
-literal_given (literal.Time n) = known (typed_value (literal.Time n))
+literal_given (literal.Int z) = given_of (typed_value (literal.Int z))
+literal_given (literal.Dint z) = given_of (typed_value (literal.Dint z))
+literal_given (literal.Lint z) = given_of (typed_value (literal.Lint z))
+literal_given (literal.Time n) = given_of (typed_value (literal.Time n))
 
 -- a name as a variable; a timer's is none
 abbrev pub variable_given : Option Meaning → Given
@@ -126,14 +127,14 @@ arguments_given names (a ∷ b ∷ more) =
     arguments.Two (argument_given names a) (argument_given names b)
 
 -- an instruction, with what its names mean
-abbrev pub resolved : Names → text.Action → Resolved
-resolved names (text.load negated source) = Load negated (source_given names source)
-resolved names (text.store kind place) = Store kind (place_given names place)
-resolved names (text.combine operator negated source) =
+abbrev pub resolution_of : Names → text.Action → Resolved
+resolution_of names (text.load negated source) = Load negated (source_given names source)
+resolution_of names (text.store kind place) = Store kind (place_given names place)
+resolution_of names (text.combine operator negated source) =
     Combine operator negated (source_given names source) (is_nonzero source)
-resolved names text.invert = Not
-resolved names (text.convert conversion) = Convert conversion
-resolved names (text.jump condition name) = Jump condition (names.label name)
-resolved names (text.leave condition) = Return condition
-resolved names (text.call timer arguments) =
+resolution_of names text.invert = Not
+resolution_of names (text.convert conversion) = Convert conversion
+resolution_of names (text.jump condition name) = Jump condition (names.label name)
+resolution_of names (text.leave condition) = Return condition
+resolution_of names (text.call timer arguments) =
     Call (called_of (names.meaning timer)) (arguments_given names arguments)

@@ -4,9 +4,9 @@ use Rattle.std.specs.Prelude.{◌≡◌, ℕ, ◌+◌, ◌-◌, ◌<◌, ◌==�
 use Rattle.bay_base.specs.declared.types.ElementaryType.{ElementaryType}
 use Rattle.il_text.specs.Listing as text
 use Rattle.il_text.specs.declared.program.Operator.{Operator}
-use Rattle.il_check.specs.Given.{Names, resolved}
+use Rattle.il_check.specs.Given.{Names, resolution_of}
 use Rattle.il_check.specs.Rules.{is_wrong, is_unset, type_after, combines_wrong, combines_unset, misses_name, jumps_back, misses_label, writes_fixed, may_divide_by_zero, divides, gives, goes_on, target_of}
-use Rattle.il_check.specs.WellTyped.{Standing, behind, is_first, type_behind, type_behind_all}
+use Rattle.il_check.specs.WellTyped.{Progress, behind, is_first, type_behind, type_behind_all}
 use Rattle.il_check.specs.declared.given.Resolved.{Resolved}
 
 -- the type of the current result at each label by its number, or none where it is unset
@@ -43,7 +43,7 @@ abbrev mutual
   pub IsRightEntry : Names → ℕ → ℕ → text.Entry → Option ElementaryType → Type 0
   IsRightEntry names room passed (text.label line name) result = Unit {0}
   IsRightEntry names room passed (text.action line a) result =
-      IsRight passed (resolved names a) result
+      IsRight passed (resolution_of names a) result
   IsRightEntry names room passed (text.block line operator negated items end) result =
       (0 < room) × AreRightEntries names (room - 1) passed items None
       × IsCombined operator negated (type_behind_all names items None) result
@@ -68,12 +68,12 @@ pub record Carried : Type 0 where
   pub now : Coming
 
 -- a record of these
-abbrev pub carried : ℕ → List ℕ → Coming → Carried
-carried passed named now = record { passed = passed; named = named; now = now }
+abbrev pub carry_of : ℕ → List ℕ → Coming → Carried
+carry_of passed named now = record { passed = passed; named = named; now = now }
 
 -- A program begins with a result that is not set.
 abbrev pub beginning : Carried
-beginning = carried 0 [] (Some None)
+beginning = carry_of 0 [] (Some None)
 
 -- A way that leads to a label brings its type, or the label is unset.
 abbrev pub Falls : Labelling → ℕ → Coming → Type 0
@@ -102,7 +102,7 @@ coming_behind_label labels c =
 
 -- behind a label
 abbrev pub behind_label : Labelling → Carried → Carried
-behind_label labels c = carried (c.passed + 1) c.named (coming_behind_label labels c)
+behind_label labels c = carry_of (c.passed + 1) c.named (coming_behind_label labels c)
 
 -- what comes behind an instruction on a result of this type
 abbrev pub coming_behind_action : Resolved → Option ElementaryType → Coming
@@ -111,11 +111,11 @@ coming_behind_action r t = if goes_on r then Some (type_after r t) else None
 -- behind an instruction on a result of this type
 abbrev pub behind_action : Resolved → Option ElementaryType → Carried → Carried
 behind_action r t c =
-    carried c.passed (with_target (target_of r) c.named) (coming_behind_action r t)
+    carry_of c.passed (with_target (target_of r) c.named) (coming_behind_action r t)
 
 -- behind a parenthesis whose operator works on a result of this type
 abbrev pub behind_block : Operator → Option ElementaryType → Carried → Carried
-behind_block operator t c = carried c.passed c.named (Some (option_map (gives operator) t))
+behind_block operator t c = carry_of c.passed c.named (Some (option_map (gives operator) t))
 
 -- A label is the first of its name and one of 256 at most, and what falls into it brings its type.
 abbrev pub LabelFlows : Names → Labelling → List ℕ → Carried → Type 0
@@ -137,8 +137,8 @@ Flows names labels [] c = Unit {0}
 Flows names labels (text.label line name ∷ es) c =
     LabelFlows names labels name c × Flows names labels es (behind_label labels c)
 Flows names labels (text.action line a ∷ es) c =
-    (t : Option ElementaryType) × ActionFlows labels (resolved names a) t c
-    × Flows names labels es (behind_action (resolved names a) t c)
+    (t : Option ElementaryType) × ActionFlows labels (resolution_of names a) t c
+    × Flows names labels es (behind_action (resolution_of names a) t c)
 Flows names labels (text.block line operator negated items end ∷ es) c =
     (t : Option ElementaryType) × BlockFlows names (text.block line operator negated items end) t c
     × Flows names labels es (behind_block operator t c)
@@ -161,13 +161,13 @@ coming_behind names labels (text.label line name ∷ es) c =
     coming_behind names labels es (behind_label labels c)
 coming_behind names labels (text.action line a ∷ es) c =
     coming_behind names labels es
-    (carried c.passed (with_target (target_of (resolved names a)) c.named)
-    (with_result (coming_behind_action (resolved names a)) c.now))
+    (carry_of c.passed (with_target (target_of (resolution_of names a)) c.named)
+    (with_result (coming_behind_action (resolution_of names a)) c.now))
 coming_behind names labels (text.block line operator negated items end ∷ es) c =
     coming_behind names labels es
-    (carried c.passed c.named (with_result (λ t. Some (option_map (gives operator) t)) c.now))
+    (carry_of c.passed c.named (with_result (λ t. Some (option_map (gives operator) t)) c.now))
 
 -- what the checks know behind items
-abbrev pub behind_all : Names → List text.Entry → Standing → Standing
+abbrev pub behind_all : Names → List text.Entry → Progress → Progress
 behind_all names [] s = s
 behind_all names (e ∷ es) s = behind_all names es (behind names e s)

@@ -5,7 +5,7 @@ use Rattle.bay_base.specs.Names.{upper}
 use Rattle.il_text.specs.Listing as text
 use Rattle.il_check.specs.Declaring.{looked_up}
 use Rattle.il_check.specs.NamesView.{with_value}
-use Rattle.il_check.specs.WellTyped.{unreached}
+use Rattle.il_check.specs.WellTyped.{no_reach}
 use Rattle.il_check.specs.declared.labels.Labels.{Labels}
 
 -- the name and the number of an item, if it is a label
@@ -21,11 +21,11 @@ with_labels numbers (l ∷ ls) other = with_value numbers l.0 l.1 other
 
 -- these labels, of which there is one at most, are added
 pub record AddsLabels (labels : List (List ℕ × ℕ)) (old new : Labels) : Type 0 where
-  pub arrivals : new.arrivals.items ≡ old.arrivals.items ++ map (λ l. unreached) labels
+  pub arrivals : new.arrivals.items ≡ old.arrivals.items ++ map (λ l. no_reach) labels
   pub numbers : (other : List ℕ)
       → get_by_text new.numbers other ≡ with_labels (λ q. get_by_text old.numbers q) labels other
 
 -- these are all labels
 pub record StandsAs (labels : List (List ℕ × ℕ)) (l : Labels) : Type 0 where
   pub numbers : (name : List ℕ) → get_by_text l.numbers name ≡ looked_up labels name
-  pub arrivals : l.arrivals.items ≡ map (λ l. unreached) labels
+  pub arrivals : l.arrivals.items ≡ map (λ l. no_reach) labels

@@ -9,7 +9,7 @@ use Rattle.il_text.specs.declared.program.Condition.TheVariants.{Always, IfTrue,
 use Rattle.il_image.specs.Images.{Each, IsName, IsValue}
 use Rattle.il_image.specs.Values.{number_of, type_of}
 use Rattle.il_check.specs.Given.{output_type}
-use Rattle.il_check.specs.Labelling.{Labelling, Coming, Carried, carried, beginning, Falls, Jumps, with_target, behind_label}
+use Rattle.il_check.specs.Labelling.{Labelling, Coming, Carried, carry_of, beginning, Falls, Jumps, with_target, behind_label}
 use Rattle.il_check.specs.Program.{Entry, operation, block, Entries, no_entries, entry, Item, label, transfer, plain, Checked}
 use Rattle.il_check.specs.Rules.{may_negate, is_plain, works, gives, divides, input_type, converted_from, converted_to}
 use Rattle.il_check.specs.declared.typed.External.{External}
@@ -153,11 +153,11 @@ coming_behind_transfer (go.Call timer args) t = Some None
 -- behind a jump, a return or a call on a result of this type
 abbrev pub behind_transfer : Transfer → Option ElementaryType → Carried → Carried
 behind_transfer x t k =
-    carried k.passed (with_target (target_of x) k.named) (coming_behind_transfer x t)
+    carry_of k.passed (with_target (target_of x) k.named) (coming_behind_transfer x t)
 
 -- behind an operation or a parenthesis that leaves a result of this type
 abbrev pub behind_entry : Option ElementaryType → Carried → Carried
-behind_entry u k = carried k.passed k.named (Some u)
+behind_entry u k = carry_of k.passed k.named (Some u)
 
 -- A label stands in the order of the numbers and is one of 256 at most, and what falls into it
 -- brings its type.

@@ -27,14 +27,14 @@ use Rattle.il_check.specs.declared.given.Resolved.{Resolved}
 use Rattle.il_check.specs.declared.given.Resolved.TheVariants.{Load, Store, Combine, Not, Convert, Jump, Return, Call}
 
 -- a load of the operand, if there is one
-abbrev pub loaded : Bool → Option TypedOperand → Option SimpleOperation
-loaded negated None = None
-loaded negated (Some o) = Some (op.Load negated o)
+abbrev pub load_operation : Bool → Option TypedOperand → Option SimpleOperation
+load_operation negated None = None
+load_operation negated (Some o) = Some (op.Load negated o)
 
 -- a load of the operand as one of this type
 abbrev pub load_in : Bool → Given → Option ElementaryType → Option SimpleOperation
 load_in negated given None = None
-load_in negated given (Some kind) = loaded negated (operand_in kind given)
+load_in negated given (Some kind) = load_operation negated (operand_in kind given)
 
 -- the slot of an operand that is a variable
 abbrev pub slot_in : TypedOperand → Option Slot
@@ -47,26 +47,26 @@ target_slot (Known source) = slot_in source.operand
 target_slot other = None
 
 -- a store into the slot, if there is one
-abbrev pub stored : StoreKind → Option Slot → Option SimpleOperation
-stored kind None = None
-stored kind (Some slot) = Some (op.Store kind slot)
+abbrev pub store_operation : StoreKind → Option Slot → Option SimpleOperation
+store_operation kind None = None
+store_operation kind (Some slot) = Some (op.Store kind slot)
 
 -- an operator with its operand, if there is one
-abbrev pub combined : Operator → ElementaryType → Bool → Option TypedOperand
+abbrev pub combine_operation : Operator → ElementaryType → Bool → Option TypedOperand
     → Option SimpleOperation
-combined operator kind negated None = None
-combined operator kind negated (Some o) = Some (op.Combine operator kind negated o)
+combine_operation operator kind negated None = None
+combine_operation operator kind negated (Some o) = Some (op.Combine operator kind negated o)
 
 -- an operator on a result of this type, with the operand as one of the type
 abbrev pub combine_in : Operator → Bool → Given → Option ElementaryType → Option SimpleOperation
 combine_in operator negated given None = None
 combine_in operator negated given (Some kind) =
-    combined operator kind negated (operand_in kind given)
+    combine_operation operator kind negated (operand_in kind given)
 
 -- the operation on a result of this type
 abbrev pub operation_in : Resolved → Option ElementaryType → Option SimpleOperation
 operation_in (Load negated given) result = load_in negated given (load_type given)
-operation_in (Store kind target) result = stored kind (target_slot target)
+operation_in (Store kind target) result = store_operation kind (target_slot target)
 operation_in (Combine operator negated given is_nonzero) result =
     combine_in operator negated given result
 operation_in Not result = Some op.Not

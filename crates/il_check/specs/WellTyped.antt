@@ -7,7 +7,7 @@ use Rattle.bay_base.specs.Types.{same_type}
 use Rattle.il_text.specs.Listing as text
 use Rattle.il_text.specs.declared.program.Operator.{Operator}
 use Rattle.il_check.specs.Faults.{fault_if}
-use Rattle.il_check.specs.Given.{Names, resolved}
+use Rattle.il_check.specs.Given.{Names, resolution_of}
 use Rattle.il_check.specs.Program as plain
 use Rattle.il_check.specs.Rules.{is_wrong, is_unset, type_after, combines_wrong, combines_unset, misses_name, jumps_back, misses_label, writes_fixed, may_divide_by_zero, divides, gives, goes_on, target_of}
 use Rattle.il_check.specs.Typing.{entry_in, item_in, block_in}
@@ -54,7 +54,7 @@ closing_faults is_reached line operator negated inner result =
 -- the type of the result behind an entry
 abbrev pub type_behind : Names → text.Entry → Option ElementaryType → Option ElementaryType
 type_behind names (text.label line name) result = result
-type_behind names (text.action line a) result = type_after (resolved names a) result
+type_behind names (text.action line a) result = type_after (resolution_of names a) result
 type_behind names (text.block line operator negated items end) result =
     option_map (gives operator) result
 
@@ -71,7 +71,7 @@ abbrev mutual
   pub entry_faults : Names → ℕ → Bool → ℕ → text.Entry → Option ElementaryType → List CheckFault
   entry_faults names room is_reached passed (text.label line name) result = []
   entry_faults names room is_reached passed (text.action line a) result =
-      instruction_faults is_reached passed line (resolved names a) result
+      instruction_faults is_reached passed line (resolution_of names a) result
   entry_faults names room is_reached passed (text.block line operator negated items end) result =
       opening_faults is_reached line operator
       ++ (if room == 0 then TooMany line ∷ []
@@ -88,7 +88,7 @@ abbrev mutual
   -- what is left of an entry; the grammar has no label, jump, return or call within a parenthesis
   pub entry_left : Names → ℕ → text.Entry → Option ElementaryType → Option plain.Entry
   entry_left names room (text.label line name) result = None
-  entry_left names room (text.action line a) result = entry_in (resolved names a) result
+  entry_left names room (text.action line a) result = entry_in (resolution_of names a) result
   entry_left names room (text.block line operator negated items end) result =
       block_in operator negated
       (if room == 0 then plain.no_entries else entries_left names (room - 1) items None) result
@@ -116,37 +116,37 @@ join a b =
     else record { is_reached = true; kind = join_types a.kind b.kind })
 
 -- no way leads to the place
-abbrev pub unreached : Reach
-unreached = record { is_reached = false; kind = None }
+abbrev pub no_reach : Reach
+no_reach = record { is_reached = false; kind = None }
 
 -- what is known before an item: of the current result; of the result at each label, from the jumps
 -- so far; and how many labels stand before
-pub record Standing : Type 0 where
+pub record Progress : Type 0 where
   pub now : Reach
   pub arrivals : List Reach
   pub passed : ℕ
 
 -- what jumps to a label bring, if there is such a label
 abbrev pub arrival : Option Reach → Reach
-arrival None = unreached
+arrival None = no_reach
 arrival (Some r) = r
 
 -- what jumps to labels bring, and the jump that is done now
-abbrev pub arrived : Option ℕ → Reach → List Reach → List Reach
-arrived None now arrivals = arrivals
-arrived (Some label) now arrivals =
+abbrev pub arrival_at : Option ℕ → Reach → List Reach → List Reach
+arrival_at None now arrivals = arrivals
+arrival_at (Some label) now arrivals =
     slice_set arrivals label (join (arrival (slice_get arrivals label)) now)
 
 -- behind an instruction
-abbrev pub moved : Resolved → Standing → Standing
-moved r s = record {
+abbrev pub standing_after : Resolved → Progress → Progress
+standing_after r s = record {
   now = record { is_reached = s.now.is_reached && goes_on r; kind = type_after r s.now.kind };
-  arrivals = arrived (target_of r) s.now s.arrivals;
+  arrivals = arrival_at (target_of r) s.now s.arrivals;
   passed = s.passed;
 }
 
 -- behind a label, what falls into it and what jumps to it meet
-abbrev pub behind_label : Standing → Standing
+abbrev pub behind_label : Progress → Progress
 behind_label s = record {
   now = join s.now (arrival (slice_get s.arrivals s.passed));
   arrivals = s.arrivals;
@@ -154,7 +154,7 @@ behind_label s = record {
 }
 
 -- behind a parenthesis
-abbrev pub behind_block : Operator → Standing → Standing
+abbrev pub behind_block : Operator → Progress → Progress
 behind_block operator s = record {
   now = record { is_reached = s.now.is_reached; kind = option_map (gives operator) s.now.kind };
   arrivals = s.arrivals;
@@ -162,13 +162,13 @@ behind_block operator s = record {
 }
 
 -- behind an item
-abbrev pub behind : Names → text.Entry → Standing → Standing
+abbrev pub behind : Names → text.Entry → Progress → Progress
 behind names (text.label line name) s = behind_label s
-behind names (text.action line a) s = moved (resolved names a) s
+behind names (text.action line a) s = standing_after (resolution_of names a) s
 behind names (text.block line operator negated items end) s = behind_block operator s
 
 -- before the first item the result is not set
-abbrev pub first : List Reach → Standing
+abbrev pub first : List Reach → Progress
 first arrivals =
     record { now = record { is_reached = true; kind = None }; arrivals = arrivals; passed = 0 }
 
@@ -184,29 +184,29 @@ label_faults line number passed =
     ++ fault_if (nat_le 256 passed) (TooMany line)
 
 -- 16 parentheses at most stand within one another
-abbrev pub item_faults : Names → text.Entry → Standing → List CheckFault
+abbrev pub item_faults : Names → text.Entry → Progress → List CheckFault
 item_faults names (text.label line name) s = label_faults line (names.label name) s.passed
 item_faults names (text.action line a) s =
-    instruction_faults s.now.is_reached s.passed line (resolved names a) s.now.kind
+    instruction_faults s.now.is_reached s.passed line (resolution_of names a) s.now.kind
 item_faults names (text.block line operator negated items end) s =
     entry_faults names 16 s.now.is_reached s.passed (text.block line operator negated items end)
     s.now.kind
 
 -- the faults of items behind what is known before them
-abbrev pub items_faults : Names → List text.Entry → Standing → List CheckFault
+abbrev pub items_faults : Names → List text.Entry → Progress → List CheckFault
 items_faults names [] s = []
 items_faults names (e ∷ es) s = item_faults names e s ++ items_faults names es (behind names e s)
 
 -- what is left of an item
-abbrev pub item_left : Names → text.Entry → Standing → Option plain.Item
+abbrev pub item_left : Names → text.Entry → Progress → Option plain.Item
 item_left names (text.label line name) s = Some (plain.label s.passed)
-item_left names (text.action line a) s = item_in (resolved names a) s.now.kind
+item_left names (text.action line a) s = item_in (resolution_of names a) s.now.kind
 item_left names (text.block line operator negated items end) s =
     option_map plain.plain (entry_left names 16 (text.block line operator negated items end)
     s.now.kind)
 
 -- what is left of items
-abbrev pub items_left : Names → List text.Entry → Standing → List plain.Item
+abbrev pub items_left : Names → List text.Entry → Progress → List plain.Item
 items_left names [] s = []
 items_left names (e ∷ es) s =
     cons_option (item_left names e s) (items_left names es (behind names e s))

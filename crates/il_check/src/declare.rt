@@ -5,7 +5,7 @@ ghost use Rattle.std.specs.List.{list_all};
 ghost use Rattle.std.specs.Option.{option_to_list};
 ghost use Rattle.bay_base.specs.Names as names;
 ghost use Rattle.il_text.specs.Views.{declared_of};
-ghost use Rattle.il_check.specs.Faults.{noted, least_fault};
+ghost use Rattle.il_check.specs.Faults.{first_fault_of, least_fault};
 ghost use Rattle.il_check.specs.NamesView.{with_value};
 ghost use Rattle.il_check.specs.DeclarationsView.{StandsFor, Takes, Adds, SameButExternals, SameButVariables, SameButTimers, external_named, variable_named, counts_in};
 ghost use Rattle.il_check.specs.Declaring as spec;
@@ -172,7 +172,7 @@ fn declaration_fault(
     is_full: bool,
     declaration: Declaration<'_>,
 ) -> Option<CheckFault>
-    ensures { result ≡ noted found
+    ensures { result ≡ first_fault_of found
         (spec.name_faults (option_copied point.entry) is_known is_full
         (declared_of declaration.entry)) }
 {

@@ -1,6 +1,6 @@
 // The faults of one instruction, of a parenthesis, of a label.
 ghost use Rattle.std.specs.Prelude.{◌≡◌};
-ghost use Rattle.il_check.specs.Faults.{noted};
+ghost use Rattle.il_check.specs.Faults.{first_fault_of};
 ghost use Rattle.il_check.specs.WellTyped as spec;
 
 use crate::fault::CheckFault;
@@ -43,7 +43,7 @@ fn note_typing(
     resolved: Resolved,
     kind: Option<ElementaryType>,
 ) -> Option<CheckFault>
-    ensures { result ≡ noted found
+    ensures { result ≡ first_fault_of found
         (spec.typing_faults context.is_reached context.passed line resolved kind) }
 {
     let is_wrong = context.is_reached && is_wrong(resolved, kind);
@@ -67,7 +67,7 @@ fn note_others(
     line: usize,
     resolved: Resolved,
 ) -> Option<CheckFault>
-    ensures { result ≡ noted found (spec.other_faults is_reached line resolved) }
+    ensures { result ≡ first_fault_of found (spec.other_faults is_reached line resolved) }
 {
     let is_read_only = writes_fixed(resolved);
     let is_zero = may_divide_by_zero(resolved);
@@ -89,7 +89,7 @@ pub(crate) fn note_instruction(
     resolved: Resolved,
     kind: Option<ElementaryType>,
 ) -> Option<CheckFault>
-    ensures { result ≡ noted found
+    ensures { result ≡ first_fault_of found
         (spec.instruction_faults context.is_reached context.passed line resolved kind) }
 {
     let found = note_typing(found, context, line, resolved, kind);
@@ -103,7 +103,7 @@ pub(crate) fn note_opening(
     line: usize,
     operator: Operator,
 ) -> Option<CheckFault>
-    ensures { result ≡ noted found (spec.opening_faults is_reached line operator) }
+    ensures { result ≡ first_fault_of found (spec.opening_faults is_reached line operator) }
 {
     let found = note_if(found, !is_reached, CheckFault::Unreachable { line });
     note_if(found, divides(operator), CheckFault::ZeroDivisor { line })
@@ -126,7 +126,7 @@ pub(crate) fn note_closing(
     closing: Closing,
     kind: Option<ElementaryType>,
 ) -> Option<CheckFault>
-    ensures { result ≡ noted found
+    ensures { result ≡ first_fault_of found
         (spec.closing_faults is_reached line closing.operator closing.negated closing.inner kind) }
 {
     let Closing {
@@ -150,7 +150,7 @@ pub(crate) fn note_label(
     number: Option<usize>,
     passed: usize,
 ) -> Option<CheckFault>
-    ensures { result ≡ noted found (spec.label_faults line number passed) }
+    ensures { result ≡ first_fault_of found (spec.label_faults line number passed) }
 {
     let is_repeated = !is_first(passed, number);
     let found = note_if(found, is_repeated, CheckFault::DuplicateName { line });

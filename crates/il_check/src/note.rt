@@ -1,7 +1,7 @@
 // The fault that is answered, as faults are found one after another.
 ghost use Rattle.std.specs.Prelude.{◌≡◌};
 ghost use Rattle.il_check.specs.Faults as spec;
-ghost use Rattle.il_check.specs.Faults.{fault_if, noted};
+ghost use Rattle.il_check.specs.Faults.{fault_if, first_fault_of};
 
 use crate::fault::CheckFault;
 
@@ -38,7 +38,7 @@ pub(crate) fn note_if(
     test: bool,
     fault: CheckFault,
 ) -> Option<CheckFault>
-    ensures { result ≡ noted found (fault_if test fault) }
+    ensures { result ≡ first_fault_of found (fault_if test fault) }
 {
     if !test {
         return found;

@@ -13,7 +13,7 @@ pub struct Reach {
 
 /// A place to which no way leads.
 pub(crate) fn unreached() -> Reach
-    ensures { result ≡ spec.unreached }
+    ensures { result ≡ spec.no_reach }
 {
     Reach {
         is_reached: false,

@@ -34,7 +34,7 @@ pub(crate) fn typed_value(literal: Literal) -> Option<Value>
 /// A literal's value as an operand, which may only be read; a number that is none of its type's is
 /// misused.
 fn known(value: Option<Value>) -> Given
-    ensures { result ≡ spec.known value }
+    ensures { result ≡ spec.given_of value }
 {
     match value {
         Some(value) => Given::Known(KnownOperand {
@@ -220,7 +220,7 @@ impl Names {
         arguments: Arguments<'_>,
     ) -> Result<Resolved, AllocError>
         ensures { IfOk result (λ r. r
-            ≡ spec.resolved (names_of self.now)
+            ≡ spec.resolution_of (names_of self.now)
             (text.call timer.now (arguments_of arguments.entry))) }
     {
         let called = called_of(self.meaning(buffer, timer)?);
@@ -236,7 +236,7 @@ impl Names {
         instruction: Instruction<'_>,
     ) -> Result<Resolved, AllocError>
         ensures { IfOk result (λ r. r
-            ≡ spec.resolved (names_of self.now) (action_of instruction.entry)) }
+            ≡ spec.resolution_of (names_of self.now) (action_of instruction.entry)) }
     {
         match instruction {
             Instruction::Load { negated, operand } => {

@@ -31,7 +31,7 @@ fn target_slot(target: Given) -> Option<Slot>
 
 /// A store into the slot, if there is one.
 fn stored(kind: StoreKind, slot: Option<Slot>) -> Option<SimpleOperation>
-    ensures { result ≡ spec.stored kind slot }
+    ensures { result ≡ spec.store_operation kind slot }
 {
     let slot = slot?;
     Some(SimpleOperation::Store { kind, slot })

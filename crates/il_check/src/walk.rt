@@ -3,11 +3,11 @@ ghost use Rattle.std.specs.Prelude.{◌≡◌, ◌<◌, ◌++◌, ◌∷◌, [],
 ghost use Rattle.std.specs.Option.{option_to_list};
 ghost use Rattle.il_text.specs.Listing as text;
 ghost use Rattle.il_text.specs.Views.{entry_of, action_of};
-ghost use Rattle.il_check.specs.Faults.{noted};
+ghost use Rattle.il_check.specs.Faults.{first_fault_of};
 ghost use Rattle.il_check.specs.NamesView.{names_of};
 ghost use Rattle.il_check.specs.ProgramViews.{entry_view, item_view};
 ghost use Rattle.il_check.specs.Program as plain;
-ghost use Rattle.il_check.specs.Given.{resolved};
+ghost use Rattle.il_check.specs.Given.{resolution_of};
 ghost use Rattle.il_check.specs.Typing as typing;
 ghost use Rattle.il_check.specs.WalkView.{standing_of};
 ghost use Rattle.il_check.specs.WellTyped as spec;
@@ -71,11 +71,11 @@ impl Judge {
         kind: Option<ElementaryType>,
     ) -> Result<Resolved, AllocError>
         ensures resolved { IfOk result
-            (λ r. r ≡ resolved (names_of names.now) (action_of instruction.entry)) }
+            (λ r. r ≡ resolution_of (names_of names.now) (action_of instruction.entry)) }
         ensures found { OnOk result (self.new.found
-            ≡ noted self.old.found
+            ≡ first_fault_of self.old.found
             (spec.instruction_faults context.is_reached context.passed line
-            (resolved (names_of names.now) (action_of instruction.entry)) kind)) }
+            (resolution_of (names_of names.now) (action_of instruction.entry)) kind)) }
     {
         let resolved = names.resolve(&mut self.buffer, instruction)?;
         self.found = note_instruction(self.found, context, line, resolved, kind);
@@ -99,7 +99,7 @@ impl Judge {
             ≡ spec.entry_left (names_of names.now) context.room
             (text.action line (action_of instruction.entry)) kind) }
         ensures found { OnOk result (self.new.found
-            ≡ noted self.old.found
+            ≡ first_fault_of self.old.found
             (spec.entry_faults (names_of names.now) context.room context.is_reached context.passed
             (text.action line (action_of instruction.entry)) kind)) }
     {
@@ -126,7 +126,7 @@ impl Judge {
             ≡ spec.entries_left (names_of names.now) context.room
             (text.entries_of (map entry_of items.now)) None) }
         ensures found { OnOk result (self.new.found
-            ≡ noted self.old.found
+            ≡ first_fault_of self.old.found
             (spec.entries_faults (names_of names.now) context.room context.is_reached context.passed
             (text.entries_of (map entry_of items.now)) None)) }
     {
@@ -157,7 +157,7 @@ impl Judge {
             (λ l. option_map entry_view l.entry
             ≡ spec.entry_left (names_of names.now) context.room (entry_of item.now) kind) }
         ensures found { OnOk result (self.new.found
-            ≡ noted self.old.found
+            ≡ first_fault_of self.old.found
             (spec.entry_faults (names_of names.now) context.room context.is_reached context.passed
             (entry_of item.now) kind)) }
     {
@@ -204,7 +204,7 @@ impl Judge {
             (text.block parenthesis.line parenthesis.operator parenthesis.negated
             (text.entries_of (map entry_of items.now)) parenthesis.end) kind) }
         ensures found { OnOk result (self.new.found
-            ≡ noted self.old.found
+            ≡ first_fault_of self.old.found
             (spec.entry_faults (names_of names.now) context.room context.is_reached context.passed
             (text.block parenthesis.line parenthesis.operator parenthesis.negated
             (text.entries_of (map entry_of items.now)) parenthesis.end) kind)) }
@@ -261,7 +261,7 @@ fn block_of(
 /// What is left of an instruction as an entry.
 #[tactic(auto, using(crate::proofs::ViewLemmas::view_rules))]
 fn entry_in(resolved: Resolved, kind: Option<ElementaryType>) -> Option<TypedEntry>
-    ensures { option_map entry_view result ≡ typing.entry_in resolved kind }
+    ensures { option_map entry_view result ≡ typing.entry_in resolution_of kind }
 {
     match operation_in(resolved, kind) {
         Some(operation) => Some(TypedEntry::Operation(operation)),
@@ -271,7 +271,7 @@ fn entry_in(resolved: Resolved, kind: Option<ElementaryType>) -> Option<TypedEnt
 
 /// What is left of an instruction as an item.
 fn item_in(resolved: Resolved, kind: Option<ElementaryType>) -> Option<TypedItem>
-    ensures { option_map item_view result ≡ typing.item_in resolved kind }
+    ensures { option_map item_view result ≡ typing.item_in resolution_of kind }
 {
     if let Some(transfer) = transfer_in(resolved) {
         return Some(TypedItem::Transfer(transfer));
@@ -335,7 +335,7 @@ impl Walk {
     /// Notes what a jump brings to its label.
     fn arrive(&mut self, label: Option<usize>)
         ensures arrivals { self.new.arrivals.items
-            ≡ spec.arrived label self.old.reach self.old.arrivals.items }
+            ≡ spec.arrival_at label self.old.reach self.old.arrivals.items }
         ensures reach { self.new.reach ≡ self.old.reach }
         ensures passed { self.new.passed ≡ self.old.passed }
         ensures items { self.new.items ≡ self.old.items }
@@ -350,7 +350,8 @@ impl Walk {
 
     /// Goes behind an instruction.
     fn follow(&mut self, resolved: Resolved)
-        ensures standing { standing_of self.new ≡ spec.moved resolved (standing_of self.old) }
+        ensures standing { standing_of self.new
+            ≡ spec.standing_after resolution_of (standing_of self.old) }
         ensures items { self.new.items ≡ self.old.items }
     {
         self.arrive(target_of(resolved));
@@ -397,7 +398,7 @@ impl Walk {
     fn add_instruction(&mut self, resolved: Resolved) -> Result<(), AllocError>
         ensures items { OnOk result (map item_view self.new.items.items
             ≡ map item_view self.old.items.items
-            ++ option_to_list (typing.item_in resolved self.old.reach.kind)) }
+            ++ option_to_list (typing.item_in resolution_of self.old.reach.kind)) }
         ensures standing { OnOk result (standing_of self.new ≡ standing_of self.old) }
     {
         self.add(item_in(resolved, self.reach.kind))
@@ -456,7 +457,7 @@ impl Judge {
             (map item_view walk.new.items.items
             ≡ map item_view walk.old.items.items ++ plain.label walk.old.passed ∷ []) }
         ensures found { OnOk result
-            (self.new.found ≡ noted self.old.found
+            (self.new.found ≡ first_fault_of self.old.found
             (spec.item_faults (names_of names.now) (text.label line name.now)
             (standing_of walk.old))) }
     {
@@ -481,7 +482,7 @@ impl Judge {
             ++ option_to_list (spec.item_left (names_of names.now)
             (text.action line (action_of instruction.entry)) (standing_of walk.old))) }
         ensures found { OnOk result (self.new.found
-            ≡ noted self.old.found
+            ≡ first_fault_of self.old.found
             (spec.item_faults (names_of names.now)
             (text.action line (action_of instruction.entry)) (standing_of walk.old))) }
     {
@@ -508,7 +509,7 @@ impl Judge {
             ++ option_to_list (option_map plain.plain
             (spec.entry_left (names_of names.now) 16 (entry_of item.now) walk.old.reach.kind))) }
         ensures found { OnOk result (self.new.found
-            ≡ noted self.old.found
+            ≡ first_fault_of self.old.found
             (spec.entry_faults (names_of names.now) 16 walk.old.reach.is_reached walk.old.passed
             (entry_of item.now) walk.old.reach.kind)) }
     {
@@ -528,7 +529,7 @@ impl Judge {
             ++ option_to_list (spec.item_left (names_of names.now) (entry_of item.now)
             (standing_of walk.old))) }
         ensures found { OnOk result
-            (self.new.found ≡ noted self.old.found
+            (self.new.found ≡ first_fault_of self.old.found
             (spec.item_faults (names_of names.now) (entry_of item.now) (standing_of walk.old))) }
     {
         match item {
@@ -552,7 +553,7 @@ impl Judge {
             ≡ spec.items_left (names_of names.now) (map entry_of items.now)
             (spec.first arrivals.items)) }
         ensures found { OnOk result (self.new.found
-            ≡ noted self.old.found
+            ≡ first_fault_of self.old.found
             (spec.items_faults (names_of names.now) (map entry_of items.now)
             (spec.first arrivals.items))) }
         ensures memory { IfErr result (λ e. 0 < length items.now) }

@@ -11,38 +11,38 @@ use Rattle.il_check.specs.Program.{Item, label}
 use Rattle.il_compile.specs.Behind.{IsBehind, IsSettled}
 use Rattle.il_compile.specs.declared.behind.Behind.{Behind}
 use Rattle.il_compile.specs.Code.{octets, octets_before, items_code}
-use Rattle.il_compile.proofs.Placing.{octets_both, octets_more, spelled_both}
+use Rattle.il_compile.proofs.Placing.{octets-both, octets_more, spelled-both}
 
-pub one_before : (line xs behind more : List Instr) (i : Instr) → line ≡ xs ++ i ∷ []
+pub one-before : (line xs behind more : List Instr) (i : Instr) → line ≡ xs ++ i ∷ []
     → more ≡ behind ++ i ∷ [] → xs ++ reverse more ≡ line ++ reverse behind
-one_before line xs behind more i e f =
+one-before line xs behind more i e f =
     ap (λ l. xs ++ reverse l) f ∙ ap (λ l. xs ++ l) (reverse-append behind (i ∷ []))
     ∙ sym (append_assoc xs (i ∷ []) (reverse behind)) ∙ ap (λ l. l ++ reverse behind) (sym e)
 
-pub one_counted : (line xs : List Instr) (i : Instr) (all more size : ℕ) → line ≡ xs ++ i ∷ []
+pub one-counted : (line xs : List Instr) (i : Instr) (all more size : ℕ) → line ≡ xs ++ i ∷ []
     → size ≡ length (spelling i) → more ≡ min (all + size) 65_536 → all ≤ 65_536
     → min (more + octets xs) 65_536 ≡ min (all + octets line) 65_536
-one_counted line xs i all more size e s f le =
-    let a = ap octets e ∙ octets_both xs (i ∷ []) in
+one-counted line xs i all more size e s f le =
+    let a = ap octets e ∙ octets-both xs (i ∷ []) in
     let b = octets_more i [] in
     omega arith
 
-pub nothing_left : (line : List Instr) (behind first : List Instr) → line ≡ []
+pub nothing-left : (line : List Instr) (behind first : List Instr) → line ≡ []
     → line ++ behind ≡ first → behind ≡ first
-nothing_left line behind first e f = ap (λ l. l ++ behind) (sym e) ∙ f
+nothing-left line behind first e f = ap (λ l. l ++ behind) (sym e) ∙ f
 
 -- ---- the items behind
 
 -- an item whose code has no jump
-pub item_behind : (n : ℕ) (i : Item) (is : List Item) (a instrs more : List Instr) (size all : ℕ)
+pub item-behind : (n : ℕ) (i : Item) (is : List Item) (a instrs more : List Instr) (size all : ℕ)
     (places : ℕ → Option ℕ) → IsBehind n is instrs size places
     → items_code n (i ∷ is) ≡ a ++ items_code n is
     → ((l : ℕ) → octets_before n l (i ∷ is) ≡ octets a + octets_before n l is)
     → reverse more ≡ a ++ reverse instrs → all ≡ min (size + octets a) 65_536
     → IsBehind n (i ∷ is) more all places
-item_behind n i is a instrs more size all places b same before rev counted =
+item-behind n i is a instrs more size all places b same before rev counted =
     let whole : octets (items_code n (i ∷ is)) ≡ octets a + octets (items_code n is) =
-    ap octets same ∙ octets_both a (items_code n is) in
+    ap octets same ∙ octets-both a (items_code n is) in
     record {
       counted = (let c = b.counted in omega arith);
       code = λ short. rev ∙ ap (λ l. a ++ l) (b.code (omega arith)) ∙ sym same;
@@ -50,11 +50,11 @@ item_behind n i is a instrs more size all places b same before rev counted =
     }
 
 -- a label stands where the items behind it begin
-pub label_behind : (n l : ℕ) (is : List Item) (instrs : List Instr) (size : ℕ)
+pub label-behind : (n l : ℕ) (is : List Item) (instrs : List Instr) (size : ℕ)
     (places new : ℕ → Option ℕ) → IsBehind n is instrs size places
     → ((m : ℕ) → new m ≡ (if l == m then Some size else places m))
     → IsBehind n (label l ∷ is) instrs size new
-label_behind n l is instrs size places new b e = record {
+label-behind n l is instrs size places new b e = record {
   counted = b.counted;
   code = b.code;
   known = λ short m.
@@ -68,7 +68,7 @@ label_behind n l is instrs size places new b e = record {
 }
 
 -- a jump over so many octets
-pub jump_behind : (n : ℕ) (i : Item) (is : List Item) (jump right : Instr)
+pub jump-behind : (n : ℕ) (i : Item) (is : List Item) (jump right : Instr)
     (instrs more : List Instr) (size all : ℕ) (places : ℕ → Option ℕ)
     → IsBehind n is instrs size places
     → length (spelling jump) ≡ 3 → length (spelling right) ≡ 3
@@ -76,7 +76,7 @@ pub jump_behind : (n : ℕ) (i : Item) (is : List Item) (jump right : Instr)
     → ((l : ℕ) → octets_before n l (i ∷ is) ≡ 3 + octets_before n l is)
     → (octets (items_code n is) ≤ 65_535 → jump ≡ right) → reverse more ≡ jump ∷ reverse instrs
     → all ≡ min (size + octets (jump ∷ [])) 65_536 → IsBehind n (i ∷ is) more all places
-jump_behind n i is jump right instrs more size all places b three also same before fits rev
+jump-behind n i is jump right instrs more size all places b three also same before fits rev
     counted =
     let whole : octets (items_code n (i ∷ is)) ≡ 3 + octets (items_code n is) =
     ap octets same ∙ octets_more right (items_code n is)
@@ -97,19 +97,19 @@ on_success (Ok x) a b c d f = f a b c d
 on_success (Err e) a b c d f = tt
 
 -- instructions that were put before the items behind
-pub put_settled : (n : ℕ) (i : Item) (is : List Item) (a : List Instr) (old : Behind)
+pub put-settled : (n : ℕ) (i : Item) (is : List Item) (a : List Instr) (old : Behind)
     (line : List Instr) (new : Behind) → IsSettled n is old
     → items_code n (i ∷ is) ≡ a ++ items_code n is
     → ((l : ℕ) → octets_before n l (i ∷ is) ≡ octets a + octets_before n l is)
     → line ≡ old.line.items ++ a → reverse new.instrs.items ≡ line ++ reverse old.instrs.items
     → new.octets ≡ min (old.octets + octets line) 65_536
     → new.line.items ≡ [] → new.places ≡ old.places → IsSettled n (i ∷ is) new
-put_settled n i is a old line new s same before put rev counted empty places =
+put-settled n i is a old line new s same before put rev counted empty places =
     let just : line ≡ a = put ∙ ap (λ l. l ++ a) s.settled in
     record {
       behind =
           subst (λ p. IsBehind n (i ∷ is) new.instrs.items new.octets (get nat_eq p)) (sym places)
-          (item_behind n i is a old.instrs.items new.instrs.items old.octets new.octets
+          (item-behind n i is a old.instrs.items new.instrs.items old.octets new.octets
           (get nat_eq old.places) s.behind same before
           (rev ∙ ap (λ l. l ++ reverse old.instrs.items) just)
           (counted ∙ ap (λ l. min (old.octets + octets l) 65_536) just));
@@ -117,7 +117,7 @@ put_settled n i is a old line new s same before put rev counted empty places =
     }
 
 -- a jump that was put before them
-pub put_leap : (n : ℕ) (i : Item) (is : List Item) (jump right : Instr) (old : Behind)
+pub put-leap : (n : ℕ) (i : Item) (is : List Item) (jump right : Instr) (old : Behind)
     (line : List Instr) (new : Behind) → IsSettled n is old
     → length (spelling jump) ≡ 3 → length (spelling right) ≡ 3
     → items_code n (i ∷ is) ≡ right ∷ items_code n is
@@ -127,12 +127,12 @@ pub put_leap : (n : ℕ) (i : Item) (is : List Item) (jump right : Instr) (old :
     → reverse new.instrs.items ≡ line ++ reverse old.instrs.items
     → new.octets ≡ min (old.octets + octets line) 65_536
     → new.line.items ≡ [] → new.places ≡ old.places → IsSettled n (i ∷ is) new
-put_leap n i is jump right old line new s three also same before fits put rev counted empty places =
+put-leap n i is jump right old line new s three also same before fits put rev counted empty places =
     let just : line ≡ jump ∷ [] = put ∙ ap (λ l. l ++ jump ∷ []) s.settled in
     record {
       behind =
           subst (λ p. IsBehind n (i ∷ is) new.instrs.items new.octets (get nat_eq p)) (sym places)
-          (jump_behind n i is jump right old.instrs.items new.instrs.items old.octets new.octets
+          (jump-behind n i is jump right old.instrs.items new.instrs.items old.octets new.octets
           (get nat_eq old.places) s.behind three also same before fits
           (rev ∙ ap (λ l. l ++ reverse old.instrs.items) just)
           (counted ∙ ap (λ l. min (old.octets + octets l) 65_536) just));
@@ -140,31 +140,31 @@ put_leap n i is jump right old line new s three also same before fits put rev co
     }
 
 -- the distance to a label, and to the end
-pub to_label : (n l size : ℕ) (is : List Item) (instrs : List Instr) (places : ℕ → Option ℕ)
+pub to-label : (n l size : ℕ) (is : List Item) (instrs : List Instr) (places : ℕ → Option ℕ)
     → IsBehind n is instrs size places → octets (items_code n is) ≤ 65_535
     → min (size - unwrap_or (places l) 0) 0xFFFF ≡ octets_before n l is
-to_label n l size is instrs places b short = let c = b.counted in let k =
+to-label n l size is instrs places b short = let c = b.counted in let k =
     b.known short l in omega arith
 
-pub to_end : (n size : ℕ) (is : List Item) (instrs : List Instr) (places : ℕ → Option ℕ)
+pub to-end : (n size : ℕ) (is : List Item) (instrs : List Instr) (places : ℕ → Option ℕ)
     → IsBehind n is instrs size places → octets (items_code n is) ≤ 65_535
     → min size 0xFFFF ≡ octets (items_code n is)
-to_end n size is instrs places b short = let c = b.counted in omega arith
+to-end n size is instrs places b short = let c = b.counted in omega arith
 
 -- ---- a list from its end
 
-pub one_back : {A : Type 0} (l : List A) (a : ℕ) (x : A) → 0 < a → a ≤ length l
+pub one-back : {A : Type 0} (l : List A) (a : ℕ) (x : A) → 0 < a → a ≤ length l
     → x ≡ get_or l (a - 1) x → drop (a - 1) l ≡ x ∷ drop a l
-one_back l a x h le e =
+one-back l a x h le e =
     let s : suc (a - 1) ≡ a = omega arith in
     drop-cons l (a - 1) x (omega arith) ∙ ap (λ y. y ∷ drop (suc (a - 1)) l) (sym e)
     ∙ ap (λ n. x ∷ drop n l) s
 
-pub each_drop : {A B : Type 0} (P : B → Type 0) (f : A → B) (n : ℕ) (l : List A) → Each P (map f l)
+pub each-drop : {A B : Type 0} (P : B → Type 0) (f : A → B) (n : ℕ) (l : List A) → Each P (map f l)
     → Each P (map f (drop n l))
-each_drop P f zero l h = h
-each_drop P f (suc n) [] h = tt
-each_drop P f (suc n) (x ∷ l) h = each_drop P f n l h.1
+each-drop P f zero l h = h
+each-drop P f (suc n) [] h = tt
+each-drop P f (suc n) (x ∷ l) h = each-drop P f n l h.1
 
 pub bounded : (n : ℕ) (is : List Item) (b : Behind) → IsSettled n is b → b.octets ≤ 65_536
 bounded n is b s = let c = s.behind.counted in omega arith
@@ -172,27 +172,27 @@ bounded n is b s = let c = s.behind.counted in omega arith
 pub shorter : (a b c : ℕ) → a ≤ b → a - c ≤ b
 shorter a b c h = omega arith
 
-pub none_left : {A : Type 0} (l : List A) → drop (length l) l ≡ []
-none_left [] = refl
-none_left (x ∷ l) = none_left l
+pub none-left : {A : Type 0} (l : List A) → drop (length l) l ≡ []
+none-left [] = refl
+none-left (x ∷ l) = none-left l
 
 -- ---- what is spelled
 
-pub one_spelled : (behind rest : List Instr) (i : Instr) (code more : List ℕ)
+pub one-spelled : (behind rest : List Instr) (i : Instr) (code more : List ℕ)
     → behind ≡ rest ++ i ∷ [] → more ≡ code ++ spelling i
     → more ++ all_spelled (reverse rest) ≡ code ++ all_spelled (reverse behind)
-one_spelled behind rest i code more e f =
+one-spelled behind rest i code more e f =
     ap (λ l. l ++ all_spelled (reverse rest)) f
     ∙ append_assoc code (spelling i) (all_spelled (reverse rest))
     ∙ ap (λ l. code ++ all_spelled l) (sym (ap reverse e ∙ reverse-append rest (i ∷ [])))
 
-pub whole_spelled : (instrs left : List Instr) (i last : Instr) (code : List ℕ) → left ≡ []
+pub whole-spelled : (instrs left : List Instr) (i last : Instr) (code : List ℕ) → left ≡ []
     → code ++ all_spelled (reverse left) ≡ spelling i ++ all_spelled instrs
     → code ++ spelling last ≡ all_spelled (i ∷ instrs ++ last ∷ [])
-whole_spelled instrs left i last code e f =
+whole-spelled instrs left i last code e f =
     let g : code ≡ spelling i ++ all_spelled instrs =
     sym (append-nil code) ∙ ap (λ l. code ++ all_spelled (reverse l)) (sym e) ∙ f in
     ap (λ l. l ++ spelling last) g ∙ append_assoc (spelling i) (all_spelled instrs) (spelling last)
     ∙ ap (λ l. spelling i ++ l)
     (ap (λ l. all_spelled instrs ++ l) (sym (append-nil (spelling last)))
-    ∙ sym (spelled_both instrs (last ∷ [])))
+    ∙ sym (spelled-both instrs (last ∷ [])))

@@ -5,7 +5,7 @@ use Rattle.std.proofs.lemmas.List.{length-map}
 use Rattle.il_image.specs.Images.{Each, HasName, Image, IsImage, IsValue, all_spelled}
 use Rattle.il_image.specs.Machine.{initial_state}
 use Rattle.il_image.specs.Tables.{HasTable}
-use Rattle.il_image.proofs.BegunLemmas.{closed_by, first_place, loose_is_run}
+use Rattle.il_image.proofs.BegunLemmas.{closed_by, first-place, loose-is-run}
 use Rattle.il_image.specs.declared.instr.Instr.TheVariants.{Halt}
 use Rattle.il_image.specs.declared.image.ImagePoint.{ImagePoint}
 use Rattle.bay_base.specs.declared.types.TimerKind.{TimerKind}
@@ -22,33 +22,33 @@ use Rattle.il_compile.specs.declared.behind.Behind.{Behind}
 use Rattle.il_compile.specs.declared.fault.CompileFault.TheVariants.{CodeTooLong}
 use Rattle.il_compile.specs.Correct.{DoesTheText, Follows}
 use Rattle.il_compile.specs.Meaning.{Memory}
-use Rattle.il_compile.proofs.Placing.{octets_both}
+use Rattle.il_compile.proofs.Placing.{octets-both}
 use Rattle.il_compile.proofs.Runs.{Finds, follows}
-use Rattle.il_compile.proofs.SizeLemmas.{size_is}
-use Rattle.il_compile.proofs.Spellable.{program_are}
-use Rattle.il_compile.proofs.Tabled.{has_table}
+use Rattle.il_compile.proofs.SizeLemmas.{size-is}
+use Rattle.il_compile.proofs.Spellable.{program-are}
+use Rattle.il_compile.proofs.Tabled.{has-table}
 
-names_are : (es : List External) → Each typed.HasName es → Each HasName (map point_of es)
-names_are [] h = tt
-names_are (e ∷ es) h = (h.0, names_are es h.1)
+names-are : (es : List External) → Each typed.HasName es → Each HasName (map point_of es)
+names-are [] h = tt
+names-are (e ∷ es) h = (h.0, names-are es h.1)
 
-values_are : (vs : List Variable) → Each typed.BeginsRight vs
+values-are : (vs : List Variable) → Each typed.BeginsRight vs
     → Each IsValue (map (λ v. v.initial) vs)
-values_are [] h = tt
-values_are (v ∷ vs) h = (h.0, values_are vs h.1)
+values-are [] h = tt
+values-are (v ∷ vs) h = (h.0, values-are vs h.1)
 
 -- the code is 3 octets longer than that of the items
-code_size : (c : Checked)
+code-size : (c : Checked)
     → octets (program_code c) ≡ 3 + octets (items_code (length c.externals) c.items)
-code_size c =
+code-size c =
     let n = length c.externals in
-    let b = octets_both (items_code n c.items) (Halt ∷ []) in
-    let w = octets_both (unset ∷ []) (items_code n c.items ++ Halt ∷ []) in
+    let b = octets-both (items_code n c.items) (Halt ∷ []) in
+    let w = octets-both (unset ∷ []) (items_code n c.items ++ Halt ∷ []) in
     omega arith
 
-pub is_image : (c : Checked) → IsTyped c → image_size c ≤ 65_535 → IsImage (image_of c)
-is_image c ok short =
-    let s = size_is c in
+pub is-image : (c : Checked) → IsTyped c → image_size c ≤ 65_535 → IsImage (image_of c)
+is-image c ok short =
+    let s = size-is c in
     let slots = ok.slots in
     let timers = ok.timers in
     record {
@@ -56,22 +56,22 @@ is_image c ok short =
       variables = (let l = length-map c.variables (λ v. v.initial) in omega arith);
       timers = (let l = length-map c.timers (λ t. t.kind) in omega arith);
       size = omega arith;
-      names = names_are c.externals ok.names;
-      values = values_are c.variables ok.initial;
+      names = names-are c.externals ok.names;
+      values = values-are c.variables ok.initial;
       code = record {
         instrs = program_code c;
-        are = program_are c ok (omega arith);
+        are = program-are c ok (omega arith);
         spelled = refl;
       };
     }
 
-not_below : (a b : ℕ) → a < b → nat_le b a ≡ false
-not_below a b h =
+not-below : (a b : ℕ) → a < b → nat_le b a ≡ false
+not-below a b h =
     elim (nat_le b a) as (λ x. nat_le b a ≡ x → nat_le b a ≡ false)
-    [ true ↦ (λ e. absurd (no_more a b h e)) | false ↦ (λ e. e) ] refl
+    [ true ↦ (λ e. absurd (no-more a b h e)) | false ↦ (λ e. e) ] refl
   where
-    no_more : (a b : ℕ) → a < b → nat_le b a ≡ true → ⊥
-    no_more a b h e = let l = leb-true b a e in omega arith
+    no-more : (a b : ℕ) → a < b → nat_le b a ≡ true → ⊥
+    no-more a b h e = let l = leb-true b a e in omega arith
 
 -- what the sizes say
 pub too_long : (c : Checked) (head size : ℕ) (b : Behind) → IsSettled (length c.externals) c.items b
@@ -79,20 +79,20 @@ pub too_long : (c : Checked) (head size : ℕ) (b : Behind) → IsSettled (lengt
     → size ≡ head + 3 + b.octets → 65_535 < size
     → compiled_of c ≡ Err CodeTooLong
 too_long c head size b settled h e lt =
-    let s = size_is c in
-    let k = code_size c in
+    let s = size-is c in
+    let k = code-size c in
     let n = settled.behind.counted in
     let over : 65_535 < image_size c = omega arith in
-    ap (λ x. if x then Ok (image_of c) else Err CodeTooLong) (not_below 65_535 (image_size c) over)
+    ap (λ x. if x then Ok (image_of c) else Err CodeTooLong) (not-below 65_535 (image_size c) over)
 
-pub short_enough : (c : Checked) (head size : ℕ) (b : Behind)
+pub short-enough : (c : Checked) (head size : ℕ) (b : Behind)
     → IsSettled (length c.externals) c.items b
     → head ≡ 13 + points_octets c.externals + 9 * length c.variables + length c.timers
     → size ≡ head + 3 + b.octets → size ≤ 65_535
     → image_size c ≤ 65_535
-short_enough c head size b settled h e le =
-    let s = size_is c in
-    let k = code_size c in
+short-enough c head size b settled h e le =
+    let s = size-is c in
+    let k = code-size c in
     let n = settled.behind.counted in
     omega arith
 
@@ -100,12 +100,12 @@ pub given : (c : Checked) → image_size c ≤ 65_535 → compiled_of c ≡ Ok (
 given c le =
     ap (λ x. if x then Ok (image_of c) else Err CodeTooLong) (le-leb (image_size c) 65_535 le)
 
-pub same_code : (c : Checked) (b : Behind) (code : List ℕ)
+pub same-code : (c : Checked) (b : Behind) (code : List ℕ)
     → IsSettled (length c.externals) c.items b → image_size c ≤ 65_535
     → code ≡ all_spelled (unset ∷ reverse b.instrs.items ++ Halt ∷ []) → code ≡ (image_of c).code
-same_code c b code settled le e =
-    let s = size_is c in
-    let k = code_size c in
+same-code c b code settled le e =
+    let s = size-is c in
+    let k = code-size c in
     let short : octets (items_code (length c.externals) c.items) ≤ 65_535 = omega arith in
     e ∙ ap (λ l. all_spelled (unset ∷ l ++ Halt ∷ [])) (settled.behind.code short)
 
@@ -114,23 +114,23 @@ abbrev pub parts : List ImagePoint → List Value → List TimerKind → List �
 parts points variables timers code =
     record { points = points; variables = variables; timers = timers; code = code }
 
-pub same_image : (c : Checked) (points : List ImagePoint) (variables : List Value)
+pub same-image : (c : Checked) (points : List ImagePoint) (variables : List Value)
     (timers : List TimerKind) (code : List ℕ) → points ≡ (image_of c).points
     → variables ≡ (image_of c).variables
     → timers ≡ (image_of c).timers → code ≡ (image_of c).code
     → parts points variables timers code ≡ image_of c
-same_image c points variables timers code p v t k =
+same-image c points variables timers code p v t k =
     ap (λ x. parts x variables timers code) p ∙ ap (λ x. parts (image_of c).points x timers code) v
     ∙ ap (λ x. parts (image_of c).points (image_of c).variables x code) t
     ∙ ap (parts (image_of c).points (image_of c).variables (image_of c).timers) k
 
 -- a program that is compiled is short enough, and its image does what it means
-was_short : (c : Checked) (i : Image) (b : Bool) → nat_le (image_size c) 65_535 ≡ b
+was-short : (c : Checked) (i : Image) (b : Bool) → nat_le (image_size c) 65_535 ≡ b
     → (if b then Ok (image_of c) else Err CodeTooLong) ≡ Ok i
     → (image_size c ≤ 65_535) × (i ≡ image_of c)
-was_short c i true e f =
+was-short c i true e f =
     (leb-true (image_size c) 65_535 e, (let same : image_of c ≡ i = cc in sym same))
-was_short c i false e f = absurd cc
+was-short c i false e f = absurd cc
 
 -- the code has a table, so that it goes on at instructions alone
 followed : (c : Checked) → HasTable (image_of c) → (now : ℕ) (m : Memory)
@@ -138,24 +138,24 @@ followed : (c : Checked) → HasTable (image_of c) → (now : ℕ) (m : Memory)
 followed c table now m f = record {
   means = f.means;
   steps = f.steps;
-  halts = sym (loose_is_run (image_of c).code now (closed_by (image_of c) table.0 table.1)
+  halts = sym (loose-is-run (image_of c).code now (closed_by (image_of c) table.0 table.1)
       (length (image_of c).code) (initial_state (m.externals ++ m.variables) m.timers) 0
-      (first_place (image_of c) table.0 table.1)) ∙ f.halts;
+      (first-place (image_of c) table.0 table.1)) ∙ f.halts;
 }
 
-pub does_the_text : (c : Checked) (i : Image) → IsTyped c → compiled_of c ≡ Ok i
+pub does-the-text : (c : Checked) (i : Image) → IsTyped c → compiled_of c ≡ Ok i
     → DoesTheText c i.code
-does_the_text c i ok e =
-    let w = was_short c i (nat_le (image_size c) 65_535) refl e in
-    let s = size_is c in
+does-the-text c i ok e =
+    let w = was-short c i (nat_le (image_size c) 65_535) refl e in
+    let s = size-is c in
     let le = w.0 in
-    let are = program_are c ok (omega arith) in
+    let are = program-are c ok (omega arith) in
     λ now m typed. subst (λ (x : Image). Follows c x.code now m) (sym w.1)
-    (followed c (has_table c ok are) now m (follows c ok are now m typed))
+    (followed c (has-table c ok are) now m (follows c ok are now m typed))
 
-pub is_tabled : (c : Checked) (i : Image) → IsTyped c → compiled_of c ≡ Ok i → HasTable i
-is_tabled c i ok e =
-    let w = was_short c i (nat_le (image_size c) 65_535) refl e in
-    let s = size_is c in
+pub is-tabled : (c : Checked) (i : Image) → IsTyped c → compiled_of c ≡ Ok i → HasTable i
+is-tabled c i ok e =
+    let w = was-short c i (nat_le (image_size c) 65_535) refl e in
+    let s = size-is c in
     let le = w.0 in
-    subst HasTable (sym w.1) (has_table c ok (program_are c ok (omega arith)))
+    subst HasTable (sym w.1) (has-table c ok (program-are c ok (omega arith)))

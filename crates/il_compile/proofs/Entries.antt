@@ -24,13 +24,13 @@ use Rattle.il_check.specs.declared.typed.SimpleOperation.TheVariants as op
 use Rattle.il_check.specs.declared.typed.Slot as typed
 use Rattle.il_check.specs.declared.typed.TypedOperand.{TypedOperand}
 use Rattle.il_check.specs.declared.typed.TypedOperand.TheVariants as operand
-use Rattle.il_compile.specs.Code.{slot_number, fetch, negation, sense_instr, operated, store_code, operation_code, entry_code, entries_code}
+use Rattle.il_compile.specs.Code.{slot_number, fetch, negation, sense_instr, operator_code, store_code, operation_code, entry_code, entries_code}
 use Rattle.il_compile.specs.Correct.{HasTypes}
-use Rattle.il_compile.specs.Meaning.{Memory, State, combined, inverse_if, output_of, slot_value, read, with_value, written, stored, acted, without_result, mean_entry, mean_entries}
+use Rattle.il_compile.specs.Meaning.{Memory, State, combination_of, inverse_if, output_of, slot_value, operand_value, with_value, memory_with, memory_after_store, state_after, without_result, mean_entry, mean_entries}
 use Rattle.il_compile.specs.Senses.{Sense, connects, computes, compares, sense_of, widening_of}
-use Rattle.il_compile.proofs.Memories.{flat, set_same, There, there, changed, timer_there}
-use Rattle.il_compile.proofs.Straight.{Core, core, Does, DoesAll, both, alone, pushed, dropped, inverted, wider, joined, fetched, kept, set_if, reset_if, output_fetched, elapsed_fetched}
-use Rattle.il_compile.proofs.Values.{same_sense, sense_takes, sense_gives, sense_divides, type_self, truth_is, boolean_is, combined_made, widened_made}
+use Rattle.il_compile.proofs.Memories.{flat, set-same, There, there, changed, timer-there}
+use Rattle.il_compile.proofs.Straight.{Core, core, Does, DoesAll, both, alone, pushed, dropped, inverted, wider, joined, fetched, kept, set_if, reset-if, output-fetched, elapsed-fetched}
+use Rattle.il_compile.proofs.Values.{same-sense, sense_takes, sense_gives, sense_divides, type-self, truth-is, boolean-is, combined-made, widened-made}
 
 -- a cell holds the result, where the result is known to be set
 abbrev pub Agrees : Option ElementaryType → Option Value → Value → Type 0
@@ -40,9 +40,9 @@ Agrees (Some kind) result cell = (result ≡ Some cell) × (type_of cell ≡ kin
 abbrev pub holding : List Value → Memory → Core
 holding cells m = core cells (flat m) m.timers
 
-both_true : (a b : Bool) → a && b ≡ true → (a ≡ true) × (b ≡ true)
-both_true true b h = (refl, h)
-both_true false b h = absurd cc
+both-true : (a b : Bool) → a && b ≡ true → (a ≡ true) × (b ≡ true)
+both-true true b h = (refl, h)
+both-true false b h = absurd cc
 
 -- what is done with a value that is there
 pub bound : {A B : Type 0} (o : Option A) (x : A) (f : A → Option B) (y : B) → o ≡ Some x
@@ -59,15 +59,15 @@ module _ (c : Checked) (now : ℕ) where
   pub record Fetched (x : TypedOperand) (kind : ElementaryType) (m : Memory) (cells : List Value)
       : Type 0 where
     pub value : Value
-    pub is : read x m ≡ Some value
+    pub is : operand_value x m ≡ Some value
     pub type : type_of value ≡ kind
     pub does : Does now (fetch (length c.externals) x) (holding cells m) (holding (value ∷ cells) m)
 
-  pub operand_does : (x : TypedOperand) (kind : ElementaryType) (m : Memory) (cells : List Value)
+  pub operand-does : (x : TypedOperand) (kind : ElementaryType) (m : Memory) (cells : List Value)
       → HasTypes c m → IsOperand c x kind → length cells < 32 → Fetched x kind m cells
-  operand_does (operand.Literal v) kind m cells ty ok lt =
+  operand-does (operand.Literal v) kind m cells ty ok lt =
       record { value = v; is = refl; type = ok.1; does = pushed now (flat m) m.timers v cells lt }
-  operand_does (operand.Slot s) kind m cells ty ok lt =
+  operand-does (operand.Slot s) kind m cells ty ok lt =
       let v = there c m s kind ty ok in
       record {
         value = v.value;
@@ -76,21 +76,21 @@ module _ (c : Checked) (now : ℕ) where
         does = fetched now (flat m) m.timers (slot_number (length c.externals) s) v.value cells
             v.slot lt;
       }
-  operand_does (operand.Output n Q) kind m cells ty ok lt =
-      let t = timer_there c m n ty ok.0 in
+  operand-does (operand.Output n Q) kind m cells ty ok lt =
+      let t = timer-there c m n ty ok.0 in
       record {
         value = Truth t.0.output;
         is = ap (option_map (output_of Q)) t.1;
         type = ok.1;
-        does = output_fetched now (flat m) m.timers n t.0 cells t.1 lt;
+        does = output-fetched now (flat m) m.timers n t.0 cells t.1 lt;
       }
-  operand_does (operand.Output n Et) kind m cells ty ok lt =
-      let t = timer_there c m n ty ok.0 in
+  operand-does (operand.Output n Et) kind m cells ty ok lt =
+      let t = timer-there c m n ty ok.0 in
       record {
         value = Span t.0.elapsed;
         is = ap (option_map (output_of Et)) t.1;
         type = ok.1;
-        does = elapsed_fetched now (flat m) m.timers n t.0 cells t.1 lt;
+        does = elapsed-fetched now (flat m) m.timers n t.0 cells t.1 lt;
       }
 
   -- N behind an operator
@@ -101,9 +101,9 @@ module _ (c : Checked) (now : ℕ) where
     type : type_of value ≡ kind
     does : DoesAll now (negation negated) (holding (v ∷ cells) m) (holding (value ∷ cells) m)
 
-  truth_turned : (b : Bool) (v : Value) (kind : ElementaryType) (m : Memory) (cells : List Value)
+  truth-turned : (b : Bool) (v : Value) (kind : ElementaryType) (m : Memory) (cells : List Value)
       → v ≡ Truth b → type_of v ≡ kind → Turned true v kind m cells
-  truth_turned b v kind m cells e t =
+  truth-turned b v kind m cells e t =
       subst (λ w. Turned true w kind m cells) (sym e)
       (record {
         value = Truth (not b);
@@ -116,15 +116,15 @@ module _ (c : Checked) (now : ℕ) where
       → type_of v ≡ kind → rules.may_negate negated kind ≡ true → Turned negated v kind m cells
   turned false v kind m cells t h = record { value = v; is = refl; type = t; does = refl }
   turned true v kind m cells t h = let b =
-      truth_is v (t ∙ boolean_is kind h) in truth_turned b.0 v kind m cells b.1 t
+      truth-is v (t ∙ boolean-is kind h) in truth-turned b.0 v kind m cells b.1 t
 
   -- ---- operators
 
   -- what takes BOOLs divides nothing
-  numbers_alone : (x : Sense) → sense_takes x elementary.Bool ≡ true → sense_divides x ≡ false
-  numbers_alone (connects o) h = refl
-  numbers_alone (computes o) h = absurd cc
-  numbers_alone (compares o) h = refl
+  numbers-alone : (x : Sense) → sense_takes x elementary.Bool ≡ true → sense_divides x ≡ false
+  numbers-alone (connects o) h = refl
+  numbers-alone (computes o) h = absurd cc
+  numbers-alone (compares o) h = refl
 
   -- a divisor that is not 0 stays so
   stays : (o : Operator) (negated : Bool) (kind : ElementaryType) (v w : Value)
@@ -133,11 +133,11 @@ module _ (c : Checked) (now : ℕ) where
   stays o false kind v w h z e = let same : v ≡ w =
       cc in subst (λ x. rules.divides o && int_eq (number_of x) (pos 0) ≡ false) same z
   stays o true kind v w h z e =
-      let both = both_true (rules.takes o kind) (rules.may_negate true kind) h in
-      let same = same_sense o in
+      let both = both-true (rules.takes o kind) (rules.may_negate true kind) h in
+      let same = same-sense o in
       never (rules.divides o) _
-      (same.divides ∙ numbers_alone (sense_of o)
-      (sym (same.takes elementary.Bool) ∙ ap (rules.takes o) (sym (boolean_is kind both.1))
+      (same.divides ∙ numbers-alone (sense_of o)
+      (sym (same.takes elementary.Bool) ∙ ap (rules.takes o) (sym (boolean-is kind both.1))
       ∙ both.0))
 
   record Joined (o : Operator) (negated : Bool) (kind : ElementaryType) (a v : Value) (m : Memory)
@@ -145,25 +145,25 @@ module _ (c : Checked) (now : ℕ) where
     second : Value
     turns : inverse_if negated v ≡ Some second
     value : Value
-    is : combined (sense_of o) a second ≡ Some value
+    is : combination_of (sense_of o) a second ≡ Some value
     type : type_of value ≡ rules.gives o kind
-    does : DoesAll now (operated o kind negated) (holding (v ∷ a ∷ cells) m)
+    does : DoesAll now (operator_code o kind negated) (holding (v ∷ a ∷ cells) m)
         (holding (value ∷ cells) m)
 
-  operator_does : (o : Operator) (negated : Bool) (kind : ElementaryType) (a v : Value) (m : Memory)
+  operator-does : (o : Operator) (negated : Bool) (kind : ElementaryType) (a v : Value) (m : Memory)
       (cells : List Value) → type_of a ≡ kind → type_of v ≡ kind
       → rules.works o negated kind ≡ true → rules.divides o && int_eq (number_of v) (pos 0) ≡ false
       → Joined o negated kind a v m cells
-  operator_does o negated kind a v m cells ta tv h z =
-      let both_are = both_true (rules.takes o kind) (rules.may_negate negated kind) h in
-      let same = same_sense o in
+  operator-does o negated kind a v m cells ta tv h z =
+      let both_are = both-true (rules.takes o kind) (rules.may_negate negated kind) h in
+      let same = same-sense o in
       let t = turned negated v kind m (a ∷ cells) tv both_are.1 in
       let zero = stays o negated kind v t.value h z t.is in
       let takes : sense_takes (sense_of o) (type_of a) ≡ true =
       subst (λ k. sense_takes (sense_of o) k ≡ true) (sym ta)
       (sym (same.takes kind) ∙ both_are.0) in
       let made =
-      combined_made (sense_of o) a t.value (t.type ∙ sym ta) takes
+      combined-made (sense_of o) a t.value (t.type ∙ sym ta) takes
       (ap (λ d. d && int_eq (number_of t.value) (pos 0)) (sym same.divides) ∙ zero) in
       record {
         second = t.value;
@@ -180,7 +180,7 @@ module _ (c : Checked) (now : ℕ) where
 
   -- a literal that may divide is not 0
   divisor : (d : Bool) (x : TypedOperand) (v : Value) (m : Memory) → d && not (is_divisor x) ≡ false
-      → read x m ≡ Some v → d && int_eq (number_of v) (pos 0) ≡ false
+      → operand_value x m ≡ Some v → d && int_eq (number_of v) (pos 0) ≡ false
   divisor false x v m h e = refl
   divisor true (operand.Literal w) v m h e =
       let same : w ≡ v = cc in
@@ -205,7 +205,7 @@ module _ (c : Checked) (now : ℕ) where
 
   -- a slot is written
   record Wrote (s : typed.Slot) (v : Value) (m : Memory) (cells : List Value) : Type 0 where
-    is : written s v m ≡ Some (with_value s v m)
+    is : memory_with s v m ≡ Some (with_value s v m)
     typed : HasTypes c (with_value s v m)
     holds : core cells (slice_set (flat m) (slot_number (length c.externals) s) v) m.timers
         ≡ holding cells (with_value s v m)
@@ -214,7 +214,7 @@ module _ (c : Checked) (now : ℕ) where
       → slot_type c s ≡ Some (type_of v) → slot_value s m ≡ Some old → type_of old ≡ type_of v
       → Wrote s v m cells
   wrote s v old m cells ty st is t =
-      let same : same_type (type_of v) (type_of old) ≡ true = rw t (type_self (type_of v)) in
+      let same : same_type (type_of v) (type_of old) ≡ true = rw t (type-self (type_of v)) in
       let new = changed c m s v ty st in
       record { is = rw (is, same) refl; typed = new.typed; holds = rw (new.slots, new.timers) refl }
 
@@ -222,18 +222,18 @@ module _ (c : Checked) (now : ℕ) where
   record Stores (how : StoreKind) (s : typed.Slot) (v : Value) (m : Memory) (below : List Value)
       : Type 0 where
     after : Memory
-    is : stored how s v m ≡ Some after
+    is : memory_after_store how s v m ≡ Some after
     typed : HasTypes c after
     does : DoesAll now (store_code how (slot_number (length c.externals) s)) (holding (v ∷ below) m)
         (holding (v ∷ below) after)
 
-  plain_does : (s : typed.Slot) (v : Value) (m : Memory) (below : List Value)
+  plain-does : (s : typed.Slot) (v : Value) (m : Memory) (below : List Value)
       (kind : ElementaryType) → HasTypes c m → slot_type c s ≡ Some kind → type_of v ≡ kind
       → Stores store.Plain s v m below
-  plain_does s v m below kind ty st t =
+  plain-does s v m below kind ty st t =
       let old = there c m s kind ty st in
       let same : same_type (type_of v) (type_of old.value) ≡ true =
-      rw (t, old.type) (type_self kind) in
+      rw (t, old.type) (type-self kind) in
       let w = wrote s v old.value m (v ∷ below) ty (st ∙ ap (λ k. Some k) (sym t)) old.is
       (old.type ∙ sym t) in
       record {
@@ -245,14 +245,14 @@ module _ (c : Checked) (now : ℕ) where
             (alone now _ _ _ (kept now (flat m) m.timers _ v old.value below old.slot same));
       }
 
-  not_not : (b : Bool) → not (not b) ≡ b
-  not_not true = refl
-  not_not false = refl
+  not-not : (b : Bool) → not (not b) ≡ b
+  not-not true = refl
+  not-not false = refl
 
-  negated_does : (s : typed.Slot) (b : Bool) (m : Memory) (below : List Value) → HasTypes c m
+  negated-does : (s : typed.Slot) (b : Bool) (m : Memory) (below : List Value) → HasTypes c m
       → slot_type c s ≡ Some elementary.Bool → Stores store.Negated s (Truth b) m below
-  negated_does s b m below ty st =
-      let w = plain_does s (Truth (not b)) m below elementary.Bool ty st refl in
+  negated-does s b m below ty st =
+      let w = plain-does s (Truth (not b)) m below elementary.Bool ty st refl in
       record {
         after = w.after;
         is = w.is;
@@ -264,23 +264,23 @@ module _ (c : Checked) (now : ℕ) where
               (holding (Truth (not b) ∷ below) m) (holding (Truth (not b) ∷ below) w.after)
               (holding (Truth b ∷ below) w.after) w.does
               (subst (λ x. DoesAll now (Not ∷ []) (holding (Truth (not b) ∷ below) w.after)
-              (holding (Truth x ∷ below) w.after)) (not_not b)
+              (holding (Truth x ∷ below) w.after)) (not-not b)
               (alone now Not _ _ (inverted now (flat w.after) w.after.timers (not b) below))),
         );
       }
 
   -- a BOOL that a slot has, written back, changes nothing
-  written_back : (s : typed.Slot) (m : Memory) (old : Value) (cells : List Value)
+  written-back : (s : typed.Slot) (m : Memory) (old : Value) (cells : List Value)
       → slice_get (flat m) (slot_number (length c.externals) s) ≡ Some old
       → core cells (slice_set (flat m) (slot_number (length c.externals) s) old) m.timers
       ≡ holding cells m
-  written_back s m old cells h = ap (λ x. core cells x m.timers) (set_same (flat m) _ old h)
+  written-back s m old cells h = ap (λ x. core cells x m.timers) (set-same (flat m) _ old h)
 
-  set_does : (s : typed.Slot) (b old : Bool) (m : Memory) (below : List Value) → HasTypes c m
+  set-does : (s : typed.Slot) (b old : Bool) (m : Memory) (below : List Value) → HasTypes c m
       → slot_type c s ≡ Some elementary.Bool → slot_value s m ≡ Some (Truth old)
       → slice_get (flat m) (slot_number (length c.externals) s) ≡ Some (Truth old)
       → Stores store.Set s (Truth b) m below
-  set_does s true old m below ty st is at =
+  set-does s true old m below ty st is at =
       let w = wrote s (Truth true) (Truth old) m (Truth true ∷ below) ty st is refl in
       record {
         after = with_value s (Truth true) m;
@@ -288,7 +288,7 @@ module _ (c : Checked) (now : ℕ) where
         typed = w.typed;
         does = (_, set_if now (flat m) m.timers _ true old below at, w.holds);
       }
-  set_does s false old m below ty st is at =
+  set-does s false old m below ty st is at =
       record {
         after = m;
         is = refl;
@@ -296,80 +296,80 @@ module _ (c : Checked) (now : ℕ) where
         does = (
           _,
           set_if now (flat m) m.timers _ false old below at,
-          written_back s m (Truth old) (Truth false ∷ below) at,
+          written-back s m (Truth old) (Truth false ∷ below) at,
         );
       }
 
-  reset_does : (s : typed.Slot) (b old : Bool) (m : Memory) (below : List Value) → HasTypes c m
+  reset-does : (s : typed.Slot) (b old : Bool) (m : Memory) (below : List Value) → HasTypes c m
       → slot_type c s ≡ Some elementary.Bool → slot_value s m ≡ Some (Truth old)
       → slice_get (flat m) (slot_number (length c.externals) s) ≡ Some (Truth old)
       → Stores store.Reset s (Truth b) m below
-  reset_does s true old m below ty st is at =
+  reset-does s true old m below ty st is at =
       let w = wrote s (Truth false) (Truth old) m (Truth true ∷ below) ty st is refl in
       record {
         after = with_value s (Truth false) m;
         is = w.is;
         typed = w.typed;
-        does = (_, reset_if now (flat m) m.timers _ true old below at, w.holds);
+        does = (_, reset-if now (flat m) m.timers _ true old below at, w.holds);
       }
-  reset_does s false old m below ty st is at =
+  reset-does s false old m below ty st is at =
       record {
         after = m;
         is = refl;
         typed = ty;
         does = (
           _,
-          reset_if now (flat m) m.timers _ false old below at,
-          written_back s m (Truth old) (Truth false ∷ below) at,
+          reset-if now (flat m) m.timers _ false old below at,
+          written-back s m (Truth old) (Truth false ∷ below) at,
         );
       }
 
-  truth_does : (how : StoreKind) (s : typed.Slot) (b : Bool) (m : Memory) (below : List Value)
+  truth-does : (how : StoreKind) (s : typed.Slot) (b : Bool) (m : Memory) (below : List Value)
       → HasTypes c m → slot_type c s ≡ Some elementary.Bool → Stores how s (Truth b) m below
-  truth_does how s b m below ty st = by_old (there c m s elementary.Bool ty st) how
+  truth-does how s b m below ty st = by-old (there c m s elementary.Bool ty st) how
     where
-      by_truth : (old : Bool) (v : Value) → v ≡ Truth old → slot_value s m ≡ Some v
+      by-truth : (old : Bool) (v : Value) → v ≡ Truth old → slot_value s m ≡ Some v
           → slice_get (flat m) (slot_number (length c.externals) s) ≡ Some v → (how : StoreKind)
           → Stores how s (Truth b) m below
-      by_truth old v e is at store.Plain = plain_does s (Truth b) m below elementary.Bool ty st refl
-      by_truth old v e is at store.Negated = negated_does s b m below ty st
-      by_truth old v e is at store.Set =
-          set_does s b old m below ty st (is ∙ ap (λ x. Some x) e) (at ∙ ap (λ x. Some x) e)
-      by_truth old v e is at store.Reset =
-          reset_does s b old m below ty st (is ∙ ap (λ x. Some x) e) (at ∙ ap (λ x. Some x) e)
+      by-truth old v e is at store.Plain = plain-does s (Truth b) m below elementary.Bool ty st refl
+      by-truth old v e is at store.Negated = negated-does s b m below ty st
+      by-truth old v e is at store.Set =
+          set-does s b old m below ty st (is ∙ ap (λ x. Some x) e) (at ∙ ap (λ x. Some x) e)
+      by-truth old v e is at store.Reset =
+          reset-does s b old m below ty st (is ∙ ap (λ x. Some x) e) (at ∙ ap (λ x. Some x) e)
 
-      by_old : There c m s elementary.Bool → (how : StoreKind) → Stores how s (Truth b) m below
-      by_old old how = let b =
-          truth_is old.value old.type in by_truth b.0 old.value b.1 old.is old.slot how
+      by-old : There c m s elementary.Bool → (how : StoreKind) → Stores how s (Truth b) m below
+      by-old old how = let b =
+          truth-is old.value old.type in by-truth b.0 old.value b.1 old.is old.slot how
 
-  bool_does : (how : StoreKind) (s : typed.Slot) (v : Value) (m : Memory) (below : List Value)
+  bool-does : (how : StoreKind) (s : typed.Slot) (v : Value) (m : Memory) (below : List Value)
       (kind : ElementaryType) → HasTypes c m → slot_type c s ≡ Some kind
       → kind ≡ elementary.Bool → type_of v ≡ kind → Stores how s v m below
-  bool_does how s v m below kind ty st e t =
-      let b = truth_is v (t ∙ e) in
+  bool-does how s v m below kind ty st e t =
+      let b = truth-is v (t ∙ e) in
       subst (λ x. Stores how s x m below) (sym b.1)
-      (truth_does how s b.0 m below ty (st ∙ ap (λ k. Some k) e))
+      (truth-does how s b.0 m below ty (st ∙ ap (λ k. Some k) e))
 
   -- a store that is not plain is of a BOOL
-  store_does : (how : StoreKind) (s : typed.Slot) (v : Value) (m : Memory) (below : List Value)
+  store-does : (how : StoreKind) (s : typed.Slot) (v : Value) (m : Memory) (below : List Value)
       (kind : ElementaryType) → HasTypes c m → slot_type c s ≡ Some kind
       → rules.may_negate (not (rules.is_plain how)) kind ≡ true → type_of v ≡ kind
       → Stores how s v m below
-  store_does store.Plain s v m below kind ty st h t = plain_does s v m below kind ty st t
-  store_does store.Negated s v m below kind ty st h t =
-      bool_does store.Negated s v m below kind ty st (boolean_is kind h) t
-  store_does store.Set s v m below kind ty st h t =
-      bool_does store.Set s v m below kind ty st (boolean_is kind h) t
-  store_does store.Reset s v m below kind ty st h t =
-      bool_does store.Reset s v m below kind ty st (boolean_is kind h) t
+  store-does store.Plain s v m below kind ty st h t = plain-does s v m below kind ty st t
+  store-does store.Negated s v m below kind ty st h t =
+      bool-does store.Negated s v m below kind ty st (boolean-is kind h) t
+  store-does store.Set s v m below kind ty st h t =
+      bool-does store.Set s v m below kind ty st (boolean-is kind h) t
+  store-does store.Reset s v m below kind ty st h t =
+      bool-does store.Reset s v m below kind ty st (boolean-is kind h) t
 
-  pub operation_does : (o : SimpleOperation) (t u : Option ElementaryType) (s : State)
+  pub operation-does : (o : SimpleOperation) (t u : Option ElementaryType) (s : State)
       (cell : Value) (below : List Value) → IsOperation c o t u → Agrees t s.result cell
       → HasTypes c s.memory → length below + 2 ≤ 32
       → Gives (operation_code (length c.externals) o) (holding (cell ∷ below) s.memory) below u
-      (acted o s)
-  operation_does (op.Load negated x) t u s cell below ok ag ty room =
-      let f = operand_does x ok.0 s.memory below ty ok.1 (omega arith) in
+      (state_after o s)
+  operation-does (op.Load negated x) t u s cell below ok ag ty room =
+      let f = operand-does x ok.0 s.memory below ty ok.1 (omega arith) in
       let g = turned negated f.value ok.0 s.memory below f.type ok.2 in
       record {
         state = record s { result = Some g.value };
@@ -379,9 +379,9 @@ module _ (c : Checked) (now : ℕ) where
         typed = ty;
         does = (_, dropped now (flat s.memory) s.memory.timers cell below, (_, f.does, g.does));
       }
-  operation_does (op.Store how slot) t u s cell below ok ag ty room =
+  operation-does (op.Store how slot) t u s cell below ok ag ty room =
       let a : Agrees (Some ok.0) s.result cell = subst (λ w. Agrees w s.result cell) ok.4 ag in
-      let w = store_does how slot cell s.memory below ok.0 ty ok.1 ok.3 a.1 in
+      let w = store-does how slot cell s.memory below ok.0 ty ok.1 ok.3 a.1 in
       record {
         state = record s { memory = w.after };
         is = bound _ cell _ _ a.0 (bound _ w.after _ _ w.is refl);
@@ -390,10 +390,10 @@ module _ (c : Checked) (now : ℕ) where
         typed = w.typed;
         does = w.does;
       }
-  operation_does (op.Combine operator kind negated x) t u s cell below ok ag ty room =
+  operation-does (op.Combine operator kind negated x) t u s cell below ok ag ty room =
       let a : Agrees (Some kind) s.result cell = subst (λ w. Agrees w s.result cell) ok.3 ag in
-      let f = operand_does x kind s.memory (cell ∷ below) ty ok.0 (omega arith) in
-      let j = operator_does operator negated kind cell f.value s.memory below a.1 f.type ok.1
+      let f = operand-does x kind s.memory (cell ∷ below) ty ok.0 (omega arith) in
+      let j = operator-does operator negated kind cell f.value s.memory below a.1 f.type ok.1
       (divisor (rules.divides operator) x f.value s.memory ok.2 f.is) in
       record {
         state = record s { result = Some j.value };
@@ -405,7 +405,7 @@ module _ (c : Checked) (now : ℕ) where
         typed = ty;
         does = (_, f.does, j.does);
       }
-  operation_does op.Not t u s cell below ok ag ty room =
+  operation-does op.Not t u s cell below ok ag ty room =
       let a : Agrees (Some elementary.Bool) s.result cell =
       subst (λ w. Agrees w s.result cell) ok.0 ag in
       let g = turned true cell elementary.Bool s.memory below a.1 refl in
@@ -417,10 +417,10 @@ module _ (c : Checked) (now : ℕ) where
         typed = ty;
         does = g.does;
       }
-  operation_does (op.Convert conversion) t u s cell below ok ag ty room =
+  operation-does (op.Convert conversion) t u s cell below ok ag ty room =
       let a : Agrees (Some (rules.converted_from conversion)) s.result cell =
       subst (λ w. Agrees w s.result cell) ok.0 ag in
-      let g = widened_made conversion cell a.1 in
+      let g = widened-made conversion cell a.1 in
       record {
         state = record s { result = Some g.value };
         is = bound _ cell _ _ a.0 (bound _ g.value _ _ g.is refl);
@@ -434,18 +434,18 @@ module _ (c : Checked) (now : ℕ) where
   -- ---- parentheses
 
   mutual
-    pub entry_does : (e : Entry) (t u : Option ElementaryType) (s : State) (cell : Value)
+    pub entry-does : (e : Entry) (t u : Option ElementaryType) (s : State) (cell : Value)
         (below : List Value) → IsEntry c e t u → Agrees t s.result cell → HasTypes c s.memory
         → length below + entry_depth e + 2 ≤ 32
         → Gives (entry_code (length c.externals) e) (holding (cell ∷ below) s.memory) below u
         (mean_entry e s)
-    entry_does (operation o) t u s cell below ok ag ty room =
-        operation_does o t u s cell below ok ag ty (omega arith)
-    entry_does (block operator kind negated es) t u s cell below ok ag ty room =
+    entry-does (operation o) t u s cell below ok ag ty room =
+        operation-does o t u s cell below ok ag ty (omega arith)
+    entry-does (block operator kind negated es) t u s cell below ok ag ty room =
         let a : Agrees (Some kind) s.result cell = subst (λ w. Agrees w s.result cell) ok.3 ag in
-        let g = entries_do es None (Some kind) (without_result s) (Truth false) (cell ∷ below) ok.0
+        let g = entries-do es None (Some kind) (without_result s) (Truth false) (cell ∷ below) ok.0
         tt ty (omega arith) in
-        let j = operator_does operator negated kind cell g.cell g.state.memory below a.1 g.agrees.1
+        let j = operator-does operator negated kind cell g.cell g.state.memory below a.1 g.agrees.1
         ok.1 (never (rules.divides operator) _ ok.2) in
         record {
           state = record { result = Some j.value; memory = g.state.memory };
@@ -464,12 +464,12 @@ module _ (c : Checked) (now : ℕ) where
           );
         }
 
-    entries_do : (es : Entries) (t u : Option ElementaryType) (s : State) (cell : Value)
+    entries-do : (es : Entries) (t u : Option ElementaryType) (s : State) (cell : Value)
         (below : List Value) → AreEntries c es t u → Agrees t s.result cell → HasTypes c s.memory
         → length below + entries_depth es + 2 ≤ 32
         → Gives (entries_code (length c.externals) es) (holding (cell ∷ below) s.memory) below u
         (mean_entries es s)
-    entries_do no_entries t u s cell below ok ag ty room =
+    entries-do no_entries t u s cell below ok ag ty room =
         record {
           state = s;
           is = refl;
@@ -478,9 +478,9 @@ module _ (c : Checked) (now : ℕ) where
           typed = ty;
           does = refl;
         }
-    entries_do (entry e es) t u s cell below ok ag ty room =
-        let g = entry_does e t ok.0 s cell below ok.1 ag ty (omega arith) in
-        let r = entries_do es ok.0 u g.state g.cell below ok.2 g.agrees g.typed (omega arith) in
+    entries-do (entry e es) t u s cell below ok ag ty room =
+        let g = entry-does e t ok.0 s cell below ok.1 ag ty (omega arith) in
+        let r = entries-do es ok.0 u g.state g.cell below ok.2 g.agrees g.typed (omega arith) in
         record {
           state = r.state;
           is = bound _ g.state _ _ g.is r.is;

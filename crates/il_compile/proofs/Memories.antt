@@ -20,65 +20,65 @@ flat m = m.externals ++ m.variables
 
 -- ---- lists
 
-get_front : {A : Type 0} (xs ys : List A) (n : ℕ) (x : A) → slice_get xs n ≡ Some x
+get-front : {A : Type 0} (xs ys : List A) (n : ℕ) (x : A) → slice_get xs n ≡ Some x
     → slice_get (xs ++ ys) n ≡ Some x
-get_front [] ys n x h = absurd cc
-get_front (y ∷ xs) ys zero x h = h
-get_front (y ∷ xs) ys (suc n) x h = get_front xs ys n x h
+get-front [] ys n x h = absurd cc
+get-front (y ∷ xs) ys zero x h = h
+get-front (y ∷ xs) ys (suc n) x h = get-front xs ys n x h
 
-get_back : {A : Type 0} (xs ys : List A) (n : ℕ)
+get-back : {A : Type 0} (xs ys : List A) (n : ℕ)
     → slice_get (xs ++ ys) (length xs + n) ≡ slice_get ys n
-get_back [] ys n = let e : 0 + n ≡ n = omega arith in ap (slice_get ys) e
-get_back {A = A} (x ∷ xs) ys n = let e : suc (length xs) + n ≡ suc (length xs + n) =
-    omega arith in ap (slice_get (x ∷ xs ++ ys)) e ∙ get_back xs ys n
+get-back [] ys n = let e : 0 + n ≡ n = omega arith in ap (slice_get ys) e
+get-back {A = A} (x ∷ xs) ys n = let e : suc (length xs) + n ≡ suc (length xs + n) =
+    omega arith in ap (slice_get (x ∷ xs ++ ys)) e ∙ get-back xs ys n
 
-set_front : {A : Type 0} (xs ys : List A) (n : ℕ) (x v : A) → slice_get xs n ≡ Some x
+set-front : {A : Type 0} (xs ys : List A) (n : ℕ) (x v : A) → slice_get xs n ≡ Some x
     → slice_set (xs ++ ys) n v ≡ slice_set xs n v ++ ys
-set_front [] ys n x v h = absurd cc
-set_front (y ∷ xs) ys zero x v h = refl
-set_front {A = A} (y ∷ xs) ys (suc n) x v h = ap (λ (l : List A). y ∷ l) (set_front xs ys n x v h)
+set-front [] ys n x v h = absurd cc
+set-front (y ∷ xs) ys zero x v h = refl
+set-front {A = A} (y ∷ xs) ys (suc n) x v h = ap (λ (l : List A). y ∷ l) (set-front xs ys n x v h)
 
-set_back : {A : Type 0} (xs ys : List A) (n : ℕ) (v : A)
+set-back : {A : Type 0} (xs ys : List A) (n : ℕ) (v : A)
     → slice_set (xs ++ ys) (length xs + n) v ≡ xs ++ slice_set ys n v
-set_back {A = A} [] ys n v = let e : 0 + n ≡ n = omega arith in ap (λ k. slice_set ys k v) e
-set_back {A = A} (x ∷ xs) ys n v = let e : suc (length xs) + n ≡ suc (length xs + n) =
+set-back {A = A} [] ys n v = let e : 0 + n ≡ n = omega arith in ap (λ k. slice_set ys k v) e
+set-back {A = A} (x ∷ xs) ys n v = let e : suc (length xs) + n ≡ suc (length xs + n) =
     omega arith in ap (λ k. slice_set (x ∷ xs ++ ys) k v) e
-    ∙ ap (λ (l : List A). x ∷ l) (set_back xs ys n v)
+    ∙ ap (λ (l : List A). x ∷ l) (set-back xs ys n v)
 
-pub set_same : {A : Type 0} (xs : List A) (n : ℕ) (x : A) → slice_get xs n ≡ Some x
+pub set-same : {A : Type 0} (xs : List A) (n : ℕ) (x : A) → slice_get xs n ≡ Some x
     → slice_set xs n x ≡ xs
-set_same [] n x h = refl
-set_same {A = A} (y ∷ xs) zero x h = let e : y ≡ x = cc in ap (λ (z : A). z ∷ xs) (sym e)
-set_same {A = A} (y ∷ xs) (suc n) x h = ap (λ (l : List A). y ∷ l) (set_same xs n x h)
+set-same [] n x h = refl
+set-same {A = A} (y ∷ xs) zero x h = let e : y ≡ x = cc in ap (λ (z : A). z ∷ xs) (sym e)
+set-same {A = A} (y ∷ xs) (suc n) x h = ap (λ (l : List A). y ∷ l) (set-same xs n x h)
 
-pub get_below : {A : Type 0} (xs : List A) (n : ℕ) → n < length xs
+pub get-below : {A : Type 0} (xs : List A) (n : ℕ) → n < length xs
     → (x : A) × (slice_get xs n ≡ Some x)
-get_below [] n lt = absurd (omega arith)
-get_below (x ∷ xs) zero lt = (x, refl)
-get_below (x ∷ xs) (suc n) lt = get_below xs n (omega arith)
+get-below [] n lt = absurd (omega arith)
+get-below (x ∷ xs) zero lt = (x, refl)
+get-below (x ∷ xs) (suc n) lt = get-below xs n (omega arith)
 
 -- of two lists that are seen alike, what stands in one stands in the other
-pub alike_at : {A B K : Type 0} (f : A → K) (g : B → K) (xs : List A) (ys : List B) (n : ℕ) (k : K)
+pub alike-at : {A B K : Type 0} (f : A → K) (g : B → K) (xs : List A) (ys : List B) (n : ℕ) (k : K)
     → map f xs ≡ map g ys → option_map g (slice_get ys n) ≡ Some k
     → (x : A) × (slice_get xs n ≡ Some x) × (f x ≡ k)
-alike_at f g xs [] n k e h = absurd cc
-alike_at f g [] (y ∷ ys) n k e h = absurd cc
-alike_at f g (x ∷ xs) (y ∷ ys) zero k e h =
+alike-at f g xs [] n k e h = absurd cc
+alike-at f g [] (y ∷ ys) n k e h = absurd cc
+alike-at f g (x ∷ xs) (y ∷ ys) zero k e h =
     (x, refl, (let a : f x ≡ g y = cc in let b : g y ≡ k = cc in a ∙ b))
-alike_at f g (x ∷ xs) (y ∷ ys) (suc n) k e h =
-    alike_at f g xs ys n k (let a : map f xs ≡ map g ys = cc in a) h
+alike-at f g (x ∷ xs) (y ∷ ys) (suc n) k e h =
+    alike-at f g xs ys n k (let a : map f xs ≡ map g ys = cc in a) h
 
-pub alike_kept : {A K : Type 0} (f : A → K) (xs : List A) (n : ℕ) (x v : A)
+pub alike-kept : {A K : Type 0} (f : A → K) (xs : List A) (n : ℕ) (x v : A)
     → slice_get xs n ≡ Some x → f v ≡ f x → map f (slice_set xs n v) ≡ map f xs
-alike_kept f [] n x v h e = refl
-alike_kept {K = K} f (y ∷ xs) zero x v h e = let same : y ≡ x =
+alike-kept f [] n x v h e = refl
+alike-kept {K = K} f (y ∷ xs) zero x v h e = let same : y ≡ x =
     cc in ap (λ (k : K). k ∷ map f xs) (e ∙ ap f (sym same))
-alike_kept {K = K} f (y ∷ xs) (suc n) x v h e =
-    ap (λ (ks : List K). f y ∷ ks) (alike_kept f xs n x v h e)
+alike-kept {K = K} f (y ∷ xs) (suc n) x v h e =
+    ap (λ (ks : List K). f y ∷ ks) (alike-kept f xs n x v h e)
 
-same_count : {A B K : Type 0} (f : A → K) (g : B → K) (xs : List A) (ys : List B)
+same-count : {A B K : Type 0} (f : A → K) (g : B → K) (xs : List A) (ys : List B)
     → map f xs ≡ map g ys → length xs ≡ length ys
-same_count f g xs ys e = sym (length-map xs f) ∙ ap length e ∙ length-map ys g
+same-count f g xs ys e = sym (length-map xs f) ∙ ap length e ∙ length-map ys g
 
 -- ---- slots
 
@@ -96,67 +96,67 @@ pub record Changed (c : Checked) (m : Memory) (s : Slot) (v : Value) : Type 0 wh
   pub typed : HasTypes c (with_value s v m)
 
 pub so_many : (c : Checked) (m : Memory) → HasTypes c m → length c.externals ≡ length m.externals
-so_many c m ty = sym (same_count type_of (λ e. e.kind) m.externals c.externals ty.externals)
+so_many c m ty = sym (same-count type_of (λ e. e.kind) m.externals c.externals ty.externals)
 
 pub there : (c : Checked) (m : Memory) (s : Slot) (kind : ElementaryType) → HasTypes c m
     → slot_type c s ≡ Some kind → There c m s kind
 there c m (External n) kind ty h =
-    let v = alike_at type_of (λ e. e.kind) m.externals c.externals n kind ty.externals h in
-    record { value = v.0; is = v.1; type = v.2; slot = get_front m.externals m.variables n v.0 v.1 }
+    let v = alike-at type_of (λ e. e.kind) m.externals c.externals n kind ty.externals h in
+    record { value = v.0; is = v.1; type = v.2; slot = get-front m.externals m.variables n v.0 v.1 }
 there c m (Variable n) kind ty h =
-    let v = alike_at type_of (λ w. type_of w.initial) m.variables c.variables n kind ty.variables h
+    let v = alike-at type_of (λ w. type_of w.initial) m.variables c.variables n kind ty.variables h
     in
     record {
       value = v.0;
       is = v.1;
       type = v.2;
       slot = ap (λ k. slice_get (flat m) (k + n)) (so_many c m ty)
-          ∙ get_back m.externals m.variables n ∙ v.1;
+          ∙ get-back m.externals m.variables n ∙ v.1;
     }
 
 pub changed : (c : Checked) (m : Memory) (s : Slot) (v : Value) → HasTypes c m
     → slot_type c s ≡ Some (type_of v) → Changed c m s v
 changed c m (External n) v ty h =
-    let old = alike_at type_of (λ e. e.kind) m.externals c.externals n (type_of v) ty.externals h in
+    let old = alike-at type_of (λ e. e.kind) m.externals c.externals n (type_of v) ty.externals h in
     record {
-      slots = set_front m.externals m.variables n old.0 v old.1;
+      slots = set-front m.externals m.variables n old.0 v old.1;
       timers = refl;
       typed = record {
-        externals = alike_kept type_of m.externals n old.0 v old.1 (sym old.2) ∙ ty.externals;
+        externals = alike-kept type_of m.externals n old.0 v old.1 (sym old.2) ∙ ty.externals;
         variables = ty.variables;
         timers = ty.timers;
       };
     }
 changed c m (Variable n) v ty h =
     let old =
-    alike_at type_of (λ w. type_of w.initial) m.variables c.variables n (type_of v) ty.variables
+    alike-at type_of (λ w. type_of w.initial) m.variables c.variables n (type_of v) ty.variables
     h in
     record {
       slots = ap (λ k. slice_set (flat m) (k + n) v) (so_many c m ty)
-          ∙ set_back m.externals m.variables n v;
+          ∙ set-back m.externals m.variables n v;
       timers = refl;
       typed = record {
         externals = ty.externals;
-        variables = alike_kept type_of m.variables n old.0 v old.1 (sym old.2) ∙ ty.variables;
+        variables = alike-kept type_of m.variables n old.0 v old.1 (sym old.2) ∙ ty.variables;
         timers = ty.timers;
       };
     }
 
 -- ---- timers
 
-pub timer_there : (c : Checked) (m : Memory) (n : ℕ) → HasTypes c m → n < length c.timers
+pub timer-there : (c : Checked) (m : Memory) (n : ℕ) → HasTypes c m → n < length c.timers
     → (t : TimerState) × (slice_get m.timers n ≡ Some t)
-timer_there c m n ty lt =
+timer-there c m n ty lt =
     let same : length m.timers ≡ length c.timers =
-    same_count (λ t. t.kind) (λ t. t.kind) m.timers c.timers ty.timers in
-    get_below m.timers n (omega arith)
+    same-count (λ t. t.kind) (λ t. t.kind) m.timers c.timers ty.timers in
+    get-below m.timers n (omega arith)
 
-pub timer_changed : (c : Checked) (m : Memory) (n : ℕ) (t u : TimerState) → HasTypes c m
+pub timer-changed : (c : Checked) (m : Memory) (n : ℕ) (t u : TimerState) → HasTypes c m
     → slice_get m.timers n ≡ Some t → u.kind ≡ t.kind
     → HasTypes c (record m { timers = slice_set m.timers n u })
-timer_changed c m n t u ty is same =
+timer-changed c m n t u ty is same =
     record {
       externals = ty.externals;
       variables = ty.variables;
-      timers = alike_kept (λ (x : TimerState). x.kind) m.timers n t u is same ∙ ty.timers;
+      timers = alike-kept (λ (x : TimerState). x.kind) m.timers n t u is same ∙ ty.timers;
     }

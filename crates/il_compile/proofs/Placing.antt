@@ -9,29 +9,29 @@ use Rattle.il_image.specs.declared.instr.Instr.{Instr}
 use Rattle.il_image.proofs.PlaceLemmas.{stood}
 use Rattle.il_compile.specs.Code.{octets}
 
-pub spelled_both : (a b : List Instr) → all_spelled (a ++ b) ≡ all_spelled a ++ all_spelled b
-spelled_both [] b = refl
-spelled_both (i ∷ a) b =
-    ap (λ l. spelling i ++ l) (spelled_both a b)
+pub spelled-both : (a b : List Instr) → all_spelled (a ++ b) ≡ all_spelled a ++ all_spelled b
+spelled-both [] b = refl
+spelled-both (i ∷ a) b =
+    ap (λ l. spelling i ++ l) (spelled-both a b)
     ∙ sym (append_assoc (spelling i) (all_spelled a) (all_spelled b))
 
-pub octets_both : (a b : List Instr) → octets (a ++ b) ≡ octets a + octets b
-octets_both a b = ap length (spelled_both a b) ∙ length-append (all_spelled a) (all_spelled b)
+pub octets-both : (a b : List Instr) → octets (a ++ b) ≡ octets a + octets b
+octets-both a b = ap length (spelled-both a b) ∙ length-append (all_spelled a) (all_spelled b)
 
 pub octets_more : (i : Instr) (is : List Instr) → octets (i ∷ is) ≡ length (spelling i) + octets is
 octets_more i is = length-append (spelling i) (all_spelled is)
 
 -- an instruction has an octet
-pub some_octet : (i : Instr) → 0 < length (spelling i)
-some_octet i = omega arith
+pub some-octet : (i : Instr) → 0 < length (spelling i)
+some-octet i = omega arith
 
-pub each_front : {A : Type 0} (P : A → Type 0) (a b : List A) → Each P (a ++ b) → Each P a
-each_front P [] b h = tt
-each_front P (x ∷ a) b h = (h.0, each_front P a b h.1)
+pub each-front : {A : Type 0} (P : A → Type 0) (a b : List A) → Each P (a ++ b) → Each P a
+each-front P [] b h = tt
+each-front P (x ∷ a) b h = (h.0, each-front P a b h.1)
 
-pub each_back : {A : Type 0} (P : A → Type 0) (a b : List A) → Each P (a ++ b) → Each P b
-each_back P [] b h = h
-each_back P (x ∷ a) b h = each_back P a b h.1
+pub each-back : {A : Type 0} (P : A → Type 0) (a b : List A) → Each P (a ++ b) → Each P b
+each-back P [] b h = h
+each-back P (x ∷ a) b h = each-back P a b h.1
 
 -- Instructions stand in code from this place on.
 pub record Stands (code : List ℕ) (p : ℕ) (part : List Instr) : Type 0 where
@@ -43,19 +43,19 @@ module _ (code : List ℕ) where
   pub front : (p : ℕ) (a b : List Instr) → Stands code p (a ++ b) → Stands code p a
   front p a b h = record {
     rest = all_spelled b ++ h.rest;
-    is = h.is ∙ ap (λ l. l ++ h.rest) (spelled_both a b)
+    is = h.is ∙ ap (λ l. l ++ h.rest) (spelled-both a b)
         ∙ append_assoc (all_spelled a) (all_spelled b) h.rest;
-    are = each_front IsInstr a b h.are;
+    are = each-front IsInstr a b h.are;
   }
 
   pub back : (p : ℕ) (a b : List Instr) → Stands code p (a ++ b) → Stands code (p + octets a) b
   back p a b h = record {
     rest = h.rest;
     is = sym (drop-drop (octets a) p code)
-        ∙ ap (drop (octets a)) (h.is ∙ ap (λ l. l ++ h.rest) (spelled_both a b)
+        ∙ ap (drop (octets a)) (h.is ∙ ap (λ l. l ++ h.rest) (spelled-both a b)
         ∙ append_assoc (all_spelled a) (all_spelled b) h.rest)
         ∙ drop-append_seam (all_spelled a) (all_spelled b ++ h.rest);
-    are = each_back IsInstr a b h.are;
+    are = each-back IsInstr a b h.are;
   }
 
   -- the instruction at a place, and the place behind it
@@ -75,7 +75,7 @@ module _ (code : List ℕ) where
         is_instr = h.are.0;
         spelled = whole ∙ ap (λ l. spelling i ++ l) (sym behind);
         size = refl;
-        within = (let some = some_octet i in omega arith);
+        within = (let some = some-octet i in omega arith);
       })
 
   -- what stands in code ends within it
@@ -84,5 +84,5 @@ module _ (code : List ℕ) where
   within p i is h =
       let size : length code - p ≡ octets (i ∷ is) + length h.rest =
       sym (length-drop p code) ∙ ap length h.is ∙ length-append (all_spelled (i ∷ is)) h.rest in
-      let some = some_octet i in
+      let some = some-octet i in
       omega (arith, octets_more i is)

@@ -15,7 +15,7 @@ use Rattle.il_image.specs.declared.instr.Instr.TheVariants.{Halt, Jump}
 use Rattle.il_image.specs.declared.timer.TimerState.{TimerState}
 use Rattle.il_image.specs.declared.value.Value.{Value}
 use Rattle.il_image.specs.declared.value.Value.TheVariants.{Truth}
-use Rattle.il_check.specs.Labelling.{Labelling, Coming, Becomes, Falls, carried, is_named, with_target, coming_behind_label}
+use Rattle.il_check.specs.Labelling.{Labelling, Coming, Becomes, Falls, carry_of, is_named, with_target, coming_behind_label}
 use Rattle.il_check.specs.Program.{Checked, Item, label, transfer, plain}
 use Rattle.il_check.specs.TypedProgram.{AreItems, Decides, IsTyped, coming_behind_condition, has_label, target_of}
 use Rattle.il_check.specs.declared.typed.Transfer.{Transfer}
@@ -24,12 +24,12 @@ use Rattle.il_compile.specs.Code.{unset, entry_code, transfer_code, octets, octe
 use Rattle.il_compile.specs.Correct.{HasTypes, Means}
 use Rattle.il_compile.specs.Meaning.{Memory, State, goes, mean_from}
 use Rattle.il_compile.specs.Senses.{when_of}
-use Rattle.il_compile.proofs.Calls.{call_does}
-use Rattle.il_compile.proofs.Entries.{Agrees, holding, entry_does}
+use Rattle.il_compile.proofs.Calls.{call-does}
+use Rattle.il_compile.proofs.Entries.{Agrees, holding, entry-does}
 use Rattle.il_compile.proofs.Memories.{flat}
-use Rattle.il_compile.proofs.Placing.{Stands, front, back, found, within, octets_more, some_octet}
+use Rattle.il_compile.proofs.Placing.{Stands, front, back, found, within, octets_more, some-octet}
 use Rattle.il_compile.proofs.Straight.{Core, core, at, DoesAll, pushed}
-use Rattle.il_compile.proofs.Values.{truth_is}
+use Rattle.il_compile.proofs.Values.{truth-is}
 
 -- ---- runs
 
@@ -47,13 +47,13 @@ pub record Ends (code : List ℕ) (now : ℕ) (m : Machine) (slots : List Value)
   pub by : (steps : ℕ) → run code now taken m steps ≡ Halted slots timers (steps + taken)
 
 -- more steps change nothing of a run that has halted
-on_halted : (x : Turn) (s : Machine) (steps : ℕ) (f g : Machine → Ending) (slots : List Value)
+on-halted : (x : Turn) (s : Machine) (steps : ℕ) (f g : Machine → Ending) (slots : List Value)
     (timers : List TimerState) (n : ℕ)
     → ((m : Machine) → f m ≡ Halted slots timers n → g m ≡ Halted slots timers n)
     → ending_of x s steps f ≡ Halted slots timers n → ending_of x s steps g ≡ Halted slots timers n
-on_halted (Goes m) s steps f g slots timers n h e = h m e
-on_halted Halts s steps f g slots timers n h e = e
-on_halted (Traps trap) s steps f g slots timers n h e = absurd cc
+on-halted (Goes m) s steps f g slots timers n h e = h m e
+on-halted Halts s steps f g slots timers n h e = e
+on-halted (Traps trap) s steps f g slots timers n h e = absurd cc
 
 module _ (code : List ℕ) (now : ℕ) where
   pub longer : (n k : ℕ) (m : Machine) (slots : List Value) (timers : List TimerState)
@@ -63,7 +63,7 @@ module _ (code : List ℕ) (now : ℕ) where
   longer zero k m slots timers steps all le e = absurd cc
   longer (suc n) zero m slots timers steps all le e = absurd (omega arith)
   longer (suc n) (suc k) m slots timers steps all le e =
-      on_halted (turn code now m) m (steps + 1) _ _ slots timers all
+      on-halted (turn code now m) m (steps + 1) _ _ slots timers all
       (λ m' e'. longer n k m' slots timers (steps + 1) all (omega arith) e') e
 
   stays : (m : Machine) → Leads code now m m
@@ -76,8 +76,8 @@ module _ (code : List ℕ) (now : ℕ) where
             ap (λ x. run code now x m steps) a ∙ ap (run code now k m) b);
       }
 
-  then_leads : (a b c : Machine) → Leads code now a b → Leads code now b c → Leads code now a c
-  then_leads a b c l m = record {
+  then-leads : (a b c : Machine) → Leads code now a b → Leads code now b c → Leads code now a c
+  then-leads a b c l m = record {
     taken = l.taken + m.taken;
     enough = (let x = l.enough in let y = m.enough in omega arith);
     by = λ k steps.
@@ -87,9 +87,9 @@ module _ (code : List ℕ) (now : ℕ) where
         ∙ ap (run code now k c) f);
   }
 
-  pub then_ends : (a b : Machine) (slots : List Value) (timers : List TimerState)
+  pub then-ends : (a b : Machine) (slots : List Value) (timers : List TimerState)
       → Leads code now a b → Ends code now b slots timers → Ends code now a slots timers
-  then_ends a b slots timers l e = record {
+  then-ends a b slots timers l e = record {
     taken = l.taken + e.taken;
     enough = (let x = l.enough in let y = e.enough in omega arith);
     by = λ steps.
@@ -98,11 +98,11 @@ module _ (code : List ℕ) (now : ℕ) where
   }
 
   -- one step
-  steps_to : (i : Instr) (is : List Instr) (p : ℕ) (a : Core) (n : Machine) → p < n.place
+  steps-to : (i : Instr) (is : List Instr) (p : ℕ) (a : Core) (n : Machine) → p < n.place
       → Stands code p (i ∷ is) → act now i (p + length (spelling i)) (at p a) ≡ Goes n
       → Leads code now (at p a) n
   unfolding run
-  steps_to i is p a n lt h e = record {
+  steps-to i is p a n lt h e = record {
     taken = 1;
     enough = omega arith;
     by = λ k steps.
@@ -125,7 +125,7 @@ module _ (code : List ℕ) (now : ℕ) where
       subst (λ q. Stands code q is)
       (let e : p + octets (i ∷ []) ≡ next = omega (arith, octets_more i []) in e)
       (back code p (i ∷ []) is h) in
-      then_leads _ _ _ (steps_to i is p a (at next d.0) (let some = some_octet i in omega arith) h
+      then-leads _ _ _ (steps-to i is p a (at next d.0) (let some = some-octet i in omega arith) h
       (d.1 p next)) (subst (λ q. Leads code now (at next d.0) (at q c)) z
       (straight is next d.0 c one d.2))
 
@@ -147,25 +147,25 @@ module _ (code : List ℕ) (now : ℕ) where
 
 -- ---- jumps
 
-leaps_always : (now : ℕ) (cell : Value) (d p next : ℕ) (slots : List Value)
+leaps-always : (now : ℕ) (cell : Value) (d p next : ℕ) (slots : List Value)
     (timers : List TimerState)
     → act now (Jump (when_of Always) d) next (at p (core (cell ∷ []) slots timers))
     ≡ Goes (at (next + d) (core (cell ∷ []) slots timers))
 unfolding act
-leaps_always now cell d p next slots timers = refl
+leaps-always now cell d p next slots timers = refl
 
-leaps_if_true : (now : ℕ) (b : Bool) (d p next : ℕ) (slots : List Value) (timers : List TimerState)
+leaps-if-true : (now : ℕ) (b : Bool) (d p next : ℕ) (slots : List Value) (timers : List TimerState)
     → act now (Jump (when_of IfTrue) d) next (at p (core (Truth b ∷ []) slots timers))
     ≡ Goes (at (if b then next + d else next) (core (Truth b ∷ []) slots timers))
 unfolding act
-leaps_if_true now b d p next slots timers = refl
+leaps-if-true now b d p next slots timers = refl
 
-leaps_if_false : (now : ℕ) (b : Bool) (d p next : ℕ) (slots : List Value) (timers : List TimerState)
+leaps-if-false : (now : ℕ) (b : Bool) (d p next : ℕ) (slots : List Value) (timers : List TimerState)
     → act now (Jump (when_of IfFalse) d) next (at p (core (Truth b ∷ []) slots timers))
     ≡ Goes (at (if not b then next + d else next) (core (Truth b ∷ []) slots timers))
 unfolding act
-leaps_if_false now true d p next slots timers = refl
-leaps_if_false now false d p next slots timers = refl
+leaps-if-false now true d p next slots timers = refl
+leaps-if-false now false d p next slots timers = refl
 
 -- a jump that is taken, or not, as the result says
 record Jumps (c : Condition) (now : ℕ) (t : Option ElementaryType) (result : Option Value)
@@ -177,12 +177,12 @@ record Jumps (c : Condition) (now : ℕ) (t : Option ElementaryType) (result : O
       ≡ Goes (at (if leaves then next + d else next) (core (cell ∷ []) slots timers))
   behind : leaves ≡ false → coming_behind_condition c t ≡ Some t
 
-on_truth : (c : Condition) (now : ℕ) (t : Option ElementaryType) (result : Option Value)
+on-truth : (c : Condition) (now : ℕ) (t : Option ElementaryType) (result : Option Value)
     (cell : Value) → ((b : Bool) → Jumps c now t (Some (Truth b)) (Truth b))
     → t ≡ Some elementary.Bool → Agrees t result cell → Jumps c now t result cell
-on_truth c now t result cell f e ag =
+on-truth c now t result cell f e ag =
     let a : Agrees (Some elementary.Bool) result cell = subst (λ w. Agrees w result cell) e ag in
-    let b = truth_is cell a.1 in
+    let b = truth-is cell a.1 in
     let same : result ≡ Some (Truth b.0) = a.0 ∙ ap (λ v. Some v) b.1 in
     subst (λ v. Jumps c now t result v) (sym b.1)
     (subst (λ r. Jumps c now t r (Truth b.0)) (sym same) (f b.0))
@@ -193,44 +193,44 @@ jumped Always now t result cell ok ag =
     record {
       leaves = true;
       is = refl;
-      does = λ d p next slots timers. leaps_always now cell d p next slots timers;
+      does = λ d p next slots timers. leaps-always now cell d p next slots timers;
       behind = λ e. absurd cc;
     }
 jumped IfTrue now t result cell ok ag =
-    on_truth IfTrue now t result cell
+    on-truth IfTrue now t result cell
     (λ b. record {
       leaves = b;
       is = refl;
-      does = λ d p next slots timers. leaps_if_true now b d p next slots timers;
+      does = λ d p next slots timers. leaps-if-true now b d p next slots timers;
       behind = λ e. refl;
     }) ok ag
 jumped IfFalse now t result cell ok ag =
-    on_truth IfFalse now t result cell
+    on-truth IfFalse now t result cell
     (λ b. record {
       leaves = not b;
       is = refl;
-      does = λ d p next slots timers. leaps_if_false now b d p next slots timers;
+      does = λ d p next slots timers. leaps-if-false now b d p next slots timers;
       behind = λ e. refl;
     }) ok ag
 
 -- ---- the items
 
-agrees_less : (t u : Option ElementaryType) (result : Option Value) (cell : Value) → Becomes t u
+agrees-less : (t u : Option ElementaryType) (result : Option Value) (cell : Value) → Becomes t u
     → Agrees t result cell → Agrees u result cell
-agrees_less t u result cell become ag =
+agrees-less t u result cell become ag =
     ⊎_elim (λ (e : u ≡ t). subst (λ w. Agrees w result cell) (sym e) ag)
     (λ (e : u ≡ None). subst (λ w. Agrees w result cell) (sym e) tt) become
 
-pub transfer_size : (n : ℕ) (t : Transfer) (d : ℕ)
+pub transfer-size : (n : ℕ) (t : Transfer) (d : ℕ)
     → octets (transfer_code n t d) ≡ octets (transfer_code n t 0)
-transfer_size n (go.Jump condition l) d = refl
-transfer_size n (go.Return condition) d = refl
-transfer_size n (go.Call k args) d = refl
+transfer-size n (go.Jump condition l) d = refl
+transfer-size n (go.Return condition) d = refl
+transfer-size n (go.Call k args) d = refl
 
-still_named : (target : Option ℕ) (named : List ℕ) (l : ℕ) → is_named named l ≡ true
+still-named : (target : Option ℕ) (named : List ℕ) (l : ℕ) → is_named named l ≡ true
     → is_named (with_target target named) l ≡ true
-still_named None named l h = h
-still_named (Some k) named l h =
+still-named None named l h = h
+still-named (Some k) named l h =
     elim (k == l) as (λ b. b || is_named named l ≡ true) [ true ↦ refl | false ↦ h ]
 
 -- where a run goes on in the items: at the first, or behind a label
@@ -259,24 +259,24 @@ module _ (c : Checked) (labels : Labelling) (now : ℕ) where
         (flat state.memory) state.memory.timers
 
   -- the code of one item, and of those behind it
-  joined_code : (a b : List Instr) → (a ++ b) ++ Halt ∷ [] ≡ a ++ (b ++ Halt ∷ [])
-  joined_code a b = append_assoc a b (Halt ∷ [])
+  joined-code : (a b : List Instr) → (a ++ b) ++ Halt ∷ [] ≡ a ++ (b ++ Halt ∷ [])
+  joined-code a b = append_assoc a b (Halt ∷ [])
 
   -- an item that is passed over
-  passed_over : (l : ℕ) (a : List Instr) (size : ℕ) (i : Item) (is : List Item) (s : State)
+  passed-over : (l : ℕ) (a : List Instr) (size : ℕ) (i : Item) (is : List Item) (s : State)
       (cell : Value) → octets a ≡ size
       → items_code externals (i ∷ is) ≡ a ++ items_code externals is
       → octets_before externals l (i ∷ is) ≡ size + octets_before externals l is
       → mean_from now (Some l) (i ∷ is) s ≡ mean_from now (Some l) is s
       → Finishes (Some l) is s cell → Finishes (Some l) (i ∷ is) s cell
-  passed_over l a size i is s cell e same before means f = record {
+  passed-over l a size i is s cell e same before means f = record {
     state = f.state;
     means = means ∙ f.means;
     typed = f.typed;
     ends = λ code p h.
         (let behind = back code p a (items_code externals is ++ Halt ∷ [])
         (subst (Stands code p)
-        (ap (λ x. x ++ Halt ∷ []) same ∙ joined_code a (items_code externals is)) h) in
+        (ap (λ x. x ++ Halt ∷ []) same ∙ joined-code a (items_code externals is)) h) in
         let there : (p + octets a) + octets_before externals l is
         ≡ p + octets_before externals l (i ∷ is) = omega (arith, e, before) in
         subst (λ q. Ends code now (at q (holding (cell ∷ []) s.memory)) (flat f.state.memory)
@@ -284,18 +284,18 @@ module _ (c : Checked) (labels : Labelling) (now : ℕ) where
   }
 
   -- an item that does its part and goes on
-  went_on : (a : List Instr) (i : Item) (is : List Item) (s behind : State) (cell new : Value)
+  went-on : (a : List Instr) (i : Item) (is : List Item) (s behind : State) (cell new : Value)
       → items_code externals (i ∷ is) ≡ a ++ items_code externals is
       → DoesAll now a (holding (cell ∷ []) s.memory) (holding (new ∷ []) behind.memory)
       → mean_from now None (i ∷ is) s ≡ mean_from now None is behind
       → Finishes None is behind new → Finishes None (i ∷ is) s cell
-  went_on a i is s behind cell new same does means f = record {
+  went-on a i is s behind cell new same does means f = record {
     state = f.state;
     means = means ∙ f.means;
     typed = f.typed;
     ends = λ code p h.
         (let whole = subst (Stands code p)
-        (ap (λ x. x ++ Halt ∷ []) same ∙ joined_code a (items_code externals is)) h in
+        (ap (λ x. x ++ Halt ∷ []) same ∙ joined-code a (items_code externals is)) h in
         let rest = back code p a (items_code externals is ++ Halt ∷ []) whole in
         let there : (p + octets a) + 0 ≡ p + octets a = omega arith in
         let here : p ≡ p + 0 = omega arith in
@@ -304,14 +304,14 @@ module _ (c : Checked) (labels : Labelling) (now : ℕ) where
         (flat f.state.memory) f.state.memory.timers) there (f.ends code (p + octets a) rest) in
         subst (λ q. Ends code now (at q (holding (cell ∷ []) s.memory)) (flat f.state.memory)
         f.state.memory.timers) here
-        (then_ends code now _ _ _ _ (straight code now a p _ _ (front code p a _ whole) does)
+        (then-ends code now _ _ _ _ (straight code now a p _ _ (front code p a _ whole) does)
         tail));
   }
 
   -- a label that is sought, and one that is not
-  found_label : (n l : ℕ) (is : List Item) (s : State) (cell : Value) → (n == l) ≡ true
+  found-label : (n l : ℕ) (is : List Item) (s : State) (cell : Value) → (n == l) ≡ true
       → Finishes None is s cell → Finishes (Some l) (label n ∷ is) s cell
-  found_label n l is s cell e f = record {
+  found-label n l is s cell e f = record {
     state = f.state;
     means = ap (λ b. if b then mean_from now None is s else mean_from now (Some l) is s) e
         ∙ f.means;
@@ -323,9 +323,9 @@ module _ (c : Checked) (labels : Labelling) (now : ℕ) where
         (f.ends code p h);
   }
 
-  other_label : (n l : ℕ) (is : List Item) (s : State) (cell : Value) → (n == l) ≡ false
+  other-label : (n l : ℕ) (is : List Item) (s : State) (cell : Value) → (n == l) ≡ false
       → Finishes (Some l) is s cell → Finishes (Some l) (label n ∷ is) s cell
-  other_label n l is s cell e f = record {
+  other-label n l is s cell e f = record {
     state = f.state;
     means = ap (λ b. if b then mean_from now None is s else mean_from now (Some l) is s) e
         ∙ f.means;
@@ -337,9 +337,9 @@ module _ (c : Checked) (labels : Labelling) (now : ℕ) where
         (f.ends code p h);
   }
 
-  next_label : (n : ℕ) (is : List Item) (s : State) (cell : Value) → Finishes None is s cell
+  next-label : (n : ℕ) (is : List Item) (s : State) (cell : Value) → Finishes None is s cell
       → Finishes None (label n ∷ is) s cell
-  next_label n is s cell f =
+  next-label n is s cell f =
       record {
         state = f.state;
         means = f.means;
@@ -354,7 +354,7 @@ module _ (c : Checked) (labels : Labelling) (now : ℕ) where
       → Leads code now (at p a) (at (p + 3 + far) a)
   leaps when far p a is code three h e =
       let z : (p + length (spelling when)) + far ≡ p + 3 + far = omega (arith, three) in
-      steps_to code now when is p a (at (p + 3 + far) a) (omega arith) h
+      steps-to code now when is p a (at (p + 3 + far) a) (omega arith) h
       (e (p + length (spelling when)) ∙ ap (λ q. Goes (at q a)) z)
 
   -- what is behind a jump that is not taken
@@ -383,7 +383,7 @@ module _ (c : Checked) (labels : Labelling) (now : ℕ) where
         let here : p ≡ p + 0 = omega arith in
         subst (λ q. Ends code now (at q (holding (cell ∷ []) s.memory)) (flat f.state.memory)
         f.state.memory.timers) here
-        (then_ends code now _ _ _ _ step (f.ends code (p + 3) rest)));
+        (then-ends code now _ _ _ _ step (f.ends code (p + 3) rest)));
   }
 
   -- a jump that is taken
@@ -414,17 +414,17 @@ module _ (c : Checked) (labels : Labelling) (now : ℕ) where
         let here : p ≡ p + 0 = omega arith in
         subst (λ q. Ends code now (at q (holding (cell ∷ []) s.memory)) (flat state.memory)
         state.memory.timers) here
-        (then_ends code now _ _ _ _ step (f code (p + 3) rest)));
+        (then-ends code now _ _ _ _ step (f code (p + 3) rest)));
   }
 
   -- ---- all items
 
-  items_finish : (is : List Item) (sought : Option ℕ) (passed : ℕ) (named : List ℕ)
+  items-finish : (is : List Item) (sought : Option ℕ) (passed : ℕ) (named : List ℕ)
       (coming : Coming) (s : State) (cell : Value)
-      → AreItems c labels is (carried passed named coming)
+      → AreItems c labels is (carry_of passed named coming)
       → Comes labels sought is named coming s.result cell → HasTypes c s.memory
       → Finishes sought is s cell
-  items_finish [] None passed named coming s cell ok comes ty = record {
+  items-finish [] None passed named coming s cell ok comes ty = record {
     state = s;
     means = refl;
     typed = ty;
@@ -432,74 +432,75 @@ module _ (c : Checked) (labels : Labelling) (now : ℕ) where
         subst (λ q. Ends code now (at q (holding (cell ∷ []) s.memory)) (flat s.memory)
         s.memory.timers) z (halting code now p (holding (cell ∷ []) s.memory) h));
   }
-  items_finish [] (Some l) passed named coming s cell ok comes ty =
+  items-finish [] (Some l) passed named coming s cell ok comes ty =
       absurd (let e : false ≡ true = comes.0 in cc)
-  items_finish (label n ∷ is) None passed named coming s cell ok comes ty =
-      let now_is : coming_behind_label labels (carried passed named coming) ≡ Some (labels passed) =
+  items-finish (label n ∷ is) None passed named coming s cell ok comes ty =
+      let now-is : coming_behind_label labels (carry_of passed named coming)
+      ≡ Some (labels passed) =
       rw comes.1 refl in
       let falls : Becomes comes.0 (labels passed) =
       subst (λ w. Falls labels passed w) comes.1 ok.0.2 in
-      next_label n is s cell (items_finish is None (passed + 1) named
-      (coming_behind_label labels (carried passed named coming)) s cell ok.1
-      (labels passed, now_is, agrees_less comes.0 (labels passed) s.result cell falls comes.2)
+      next-label n is s cell (items-finish is None (passed + 1) named
+      (coming_behind_label labels (carry_of passed named coming)) s cell ok.1
+      (labels passed, now-is, agrees-less comes.0 (labels passed) s.result cell falls comes.2)
       ty)
-  items_finish (label n ∷ is) (Some l) passed named coming s cell ok comes ty =
+  items-finish (label n ∷ is) (Some l) passed named coming s cell ok comes ty =
       elim (n == l) as (λ b. (n == l) ≡ b → Finishes (Some l) (label n ∷ is) s cell) [
         | true ↦ (λ e.
             (let same : passed ≡ l = sym ok.0.0 ∙ eqb-true n l e in
             let named_it : is_named named passed ≡ true =
             subst (λ k. is_named named k ≡ true) (sym same) comes.1 in
-            let now_is : coming_behind_label labels (carried passed named coming)
+            let now-is : coming_behind_label labels (carry_of passed named coming)
             ≡ Some (labels passed) =
-            either_way (is_some coming) (is_named named passed) (labels passed) named_it in
-            found_label n l is s cell e
-            (items_finish is None (passed + 1) named
-            (coming_behind_label labels (carried passed named coming)) s cell ok.1 (
+            either-way (is_some coming) (is_named named passed) (labels passed) named_it in
+            found-label n l is s cell e
+            (items-finish is None (passed + 1) named
+            (coming_behind_label labels (carry_of passed named coming)) s cell ok.1 (
               labels passed,
-              now_is,
+              now-is,
               subst (λ k. Agrees (labels k) s.result cell) (sym same) comes.2,
             ) ty)))
         | false ↦ (λ e.
             (let there : has_label is l ≡ true =
             subst (λ b. b || has_label is l ≡ true) e comes.0 in
-            other_label n l is s cell e
-            (items_finish is (Some l) (passed + 1) named
-            (coming_behind_label labels (carried passed named coming)) s cell ok.1
+            other-label n l is s cell e
+            (items-finish is (Some l) (passed + 1) named
+            (coming_behind_label labels (carry_of passed named coming)) s cell ok.1
             (there, comes.1, comes.2) ty)))
       ] refl
     where
-      either_way : (a b : Bool) (t : Option ElementaryType) → b ≡ true
+      either-way : (a b : Bool) (t : Option ElementaryType) → b ≡ true
           → (if a || b then Some t else None) ≡ Some t
-      either_way true b t e = refl
-      either_way false b t e = rw e refl
-  items_finish (transfer x ∷ is) (Some l) passed named coming s cell ok comes ty =
-      passed_over l (transfer_code externals x
+      either-way true b t e = refl
+      either-way false b t e = rw e refl
+  items-finish (transfer x ∷ is) (Some l) passed named coming s cell ok comes ty =
+      passed-over l (transfer_code externals x
       (distance externals x is (octets (items_code externals is))))
       (octets (transfer_code externals x 0)) (transfer x) is s cell
-      (transfer_size externals x _) refl refl refl
-      (items_finish is (Some l) passed (with_target (target_of x) named) _ s cell ok.2
-      (comes.0, still_named (target_of x) named l comes.1, comes.2) ty)
-  items_finish (plain e ∷ is) (Some l) passed named coming s cell ok comes ty =
-      passed_over l (entry_code externals e) (octets (entry_code externals e)) (plain e) is s cell
+      (transfer-size externals x _) refl refl refl
+      (items-finish is (Some l) passed (with_target (target_of x) named) _ s cell ok.2
+      (comes.0, still-named (target_of x) named l comes.1, comes.2) ty)
+  items-finish (plain e ∷ is) (Some l) passed named coming s cell ok comes ty =
+      passed-over l (entry_code externals e) (octets (entry_code externals e)) (plain e) is s cell
       refl refl refl refl
-      (items_finish is (Some l) passed named (Some ok.1) s cell ok.3 comes ty)
-  items_finish (plain e ∷ is) None passed named coming s cell ok comes ty =
+      (items-finish is (Some l) passed named (Some ok.1) s cell ok.3 comes ty)
+  items-finish (plain e ∷ is) None passed named coming s cell ok comes ty =
       let t = ok.0 in
       let same : comes.0 ≡ t = (let f : Some comes.0 ≡ Some t = sym comes.1 ∙ ok.2.0 in cc) in
-      let g = entry_does c now e t ok.1 s cell [] ok.2.1
+      let g = entry-does c now e t ok.1 s cell [] ok.2.1
       (subst (λ w. Agrees w s.result cell) same comes.2) ty (let d = ok.2.2 in omega arith) in
-      went_on (entry_code externals e) (plain e) is s g.state cell g.cell refl g.does
+      went-on (entry_code externals e) (plain e) is s g.state cell g.cell refl g.does
       (ap (λ o. o >>= mean_from now None is) g.is)
-      (items_finish is None passed named (Some ok.1) g.state g.cell ok.3 (ok.1, refl, g.agrees)
+      (items-finish is None passed named (Some ok.1) g.state g.cell ok.3 (ok.1, refl, g.agrees)
       g.typed)
-  items_finish (transfer (go.Call n args) ∷ is) None passed named coming s cell ok comes ty =
-      let g = call_does c now n ok.1.1.0 args (cell ∷ []) s ok.1.1.1 ty (omega arith) in
-      went_on (transfer_code externals (go.Call n args) 0) (transfer (go.Call n args)) is s
+  items-finish (transfer (go.Call n args) ∷ is) None passed named coming s cell ok comes ty =
+      let g = call-does c now n ok.1.1.0 args (cell ∷ []) s ok.1.1.1 ty (omega arith) in
+      went-on (transfer_code externals (go.Call n args) 0) (transfer (go.Call n args)) is s
       (record { result = None; memory = g.after }) cell cell refl g.does
       (ap (λ o. o >>= mean_from now None is) g.is)
-      (items_finish is None passed named (Some None) (record { result = None; memory = g.after })
+      (items-finish is None passed named (Some None) (record { result = None; memory = g.after })
       cell ok.2 (None, refl, tt) g.typed)
-  items_finish (transfer (go.Jump condition l) ∷ is) None passed named coming s cell ok comes ty =
+  items-finish (transfer (go.Jump condition l) ∷ is) None passed named coming s cell ok comes ty =
       let t = ok.0 in
       let same : comes.0 ≡ t = (let f : Some comes.0 ≡ Some t = sym comes.1 ∙ ok.1.0 in cc) in
       let ag = subst (λ w. Agrees w s.result cell) same comes.2 in
@@ -508,9 +509,9 @@ module _ (c : Checked) (labels : Labelling) (now : ℕ) where
       elim j.leaves as (λ b. j.leaves ≡ b
       → Finishes None (transfer (go.Jump condition l) ∷ is) s cell) [
         | true ↦ (λ e.
-            (let f = items_finish is (Some l) passed (l ∷ named)
+            (let f = items-finish is (Some l) passed (l ∷ named)
             (coming_behind_condition condition t) s cell ok.2
-            (ok.1.1.1, named_it, agrees_less t (labels l) s.result cell ok.1.2 ag) ty in
+            (ok.1.1.1, named_it, agrees-less t (labels l) s.result cell ok.1.2 ag) ty in
             took condition (go.Jump condition l) (octets_before externals l is) is s f.state cell t
             j e refl
             (ap (λ o. o >>= (λ (b : Bool). if b then mean_from now (Some l) is s
@@ -523,13 +524,13 @@ module _ (c : Checked) (labels : Labelling) (now : ℕ) where
             (ap (λ o. o >>= (λ (b : Bool). if b then mean_from now (Some l) is s
             else mean_from now None is s)) j.is
             ∙ ap (λ b. if b then mean_from now (Some l) is s else mean_from now None is s) e)
-            (items_finish is None passed (l ∷ named) (coming_behind_condition condition t) s cell
+            (items-finish is None passed (l ∷ named) (coming_behind_condition condition t) s cell
             ok.2 (t, j.behind e, ag) ty)))
       ] refl
     where
       itself : (l : ℕ) (b : Bool) → (l == l) || b ≡ true
       itself l b = ap (λ x. x || b) (eq-eqb l l refl)
-  items_finish (transfer (go.Return condition) ∷ is) None passed named coming s cell ok comes ty =
+  items-finish (transfer (go.Return condition) ∷ is) None passed named coming s cell ok comes ty =
       let t = ok.0 in
       let same : comes.0 ≡ t = (let f : Some comes.0 ≡ Some t = sym comes.1 ∙ ok.1.0 in cc) in
       let ag = subst (λ w. Agrees w s.result cell) same comes.2 in
@@ -547,7 +548,7 @@ module _ (c : Checked) (labels : Labelling) (now : ℕ) where
             (fell condition (go.Return condition) d is s cell t j e refl refl
             (ap (λ o. o >>= (λ (b : Bool). if b then Some s else mean_from now None is s)) j.is
             ∙ ap (λ b. if b then Some s else mean_from now None is s) e)
-            (items_finish is None passed named (coming_behind_condition condition t) s cell ok.2
+            (items-finish is None passed named (coming_behind_condition condition t) s cell ok.2
             (t, j.behind e, ag) ty)))
       ] refl
 
@@ -555,15 +556,15 @@ module _ (c : Checked) (labels : Labelling) (now : ℕ) where
 
 pub means : (c : Checked) → IsTyped c → (now : ℕ) (m : Memory) → HasTypes c m → Means c now m
 means c ok now m ty =
-    let f = items_finish c ok.labels now c.items None 0 [] (Some None)
+    let f = items-finish c ok.labels now c.items None 0 [] (Some None)
     (record { result = None; memory = m }) (Truth false) ok.items (None, refl, tt) ty in
     record { after = f.state.memory; is = ap (option_map (λ s. s.memory)) f.means; typed = f.typed }
 
 -- a run from place 0 ends within as many steps as the code has octets
-whole_run : (code : List ℕ) (now : ℕ) (a : Core) (slots : List Value) (timers : List TimerState)
+whole-run : (code : List ℕ) (now : ℕ) (a : Core) (slots : List Value) (timers : List TimerState)
     → (e : Ends code now (at 0 a) slots timers)
     → run code now (length code) (at 0 a) 0 ≡ Halted slots timers e.taken
-whole_run code now a slots timers e =
+whole-run code now a slots timers e =
     let z : 0 + e.taken ≡ e.taken = omega arith in
     longer code now e.taken (length code) (at 0 a) slots timers 0 e.taken
     (let x = e.enough in omega arith) (e.by 0 ∙ ap (Halted slots timers) z)
@@ -581,13 +582,13 @@ follows c ok are now m ty =
     let code = all_spelled (program_code c) in
     let whole : Stands code 0 (program_code c) =
     record { rest = []; is = sym (append-nil code); are = are } in
-    let f = items_finish c ok.labels now c.items None 0 [] (Some None)
+    let f = items-finish c ok.labels now c.items None 0 [] (Some None)
     (record { result = None; memory = m }) (Truth false) ok.items (None, refl, tt) ty in
     let first =
     straight code now (unset ∷ []) 0 (holding [] m) (holding (Truth false ∷ []) m)
     (front code 0 (unset ∷ []) _ whole)
     (_, pushed now (flat m) m.timers (Truth false) [] (omega arith), refl) in
-    let e = then_ends code now _ _ _ _ first
+    let e = then-ends code now _ _ _ _ first
     (f.ends code 2 (back code 0 (unset ∷ [])
     (items_code (length c.externals) c.items ++ Halt ∷ []) whole)) in
     record {
@@ -597,5 +598,5 @@ follows c ok are now m ty =
         typed = f.typed;
       };
       steps = e.taken;
-      halts = whole_run code now (holding [] m) (flat f.state.memory) f.state.memory.timers e;
+      halts = whole-run code now (holding [] m) (flat f.state.memory) f.state.memory.timers e;
     }

@@ -27,177 +27,177 @@ use Rattle.il_check.specs.declared.typed.TypedArguments.TheVariants as arguments
 use Rattle.il_check.specs.declared.typed.TypedOperand.{TypedOperand}
 use Rattle.il_check.specs.declared.typed.TypedOperand.TheVariants as operand
 use Rattle.il_compile.specs.Behind.{AreSpellable, IsSpellableEntry, AreSpellableEntries}
-use Rattle.il_compile.specs.Code.{slot_number, fetch, negation, sense_instr, operated, store_code, operation_code, unset, entry_code, entries_code, input_use, argument_code, arguments_code, transfer_code, octets, octets_before, distance, items_code, program_code}
+use Rattle.il_compile.specs.Code.{slot_number, fetch, negation, sense_instr, operator_code, store_code, operation_code, unset, entry_code, entries_code, input_use, argument_code, arguments_code, transfer_code, octets, octets_before, distance, items_code, program_code}
 use Rattle.il_compile.specs.Senses.{Sense, connects, computes, compares, sense_of, when_of}
-use Rattle.il_compile.proofs.Placing.{octets_both}
-use Rattle.il_compile.proofs.Runs.{transfer_size}
+use Rattle.il_compile.proofs.Placing.{octets-both}
+use Rattle.il_compile.proofs.Runs.{transfer-size}
 
-each_both : {A : Type 0} (P : A → Type 0) (a b : List A) → Each P a → Each P b → Each P (a ++ b)
-each_both P [] b h k = k
-each_both P (x ∷ a) b h k = (h.0, each_both P a b h.1 k)
+each-both : {A : Type 0} (P : A → Type 0) (a b : List A) → Each P a → Each P b → Each P (a ++ b)
+each-both P [] b h k = k
+each-both P (x ∷ a) b h k = (h.0, each-both P a b h.1 k)
 
-below_length : {A B : Type 0} (f : A → B) (xs : List A) (n : ℕ) (b : B)
+below-length : {A B : Type 0} (f : A → B) (xs : List A) (n : ℕ) (b : B)
     → option_map f (slice_get xs n) ≡ Some b → n < length xs
-below_length f [] n b e = absurd cc
-below_length f (x ∷ xs) zero b e = omega arith
-below_length f (x ∷ xs) (suc n) b e = let h = below_length f xs n b e in omega arith
+below-length f [] n b e = absurd cc
+below-length f (x ∷ xs) zero b e = omega arith
+below-length f (x ∷ xs) (suc n) b e = let h = below-length f xs n b e in omega arith
 
-negation_is : (negated : Bool) → Each IsInstr (negation negated)
-negation_is true = (tt, tt)
-negation_is false = tt
+negation-is : (negated : Bool) → Each IsInstr (negation negated)
+negation-is true = (tt, tt)
+negation-is false = tt
 
-sense_is : (x : Sense) (kind : ElementaryType) → IsInstr (sense_instr x kind)
-sense_is (connects c) kind = tt
-sense_is (computes o) kind = tt
-sense_is (compares c) kind = tt
+sense-is : (x : Sense) (kind : ElementaryType) → IsInstr (sense_instr x kind)
+sense-is (connects c) kind = tt
+sense-is (computes o) kind = tt
+sense-is (compares c) kind = tt
 
-operated_is : (o : Operator) (kind : ElementaryType) (negated : Bool)
-    → Each IsInstr (operated o kind negated)
-operated_is o kind negated =
-    each_both IsInstr (negation negated) (sense_instr (sense_of o) kind ∷ []) (negation_is negated)
-    (sense_is (sense_of o) kind, tt)
+operated-is : (o : Operator) (kind : ElementaryType) (negated : Bool)
+    → Each IsInstr (operator_code o kind negated)
+operated-is o kind negated =
+    each-both IsInstr (negation negated) (sense_instr (sense_of o) kind ∷ []) (negation-is negated)
+    (sense-is (sense_of o) kind, tt)
 
-store_is : (how : StoreKind) (n : ℕ) → n < 2 ^ 16 → Each IsInstr (store_code how n)
-store_is store.Plain n h = (h, tt)
-store_is store.Negated n h = (tt, (h, (tt, tt)))
-store_is store.Set n h = (h, tt)
-store_is store.Reset n h = (h, tt)
+store-is : (how : StoreKind) (n : ℕ) → n < 2 ^ 16 → Each IsInstr (store_code how n)
+store-is store.Plain n h = (h, tt)
+store-is store.Negated n h = (tt, (h, (tt, tt)))
+store-is store.Set n h = (h, tt)
+store-is store.Reset n h = (h, tt)
 
 module _ (c : Checked) (few : length c.externals + length c.variables ≤ 512)
     (timers : length c.timers ≤ 64) where
-  slot_is : (s : Slot) (kind : ElementaryType) → slot_type c s ≡ Some kind
+  slot-is : (s : Slot) (kind : ElementaryType) → slot_type c s ≡ Some kind
       → slot_number (length c.externals) s < 2 ^ 16
-  slot_is (External n) kind e = let h =
-      below_length (λ x. x.kind) c.externals n kind e in omega arith
-  slot_is (Variable n) kind e = let h =
-      below_length (λ x. type_of x.initial) c.variables n kind e in omega arith
+  slot-is (External n) kind e = let h =
+      below-length (λ x. x.kind) c.externals n kind e in omega arith
+  slot-is (Variable n) kind e = let h =
+      below-length (λ x. type_of x.initial) c.variables n kind e in omega arith
 
-  timer_is : (n : ℕ) → n < length c.timers → n < 2 ^ 16
-  timer_is n h = omega arith
+  timer-is : (n : ℕ) → n < length c.timers → n < 2 ^ 16
+  timer-is n h = omega arith
 
-  fetch_is : (x : TypedOperand) (kind : ElementaryType) → IsOperand c x kind
+  fetch-is : (x : TypedOperand) (kind : ElementaryType) → IsOperand c x kind
       → IsInstr (fetch (length c.externals) x)
-  fetch_is (operand.Literal v) kind h = h.0
-  fetch_is (operand.Slot s) kind h = slot_is s kind h
-  fetch_is (operand.Output n Q) kind h = timer_is n h.0
-  fetch_is (operand.Output n Et) kind h = timer_is n h.0
+  fetch-is (operand.Literal v) kind h = h.0
+  fetch-is (operand.Slot s) kind h = slot-is s kind h
+  fetch-is (operand.Output n Q) kind h = timer-is n h.0
+  fetch-is (operand.Output n Et) kind h = timer-is n h.0
 
-  operation_is : (o : SimpleOperation) (t u : Option ElementaryType) → IsOperation c o t u
+  operation-is : (o : SimpleOperation) (t u : Option ElementaryType) → IsOperation c o t u
       → Each IsInstr (operation_code (length c.externals) o)
-  operation_is (op.Load negated x) t u h = (tt, (fetch_is x h.0 h.1, negation_is negated))
-  operation_is (op.Store how s) t u h =
-      store_is how (slot_number (length c.externals) s) (slot_is s h.0 h.1)
-  operation_is (op.Combine operator kind negated x) t u h =
-      (fetch_is x kind h.0, operated_is operator kind negated)
-  operation_is op.Not t u h = (tt, tt)
-  operation_is (op.Convert conversion) t u h = (tt, tt)
+  operation-is (op.Load negated x) t u h = (tt, (fetch-is x h.0 h.1, negation-is negated))
+  operation-is (op.Store how s) t u h =
+      store-is how (slot_number (length c.externals) s) (slot-is s h.0 h.1)
+  operation-is (op.Combine operator kind negated x) t u h =
+      (fetch-is x kind h.0, operated-is operator kind negated)
+  operation-is op.Not t u h = (tt, tt)
+  operation-is (op.Convert conversion) t u h = (tt, tt)
 
   mutual
-    entry_spellable : (e : Entry) (t u : Option ElementaryType) → IsEntry c e t u
+    entry-spellable : (e : Entry) (t u : Option ElementaryType) → IsEntry c e t u
         → IsSpellableEntry (length c.externals) e
-    entry_spellable (operation o) t u h = operation_is o t u h
-    entry_spellable (block operator kind negated es) t u h =
-        entries_spellable es None (Some kind) h.0
+    entry-spellable (operation o) t u h = operation-is o t u h
+    entry-spellable (block operator kind negated es) t u h =
+        entries-spellable es None (Some kind) h.0
 
-    entries_spellable : (es : Entries) (t u : Option ElementaryType) → AreEntries c es t u
+    entries-spellable : (es : Entries) (t u : Option ElementaryType) → AreEntries c es t u
         → AreSpellableEntries (length c.externals) es
-    entries_spellable no_entries t u h = tt
-    entries_spellable (entry e es) t u h =
-        (entry_spellable e t h.0 h.1, entries_spellable es h.0 u h.2)
+    entries-spellable no_entries t u h = tt
+    entries-spellable (entry e es) t u h =
+        (entry-spellable e t h.0 h.1, entries-spellable es h.0 u h.2)
 
-  argument_is : (n : ℕ) (a : TypedArgument) → n < length c.timers → IsArgument c a
+  argument-is : (n : ℕ) (a : TypedArgument) → n < length c.timers → IsArgument c a
       → Each IsInstr (argument_code (length c.externals) n a)
-  argument_is n a lt h = (fetch_is a.operand _ h, (input_is a.input, tt))
+  argument-is n a lt h = (fetch-is a.operand _ h, (input-is a.input, tt))
     where
-      input_is : (i : Input) → IsInstr (Timer (input_use i) n)
-      input_is In = timer_is n lt
-      input_is Pt = timer_is n lt
+      input-is : (i : Input) → IsInstr (Timer (input_use i) n)
+      input-is In = timer-is n lt
+      input-is Pt = timer-is n lt
 
-  arguments_are : (n : ℕ) (args : TypedArguments) → n < length c.timers → AreArguments c args
+  arguments-are : (n : ℕ) (args : TypedArguments) → n < length c.timers → AreArguments c args
       → Each IsInstr (arguments_code (length c.externals) n args)
-  arguments_are n arguments.None lt h = tt
-  arguments_are n (arguments.One a) lt h = argument_is n a lt h
-  arguments_are n (arguments.Two a b) lt h =
-      each_both IsInstr (argument_code (length c.externals) n a)
-      (argument_code (length c.externals) n b) (argument_is n a lt h.0) (argument_is n b lt h.1)
+  arguments-are n arguments.None lt h = tt
+  arguments-are n (arguments.One a) lt h = argument-is n a lt h
+  arguments-are n (arguments.Two a b) lt h =
+      each-both IsInstr (argument_code (length c.externals) n a)
+      (argument_code (length c.externals) n b) (argument-is n a lt h.0) (argument-is n b lt h.1)
 
-  items_spellable : (labels : Labelling) (is : List Item) (k : Carried) → AreItems c labels is k
+  items-spellable : (labels : Labelling) (is : List Item) (k : Carried) → AreItems c labels is k
       → AreSpellable (length c.externals) is
-  items_spellable labels [] k h = tt
-  items_spellable labels (label n ∷ is) k h = (tt, items_spellable labels is _ h.1)
-  items_spellable labels (transfer (go.Jump condition l) ∷ is) k h =
-      (((omega arith), tt), items_spellable labels is _ h.2)
-  items_spellable labels (transfer (go.Return condition) ∷ is) k h =
-      (((omega arith), tt), items_spellable labels is _ h.2)
-  items_spellable labels (transfer (go.Call n args) ∷ is) k h = (
-    each_both IsInstr (arguments_code (length c.externals) n args) (Timer Run n ∷ [])
-        (arguments_are n args h.1.1.0 h.1.1.1) (timer_is n h.1.1.0, tt),
-    items_spellable labels is _ h.2,
+  items-spellable labels [] k h = tt
+  items-spellable labels (label n ∷ is) k h = (tt, items-spellable labels is _ h.1)
+  items-spellable labels (transfer (go.Jump condition l) ∷ is) k h =
+      (((omega arith), tt), items-spellable labels is _ h.2)
+  items-spellable labels (transfer (go.Return condition) ∷ is) k h =
+      (((omega arith), tt), items-spellable labels is _ h.2)
+  items-spellable labels (transfer (go.Call n args) ∷ is) k h = (
+    each-both IsInstr (arguments_code (length c.externals) n args) (Timer Run n ∷ [])
+        (arguments-are n args h.1.1.0 h.1.1.1) (timer-is n h.1.1.0, tt),
+    items-spellable labels is _ h.2,
   )
-  items_spellable labels (plain e ∷ is) k h =
-      (entry_spellable e h.0 h.1 h.2.1, items_spellable labels is _ h.3)
+  items-spellable labels (plain e ∷ is) k h =
+      (entry-spellable e h.0 h.1 h.2.1, items-spellable labels is _ h.3)
 
-pub all_spellable : (c : Checked) → IsTyped c → AreSpellable (length c.externals) c.items
-all_spellable c ok = items_spellable c ok.slots ok.timers ok.labels c.items beginning ok.items
+pub all-spellable : (c : Checked) → IsTyped c → AreSpellable (length c.externals) c.items
+all-spellable c ok = items-spellable c ok.slots ok.timers ok.labels c.items beginning ok.items
 
 -- ---- from what is spellable to instructions
 
 mutual
-  entry_are : (n : ℕ) (e : Entry) → IsSpellableEntry n e → Each IsInstr (entry_code n e)
-  entry_are n (operation o) h = h
-  entry_are n (block operator kind negated es) h = (
+  entry-are : (n : ℕ) (e : Entry) → IsSpellableEntry n e → Each IsInstr (entry_code n e)
+  entry-are n (operation o) h = h
+  entry-are n (block operator kind negated es) h = (
     refl,
-    each_both IsInstr (entries_code n es) (operated operator kind negated)
-        (entries_are n es h) (operated_is operator kind negated),
+    each-both IsInstr (entries_code n es) (operator_code operator kind negated)
+        (entries-are n es h) (operated-is operator kind negated),
   )
 
-  entries_are : (n : ℕ) (es : Entries) → AreSpellableEntries n es → Each IsInstr (entries_code n es)
-  entries_are n no_entries h = tt
-  entries_are n (entry e es) h =
-      each_both IsInstr (entry_code n e) (entries_code n es) (entry_are n e h.0)
-      (entries_are n es h.1)
+  entries-are : (n : ℕ) (es : Entries) → AreSpellableEntries n es → Each IsInstr (entries_code n es)
+  entries-are n no_entries h = tt
+  entries-are n (entry e es) h =
+      each-both IsInstr (entry_code n e) (entries_code n es) (entry-are n e h.0)
+      (entries-are n es h.1)
 
 -- a label is no further away than the end
-no_further : (n l : ℕ) (is : List Item) → octets_before n l is ≤ octets (items_code n is)
-no_further n l [] = omega arith
-no_further n l (label k ∷ is) =
+no-further : (n l : ℕ) (is : List Item) → octets_before n l is ≤ octets (items_code n is)
+no-further n l [] = omega arith
+no-further n l (label k ∷ is) =
     elim (k == l) as (λ b. (if b then 0 else octets_before n l is) ≤ octets (items_code n is))
-    [ true ↦ omega arith | false ↦ no_further n l is ]
-no_further n l (transfer t ∷ is) =
-    let h = no_further n l is in
+    [ true ↦ omega arith | false ↦ no-further n l is ]
+no-further n l (transfer t ∷ is) =
+    let h = no-further n l is in
     let d = distance n t is (octets (items_code n is)) in
-    omega (arith, octets_both (transfer_code n t d) (items_code n is), transfer_size n t d)
-no_further n l (plain e ∷ is) = let h =
-    no_further n l is in omega (arith, octets_both (entry_code n e) (items_code n is))
+    omega (arith, octets-both (transfer_code n t d) (items_code n is), transfer-size n t d)
+no-further n l (plain e ∷ is) = let h =
+    no-further n l is in omega (arith, octets-both (entry_code n e) (items_code n is))
 
-pub items_are : (n : ℕ) (is : List Item) → AreSpellable n is → octets (items_code n is) ≤ 65_535
+pub items-are : (n : ℕ) (is : List Item) → AreSpellable n is → octets (items_code n is) ≤ 65_535
     → Each IsInstr (items_code n is)
-items_are n [] h short = tt
-items_are n (label k ∷ is) h short = items_are n is h.1 short
-items_are n (transfer (go.Jump condition l) ∷ is) h short =
-    let f = no_further n l is in
-    let b = octets_both (Jump (when_of condition) (octets_before n l is) ∷ []) (items_code n is) in
-    ((omega arith), items_are n is h.1 (omega arith))
-items_are n (transfer (go.Return condition) ∷ is) h short =
-    let b = octets_both (Jump (when_of condition) (octets (items_code n is)) ∷ []) (items_code n is)
+items-are n [] h short = tt
+items-are n (label k ∷ is) h short = items-are n is h.1 short
+items-are n (transfer (go.Jump condition l) ∷ is) h short =
+    let f = no-further n l is in
+    let b = octets-both (Jump (when_of condition) (octets_before n l is) ∷ []) (items_code n is) in
+    ((omega arith), items-are n is h.1 (omega arith))
+items-are n (transfer (go.Return condition) ∷ is) h short =
+    let b = octets-both (Jump (when_of condition) (octets (items_code n is)) ∷ []) (items_code n is)
     in
-    ((omega arith), items_are n is h.1 (omega arith))
-items_are n (transfer (go.Call k args) ∷ is) h short =
-    let b = octets_both (arguments_code n k args ++ Timer Run k ∷ []) (items_code n is) in
-    each_both IsInstr (arguments_code n k args ++ Timer Run k ∷ []) (items_code n is) h.0
-    (items_are n is h.1 (omega arith))
-items_are n (plain e ∷ is) h short =
-    let b = octets_both (entry_code n e) (items_code n is) in
-    each_both IsInstr (entry_code n e) (items_code n is) (entry_are n e h.0)
-    (items_are n is h.1 (omega arith))
+    ((omega arith), items-are n is h.1 (omega arith))
+items-are n (transfer (go.Call k args) ∷ is) h short =
+    let b = octets-both (arguments_code n k args ++ Timer Run k ∷ []) (items_code n is) in
+    each-both IsInstr (arguments_code n k args ++ Timer Run k ∷ []) (items_code n is) h.0
+    (items-are n is h.1 (omega arith))
+items-are n (plain e ∷ is) h short =
+    let b = octets-both (entry_code n e) (items_code n is) in
+    each-both IsInstr (entry_code n e) (items_code n is) (entry-are n e h.0)
+    (items-are n is h.1 (omega arith))
 
-pub program_are : (c : Checked) → IsTyped c → octets (program_code c) ≤ 65_535
+pub program-are : (c : Checked) → IsTyped c → octets (program_code c) ≤ 65_535
     → Each IsInstr (program_code c)
-program_are c ok short =
+program-are c ok short =
     let n = length c.externals in
-    let b = octets_both (items_code n c.items) (Halt ∷ []) in
-    let w = octets_both (unset ∷ []) (items_code n c.items ++ Halt ∷ []) in (
+    let b = octets-both (items_code n c.items) (Halt ∷ []) in
+    let w = octets-both (unset ∷ []) (items_code n c.items ++ Halt ∷ []) in (
       refl,
-      each_both IsInstr (items_code n c.items) (Halt ∷ [])
-          (items_are n c.items (all_spellable c ok) (omega arith)) (tt, tt),
+      each-both IsInstr (items_code n c.items) (Halt ∷ [])
+          (items-are n c.items (all-spellable c ok) (omega arith)) (tt, tt),
     )

@@ -5,8 +5,8 @@ use Rattle.std.specs.Ordering.{int_eq}
 use Rattle.std.proofs.lemmas.Bool.{lt-ltb}
 use Rattle.bay_base.specs.Types.{same_type}
 use Rattle.il_image.specs.Machine.{State, Goes, Traps, WrongKind, ZeroDivisor, act, goes, is_comparable, divides, value_of_width}
-use Rattle.il_image.specs.Arithmetic.{computed, compared, connected, widened}
-use Rattle.il_image.specs.Timers.{called}
+use Rattle.il_image.specs.Arithmetic.{computation_of, comparison_holds, logic_of, wider_value}
+use Rattle.il_image.specs.Timers.{after_call}
 use Rattle.il_image.specs.Values.{number_of, type_of}
 use Rattle.il_image.specs.declared.arithmetic.Operation.{Operation}
 use Rattle.il_image.specs.declared.arithmetic.Width.{Width}
@@ -23,7 +23,7 @@ use Rattle.il_image.specs.declared.value.Value.TheVariants.{Truth, Short, Long, 
 use Rattle.il_text.specs.declared.program.Input.{Input}
 use Rattle.il_text.specs.declared.program.Input.TheVariants.{In, Pt}
 use Rattle.il_compile.specs.Code.{input_use, sense_instr}
-use Rattle.il_compile.specs.Meaning.{combined, given}
+use Rattle.il_compile.specs.Meaning.{combination_of, timer_with_input}
 use Rattle.il_compile.specs.Senses.{Sense, connects, computes, compares}
 
 -- what a state has beside its place
@@ -74,7 +74,7 @@ module _ (now : ℕ) (slots : List Value) (timers : List TimerState) where
   unfolding act
   inverted b cells p next = refl
 
-  pub wider : (w : Widening) (v x : Value) (cells : List Value) → widened w v ≡ Some x
+  pub wider : (w : Widening) (v x : Value) (cells : List Value) → wider_value w v ≡ Some x
       → Does now (Widen w) (core (v ∷ cells) slots timers) (core (x ∷ cells) slots timers)
   unfolding act
   wider IntToDint (Short z) x cells e p next = let same : Long z ≡ x = cc in rw same refl
@@ -88,21 +88,23 @@ module _ (now : ℕ) (slots : List Value) (timers : List TimerState) where
   wider DintToLint (Wide z) x cells e p next = absurd cc
   wider DintToLint (Span n) x cells e p next = absurd cc
 
-  computed_by : (o : Operation) (w : Width) (a b : ℤ) (c : Value) (cells : List Value) (p next : ℕ)
+  computed-by : (o : Operation) (w : Width) (a b : ℤ) (c : Value) (cells : List Value) (p next : ℕ)
       (s : State) (zero : Bool) → zero ≡ (divides o && int_eq b (pos 0))
-      → (if zero then None else Some (value_of_width w (computed o w a b))) ≡ Some c
+      → (if zero then None else Some (value_of_width w (computation_of o w a b))) ≡ Some c
       → (if zero then Traps ZeroDivisor
-      else goes next (value_of_width w (computed o w a b) ∷ cells) s) ≡ goes next (c ∷ cells) s
-  computed_by o w a b c cells p next s true z e = absurd cc
-  computed_by o w a b c cells p next s false z e =
-      let same : value_of_width w (computed o w a b) ≡ c = cc in rw same refl
+      else goes next (value_of_width w (computation_of o w a b) ∷ cells) s)
+      ≡ goes next (c ∷ cells) s
+  computed-by o w a b c cells p next s true z e = absurd cc
+  computed-by o w a b c cells p next s false z e =
+      let same : value_of_width w (computation_of o w a b) ≡ c = cc in rw same refl
 
-  pub joined : (sense : Sense) (a b c : Value) (cells : List Value) → combined sense a b ≡ Some c
+  pub joined : (sense : Sense) (a b c : Value) (cells : List Value)
+      → combination_of sense a b ≡ Some c
       → Does now (sense_instr sense (type_of a)) (core (b ∷ a ∷ cells) slots timers)
       (core (c ∷ cells) slots timers)
   unfolding act
   joined (connects x) (Truth a) (Truth b) c cells e p next =
-      let same : Truth (connected x a b) ≡ c = cc in rw same refl
+      let same : Truth (logic_of x a b) ≡ c = cc in rw same refl
   joined (connects x) (Truth a) (Short b) c cells e p next = absurd cc
   joined (connects x) (Truth a) (Long b) c cells e p next = absurd cc
   joined (connects x) (Truth a) (Wide b) c cells e p next = absurd cc
@@ -112,13 +114,13 @@ module _ (now : ℕ) (slots : List Value) (timers : List TimerState) where
   joined (connects x) (Wide a) b c cells e p next = absurd cc
   joined (connects x) (Span a) b c cells e p next = absurd cc
   joined (computes o) (Short a) (Short b) c cells e p next =
-      computed_by o width.Int a b c cells p next
+      computed-by o width.Int a b c cells p next
       (at p (core (Short b ∷ Short a ∷ cells) slots timers)) (divides o && int_eq b (pos 0)) refl e
   joined (computes o) (Long a) (Long b) c cells e p next =
-      computed_by o width.Dint a b c cells p next
+      computed-by o width.Dint a b c cells p next
       (at p (core (Long b ∷ Long a ∷ cells) slots timers)) (divides o && int_eq b (pos 0)) refl e
   joined (computes o) (Wide a) (Wide b) c cells e p next =
-      computed_by o width.Lint a b c cells p next
+      computed-by o width.Lint a b c cells p next
       (at p (core (Wide b ∷ Wide a ∷ cells) slots timers)) (divides o && int_eq b (pos 0)) refl e
   joined (computes o) (Short a) (Truth b) c cells e p next = absurd cc
   joined (computes o) (Short a) (Long b) c cells e p next = absurd cc
@@ -134,16 +136,17 @@ module _ (now : ℕ) (slots : List Value) (timers : List TimerState) where
   joined (computes o) (Wide a) (Span b) c cells e p next = absurd cc
   joined (computes o) (Truth a) b c cells e p next = absurd cc
   joined (computes o) (Span a) b c cells e p next = absurd cc
-  joined (compares x) a b c cells e p next = compared_by (is_comparable x a b) e
+  joined (compares x) a b c cells e p next = compared-by (is_comparable x a b) e
     where
-      compared_by : (fits : Bool)
-          → (if fits then Some (Truth (compared x (number_of a) (number_of b))) else None) ≡ Some c
-          → (if fits then goes next (Truth (compared x (number_of a) (number_of b)) ∷ cells)
+      compared-by : (fits : Bool)
+          → (if fits then Some (Truth (comparison_holds x (number_of a) (number_of b))) else None)
+          ≡ Some c
+          → (if fits then goes next (Truth (comparison_holds x (number_of a) (number_of b)) ∷ cells)
           (at p (core (b ∷ a ∷ cells) slots timers)) else Traps WrongKind)
           ≡ Goes (at next (core (c ∷ cells) slots timers))
-      compared_by true f = let same : Truth (compared x (number_of a) (number_of b)) ≡ c =
+      compared-by true f = let same : Truth (comparison_holds x (number_of a) (number_of b)) ≡ c =
           cc in rw same refl
-      compared_by false f = absurd cc
+      compared-by false f = absurd cc
 
   -- ---- slots
 
@@ -167,16 +170,16 @@ module _ (now : ℕ) (slots : List Value) (timers : List TimerState) where
   unfolding act
   set_if n b old cells is p next = rw is refl
 
-  pub reset_if : (n : ℕ) (b old : Bool) (cells : List Value) → slice_get slots n ≡ Some (Truth old)
+  pub reset-if : (n : ℕ) (b old : Bool) (cells : List Value) → slice_get slots n ≡ Some (Truth old)
       → Does now (Slot ResetIf n) (core (Truth b ∷ cells) slots timers)
       (core (Truth b ∷ cells) (slice_set slots n (Truth (not b && old))) timers)
   unfolding act
-  reset_if n b old cells is p next = rw is refl
+  reset-if n b old cells is p next = rw is refl
 
   -- ---- timers
 
   pub gave : (n : ℕ) (i : Input) (v : Value) (t u : TimerState) (cells : List Value)
-      → slice_get timers n ≡ Some t → given i v t ≡ Some u
+      → slice_get timers n ≡ Some t → timer_with_input i v t ≡ Some u
       → Does now (Timer (input_use i) n) (core (v ∷ cells) slots timers)
       (core cells slots (slice_set timers n u))
   unfolding act
@@ -195,20 +198,20 @@ module _ (now : ℕ) (slots : List Value) (timers : List TimerState) where
 
   pub ran : (n : ℕ) (t : TimerState) (cells : List Value) → slice_get timers n ≡ Some t
       → Does now (Timer Run n) (core cells slots timers)
-      (core cells slots (slice_set timers n (called t now)))
+      (core cells slots (slice_set timers n (after_call t now)))
   unfolding act
   ran n t cells is p next = rw is refl
 
-  pub output_fetched : (n : ℕ) (t : TimerState) (cells : List Value) → slice_get timers n ≡ Some t
+  pub output-fetched : (n : ℕ) (t : TimerState) (cells : List Value) → slice_get timers n ≡ Some t
       → length cells < 32 → Does now (Timer LoadOutput n) (core cells slots timers)
       (core (Truth t.output ∷ cells) slots timers)
   unfolding act
-  output_fetched n t cells is lt p next = let e : nat_lt (length cells) 32 ≡ true =
+  output-fetched n t cells is lt p next = let e : nat_lt (length cells) 32 ≡ true =
       lt-ltb (length cells) 32 lt in rw (is, e) refl
 
-  pub elapsed_fetched : (n : ℕ) (t : TimerState) (cells : List Value) → slice_get timers n ≡ Some t
+  pub elapsed-fetched : (n : ℕ) (t : TimerState) (cells : List Value) → slice_get timers n ≡ Some t
       → length cells < 32 → Does now (Timer LoadElapsed n) (core cells slots timers)
       (core (Span t.elapsed ∷ cells) slots timers)
   unfolding act
-  elapsed_fetched n t cells is lt p next = let e : nat_lt (length cells) 32 ≡ true =
+  elapsed-fetched n t cells is lt p next = let e : nat_lt (length cells) 32 ≡ true =
       lt-ltb (length cells) 32 lt in rw (is, e) refl

@@ -8,7 +8,7 @@ use Rattle.il_image.specs.declared.instr.Instr.{Instr}
 use Rattle.il_image.specs.declared.instr.Instr.TheVariants.{Halt}
 use Rattle.il_image.specs.declared.kind.CellKind.TheVariants.{Any, Plain}
 use Rattle.il_image.specs.declared.value.Value.TheVariants.{Truth}
-use Rattle.il_image.proofs.KindLemmas.{within_any}
+use Rattle.il_image.proofs.KindLemmas.{within-any}
 use Rattle.bay_base.specs.declared.types.ElementaryType.TheVariants as elementary
 use Rattle.il_check.specs.Program.{Checked}
 use Rattle.il_check.specs.TypedProgram.{IsTyped}
@@ -16,38 +16,38 @@ use Rattle.il_compile.specs.Code.{items_code, octets, program_code, unset}
 use Rattle.il_compile.specs.Compiled.{image_of}
 use Rattle.il_compile.proofs.Placing.{Stands}
 use Rattle.il_compile.proofs.TabledAgrees.{AreReached, AreRight, agrees}
-use Rattle.il_compile.proofs.TabledItems.{enters_less, tail}
-use Rattle.il_compile.proofs.TabledReached.{first_led, items_reached}
-use Rattle.il_compile.proofs.TabledRows.{Row, at_found, instrs_of, is_at, table_of}
+use Rattle.il_compile.proofs.TabledItems.{enters-less, tail}
+use Rattle.il_compile.proofs.TabledReached.{first-led, items-reached}
+use Rattle.il_compile.proofs.TabledRows.{Row, at-found, instrs_of, is-at, table_of}
 use Rattle.il_compile.proofs.TabledSteps.{Keeps, pushed}
 
-each_both : {A : Type 0} (P : A → Type 0) (a b : List A) → Each P a → Each P b → Each P (a ++ b)
-each_both P [] b h k = k
-each_both P (x ∷ a) b h k = (h.0, each_both P a b h.1 k)
+each-both : {A : Type 0} (P : A → Type 0) (a b : List A) → Each P a → Each P b → Each P (a ++ b)
+each-both P [] b h k = k
+each-both P (x ∷ a) b h k = (h.0, each-both P a b h.1 k)
 
 each_at : {A : Type 0} (P : A → Type 0) (a : List A) (x : A) (b : List A) → Each P (a ++ x ∷ b)
     → P x
 each_at P [] x b h = h.0
 each_at P (y ∷ a) x b h = each_at P a x b h.1
 
-some_same : {A : Type 0} (x y : A) → Some x ≡ Some y → x ≡ y
-some_same x y e = cc
+some-same : {A : Type 0} (x y : A) → Some x ≡ Some y → x ≡ y
+some-same x y e = cc
 
 whole : (c : Checked) → Each IsInstr (program_code c)
     → Stands (all_spelled (program_code c)) 0 (program_code c)
 whole c are = record { rest = []; is = sym (append-nil (all_spelled (program_code c))); are = are }
 
 -- Some table of kinds agrees with the code.
-pub has_table : (c : Checked) → IsTyped c → Each IsInstr (program_code c) → HasTable (image_of c)
-has_table c ok are =
+pub has-table : (c : Checked) → IsTyped c → Each IsInstr (program_code c) → HasTable (image_of c)
+has-table c ok are =
     let rest = tail c ok.labels c.items 0 [] (Some None) ok.items in
     let first : Row = record { instr = unset; kinds = [] } in
     let rows : List Row = first ∷ rest.rows in
     let same : instrs_of rows ≡ program_code c = ap (λ l. unset ∷ l) rest.same in
     let step = pushed c (Truth false) [] (omega arith) in
     let enters =
-    enters_less (table_of rest.rows) 0 (Plain elementary.Bool) Any
-    (within_any (Plain elementary.Bool)) (rest.first None refl) in
+    enters-less (table_of rest.rows) 0 (Plain elementary.Bool) Any
+    (within-any (Plain elementary.Bool)) (rest.first None refl) in
     let right : AreRight (image_of c) rows = (
       record {
         after = Plain elementary.Bool ∷ [];
@@ -62,8 +62,8 @@ has_table c ok are =
     let P : ℕ → Type 0 = λ d. (length (spelling unset) + d ≡ 0) ⊎ LeadsTo unset 0 d in
     let reached : AreReached (λ d. d ≡ 0) (program_code c) = (
       refl,
-      items_reached c ok.labels c.items 0 [] (Some None) ok.items P
-          (first_led c ok.labels P c.items None (inr refl)),
+      items-reached c ok.labels c.items 0 [] (Some None) ok.items P
+          (first-led c ok.labels P c.items None (inr refl)),
     ) in (
       table_of rows,
       agrees (image_of c) rows
@@ -72,23 +72,23 @@ has_table c ok are =
     )
 
 -- No instruction writes a slot that may only be read.
-pub all_keep : (c : Checked) → IsTyped c → Each (Keeps c) (program_code c)
-all_keep c ok =
+pub all-keep : (c : Checked) → IsTyped c → Each (Keeps c) (program_code c)
+all-keep c ok =
     let rest = tail c ok.labels c.items 0 [] (Some None) ok.items in (
       tt,
-      each_both (Keeps c) (items_code (length c.externals) c.items) (Halt ∷ []) rest.keeps
+      each-both (Keeps c) (items_code (length c.externals) c.items) (Halt ∷ []) rest.keeps
           (tt, tt),
     )
 
 -- what the image has at a place is an instruction of the code
-pub keeps_at : (c : Checked) → IsTyped c → Each IsInstr (program_code c)
+pub keeps-at : (c : Checked) → IsTyped c → Each IsInstr (program_code c)
     → (place : ℕ) (i : Instr) (next : ℕ) → IsPlace (image_of c).code place
     → instr_at (image_of c).code place ≡ Some (i, next) → Keeps c i
-keeps_at c ok are place i next p e =
-    let a = is_at (image_of c).code (program_code c) (whole c are) refl place p in
-    let f = at_found (image_of c).code (program_code c) (whole c are) refl place a in
+keeps-at c ok are place i next p e =
+    let a = is-at (image_of c).code (program_code c) (whole c are) refl place p in
+    let f = at-found (image_of c).code (program_code c) (whole c are) refl place a in
     let pair : Some (a.instr, place + length (spelling a.instr)) ≡ Some (i, next) = sym f ∙ e in
     let same : a.instr ≡ i =
-    ap (λ q. q.0) (some_same (a.instr, place + length (spelling a.instr)) (i, next) pair) in
+    ap (λ q. q.0) (some-same (a.instr, place + length (spelling a.instr)) (i, next) pair) in
     subst (Keeps c) same (each_at (Keeps c) a.before a.instr a.behind
-    (subst (Each (Keeps c)) a.is (all_keep c ok)))
+    (subst (Each (Keeps c)) a.is (all-keep c ok)))

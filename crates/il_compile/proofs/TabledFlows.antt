@@ -15,7 +15,7 @@ use Rattle.il_image.specs.declared.kind.CellKind.{CellKind}
 use Rattle.il_image.specs.declared.kind.CellKind.TheVariants.{Plain, NotZero}
 use Rattle.il_image.specs.declared.opcode.TimerUse.TheVariants.{Run}
 use Rattle.il_image.specs.declared.value.Value.TheVariants.{Truth}
-use Rattle.il_image.proofs.KindLemmas.{within_any}
+use Rattle.il_image.proofs.KindLemmas.{within-any}
 use Rattle.il_check.specs.Program.{Checked, Entry, operation, block, Entries, no_entries, entry}
 use Rattle.il_check.specs.Rules as rules
 use Rattle.il_check.specs.TypedProgram.{AreArguments, AreEntries, IsArgument, IsEntry, IsOperation, entries_depth, entry_depth, is_divisor}
@@ -24,40 +24,40 @@ use Rattle.il_check.specs.declared.typed.SimpleOperation.TheVariants as op
 use Rattle.il_check.specs.declared.typed.TypedArgument.{TypedArgument}
 use Rattle.il_check.specs.declared.typed.TypedArguments.{TypedArguments}
 use Rattle.il_check.specs.declared.typed.TypedArguments.TheVariants as arguments
-use Rattle.il_compile.specs.Code.{argument_code, arguments_code, entries_code, entry_code, input_use, negation, operated, operation_code, slot_number, store_code, width_of}
+use Rattle.il_compile.specs.Code.{argument_code, arguments_code, entries_code, entry_code, input_use, negation, operator_code, operation_code, slot_number, store_code, width_of}
 use Rattle.il_compile.specs.Senses.{Sense, connects, computes, compares, sense_of}
-use Rattle.il_compile.proofs.TabledSteps.{Flow, Steps, converted, dropped, fetched, flow_both, input_set, inverted, joined, kind_at, preset_set, pushed, ran, reset_if, set_if, slots, stored, typed_slot, writable, written_slot}
-use Rattle.il_compile.proofs.Values.{boolean_is, same_sense, sense_divides, sense_takes}
+use Rattle.il_compile.proofs.TabledSteps.{Flow, Steps, converted, dropped, fetched, flow-both, input-set, inverted, joined, kind_at, preset-set, pushed, ran, reset-if, set_if, slots, stored, typed-slot, writable, written-slot}
+use Rattle.il_compile.proofs.Values.{boolean-is, same-sense, sense_divides, sense_takes}
 
 -- a cell of the result's type, where the result is known to be set
 abbrev pub Fits : Option ElementaryType → CellKind → Type 0
 Fits t top = is_within top (kind_at t) ≡ true
 
-both_true : (a b : Bool) → a && b ≡ true → (a ≡ true) × (b ≡ true)
-both_true true b h = (refl, h)
-both_true false b h = absurd cc
+both-true : (a b : Bool) → a && b ≡ true → (a ≡ true) × (b ≡ true)
+both-true true b h = (refl, h)
+both-true false b h = absurd cc
 
 -- what divides takes numbers
-numbers_alone : (x : Sense) (kind : ElementaryType) → sense_takes x kind ≡ true
+numbers-alone : (x : Sense) (kind : ElementaryType) → sense_takes x kind ≡ true
     → sense_divides x ≡ true → rules.is_number kind ≡ true
-numbers_alone (connects o) kind h d = absurd cc
-numbers_alone (computes o) kind h d = h
-numbers_alone (compares o) kind h d = absurd cc
+numbers-alone (connects o) kind h d = absurd cc
+numbers-alone (computes o) kind h d = h
+numbers-alone (compares o) kind h d = absurd cc
 
-numbers_divide : (o : Operator) (negated : Bool) (kind : ElementaryType)
+numbers-divide : (o : Operator) (negated : Bool) (kind : ElementaryType)
     → rules.works o negated kind ≡ true → rules.divides o ≡ true → rules.is_number kind ≡ true
-numbers_divide o negated kind h d =
-    let same = same_sense o in
-    let both = both_true (rules.takes o kind) (rules.may_negate negated kind) h in
-    numbers_alone (sense_of o) kind (sym (same.takes kind) ∙ both.0) (sym same.divides ∙ d)
+numbers-divide o negated kind h d =
+    let same = same-sense o in
+    let both = both-true (rules.takes o kind) (rules.may_negate negated kind) h in
+    numbers-alone (sense_of o) kind (sym (same.takes kind) ∙ both.0) (sym same.divides ∙ d)
 
-divisor_there : (d b : Bool) → d && not b ≡ false → d ≡ true → b ≡ true
-divisor_there true true h e = refl
-divisor_there true false h e = absurd cc
-divisor_there false b h e = absurd cc
+divisor-there : (d b : Bool) → d && not b ≡ false → d ≡ true → b ≡ true
+divisor-there true true h e = refl
+divisor-there true false h e = absurd cc
+divisor-there false b h e = absurd cc
 
-not_both : (b : Bool) → b ≡ true → b ≡ false → ⊥
-not_both b e f = absurd cc
+not-both : (b : Bool) → b ≡ true → b ≡ false → ⊥
+not-both b e f = absurd cc
 
 module _ (c : Checked) where
   -- what code leaves of the kinds on the stack: a cell of the type on those below
@@ -68,27 +68,27 @@ module _ (c : Checked) where
     pub flow : Flow c code from (top ∷ below)
 
   -- N behind an operator or a load
-  negated_flows : (negated : Bool) (kind : ElementaryType) (v : CellKind) (below : List CellKind)
+  negated-flows : (negated : Bool) (kind : ElementaryType) (v : CellKind) (below : List CellKind)
       → is_within v (Plain kind) ≡ true → rules.may_negate negated kind ≡ true → length below < 32
       → Leaves (negation negated) (v ∷ below) below (Some kind)
-  negated_flows false kind v below h may room = record { top = v; fits = h; flow = refl }
-  negated_flows true kind v below h may room =
-      let e = boolean_is kind may in
+  negated-flows false kind v below h may room = record { top = v; fits = h; flow = refl }
+  negated-flows true kind v below h may room =
+      let e = boolean-is kind may in
       record {
         top = Plain elementary.Bool;
         fits = subst (λ k. is_within (Plain elementary.Bool) (Plain k) ≡ true) (sym e) refl;
         flow = (_, inverted c v below (subst (λ k. is_within v (Plain k) ≡ true) e h) room, refl);
       }
 
-  operator_flows : (o : Operator) (negated : Bool) (kind : ElementaryType) (v a : CellKind)
+  operator-flows : (o : Operator) (negated : Bool) (kind : ElementaryType) (v a : CellKind)
       (below : List CellKind) → is_within v (Plain kind) ≡ true → is_within a (Plain kind) ≡ true
       → rules.works o negated kind ≡ true
       → (rules.divides o ≡ true → is_within v (NotZero (width_of kind)) ≡ true)
       → length below + 2 ≤ 32
-      → Leaves (operated o kind negated) (v ∷ a ∷ below) below (Some (rules.gives o kind))
-  operator_flows o false kind v a below h g works d room =
-      let same = same_sense o in
-      let both = both_true (rules.takes o kind) (rules.may_negate false kind) works in
+      → Leaves (operator_code o kind negated) (v ∷ a ∷ below) below (Some (rules.gives o kind))
+  operator-flows o false kind v a below h g works d room =
+      let same = same-sense o in
+      let both = both-true (rules.takes o kind) (rules.may_negate false kind) works in
       let j = joined c (sense_of o) kind v a below (sym (same.takes kind) ∙ both.0) h g
       (λ e. d (same.divides ∙ e)) room in
       record {
@@ -96,16 +96,16 @@ module _ (c : Checked) where
         fits = subst (λ k. is_within j.top (Plain k) ≡ true) (sym (same.gives kind)) j.fits;
         flow = (_, j.step, refl);
       }
-  operator_flows o true kind v a below h g works d room =
-      let same = same_sense o in
-      let both = both_true (rules.takes o kind) (rules.may_negate true kind) works in
-      let bool = boolean_is kind both.1 in
+  operator-flows o true kind v a below h g works d room =
+      let same = same-sense o in
+      let both = both-true (rules.takes o kind) (rules.may_negate true kind) works in
+      let bool = boolean-is kind both.1 in
       let turned : is_within (Plain elementary.Bool) (Plain kind) ≡ true =
       subst (λ k. is_within (Plain elementary.Bool) (Plain k) ≡ true) (sym bool) refl in
       let never : sense_divides (sense_of o) ≡ true
       → is_within (Plain elementary.Bool) (NotZero (width_of kind)) ≡ true =
       λ e. (let number : rules.is_number elementary.Bool ≡ true =
-      sym (ap rules.is_number bool) ∙ numbers_divide o true kind works (same.divides ∙ e) in
+      sym (ap rules.is_number bool) ∙ numbers-divide o true kind works (same.divides ∙ e) in
       absurd cc) in
       let j = joined c (sense_of o) kind (Plain elementary.Bool) a below
       (sym (same.takes kind) ∙ both.0) turned g never room in
@@ -122,17 +122,17 @@ module _ (c : Checked) where
 
   -- ---- operations
 
-  bool_flows : (how : StoreKind) (n : ℕ) (top : CellKind) (below : List CellKind)
+  bool-flows : (how : StoreKind) (n : ℕ) (top : CellKind) (below : List CellKind)
       → slice_get (slots c) n ≡ Some elementary.Bool → slice_get (writable c) n ≡ Some true
       → is_within top (Plain elementary.Bool) ≡ true → length below < 32
       → Leaves (store_code how n) (top ∷ below) below (Some elementary.Bool)
-  bool_flows store.Plain n top below s w h room =
+  bool-flows store.Plain n top below s w h room =
       record {
         top = top;
         fits = h;
         flow = (_, stored c n elementary.Bool top below s w h room, refl);
       }
-  bool_flows store.Negated n top below s w h room = record {
+  bool-flows store.Negated n top below s w h room = record {
     top = Plain elementary.Bool;
     fits = refl;
     flow = (
@@ -145,73 +145,73 @@ module _ (c : Checked) where
       ),
     );
   }
-  bool_flows store.Set n top below s w h room =
+  bool-flows store.Set n top below s w h room =
       record { top = top; fits = h; flow = (_, set_if c n top below s w h room, refl) }
-  bool_flows store.Reset n top below s w h room =
-      record { top = top; fits = h; flow = (_, reset_if c n top below s w h room, refl) }
+  bool-flows store.Reset n top below s w h room =
+      record { top = top; fits = h; flow = (_, reset-if c n top below s w h room, refl) }
 
   -- a store that is not plain is of a BOOL
-  special_flows : (how : StoreKind) (n : ℕ) (kind : ElementaryType) (top : CellKind)
+  special-flows : (how : StoreKind) (n : ℕ) (kind : ElementaryType) (top : CellKind)
       (below : List CellKind) → kind ≡ elementary.Bool → slice_get (slots c) n ≡ Some kind
       → slice_get (writable c) n ≡ Some true
       → is_within top (Plain kind) ≡ true → length below < 32
       → Leaves (store_code how n) (top ∷ below) below (Some kind)
-  special_flows how n kind top below e s w h room =
+  special-flows how n kind top below e s w h room =
       subst (λ k. Leaves (store_code how n) (top ∷ below) below (Some k)) (sym e)
-      (bool_flows how n top below (s ∙ ap Some e) w
+      (bool-flows how n top below (s ∙ ap Some e) w
       (subst (λ k. is_within top (Plain k) ≡ true) e h) room)
 
-  store_flows : (how : StoreKind) (n : ℕ) (kind : ElementaryType) (top : CellKind)
+  store-flows : (how : StoreKind) (n : ℕ) (kind : ElementaryType) (top : CellKind)
       (below : List CellKind) → rules.may_negate (not (rules.is_plain how)) kind ≡ true
       → slice_get (slots c) n ≡ Some kind
       → slice_get (writable c) n ≡ Some true → is_within top (Plain kind) ≡ true → length below < 32
       → Leaves (store_code how n) (top ∷ below) below (Some kind)
-  store_flows store.Plain n kind top below may s w h room =
+  store-flows store.Plain n kind top below may s w h room =
       record { top = top; fits = h; flow = (_, stored c n kind top below s w h room, refl) }
-  store_flows store.Negated n kind top below may s w h room =
-      special_flows store.Negated n kind top below (boolean_is kind may) s w h room
-  store_flows store.Set n kind top below may s w h room =
-      special_flows store.Set n kind top below (boolean_is kind may) s w h room
-  store_flows store.Reset n kind top below may s w h room =
-      special_flows store.Reset n kind top below (boolean_is kind may) s w h room
+  store-flows store.Negated n kind top below may s w h room =
+      special-flows store.Negated n kind top below (boolean-is kind may) s w h room
+  store-flows store.Set n kind top below may s w h room =
+      special-flows store.Set n kind top below (boolean-is kind may) s w h room
+  store-flows store.Reset n kind top below may s w h room =
+      special-flows store.Reset n kind top below (boolean-is kind may) s w h room
 
-  operation_flows : (o : SimpleOperation) (t u : Option ElementaryType) (top : CellKind)
+  operation-flows : (o : SimpleOperation) (t u : Option ElementaryType) (top : CellKind)
       (below : List CellKind) → IsOperation c o t u → Fits t top → length below + 2 ≤ 32
       → Leaves (operation_code (length c.externals) o) (top ∷ below) below u
-  operation_flows (op.Load negated x) t u top below ok fit room =
+  operation-flows (op.Load negated x) t u top below ok fit room =
       let f = fetched c x ok.0 below ok.1 (omega arith) in
-      let g = negated_flows negated ok.0 f.top below f.fits ok.2 (omega arith) in
+      let g = negated-flows negated ok.0 f.top below f.fits ok.2 (omega arith) in
       record {
         top = g.top;
         fits = subst (λ w. Fits w g.top) (sym ok.3) g.fits;
         flow = (below, dropped c top below (omega arith), (f.top ∷ below, f.step, g.flow));
       }
-  operation_flows (op.Store how s) t u top below ok fit room =
-      let g = store_flows how (slot_number (length c.externals) s) ok.0 top below ok.3
-      (typed_slot c s ok.0 ok.1) (written_slot c s ok.0 ok.1 ok.2)
+  operation-flows (op.Store how s) t u top below ok fit room =
+      let g = store-flows how (slot_number (length c.externals) s) ok.0 top below ok.3
+      (typed-slot c s ok.0 ok.1) (written-slot c s ok.0 ok.1 ok.2)
       (subst (λ w. Fits w top) ok.4 fit) (omega arith) in
       record {
         top = g.top;
         fits = subst (λ w. Fits w g.top) (sym (ok.5 ∙ ok.4)) g.fits;
         flow = g.flow;
       }
-  operation_flows (op.Combine operator kind negated x) t u top below ok fit room =
+  operation-flows (op.Combine operator kind negated x) t u top below ok fit room =
       let f = fetched c x kind (top ∷ below) ok.0 (omega arith) in
-      let g = operator_flows operator negated kind f.top top below f.fits
+      let g = operator-flows operator negated kind f.top top below f.fits
       (subst (λ w. Fits w top) ok.3 fit) ok.1
-      (λ d. f.divides (divisor_there (rules.divides operator) (is_divisor x) ok.2 d)
-      (numbers_divide operator negated kind ok.1 d)) room in
+      (λ d. f.divides (divisor-there (rules.divides operator) (is_divisor x) ok.2 d)
+      (numbers-divide operator negated kind ok.1 d)) room in
       record {
         top = g.top;
         fits = subst (λ w. Fits w g.top) (sym ok.4) g.fits;
         flow = (f.top ∷ top ∷ below, f.step, g.flow);
       }
-  operation_flows op.Not t u top below ok fit room = record {
+  operation-flows op.Not t u top below ok fit room = record {
     top = Plain elementary.Bool;
     fits = subst (λ w. Fits w (Plain elementary.Bool)) (sym (ok.1 ∙ ok.0)) refl;
     flow = (_, inverted c top below (subst (λ w. Fits w top) ok.0 fit) (omega arith), refl);
   }
-  operation_flows (op.Convert conversion) t u top below ok fit room =
+  operation-flows (op.Convert conversion) t u top below ok fit room =
       let g = converted c conversion top below (subst (λ w. Fits w top) ok.0 fit) (omega arith) in
       record {
         top = g.top;
@@ -222,43 +222,43 @@ module _ (c : Checked) where
   -- ---- parentheses
 
   mutual
-    pub entry_flows : (e : Entry) (t u : Option ElementaryType) (top : CellKind)
+    pub entry-flows : (e : Entry) (t u : Option ElementaryType) (top : CellKind)
         (below : List CellKind) → IsEntry c e t u → Fits t top
         → length below + entry_depth e + 2 ≤ 32
         → Leaves (entry_code (length c.externals) e) (top ∷ below) below u
-    entry_flows (operation o) t u top below ok fit room =
-        operation_flows o t u top below ok fit (omega arith)
-    entry_flows (block operator kind negated es) t u top below ok fit room =
-        let g = entries_flow es None (Some kind) (Plain elementary.Bool) (top ∷ below) ok.0
-        (within_any (Plain elementary.Bool)) (omega arith) in
-        let j = operator_flows operator negated kind g.top top below g.fits
+    entry-flows (operation o) t u top below ok fit room =
+        operation-flows o t u top below ok fit (omega arith)
+    entry-flows (block operator kind negated es) t u top below ok fit room =
+        let g = entries-flow es None (Some kind) (Plain elementary.Bool) (top ∷ below) ok.0
+        (within-any (Plain elementary.Bool)) (omega arith) in
+        let j = operator-flows operator negated kind g.top top below g.fits
         (subst (λ w. Fits w top) ok.3 fit) ok.1
-        (λ d. absurd (not_both (rules.divides operator) d ok.2)) (omega arith) in
+        (λ d. absurd (not-both (rules.divides operator) d ok.2)) (omega arith) in
         record {
           top = j.top;
           fits = subst (λ w. Fits w j.top) (sym ok.4) j.fits;
           flow = (
             Plain elementary.Bool ∷ top ∷ below,
             pushed c (Truth false) (top ∷ below) (omega arith),
-            flow_both c (entries_code (length c.externals) es) (operated operator kind negated)
+            flow-both c (entries_code (length c.externals) es) (operator_code operator kind negated)
                 (Plain elementary.Bool ∷ top ∷ below) (g.top ∷ top ∷ below) (j.top ∷ below) g.flow
                 j.flow,
           );
         }
 
-    entries_flow : (es : Entries) (t u : Option ElementaryType) (top : CellKind)
+    entries-flow : (es : Entries) (t u : Option ElementaryType) (top : CellKind)
         (below : List CellKind) → AreEntries c es t u → Fits t top
         → length below + entries_depth es + 2 ≤ 32
         → Leaves (entries_code (length c.externals) es) (top ∷ below) below u
-    entries_flow no_entries t u top below ok fit room =
+    entries-flow no_entries t u top below ok fit room =
         record { top = top; fits = subst (λ w. Fits w top) (sym ok) fit; flow = refl }
-    entries_flow (entry e es) t u top below ok fit room =
-        let g = entry_flows e t ok.0 top below ok.1 fit (omega arith) in
-        let r = entries_flow es ok.0 u g.top below ok.2 g.fits (omega arith) in
+    entries-flow (entry e es) t u top below ok fit room =
+        let g = entry-flows e t ok.0 top below ok.1 fit (omega arith) in
+        let r = entries-flow es ok.0 u g.top below ok.2 g.fits (omega arith) in
         record {
           top = r.top;
           fits = r.fits;
-          flow = flow_both c (entry_code (length c.externals) e)
+          flow = flow-both c (entry_code (length c.externals) e)
               (entries_code (length c.externals) es) (top ∷ below) (g.top ∷ below) (r.top ∷ below)
               g.flow r.flow;
         }
@@ -268,27 +268,27 @@ module _ (c : Checked) where
   given : (i : Input) (n : ℕ) (top : CellKind) (ks : List CellKind) → n < length c.timers
       → is_within top (Plain (rules.input_type i)) ≡ true → length ks < 32
       → Steps c (Timer (input_use i) n) (top ∷ ks) ks
-  given In n top ks lt h room = input_set c n top ks lt h room
-  given Pt n top ks lt h room = preset_set c n top ks lt h room
+  given In n top ks lt h room = input-set c n top ks lt h room
+  given Pt n top ks lt h room = preset-set c n top ks lt h room
 
-  argument_flows : (n : ℕ) (a : TypedArgument) (ks : List CellKind) → n < length c.timers
+  argument-flows : (n : ℕ) (a : TypedArgument) (ks : List CellKind) → n < length c.timers
       → IsArgument c a → length ks < 32 → Flow c (argument_code (length c.externals) n a) ks ks
-  argument_flows n a ks lt ok room =
+  argument-flows n a ks lt ok room =
       let f = fetched c a.operand (rules.input_type a.input) ks ok (omega arith) in
       (f.top ∷ ks, f.step, (ks, given a.input n f.top ks lt f.fits room, refl))
 
-  arguments_flow : (n : ℕ) (args : TypedArguments) (ks : List CellKind) → n < length c.timers
+  arguments-flow : (n : ℕ) (args : TypedArguments) (ks : List CellKind) → n < length c.timers
       → AreArguments c args → length ks < 32
       → Flow c (arguments_code (length c.externals) n args) ks ks
-  arguments_flow n arguments.None ks lt ok room = refl
-  arguments_flow n (arguments.One a) ks lt ok room = argument_flows n a ks lt ok room
-  arguments_flow n (arguments.Two a b) ks lt ok room =
-      flow_both c (argument_code (length c.externals) n a) (argument_code (length c.externals) n b)
-      ks ks ks (argument_flows n a ks lt ok.0 room) (argument_flows n b ks lt ok.1 room)
+  arguments-flow n arguments.None ks lt ok room = refl
+  arguments-flow n (arguments.One a) ks lt ok room = argument-flows n a ks lt ok room
+  arguments-flow n (arguments.Two a b) ks lt ok room =
+      flow-both c (argument_code (length c.externals) n a) (argument_code (length c.externals) n b)
+      ks ks ks (argument-flows n a ks lt ok.0 room) (argument-flows n b ks lt ok.1 room)
 
-  pub call_flows : (n : ℕ) (args : TypedArguments) (ks : List CellKind) → n < length c.timers
+  pub call-flows : (n : ℕ) (args : TypedArguments) (ks : List CellKind) → n < length c.timers
       → AreArguments c args → length ks < 32
       → Flow c (arguments_code (length c.externals) n args ++ Timer Run n ∷ []) ks ks
-  call_flows n args ks lt ok room =
-      flow_both c (arguments_code (length c.externals) n args) (Timer Run n ∷ []) ks ks ks
-      (arguments_flow n args ks lt ok room) (ks, ran c n ks lt (omega arith), refl)
+  call-flows n args ks lt ok room =
+      flow-both c (arguments_code (length c.externals) n args) (Timer Run n ∷ []) ks ks ks
+      (arguments-flow n args ks lt ok room) (ks, ran c n ks lt (omega arith), refl)

@@ -14,8 +14,8 @@ use Rattle.il_image.specs.declared.instr.Instr.TheVariants.{Halt, Jump, Timer}
 use Rattle.il_image.specs.declared.kind.CellKind.{CellKind}
 use Rattle.il_image.specs.declared.kind.CellKind.TheVariants.{Any}
 use Rattle.il_image.specs.declared.opcode.TimerUse.TheVariants.{Run}
-use Rattle.il_image.proofs.KindLemmas.{within_along, within_any, within_self}
-use Rattle.il_check.specs.Labelling.{Becomes, Coming, Falls, Labelling, carried, coming_behind_label, is_named}
+use Rattle.il_image.proofs.KindLemmas.{within-along, within-any, within-self}
+use Rattle.il_check.specs.Labelling.{Becomes, Coming, Falls, Labelling, carry_of, coming_behind_label, is_named}
 use Rattle.il_check.specs.Program.{Checked, Item, label, plain, transfer}
 use Rattle.il_check.specs.TypedProgram.{AreItems, Decides, coming_behind_condition}
 use Rattle.il_check.specs.declared.typed.Transfer.{Transfer}
@@ -23,53 +23,53 @@ use Rattle.il_check.specs.declared.typed.Transfer.TheVariants as go
 use Rattle.il_compile.specs.Code.{arguments_code, entry_code, items_code, octets, octets_before, transfer_code}
 use Rattle.il_compile.specs.Compiled.{image_of}
 use Rattle.il_compile.specs.Senses.{when_of}
-use Rattle.il_compile.proofs.Placing.{octets_both, octets_more}
+use Rattle.il_compile.proofs.Placing.{octets-both, octets_more}
 use Rattle.il_compile.proofs.TabledAgrees.{AreRight, IsRight}
-use Rattle.il_compile.proofs.TabledFlows.{call_flows, entry_flows}
-use Rattle.il_compile.proofs.TabledRows.{Row, behind_rows, instrs_both, instrs_of, table_of}
+use Rattle.il_compile.proofs.TabledFlows.{call-flows, entry-flows}
+use Rattle.il_compile.proofs.TabledRows.{Row, behind-rows, instrs-both, instrs_of, table_of}
 use Rattle.il_compile.proofs.TabledSteps.{Flow, Keeps, kind_at, slots, timers}
 
-each_both : {A : Type 0} (P : A → Type 0) (a b : List A) → Each P a → Each P b → Each P (a ++ b)
-each_both P [] b h k = k
-each_both P (x ∷ a) b h k = (h.0, each_both P a b h.1 k)
+each-both : {A : Type 0} (P : A → Type 0) (a b : List A) → Each P a → Each P b → Each P (a ++ b)
+each-both P [] b h k = k
+each-both P (x ∷ a) b h k = (h.0, each-both P a b h.1 k)
 
-all_within : (ks : List CellKind) → AreWithin ks ks
-all_within [] = tt
-all_within (k ∷ ks) = (within_self k, all_within ks)
+all-within : (ks : List CellKind) → AreWithin ks ks
+all-within [] = tt
+all-within (k ∷ ks) = (within-self k, all-within ks)
 
-pub enters_less : (table : Table) (d : ℕ) (j k : CellKind) → is_within j k ≡ true
+pub enters-less : (table : Table) (d : ℕ) (j k : CellKind) → is_within j k ≡ true
     → Enters table d (k ∷ []) → Enters table d (j ∷ [])
-enters_less table d j k h e = by_most e.0 e.1 e.2
+enters-less table d j k h e = by-most e.0 e.1 e.2
   where
-    by_most : (most : List CellKind) → table d ≡ Some most → AreWithin (k ∷ []) most
+    by-most : (most : List CellKind) → table d ≡ Some most → AreWithin (k ∷ []) most
         → Enters table d (j ∷ [])
-    by_most [] is w = absurd w
-    by_most (m ∷ ms) is w = (m ∷ ms, is, (within_along j k m h w.0, w.1))
+    by-most [] is w = absurd w
+    by-most (m ∷ ms) is w = (m ∷ ms, is, (within-along j k m h w.0, w.1))
 
-become_within : (t u : Option ElementaryType) → Becomes t u
+become-within : (t u : Option ElementaryType) → Becomes t u
     → is_within (kind_at t) (kind_at u) ≡ true
-become_within t u b =
+become-within t u b =
     ⊎_elim (λ (e : u ≡ t). subst (λ w. is_within (kind_at t) (kind_at w) ≡ true) (sym e)
-    (within_self (kind_at t)))
+    (within-self (kind_at t)))
     (λ (e : u ≡ None). subst (λ w. is_within (kind_at t) (kind_at w) ≡ true) (sym e)
-    (within_any (kind_at t))) b
+    (within-any (kind_at t))) b
 
 -- rows behind others
 further : (front rows : List Row) (size d : ℕ) (ks : List CellKind)
     → octets (instrs_of front) ≡ size → Enters (table_of rows) d ks
     → Enters (table_of (front ++ rows)) (size + d) ks
 further front rows size d ks e h =
-    (h.0, ap (λ n. table_of (front ++ rows) (n + d)) (sym e) ∙ behind_rows front rows d ∙ h.1, h.2)
+    (h.0, ap (λ n. table_of (front ++ rows) (n + d)) (sym e) ∙ behind-rows front rows d ∙ h.1, h.2)
 
 module _ (c : Checked) where
-  pub flow_straight : (code : List Instr) (ks js : List CellKind) → Flow c code ks js
+  pub flow-straight : (code : List Instr) (ks js : List CellKind) → Flow c code ks js
       → Each (λ i. LeadsTo i 0 0) code
-  flow_straight [] ks js f = tt
-  flow_straight (i ∷ code) ks js f = (f.1.goes, flow_straight code f.0 js f.2)
+  flow-straight [] ks js f = tt
+  flow-straight (i ∷ code) ks js f = (f.1.goes, flow-straight code f.0 js f.2)
 
-  flow_keeps : (code : List Instr) (ks js : List CellKind) → Flow c code ks js → Each (Keeps c) code
-  flow_keeps [] ks js f = tt
-  flow_keeps (i ∷ code) ks js f = (f.1.keeps, flow_keeps code f.0 js f.2)
+  flow-keeps : (code : List Instr) (ks js : List CellKind) → Flow c code ks js → Each (Keeps c) code
+  flow-keeps [] ks js f = tt
+  flow-keeps (i ∷ code) ks js f = (f.1.keeps, flow-keeps code f.0 js f.2)
 
   -- the rows of instructions before others
   record Put (code : List Instr) (ks : List CellKind) (rows : List Row) : Type 0 where
@@ -103,17 +103,17 @@ module _ (c : Checked) where
           },
           p.right,
         );
-        first = (ks, refl, all_within ks);
+        first = (ks, refl, all-within ks);
       }
 
   -- ---- jumps
 
-  jump_right : (condition : Condition) (n : ℕ) (t : Option ElementaryType) (rows : List Row)
+  jump-right : (condition : Condition) (n : ℕ) (t : Option ElementaryType) (rows : List Row)
       → Decides condition t → Enters (table_of rows) n (kind_at t ∷ [])
       → (coming_behind_condition condition t ≡ Some t → Enters (table_of rows) 0 (kind_at t ∷ []))
       → IsRight (image_of c) (record { instr = Jump (when_of condition) n; kinds = kind_at t ∷ [] })
       rows
-  jump_right Always n t rows ok far near = record {
+  jump-right Always n t rows ok far near = record {
     after = kind_at t ∷ [];
     effect = refl;
     enters =
@@ -121,7 +121,7 @@ module _ (c : Checked) where
         (let z : n ≡ d = omega arith in z) far;
     room = omega arith;
   }
-  jump_right IfTrue n t rows ok far near = record {
+  jump-right IfTrue n t rows ok far near = record {
     after = kind_at t ∷ [];
     effect =
         subst (λ w. effect (slots c) (timers c) (Jump (when_of IfTrue) n) (kind_at w ∷ [])
@@ -133,7 +133,7 @@ module _ (c : Checked) where
         (let z : n ≡ d = omega arith in z) far) l;
     room = omega arith;
   }
-  jump_right IfFalse n t rows ok far near = record {
+  jump-right IfFalse n t rows ok far near = record {
     after = kind_at t ∷ [];
     effect =
         subst (λ w. effect (slots c) (timers c) (Jump (when_of IfFalse) n) (kind_at w ∷ [])
@@ -146,14 +146,14 @@ module _ (c : Checked) where
     room = omega arith;
   }
 
-still_named : (k : ℕ) (named : List ℕ) (l : ℕ) → is_named named l ≡ true
+still-named : (k : ℕ) (named : List ℕ) (l : ℕ) → is_named named l ≡ true
     → is_named (k ∷ named) l ≡ true
-still_named k named l h =
+still-named k named l h =
     elim (k == l) as (λ b. b || is_named named l ≡ true) [ true ↦ refl | false ↦ h ]
 
 -- what comes is one thing
-same_coming : (now : Coming) (t u : Option ElementaryType) → now ≡ Some t → now ≡ Some u → t ≡ u
-same_coming now t u e f = let g : Some t ≡ Some u = sym e ∙ f in cc
+same-coming : (now : Coming) (t u : Option ElementaryType) → now ≡ Some t → now ≡ Some u → t ≡ u
+same-coming now t u e f = let g : Some t ≡ Some u = sym e ∙ f in cc
 
 module _ (c : Checked) (labels : Labelling) where
   -- the rows of the items and of HALT: what comes enters the first, what a label has the first
@@ -170,8 +170,8 @@ module _ (c : Checked) (labels : Labelling) where
         → Enters (table_of rows) (octets (items_code (length c.externals) is)) (k ∷ [])
     pub keeps : Each (Keeps c) (items_code (length c.externals) is)
 
-  end_tail : (named : List ℕ) (now : Coming) → Tail [] named now
-  end_tail named now = record {
+  end-tail : (named : List ℕ) (now : Coming) → Tail [] named now
+  end-tail named now = record {
     rows = record { instr = Halt; kinds = Any ∷ [] } ∷ [];
     same = refl;
     right = (
@@ -183,49 +183,49 @@ module _ (c : Checked) (labels : Labelling) where
       },
       tt,
     );
-    first = λ t e. (Any ∷ [], refl, (within_any (kind_at t), tt));
-    labelled = λ l h. (Any ∷ [], refl, (within_any (kind_at (labels l)), tt));
-    ended = λ k. (Any ∷ [], refl, (within_any k, tt));
+    first = λ t e. (Any ∷ [], refl, (within-any (kind_at t), tt));
+    labelled = λ l h. (Any ∷ [], refl, (within-any (kind_at (labels l)), tt));
+    ended = λ k. (Any ∷ [], refl, (within-any k, tt));
     keeps = tt;
   }
 
   -- an item without jumps
-  straight_tail : (i : Item) (is : List Item) (a : List Instr) (named : List ℕ) (now : Coming)
+  straight-tail : (i : Item) (is : List Item) (a : List Instr) (named : List ℕ) (now : Coming)
       (t u : Option ElementaryType) (top : CellKind) → now ≡ Some t
       → items_code (length c.externals) (i ∷ is) ≡ a ++ items_code (length c.externals) is
       → ((l : ℕ) → octets_before (length c.externals) l (i ∷ is)
       ≡ octets a + octets_before (length c.externals) l is)
       → Flow c a (kind_at t ∷ []) (top ∷ []) → is_within top (kind_at u) ≡ true
       → Tail is named (Some u) → Tail (i ∷ is) named now
-  straight_tail i is a named now t u top comes same before flow fit next =
+  straight-tail i is a named now t u top comes same before flow fit next =
       let p = put c a (kind_at t ∷ []) (top ∷ []) next.rows flow next.right
-      (enters_less (table_of next.rows) 0 top (kind_at u) fit (next.first u refl)) in
+      (enters-less (table_of next.rows) 0 top (kind_at u) fit (next.first u refl)) in
       let size : octets (instrs_of p.front) ≡ octets a = ap octets p.same in
       record {
         rows = p.front ++ next.rows;
-        same = instrs_both p.front next.rows ∙ ap (λ l. l ++ instrs_of next.rows) p.same
+        same = instrs-both p.front next.rows ∙ ap (λ l. l ++ instrs_of next.rows) p.same
             ∙ ap (λ l. a ++ l) next.same
             ∙ sym (append_assoc a (items_code (length c.externals) is) (Halt ∷ []))
             ∙ ap (λ l. l ++ Halt ∷ []) (sym same);
         right = p.right;
         first = λ w e. subst (λ x. Enters (table_of (p.front ++ next.rows)) 0 (kind_at x ∷ []))
-            (same_coming now t w comes e) p.first;
+            (same-coming now t w comes e) p.first;
         labelled =
             λ l h. subst (λ d. Enters (table_of (p.front ++ next.rows)) d (kind_at (labels l) ∷ []))
             (sym (before l))
             (further p.front next.rows (octets a) (octets_before (length c.externals) l is)
             (kind_at (labels l) ∷ []) size (next.labelled l h));
         ended = λ k. subst (λ d. Enters (table_of (p.front ++ next.rows)) d (k ∷ []))
-            (sym (ap octets same ∙ octets_both a (items_code (length c.externals) is)))
+            (sym (ap octets same ∙ octets-both a (items_code (length c.externals) is)))
             (further p.front next.rows (octets a) (octets (items_code (length c.externals) is))
             (k ∷ []) size (next.ended k));
         keeps = subst (Each (Keeps c)) (sym same)
-            (each_both (Keeps c) a (items_code (length c.externals) is)
-            (flow_keeps c a (kind_at t ∷ []) (top ∷ []) flow) next.keeps);
+            (each-both (Keeps c) a (items_code (length c.externals) is)
+            (flow-keeps c a (kind_at t ∷ []) (top ∷ []) flow) next.keeps);
       }
 
   -- a jump over so many octets
-  jump_tail : (x : Transfer) (condition : Condition) (n : ℕ) (is : List Item) (named more : List ℕ)
+  jump-tail : (x : Transfer) (condition : Condition) (n : ℕ) (is : List Item) (named more : List ℕ)
       (now : Coming) (t : Option ElementaryType) → now ≡ Some t
       → items_code (length c.externals) (transfer x ∷ is)
       ≡ Jump (when_of condition) n ∷ items_code (length c.externals) is
@@ -234,7 +234,7 @@ module _ (c : Checked) (labels : Labelling) where
       → Decides condition t → ((l : ℕ) → is_named named l ≡ true → is_named more l ≡ true)
       → (next : Tail is more (coming_behind_condition condition t))
       → Enters (table_of next.rows) n (kind_at t ∷ []) → Tail (transfer x ∷ is) named now
-  jump_tail x condition n is named more now t comes same size ok still next far =
+  jump-tail x condition n is named more now t comes same size ok still next far =
       let j = Jump (when_of condition) n in
       let row : Row = record { instr = j; kinds = kind_at t ∷ [] } in
       let front : octets (j ∷ []) ≡ length (spelling j) =
@@ -242,12 +242,12 @@ module _ (c : Checked) (labels : Labelling) where
       record {
         rows = row ∷ next.rows;
         same = ap (λ l. j ∷ l) next.same ∙ ap (λ l. l ++ Halt ∷ []) (sym same);
-        right = (jump_right c condition n t next.rows ok far (next.first t), next.right);
+        right = (jump-right c condition n t next.rows ok far (next.first t), next.right);
         first = λ w e. (
           kind_at t ∷ [],
           refl,
-          subst (λ x. AreWithin (kind_at x ∷ []) (kind_at t ∷ [])) (same_coming now t w comes e)
-              (all_within (kind_at t ∷ [])),
+          subst (λ x. AreWithin (kind_at x ∷ []) (kind_at t ∷ [])) (same-coming now t w comes e)
+              (all-within (kind_at t ∷ [])),
         );
         labelled =
             λ l h. further (row ∷ []) next.rows (octets (transfer_code (length c.externals) x 0))
@@ -261,31 +261,31 @@ module _ (c : Checked) (labels : Labelling) where
       }
 
   -- behind a label to which a way leads
-  label_comes : (passed : ℕ) (named : List ℕ) (now : Coming) (t : Option ElementaryType)
-      → now ≡ Some t → coming_behind_label labels (carried passed named now) ≡ Some (labels passed)
-  label_comes passed named now t e = rw e refl
+  label-comes : (passed : ℕ) (named : List ℕ) (now : Coming) (t : Option ElementaryType)
+      → now ≡ Some t → coming_behind_label labels (carry_of passed named now) ≡ Some (labels passed)
+  label-comes passed named now t e = rw e refl
 
-  label_named : (passed : ℕ) (named : List ℕ) (now : Coming) → is_named named passed ≡ true
-      → coming_behind_label labels (carried passed named now) ≡ Some (labels passed)
-  label_named passed named now h = either_way (is_some now) (is_named named passed) h
+  label-named : (passed : ℕ) (named : List ℕ) (now : Coming) → is_named named passed ≡ true
+      → coming_behind_label labels (carry_of passed named now) ≡ Some (labels passed)
+  label-named passed named now h = either-way (is_some now) (is_named named passed) h
     where
-      either_way : (a b : Bool) → b ≡ true
+      either-way : (a b : Bool) → b ≡ true
           → (if a || b then Some (labels passed) else None) ≡ Some (labels passed)
-      either_way true b e = refl
-      either_way false b e = rw e refl
+      either-way true b e = refl
+      either-way false b e = rw e refl
 
-  label_tail : (n passed : ℕ) (is : List Item) (named : List ℕ) (now : Coming) → n ≡ passed
+  label-tail : (n passed : ℕ) (is : List Item) (named : List ℕ) (now : Coming) → n ≡ passed
       → Falls labels passed now
-      → Tail is named (coming_behind_label labels (carried passed named now))
+      → Tail is named (coming_behind_label labels (carry_of passed named now))
       → Tail (label n ∷ is) named now
-  label_tail n passed is named now same falls next = record {
+  label-tail n passed is named now same falls next = record {
     rows = next.rows;
     same = next.same;
     right = next.right;
     first = λ t e.
-        enters_less (table_of next.rows) 0 (kind_at t) (kind_at (labels passed))
-        (become_within t (labels passed) (subst (λ w. Falls labels passed w) e falls))
-        (next.first (labels passed) (label_comes passed named now t e));
+        enters-less (table_of next.rows) 0 (kind_at t) (kind_at (labels passed))
+        (become-within t (labels passed) (subst (λ w. Falls labels passed w) e falls))
+        (next.first (labels passed) (label-comes passed named now t e));
     labelled = λ l h.
         elim (n == l) as (λ b. (n == l) ≡ b
         → Enters (table_of next.rows) (if b then 0 else octets_before (length c.externals) l is)
@@ -295,7 +295,7 @@ module _ (c : Checked) (labels : Labelling) where
               let named_it : is_named named passed ≡ true =
               subst (λ k. is_named named k ≡ true) (sym here) h in
               subst (λ k. Enters (table_of next.rows) 0 (kind_at (labels k) ∷ [])) here
-              (next.first (labels passed) (label_named passed named now named_it))))
+              (next.first (labels passed) (label-named passed named now named_it))))
           | false ↦ (λ e. next.labelled l h)
         ] refl;
     ended = next.ended;
@@ -303,30 +303,30 @@ module _ (c : Checked) (labels : Labelling) where
   }
 
   pub tail : (is : List Item) (passed : ℕ) (named : List ℕ) (now : Coming)
-      → AreItems c labels is (carried passed named now) → Tail is named now
-  tail [] passed named now ok = end_tail named now
+      → AreItems c labels is (carry_of passed named now) → Tail is named now
+  tail [] passed named now ok = end-tail named now
   tail (label n ∷ is) passed named now ok =
-      label_tail n passed is named now ok.0.0 ok.0.2
-      (tail is (passed + 1) named (coming_behind_label labels (carried passed named now)) ok.1)
+      label-tail n passed is named now ok.0.0 ok.0.2
+      (tail is (passed + 1) named (coming_behind_label labels (carry_of passed named now)) ok.1)
   tail (plain e ∷ is) passed named now ok =
-      let f = entry_flows c e ok.0 ok.1 (kind_at ok.0) [] ok.2.1 (within_self (kind_at ok.0))
+      let f = entry-flows c e ok.0 ok.1 (kind_at ok.0) [] ok.2.1 (within-self (kind_at ok.0))
       (let d = ok.2.2 in omega arith) in
-      straight_tail (plain e) is (entry_code (length c.externals) e) named now ok.0 ok.1 f.top
+      straight-tail (plain e) is (entry_code (length c.externals) e) named now ok.0 ok.1 f.top
       ok.2.0 refl (λ l. refl) f.flow f.fits (tail is passed named (Some ok.1) ok.3)
   tail (transfer (go.Call n args) ∷ is) passed named now ok =
-      straight_tail (transfer (go.Call n args)) is
+      straight-tail (transfer (go.Call n args)) is
       (arguments_code (length c.externals) n args ++ Timer Run n ∷ []) named now ok.0 None
       (kind_at ok.0) ok.1.0 refl (λ l. refl)
-      (call_flows c n args (kind_at ok.0 ∷ []) ok.1.1.0 ok.1.1.1 (omega arith))
-      (within_any (kind_at ok.0)) (tail is passed named (Some None) ok.2)
+      (call-flows c n args (kind_at ok.0 ∷ []) ok.1.1.0 ok.1.1.1 (omega arith))
+      (within-any (kind_at ok.0)) (tail is passed named (Some None) ok.2)
   tail (transfer (go.Jump condition l) ∷ is) passed named now ok =
       let next = tail is passed (l ∷ named) (coming_behind_condition condition ok.0) ok.2 in
-      jump_tail (go.Jump condition l) condition (octets_before (length c.externals) l is) is named
-      (l ∷ named) now ok.0 ok.1.0 refl refl ok.1.1.0 (λ k h. still_named l named k h) next
-      (enters_less (table_of next.rows) (octets_before (length c.externals) l is) (kind_at ok.0)
-      (kind_at (labels l)) (become_within ok.0 (labels l) ok.1.2)
+      jump-tail (go.Jump condition l) condition (octets_before (length c.externals) l is) is named
+      (l ∷ named) now ok.0 ok.1.0 refl refl ok.1.1.0 (λ k h. still-named l named k h) next
+      (enters-less (table_of next.rows) (octets_before (length c.externals) l is) (kind_at ok.0)
+      (kind_at (labels l)) (become-within ok.0 (labels l) ok.1.2)
       (next.labelled l (ap (λ b. b || is_named named l) (eq-eqb l l refl))))
   tail (transfer (go.Return condition) ∷ is) passed named now ok =
       let next = tail is passed named (coming_behind_condition condition ok.0) ok.2 in
-      jump_tail (go.Return condition) condition (octets (items_code (length c.externals) is)) is
+      jump-tail (go.Return condition) condition (octets (items_code (length c.externals) is)) is
       named named now ok.0 ok.1.0 refl refl ok.1.1 (λ k h. h) next (next.ended (kind_at ok.0))

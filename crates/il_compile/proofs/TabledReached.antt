@@ -8,16 +8,16 @@ use Rattle.il_image.specs.Spelling.{spelling}
 use Rattle.il_image.specs.Tables.{LeadsTo}
 use Rattle.il_image.specs.declared.instr.Instr.TheVariants.{Halt, Jump, Timer}
 use Rattle.il_image.specs.declared.opcode.TimerUse.TheVariants.{Run}
-use Rattle.il_image.proofs.KindLemmas.{within_self}
-use Rattle.il_check.specs.Labelling.{Coming, Labelling, carried, coming_behind_label, is_named}
+use Rattle.il_image.proofs.KindLemmas.{within-self}
+use Rattle.il_check.specs.Labelling.{Coming, Labelling, carry_of, coming_behind_label, is_named}
 use Rattle.il_check.specs.Program.{Checked, Item, label, plain, transfer}
 use Rattle.il_check.specs.TypedProgram.{AreItems, coming_behind_condition, has_label}
 use Rattle.il_check.specs.declared.typed.Transfer.TheVariants as go
 use Rattle.il_compile.specs.Code.{arguments_code, entry_code, items_code, octets, octets_before}
 use Rattle.il_compile.specs.Senses.{when_of}
-use Rattle.il_compile.proofs.TabledAgrees.{AreReached, reached_straight}
-use Rattle.il_compile.proofs.TabledFlows.{call_flows, entry_flows}
-use Rattle.il_compile.proofs.TabledItems.{flow_straight}
+use Rattle.il_compile.proofs.TabledAgrees.{AreReached, reached-straight}
+use Rattle.il_compile.proofs.TabledFlows.{call-flows, entry-flows}
+use Rattle.il_compile.proofs.TabledItems.{flow-straight}
 use Rattle.il_compile.proofs.TabledSteps.{kind_at}
 
 -- a jump leads to its label, and one that is taken at times leads on
@@ -32,36 +32,36 @@ falls Always n t u e = absurd cc
 falls IfTrue n t u e = inl refl
 falls IfFalse n t u e = inl refl
 
-not_both : (b : Bool) → b ≡ true → b ≡ false → ⊥
-not_both b e f = absurd cc
+not-both : (b : Bool) → b ≡ true → b ≡ false → ⊥
+not-both b e f = absurd cc
 
-named_before : (k l : ℕ) (named : List ℕ) → is_named (k ∷ named) l ≡ true
+named-before : (k l : ℕ) (named : List ℕ) → is_named (k ∷ named) l ≡ true
     → (k ≡ l) ⊎ (is_named named l ≡ true)
-named_before k l named h =
+named-before k l named h =
     elim (k == l) as (λ b. (k == l) ≡ b → b || is_named named l ≡ true
     → (k ≡ l) ⊎ (is_named named l ≡ true))
     [ true ↦ (λ e g. inl (eqb-true k l e)) | false ↦ (λ e g. inr g) ] refl h
 
 module _ (c : Checked) (labels : Labelling) where
   -- labels below have higher numbers
-  no_lower : (is : List Item) (passed : ℕ) (named : List ℕ) (now : Coming) (l : ℕ)
-      → AreItems c labels is (carried passed named now) → has_label is l ≡ true → passed ≤ l
-  no_lower [] passed named now l ok h = absurd cc
-  no_lower (label n ∷ is) passed named now l ok h =
+  no-lower : (is : List Item) (passed : ℕ) (named : List ℕ) (now : Coming) (l : ℕ)
+      → AreItems c labels is (carry_of passed named now) → has_label is l ≡ true → passed ≤ l
+  no-lower [] passed named now l ok h = absurd cc
+  no-lower (label n ∷ is) passed named now l ok h =
       let same = ok.0.0 in
       elim (n == l) as (λ b. (n == l) ≡ b → b || has_label is l ≡ true → passed ≤ l) [
         | true ↦ (λ e g. (let f = eqb-true n l e in omega arith))
         | false ↦
-            (λ e g. (let f = no_lower is (passed + 1) named
-            (coming_behind_label labels (carried passed named now)) l ok.1 g in omega arith))
+            (λ e g. (let f = no-lower is (passed + 1) named
+            (coming_behind_label labels (carry_of passed named now)) l ok.1 g in omega arith))
       ] refl h
-  no_lower (transfer (go.Jump condition k) ∷ is) passed named now l ok h =
-      no_lower is passed (k ∷ named) (coming_behind_condition condition ok.0) l ok.2 h
-  no_lower (transfer (go.Return condition) ∷ is) passed named now l ok h =
-      no_lower is passed named (coming_behind_condition condition ok.0) l ok.2 h
-  no_lower (transfer (go.Call n args) ∷ is) passed named now l ok h =
-      no_lower is passed named (Some None) l ok.2 h
-  no_lower (plain e ∷ is) passed named now l ok h = no_lower is passed named (Some ok.1) l ok.3 h
+  no-lower (transfer (go.Jump condition k) ∷ is) passed named now l ok h =
+      no-lower is passed (k ∷ named) (coming_behind_condition condition ok.0) l ok.2 h
+  no-lower (transfer (go.Return condition) ∷ is) passed named now l ok h =
+      no-lower is passed named (coming_behind_condition condition ok.0) l ok.2 h
+  no-lower (transfer (go.Call n args) ∷ is) passed named now l ok h =
+      no-lower is passed named (Some None) l ok.2 h
+  no-lower (plain e ∷ is) passed named now l ok h = no-lower is passed named (Some ok.1) l ok.3 h
 
   -- what is led to from above: the first item, where something comes to it, each label below that
   -- was named, and, where nothing comes, the end or some label
@@ -81,28 +81,28 @@ module _ (c : Checked) (labels : Labelling) where
   end_led P named now (Some t) e led = led.comes t e
 
   -- behind code whose instructions go on to the next
-  straight_led : (P : ℕ → Type 0) (size : ℕ) (i : Item) (is : List Item) (named : List ℕ)
+  straight-led : (P : ℕ → Type 0) (size : ℕ) (i : Item) (is : List Item) (named : List ℕ)
       (now : Coming) (u : Option ElementaryType)
       → ((l : ℕ) → octets_before (length c.externals) l (i ∷ is)
       ≡ size + octets_before (length c.externals) l is)
       → ((l : ℕ) → has_label (i ∷ is) l ≡ has_label is l)
       → IsLed P (i ∷ is) named now → IsLed (λ d. P (size + d) ⊎ (d ≡ 0)) is named (Some u)
-  straight_led P size i is named now u before same led = record {
+  straight-led P size i is named now u before same led = record {
     comes = λ t e. inr refl;
     jumps = λ l h g. inl (subst P (before l) (led.jumps l h (same l ∙ g)));
     ends = λ e. absurd cc;
   }
 
-  label_led : (P : ℕ → Type 0) (n passed : ℕ) (is : List Item) (named : List ℕ) (now : Coming)
+  label-led : (P : ℕ → Type 0) (n passed : ℕ) (is : List Item) (named : List ℕ) (now : Coming)
       → n ≡ passed → ((l : ℕ) → has_label is l ≡ true → passed + 1 ≤ l)
       → IsLed P (label n ∷ is) named now
-      → IsLed P is named (coming_behind_label labels (carried passed named now))
-  label_led P n passed is named now same above led = record {
+      → IsLed P is named (coming_behind_label labels (carry_of passed named now))
+  label-led P n passed is named now same above led = record {
     comes = λ t e. by_coming now refl t e;
     jumps = λ l h g. subst (λ b. P (if b then 0 else octets_before (length c.externals) l is))
         (ne_eqb n l (λ e. (let a = above l g in omega arith)))
         (led.jumps l h (either (n == l) (has_label is l) g));
-    ends = λ e. by_ends now refl e;
+    ends = λ e. by-ends now refl e;
   }
     where
       either : (a b : Bool) → b ≡ true → a || b ≡ true
@@ -116,39 +116,39 @@ module _ (c : Checked) (labels : Labelling) where
           (led.jumps passed h (ap (λ b. b || has_label is passed) it))
 
       by_coming : (other : Coming) → now ≡ other → (t : Option ElementaryType)
-          → coming_behind_label labels (carried passed named now) ≡ Some t → P 0
+          → coming_behind_label labels (carry_of passed named now) ≡ Some t → P 0
       by_coming (Some u) f t e = led.comes u f
       by_coming None f t e =
           elim (is_named named passed) as
           (λ b. is_named named passed ≡ b → (if b then Some (labels passed) else None) ≡ Some t
           → P 0)
           [ true ↦ (λ h g. here h) | false ↦ (λ h g. absurd cc) ] refl
-          (ap (λ w. coming_behind_label labels (carried passed named w)) (sym f) ∙ e)
+          (ap (λ w. coming_behind_label labels (carry_of passed named w)) (sym f) ∙ e)
 
-      other_label : is_named named passed ≡ false
+      other-label : is_named named passed ≡ false
           → (l : ℕ) × (is_named named l ≡ true) × (has_label (label n ∷ is) l ≡ true)
           → (l : ℕ) × (is_named named l ≡ true) × (has_label is l ≡ true)
-      other_label not_named x = (
+      other-label not_named x = (
         x.0,
         x.1,
         elim (n == x.0) as (λ b. (n == x.0) ≡ b → b || has_label is x.0 ≡ true
             → has_label is x.0 ≡ true) [
               | true ↦ (λ e g. absurd
-                  (not_both (is_named named passed)
+                  (not-both (is_named named passed)
                   (subst (λ k. is_named named k ≡ true) (sym (sym same ∙ eqb-true n x.0 e)) x.1)
                   not_named))
               | false ↦ (λ e g. g)
             ] refl x.2,
       )
 
-      by_ends : (other : Coming) → now ≡ other
-          → coming_behind_label labels (carried passed named now) ≡ None
+      by-ends : (other : Coming) → now ≡ other
+          → coming_behind_label labels (carry_of passed named now) ≡ None
           → P (octets (items_code (length c.externals) is))
           ⊎ ((l : ℕ) × (is_named named l ≡ true) × (has_label is l ≡ true))
-      by_ends (Some u) f e =
+      by-ends (Some u) f e =
           absurd (let bad : Some (labels passed) ≡ None =
-          ap (λ w. coming_behind_label labels (carried passed named w)) (sym f) ∙ e in cc)
-      by_ends None f e =
+          ap (λ w. coming_behind_label labels (carry_of passed named w)) (sym f) ∙ e in cc)
+      by-ends None f e =
           elim (is_named named passed) as
           (λ b. is_named named passed ≡ b → (if b then Some (labels passed) else None) ≡ None
           → P (octets (items_code (length c.externals) is))
@@ -157,18 +157,18 @@ module _ (c : Checked) (labels : Labelling) where
             | false ↦ (λ h g. ⊎_elim
                 (λ (p : P (octets (items_code (length c.externals) is))). inl p)
                 (λ (x : (l : ℕ) × (is_named named l ≡ true) × (has_label (label n ∷ is) l ≡ true)).
-                inr (other_label h x))
+                inr (other-label h x))
                 (led.ends f))
-          ] refl (ap (λ w. coming_behind_label labels (carried passed named w)) (sym f) ∙ e)
+          ] refl (ap (λ w. coming_behind_label labels (carry_of passed named w)) (sym f) ∙ e)
 
-  jump_led : (P : ℕ → Type 0) (condition : Condition) (k : ℕ) (is : List Item) (named : List ℕ)
+  jump-led : (P : ℕ → Type 0) (condition : Condition) (k : ℕ) (is : List Item) (named : List ℕ)
       (now : Coming) (t : Option ElementaryType) → has_label is k ≡ true
       → IsLed P (transfer (go.Jump condition k) ∷ is) named now
       → IsLed (λ d. P (length
       (spelling (Jump (when_of condition) (octets_before (length c.externals) k is))) + d)
       ⊎ LeadsTo (Jump (when_of condition) (octets_before (length c.externals) k is)) 0 d)
       is (k ∷ named) (coming_behind_condition condition t)
-  jump_led P condition k is named now t there led = record {
+  jump-led P condition k is named now t there led = record {
     comes = λ u e. inr (falls condition (octets_before (length c.externals) k is) t u e);
     jumps = λ l h g. ⊎_elim
         (λ (e : k ≡ l). inr (subst
@@ -176,75 +176,75 @@ module _ (c : Checked) (labels : Labelling) where
         (octets_before (length c.externals) m is)) e
         (leaps condition (octets_before (length c.externals) k is))))
         (λ (e : is_named named l ≡ true). inl (led.jumps l e g))
-        (named_before k l named h);
+        (named-before k l named h);
     ends = λ e. inr (k, ap (λ b. b || is_named named k) (eq-eqb k k refl), there);
   }
 
-  return_led : (P : ℕ → Type 0) (condition : Condition) (is : List Item) (named : List ℕ)
+  return-led : (P : ℕ → Type 0) (condition : Condition) (is : List Item) (named : List ℕ)
       (now : Coming) (t : Option ElementaryType)
       → IsLed P (transfer (go.Return condition) ∷ is) named now
       → IsLed (λ d. P (length
       (spelling (Jump (when_of condition) (octets (items_code (length c.externals) is)))) + d)
       ⊎ LeadsTo (Jump (when_of condition) (octets (items_code (length c.externals) is))) 0 d)
       is named (coming_behind_condition condition t)
-  return_led P condition is named now t led = record {
+  return-led P condition is named now t led = record {
     comes = λ u e. inr (falls condition (octets (items_code (length c.externals) is)) t u e);
     jumps = λ l h g. inl (led.jumps l h g);
     ends = λ e. inl (inr (leaps condition (octets (items_code (length c.externals) is))));
   }
 
-  pub items_reached : (is : List Item) (passed : ℕ) (named : List ℕ) (now : Coming)
-      → AreItems c labels is (carried passed named now) → (P : ℕ → Type 0) → IsLed P is named now
+  pub items-reached : (is : List Item) (passed : ℕ) (named : List ℕ) (now : Coming)
+      → AreItems c labels is (carry_of passed named now) → (P : ℕ → Type 0) → IsLed P is named now
       → AreReached P (items_code (length c.externals) is ++ Halt ∷ [])
-  items_reached [] passed named now ok P led = (end_led P named now now refl led, tt)
-  items_reached (label n ∷ is) passed named now ok P led =
-      items_reached is (passed + 1) named (coming_behind_label labels (carried passed named now))
+  items-reached [] passed named now ok P led = (end_led P named now now refl led, tt)
+  items-reached (label n ∷ is) passed named now ok P led =
+      items-reached is (passed + 1) named (coming_behind_label labels (carry_of passed named now))
       ok.1 P
-      (label_led P n passed is named now ok.0.0
-      (λ l h. no_lower is (passed + 1) named
-      (coming_behind_label labels (carried passed named now)) l ok.1 h) led)
-  items_reached (plain e ∷ is) passed named now ok P led =
+      (label-led P n passed is named now ok.0.0
+      (λ l h. no-lower is (passed + 1) named
+      (coming_behind_label labels (carry_of passed named now)) l ok.1 h) led)
+  items-reached (plain e ∷ is) passed named now ok P led =
       let code = entry_code (length c.externals) e in
-      let f = entry_flows c e ok.0 ok.1 (kind_at ok.0) [] ok.2.1 (within_self (kind_at ok.0))
+      let f = entry-flows c e ok.0 ok.1 (kind_at ok.0) [] ok.2.1 (within-self (kind_at ok.0))
       (let d = ok.2.2 in omega arith) in
       let Q : ℕ → Type 0 = λ d. P (octets code + d) ⊎ (d ≡ 0) in
       subst (AreReached P) (sym
       (append_assoc code (items_code (length c.externals) is) (Halt ∷ [])))
-      (reached_straight code (items_code (length c.externals) is ++ Halt ∷ []) P
-      (flow_straight c code (kind_at ok.0 ∷ []) (f.top ∷ []) f.flow) (led.comes ok.0 ok.2.0)
-      (items_reached is passed named (Some ok.1) ok.3 Q
-      (straight_led P (octets code) (plain e) is named now ok.1 (λ l. refl) (λ l. refl) led)))
-  items_reached (transfer (go.Call n args) ∷ is) passed named now ok P led =
+      (reached-straight code (items_code (length c.externals) is ++ Halt ∷ []) P
+      (flow-straight c code (kind_at ok.0 ∷ []) (f.top ∷ []) f.flow) (led.comes ok.0 ok.2.0)
+      (items-reached is passed named (Some ok.1) ok.3 Q
+      (straight-led P (octets code) (plain e) is named now ok.1 (λ l. refl) (λ l. refl) led)))
+  items-reached (transfer (go.Call n args) ∷ is) passed named now ok P led =
       let code = arguments_code (length c.externals) n args ++ Timer Run n ∷ [] in
       let Q : ℕ → Type 0 = λ d. P (octets code + d) ⊎ (d ≡ 0) in
       subst (AreReached P) (sym
       (append_assoc code (items_code (length c.externals) is) (Halt ∷ [])))
-      (reached_straight code (items_code (length c.externals) is ++ Halt ∷ []) P
-      (flow_straight c code (kind_at ok.0 ∷ []) (kind_at ok.0 ∷ [])
-      (call_flows c n args (kind_at ok.0 ∷ []) ok.1.1.0 ok.1.1.1 (omega arith)))
+      (reached-straight code (items_code (length c.externals) is ++ Halt ∷ []) P
+      (flow-straight c code (kind_at ok.0 ∷ []) (kind_at ok.0 ∷ [])
+      (call-flows c n args (kind_at ok.0 ∷ []) ok.1.1.0 ok.1.1.1 (omega arith)))
       (led.comes ok.0 ok.1.0)
-      (items_reached is passed named (Some None) ok.2 Q
-      (straight_led P (octets code) (transfer (go.Call n args)) is named now None (λ l. refl)
+      (items-reached is passed named (Some None) ok.2 Q
+      (straight-led P (octets code) (transfer (go.Call n args)) is named now None (λ l. refl)
       (λ l. refl) led)))
-  items_reached (transfer (go.Jump condition k) ∷ is) passed named now ok P led = (
+  items-reached (transfer (go.Jump condition k) ∷ is) passed named now ok P led = (
     led.comes ok.0 ok.1.0,
-    items_reached is passed (k ∷ named) (coming_behind_condition condition ok.0) ok.2
+    items-reached is passed (k ∷ named) (coming_behind_condition condition ok.0) ok.2
         (λ d. P (length (spelling
         (Jump (when_of condition) (octets_before (length c.externals) k is))) + d)
         ⊎ LeadsTo (Jump (when_of condition) (octets_before (length c.externals) k is)) 0 d)
-        (jump_led P condition k is named now ok.0 ok.1.1.1 led),
+        (jump-led P condition k is named now ok.0 ok.1.1.1 led),
   )
-  items_reached (transfer (go.Return condition) ∷ is) passed named now ok P led = (
+  items-reached (transfer (go.Return condition) ∷ is) passed named now ok P led = (
     led.comes ok.0 ok.1.0,
-    items_reached is passed named (coming_behind_condition condition ok.0) ok.2
+    items-reached is passed named (coming_behind_condition condition ok.0) ok.2
         (λ d. P (length (spelling
         (Jump (when_of condition) (octets (items_code (length c.externals) is)))) + d)
         ⊎ LeadsTo (Jump (when_of condition) (octets (items_code (length c.externals) is))) 0 d)
-        (return_led P condition is named now ok.0 led),
+        (return-led P condition is named now ok.0 led),
   )
 
   -- something comes to the first item
-  pub first_led : (P : ℕ → Type 0) (is : List Item) (t : Option ElementaryType) → P 0
+  pub first-led : (P : ℕ → Type 0) (is : List Item) (t : Option ElementaryType) → P 0
       → IsLed P is [] (Some t)
-  first_led P is t p =
+  first-led P is t p =
       record { comes = λ u e. p; jumps = λ l h g. absurd cc; ends = λ e. absurd cc }

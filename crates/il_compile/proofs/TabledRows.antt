@@ -8,9 +8,9 @@ use Rattle.il_image.specs.declared.instr.Instr.{Instr}
 use Rattle.il_image.specs.declared.instr.Instr.TheVariants.{Halt, Push, Drop, Slot, Not, Combine, Compute, Compare, Widen, Jump, Timer}
 use Rattle.il_image.specs.declared.kind.CellKind.{CellKind}
 use Rattle.il_image.specs.declared.opcode.When.TheVariants.{Always, IfTrue, IfFalse}
-use Rattle.il_image.proofs.PlaceLemmas.{none_past_end}
+use Rattle.il_image.proofs.PlaceLemmas.{none-past-end}
 use Rattle.il_compile.specs.Code.{octets}
-use Rattle.il_compile.proofs.Placing.{Stands, back, found, within, octets_both, octets_more, some_octet}
+use Rattle.il_compile.proofs.Placing.{Stands, back, found, within, octets-both, octets_more, some-octet}
 
 -- an instruction, and the kinds on the stack before it
 pub record Row : Type 0 where
@@ -29,13 +29,13 @@ table_of (r ∷ rs) (suc x) =
     if nat_lt (suc x) (length (spelling r.instr)) then None
     else table_of rs (suc x - length (spelling r.instr))
 
-pub instrs_both : (a b : List Row) → instrs_of (a ++ b) ≡ instrs_of a ++ instrs_of b
-instrs_both [] b = refl
-instrs_both (r ∷ a) b = ap (λ l. r.instr ∷ l) (instrs_both a b)
+pub instrs-both : (a b : List Row) → instrs_of (a ++ b) ≡ instrs_of a ++ instrs_of b
+instrs-both [] b = refl
+instrs-both (r ∷ a) b = ap (λ l. r.instr ∷ l) (instrs-both a b)
 
-pub behind_row : (r : Row) (rs : List Row) (d : ℕ)
+pub behind-row : (r : Row) (rs : List Row) (d : ℕ)
     → table_of (r ∷ rs) (length (spelling r.instr) + d) ≡ table_of rs d
-behind_row r rs d =
+behind-row r rs d =
     let n = length (operand_of r.instr) in
     let e : length (spelling r.instr) + d ≡ suc (n + d) = omega arith in
     let past : nat_lt (suc (n + d)) (length (spelling r.instr)) ≡ false =
@@ -45,54 +45,54 @@ behind_row r rs d =
     ∙ ap (λ b. if b then None else table_of rs (suc (n + d) - length (spelling r.instr))) past
     ∙ ap (table_of rs) left
 
-pub behind_rows : (a b : List Row) (d : ℕ)
+pub behind-rows : (a b : List Row) (d : ℕ)
     → table_of (a ++ b) (octets (instrs_of a) + d) ≡ table_of b d
-behind_rows [] b d = let e : 0 + d ≡ d = omega arith in ap (table_of b) e
-behind_rows (r ∷ a) b d =
+behind-rows [] b d = let e : 0 + d ≡ d = omega arith in ap (table_of b) e
+behind-rows (r ∷ a) b d =
     let e : octets (instrs_of (r ∷ a)) + d
     ≡ length (spelling r.instr) + (octets (instrs_of a) + d) =
     omega (arith, octets_more r.instr (instrs_of a)) in
-    ap (table_of (r ∷ a ++ b)) e ∙ behind_row r (a ++ b) (octets (instrs_of a) + d)
-    ∙ behind_rows a b d
+    ap (table_of (r ∷ a ++ b)) e ∙ behind-row r (a ++ b) (octets (instrs_of a) + d)
+    ∙ behind-rows a b d
 
 -- ---- where an instruction leads
 
-pub lead_on : (i : Instr) (next to : ℕ) → LeadsTo i next to
+pub lead-on : (i : Instr) (next to : ℕ) → LeadsTo i next to
     → (d : ℕ) × (to ≡ next + d) × LeadsTo i 0 d
-lead_on Halt next to h = absurd h
-lead_on (Jump Always n) next to h = (n, h, omega arith)
-lead_on (Jump IfTrue n) next to h =
+lead-on Halt next to h = absurd h
+lead-on (Jump Always n) next to h = (n, h, omega arith)
+lead-on (Jump IfTrue n) next to h =
     ⊎_elim (λ (e : to ≡ next). (0, omega arith, inl refl))
     (λ (e : to ≡ next + n). (n, e, inr (omega arith))) h
-lead_on (Jump IfFalse n) next to h =
+lead-on (Jump IfFalse n) next to h =
     ⊎_elim (λ (e : to ≡ next). (0, omega arith, inl refl))
     (λ (e : to ≡ next + n). (n, e, inr (omega arith))) h
-lead_on (Push v) next to h = (0, omega arith, refl)
-lead_on Drop next to h = (0, omega arith, refl)
-lead_on (Slot slot_use n) next to h = (0, omega arith, refl)
-lead_on Not next to h = (0, omega arith, refl)
-lead_on (Combine c) next to h = (0, omega arith, refl)
-lead_on (Compute o w) next to h = (0, omega arith, refl)
-lead_on (Compare c) next to h = (0, omega arith, refl)
-lead_on (Widen w) next to h = (0, omega arith, refl)
-lead_on (Timer timer_use n) next to h = (0, omega arith, refl)
+lead-on (Push v) next to h = (0, omega arith, refl)
+lead-on Drop next to h = (0, omega arith, refl)
+lead-on (Slot slot_use n) next to h = (0, omega arith, refl)
+lead-on Not next to h = (0, omega arith, refl)
+lead-on (Combine c) next to h = (0, omega arith, refl)
+lead-on (Compute o w) next to h = (0, omega arith, refl)
+lead-on (Compare c) next to h = (0, omega arith, refl)
+lead-on (Widen w) next to h = (0, omega arith, refl)
+lead-on (Timer timer_use n) next to h = (0, omega arith, refl)
 
-pub lead_off : (i : Instr) (next d : ℕ) → LeadsTo i 0 d → LeadsTo i next (next + d)
-lead_off Halt next d h = absurd h
-lead_off (Jump Always n) next d h = omega arith
-lead_off (Jump IfTrue n) next d h =
+pub lead-off : (i : Instr) (next d : ℕ) → LeadsTo i 0 d → LeadsTo i next (next + d)
+lead-off Halt next d h = absurd h
+lead-off (Jump Always n) next d h = omega arith
+lead-off (Jump IfTrue n) next d h =
     ⊎_elim (λ (e : d ≡ 0). inl (omega arith)) (λ (e : d ≡ 0 + n). inr (omega arith)) h
-lead_off (Jump IfFalse n) next d h =
+lead-off (Jump IfFalse n) next d h =
     ⊎_elim (λ (e : d ≡ 0). inl (omega arith)) (λ (e : d ≡ 0 + n). inr (omega arith)) h
-lead_off (Push v) next d h = omega arith
-lead_off Drop next d h = omega arith
-lead_off (Slot slot_use n) next d h = omega arith
-lead_off Not next d h = omega arith
-lead_off (Combine c) next d h = omega arith
-lead_off (Compute o w) next d h = omega arith
-lead_off (Compare c) next d h = omega arith
-lead_off (Widen w) next d h = omega arith
-lead_off (Timer timer_use n) next d h = omega arith
+lead-off (Push v) next d h = omega arith
+lead-off Drop next d h = omega arith
+lead-off (Slot slot_use n) next d h = omega arith
+lead-off Not next d h = omega arith
+lead-off (Combine c) next d h = omega arith
+lead-off (Compute o w) next d h = omega arith
+lead-off (Compare c) next d h = omega arith
+lead-off (Widen w) next d h = omega arith
+lead-off (Timer timer_use n) next d h = omega arith
 
 -- ---- what the table has at a place
 
@@ -104,19 +104,19 @@ pub record FoundRow (rows : List Row) (x : ℕ) (kinds : List CellKind) : Type 0
   pub place : x ≡ octets (instrs_of before)
   pub same : row.kinds ≡ kinds
 
-pub find_row : (rows : List Row) (x : ℕ) (kinds : List CellKind) → table_of rows x ≡ Some kinds
+pub find-row : (rows : List Row) (x : ℕ) (kinds : List CellKind) → table_of rows x ≡ Some kinds
     → FoundRow rows x kinds
-find_row [] x kinds e = absurd cc
-find_row (r ∷ rs) zero kinds e =
+find-row [] x kinds e = absurd cc
+find-row (r ∷ rs) zero kinds e =
     record { before = []; row = r; behind = rs; is = refl; place = refl; same = cc }
-find_row (r ∷ rs) (suc x) kinds e =
+find-row (r ∷ rs) (suc x) kinds e =
     elim (nat_lt (suc x) (length (spelling r.instr))) as
     (λ b. nat_lt (suc x) (length (spelling r.instr)) ≡ b
     → (if b then None else table_of rs (suc x - length (spelling r.instr))) ≡ Some kinds
     → FoundRow (r ∷ rs) (suc x) kinds) [
       | true ↦ (λ h g. absurd cc)
       | false ↦ (λ h g.
-          (let f = find_row rs (suc x - length (spelling r.instr)) kinds g in
+          (let f = find-row rs (suc x - length (spelling r.instr)) kinds g in
           let le = ltb-false (suc x) (length (spelling r.instr)) h in
           let p = f.place in
           record {
@@ -129,17 +129,17 @@ find_row (r ∷ rs) (suc x) kinds e =
           }))
     ] refl e
 
-pub some_row : (rows : List Row) (a b : List Instr) (i : Instr) → instrs_of rows ≡ a ++ i ∷ b
+pub some-row : (rows : List Row) (a b : List Instr) (i : Instr) → instrs_of rows ≡ a ++ i ∷ b
     → IsSome (table_of rows (octets a))
-some_row [] [] b i e = absurd cc
-some_row [] (j ∷ a) b i e = absurd cc
-some_row (r ∷ rs) [] b i e = refl
-some_row (r ∷ rs) (j ∷ a) b i e =
+some-row [] [] b i e = absurd cc
+some-row [] (j ∷ a) b i e = absurd cc
+some-row (r ∷ rs) [] b i e = refl
+some-row (r ∷ rs) (j ∷ a) b i e =
     let same : r.instr ≡ j = cc in
     let rest : instrs_of rs ≡ a ++ i ∷ b = cc in
     let there : octets (j ∷ a) ≡ length (spelling r.instr) + octets a =
     octets_more j a ∙ ap (λ k. length (spelling k) + octets a) (sym same) in
-    ap is_some (ap (table_of (r ∷ rs)) there ∙ behind_row r rs (octets a)) ∙ some_row rs a b i rest
+    ap is_some (ap (table_of (r ∷ rs)) there ∙ behind-row r rs (octets a)) ∙ some-row rs a b i rest
 
 -- ---- places
 
@@ -153,28 +153,28 @@ pub record At (whole : List Instr) (x : ℕ) : Type 0 where
 
 module _ (code : List ℕ) (is : List Instr) (whole : Stands code 0 is)
     (size : length code ≡ octets is) where
-  pub at_found : (x : ℕ) → (a : At is x)
+  pub at-found : (x : ℕ) → (a : At is x)
       → instr_at code x ≡ Some (a.instr, x + length (spelling a.instr))
-  at_found x a =
+  at-found x a =
       let here : 0 + octets a.before ≡ x = (let p = a.place in omega arith) in
       found code x a.instr a.behind
       (subst (λ q. Stands code q (a.instr ∷ a.behind)) here
       (back code 0 a.before (a.instr ∷ a.behind) (subst (Stands code 0) a.is whole)))
 
-  first_place : (js : List Instr) → is ≡ js → (x : ℕ) → 0 ≡ x → At is x ⊎ (x ≡ length code)
-  first_place [] e x z = inr (sym z ∙ sym (ap octets e) ∙ sym size)
-  first_place (j ∷ js) e x z =
+  first-place : (js : List Instr) → is ≡ js → (x : ℕ) → 0 ≡ x → At is x ⊎ (x ≡ length code)
+  first-place [] e x z = inr (sym z ∙ sym (ap octets e) ∙ sym size)
+  first-place (j ∷ js) e x z =
       inl (record { before = []; instr = j; behind = js; is = e; place = sym z })
 
-  next_place : (x : ℕ) (a : At is x) (behind : List Instr) → a.behind ≡ behind
+  next-place : (x : ℕ) (a : At is x) (behind : List Instr) → a.behind ≡ behind
       → At is (x + length (spelling a.instr)) ⊎ (x + length (spelling a.instr) ≡ length code)
-  next_place x a [] e =
+  next-place x a [] e =
       let whole_size : octets is ≡ octets a.before + octets (a.instr ∷ []) =
       ap octets (a.is ∙ ap (λ l. a.before ++ a.instr ∷ l) e)
-      ∙ octets_both a.before (a.instr ∷ []) in
+      ∙ octets-both a.before (a.instr ∷ []) in
       let p = a.place in
       inr (omega (arith, octets_more a.instr []))
-  next_place x a (j ∷ rest) e =
+  next-place x a (j ∷ rest) e =
       let p = a.place in
       inl (record {
         before = a.before ++ a.instr ∷ [];
@@ -182,29 +182,29 @@ module _ (code : List ℕ) (is : List Instr) (whole : Stands code 0 is)
         behind = rest;
         is = a.is ∙ ap (λ l. a.before ++ a.instr ∷ l) e
             ∙ sym (append_assoc a.before (a.instr ∷ []) (j ∷ rest));
-        place = omega (arith, octets_both a.before (a.instr ∷ []), octets_more a.instr []);
+        place = omega (arith, octets-both a.before (a.instr ∷ []), octets_more a.instr []);
       })
 
-  pub place_at : (n x : ℕ) → place_of code n ≡ Some x → At is x ⊎ (x ≡ length code)
-  place_at zero x e = first_place is refl x (let z : 0 ≡ x = cc in z)
-  place_at (suc n) x e = by_place (λ y p. place_at n y p) (place_of code n) refl e
+  pub place-at : (n x : ℕ) → place_of code n ≡ Some x → At is x ⊎ (x ≡ length code)
+  place-at zero x e = first-place is refl x (let z : 0 ≡ x = cc in z)
+  place-at (suc n) x e = by-place (λ y p. place-at n y p) (place_of code n) refl e
     where
       behind : (y : ℕ) → At is y ⊎ (y ≡ length code)
           → option_map (λ r. r.1) (instr_at code y) ≡ Some x → At is x ⊎ (x ≡ length code)
       behind y (inl a) g =
           let f : Some (y + length (spelling a.instr)) ≡ Some x =
-          ap (option_map (λ r. r.1)) (sym (at_found y a)) ∙ g in
+          ap (option_map (λ r. r.1)) (sym (at-found y a)) ∙ g in
           let same : y + length (spelling a.instr) ≡ x = cc in
-          subst (λ z. At is z ⊎ (z ≡ length code)) same (next_place y a a.behind refl)
+          subst (λ z. At is z ⊎ (z ≡ length code)) same (next-place y a a.behind refl)
       behind y (inr end) g =
-          let none : instr_at code y ≡ None = none_past_end code y (omega arith) in
+          let none : instr_at code y ≡ None = none-past-end code y (omega arith) in
           let bad : ◌≡◌ {A = Option ℕ} None (Some x) = ap (option_map (λ r. r.1)) (sym none) ∙ g in
           absurd cc
 
-      by_place : ((y : ℕ) → place_of code n ≡ Some y → At is y ⊎ (y ≡ length code)) → (o : Option ℕ)
+      by-place : ((y : ℕ) → place_of code n ≡ Some y → At is y ⊎ (y ≡ length code)) → (o : Option ℕ)
           → place_of code n ≡ o → behind_place code o ≡ Some x → At is x ⊎ (x ≡ length code)
-      by_place f None p g = absurd cc
-      by_place f (Some y) p g = behind y (f y p) g
+      by-place f None p g = absurd cc
+      by-place f (Some y) p g = behind y (f y p) g
 
   steps : (a b : List Instr) (i : Instr) (p n : ℕ) → Stands code p (a ++ i ∷ b)
       → place_of code n ≡ Some p → (m : ℕ) × (place_of code m ≡ Some (p + octets a))
@@ -229,11 +229,11 @@ module _ (code : List ℕ) (is : List Instr) (whole : Stands code 0 is)
       let end =
       within code (0 + octets a.before) a.instr a.behind
       (back code 0 a.before (a.instr ∷ a.behind) st) in (
-        (let some = some_octet a.instr in omega (arith, octets_more a.instr a.behind)),
+        (let some = some-octet a.instr in omega (arith, octets_more a.instr a.behind)),
         (s.0, s.1 ∙ ap Some here),
       )
 
-  pub is_at : (x : ℕ) → IsPlace code x → At is x
-  is_at x p =
+  pub is-at : (x : ℕ) → IsPlace code x → At is x
+  is-at x p =
       ⊎_elim (λ (a : At is x). a) (λ (e : x ≡ length code). absurd (let lt = p.0 in omega arith))
-      (place_at p.1.0 x p.1.1)
+      (place-at p.1.0 x p.1.1)

@@ -29,7 +29,7 @@ use Rattle.il_image.specs.declared.opcode.SlotUse.TheVariants.{Load, Store, SetI
 use Rattle.il_image.specs.declared.opcode.TimerUse.TheVariants.{SetInput, SetPreset, Run}
 use Rattle.il_image.specs.declared.value.Value.{Value}
 use Rattle.il_image.specs.declared.value.Value.TheVariants.{Truth, Short, Long, Wide, Span}
-use Rattle.il_image.proofs.KindLemmas.{same_is, same_self, within_any}
+use Rattle.il_image.proofs.KindLemmas.{same-is, same-self, within-any}
 use Rattle.il_check.specs.Program.{Checked}
 use Rattle.il_check.specs.Rules as rules
 use Rattle.il_check.specs.TypedProgram.{IsOperand, is_divisor, is_writable, may_write, slot_type}
@@ -41,48 +41,48 @@ use Rattle.il_check.specs.declared.typed.TypedOperand.TheVariants as operand
 use Rattle.il_compile.specs.Code.{fetch, sense_instr, slot_number, width_of}
 use Rattle.il_compile.specs.Compiled.{image_of, point_of}
 use Rattle.il_compile.specs.Senses.{Sense, connects, computes, compares, widening_of}
-use Rattle.il_compile.proofs.Values.{boolean_is, sense_divides, sense_gives, sense_takes}
+use Rattle.il_compile.proofs.Values.{boolean-is, sense_divides, sense_gives, sense_takes}
 
 -- ---- lists
 
-get_front : {A : Type 0} (xs ys : List A) (n : ℕ) (x : A) → slice_get xs n ≡ Some x
+get-front : {A : Type 0} (xs ys : List A) (n : ℕ) (x : A) → slice_get xs n ≡ Some x
     → slice_get (xs ++ ys) n ≡ Some x
-get_front [] ys n x h = absurd cc
-get_front (y ∷ xs) ys zero x h = h
-get_front (y ∷ xs) ys (suc n) x h = get_front xs ys n x h
+get-front [] ys n x h = absurd cc
+get-front (y ∷ xs) ys zero x h = h
+get-front (y ∷ xs) ys (suc n) x h = get-front xs ys n x h
 
-get_back : {A : Type 0} (xs ys : List A) (n k : ℕ) → length xs ≡ k
+get-back : {A : Type 0} (xs ys : List A) (n k : ℕ) → length xs ≡ k
     → slice_get (xs ++ ys) (k + n) ≡ slice_get ys n
-get_back {A = A} xs ys n k e = ap (λ m. slice_get (xs ++ ys) (m + n)) (sym e) ∙ whole xs
+get-back {A = A} xs ys n k e = ap (λ m. slice_get (xs ++ ys) (m + n)) (sym e) ∙ whole xs
   where
     whole : (xs : List A) → slice_get (xs ++ ys) (length xs + n) ≡ slice_get ys n
     whole [] = let e : 0 + n ≡ n = omega arith in ap (slice_get ys) e
     whole (x ∷ xs) = let e : suc (length xs) + n ≡ suc (length xs + n) =
         omega arith in ap (slice_get (x ∷ xs ++ ys)) e ∙ whole xs
 
-get_map : {A B : Type 0} (f : A → B) (xs : List A) (n : ℕ)
+get-map : {A B : Type 0} (f : A → B) (xs : List A) (n : ℕ)
     → slice_get (map f xs) n ≡ option_map f (slice_get xs n)
-get_map f [] n = refl
-get_map f (x ∷ xs) zero = refl
-get_map f (x ∷ xs) (suc n) = get_map f xs n
+get-map f [] n = refl
+get-map f (x ∷ xs) zero = refl
+get-map f (x ∷ xs) (suc n) = get-map f xs n
 
-get_map_map : {A B C : Type 0} (f : B → C) (g : A → B) (xs : List A) (n : ℕ)
+get-map-map : {A B C : Type 0} (f : B → C) (g : A → B) (xs : List A) (n : ℕ)
     → slice_get (map f (map g xs)) n ≡ option_map (λ x. f (g x)) (slice_get xs n)
-get_map_map f g [] n = refl
-get_map_map f g (x ∷ xs) zero = refl
-get_map_map f g (x ∷ xs) (suc n) = get_map_map f g xs n
+get-map-map f g [] n = refl
+get-map-map f g (x ∷ xs) zero = refl
+get-map-map f g (x ∷ xs) (suc n) = get-map-map f g xs n
 
-get_below : {A : Type 0} (xs : List A) (n : ℕ) (b : Bool) → n < length xs
+get-below : {A : Type 0} (xs : List A) (n : ℕ) (b : Bool) → n < length xs
     → slice_get (map (λ (x : A). b) xs) n ≡ Some b
-get_below [] n b lt = absurd (omega arith)
-get_below (x ∷ xs) zero b lt = refl
-get_below (x ∷ xs) (suc n) b lt = get_below xs n b (omega arith)
+get-below [] n b lt = absurd (omega arith)
+get-below (x ∷ xs) zero b lt = refl
+get-below (x ∷ xs) (suc n) b lt = get-below xs n b (omega arith)
 
-some_below : {A B : Type 0} (f : A → B) (xs : List A) (n : ℕ) (b : B)
+some-below : {A B : Type 0} (f : A → B) (xs : List A) (n : ℕ) (b : B)
     → option_map f (slice_get xs n) ≡ Some b → n < length xs
-some_below f [] n b e = absurd cc
-some_below f (x ∷ xs) zero b e = omega arith
-some_below f (x ∷ xs) (suc n) b e = let h = some_below f xs n b e in omega arith
+some-below f [] n b e = absurd cc
+some-below f (x ∷ xs) zero b e = omega arith
+some-below f (x ∷ xs) (suc n) b e = let h = some-below f xs n b e in omega arith
 
 -- ---- kinds
 
@@ -91,68 +91,68 @@ abbrev pub kind_at : Option ElementaryType → CellKind
 kind_at None = Any
 kind_at (Some kind) = Plain kind
 
-number_within : (w : Width) (b : Bool)
+number-within : (w : Width) (b : Bool)
     → is_within (if b then Plain (type_of_width w) else NotZero w) (Plain (type_of_width w)) ≡ true
-number_within w true = same_self (type_of_width w)
-number_within w false = same_self (type_of_width w)
+number-within w true = same-self (type_of_width w)
+number-within w false = same-self (type_of_width w)
 
-kind_within : (v : Value) → is_within (kind_of v) (Plain (type_of v)) ≡ true
-kind_within (Truth b) = refl
-kind_within (Short z) = number_within width.Int (int_eq z (pos 0))
-kind_within (Long z) = number_within width.Dint (int_eq z (pos 0))
-kind_within (Wide z) = number_within width.Lint (int_eq z (pos 0))
-kind_within (Span n) = refl
+kind-within : (v : Value) → is_within (kind_of v) (Plain (type_of v)) ≡ true
+kind-within (Truth b) = refl
+kind-within (Short z) = number-within width.Int (int_eq z (pos 0))
+kind-within (Long z) = number-within width.Dint (int_eq z (pos 0))
+kind-within (Wide z) = number-within width.Lint (int_eq z (pos 0))
+kind-within (Span n) = refl
 
-other_than_zero : (w : Width) (b : Bool) → not b ≡ true
+other-than-zero : (w : Width) (b : Bool) → not b ≡ true
     → is_within (if b then Plain (type_of_width w) else NotZero w) (NotZero w) ≡ true
-other_than_zero w true h = absurd cc
-other_than_zero w false h = same_self (type_of_width w)
+other-than-zero w true h = absurd cc
+other-than-zero w false h = same-self (type_of_width w)
 
 -- a number other than 0
-divisor_within : (v : Value) → not (int_eq (number_of v) (pos 0)) ≡ true
+divisor-within : (v : Value) → not (int_eq (number_of v) (pos 0)) ≡ true
     → rules.is_number (type_of v) ≡ true
     → is_within (kind_of v) (NotZero (width_of (type_of v))) ≡ true
-divisor_within (Truth b) h n = absurd cc
-divisor_within (Short z) h n = other_than_zero width.Int (int_eq z (pos 0)) h
-divisor_within (Long z) h n = other_than_zero width.Dint (int_eq z (pos 0)) h
-divisor_within (Wide z) h n = other_than_zero width.Lint (int_eq z (pos 0)) h
-divisor_within (Span z) h n = absurd cc
+divisor-within (Truth b) h n = absurd cc
+divisor-within (Short z) h n = other-than-zero width.Int (int_eq z (pos 0)) h
+divisor-within (Long z) h n = other-than-zero width.Dint (int_eq z (pos 0)) h
+divisor-within (Wide z) h n = other-than-zero width.Lint (int_eq z (pos 0)) h
+divisor-within (Span z) h n = absurd cc
 
 -- a kind within that of a type shows the type
 shown : (k : CellKind) (kind : ElementaryType) → is_within k (Plain kind) ≡ true
     → type_of_kind k ≡ Some kind
 shown Any kind h = absurd cc
-shown (Plain t) kind h = ap Some (same_is t kind h)
-shown (NotZero w) kind h = ap Some (same_is (type_of_width w) kind h)
+shown (Plain t) kind h = ap Some (same-is t kind h)
+shown (NotZero w) kind h = ap Some (same-is (type_of_width w) kind h)
 
-width_back : (kind : ElementaryType) → rules.is_number kind ≡ true
+width-back : (kind : ElementaryType) → rules.is_number kind ≡ true
     → type_of_width (width_of kind) ≡ kind
-width_back elementary.Bool h = absurd cc
-width_back elementary.Int h = refl
-width_back elementary.Dint h = refl
-width_back elementary.Lint h = refl
-width_back elementary.Time h = absurd cc
+width-back elementary.Bool h = absurd cc
+width-back elementary.Int h = refl
+width-back elementary.Dint h = refl
+width-back elementary.Lint h = refl
+width-back elementary.Time h = absurd cc
 
 -- ---- instructions
 
-below_top : (wanted top : CellKind) (rest : List CellKind) → is_within top wanted ≡ true
+below-top : (wanted top : CellKind) (rest : List CellKind) → is_within top wanted ≡ true
     → below wanted (top ∷ rest) ≡ Some rest
-below_top wanted top rest h = ap (λ b. if b then Some rest else None) h
+below-top wanted top rest h = ap (λ b. if b then Some rest else None) h
 
 looked : (wanted top : CellKind) (rest : List CellKind) → is_within top wanted ≡ true
     → looks_at wanted (top ∷ rest) ≡ Some (top ∷ rest)
 looked wanted top rest h =
     ap (λ (o : Option (List CellKind)). o >>= (λ ks. Some (top ∷ rest)))
-    (below_top wanted top rest h)
+    (below-top wanted top rest h)
 
-two_tops : (first second gives v a : CellKind) (rest : List CellKind) → is_within v first ≡ true
+two-tops : (first second gives v a : CellKind) (rest : List CellKind) → is_within v first ≡ true
     → is_within a second ≡ true → two first second gives (v ∷ a ∷ rest) ≡ Some (gives ∷ rest)
-two_tops first second gives v a rest h g =
+two-tops first second gives v a rest h g =
     ap (λ (o : Option (List CellKind)). o
     >>= (λ more. below second more >>= (λ ks. Some (gives ∷ ks))))
-    (below_top first v (a ∷ rest) h)
+    (below-top first v (a ∷ rest) h)
     ∙ ap (λ (o : Option (List CellKind)). o >>= (λ ks. Some (gives ∷ ks)))
-    (below_top second a rest g)
+    (below-top second a rest g)
 
 -- what comparing makes
 compared : (c : Comparison) (kind : ElementaryType)
@@ -166,11 +166,11 @@ compared c elementary.Dint h = refl
 compared c elementary.Lint h = refl
 compared c elementary.Time h = refl
 
-two_shown : (c : Comparison) (kind : ElementaryType) (v a : CellKind) (rest : List CellKind)
+two-shown : (c : Comparison) (kind : ElementaryType) (v a : CellKind) (rest : List CellKind)
     → is_within v (Plain kind) ≡ true → is_within a (Plain kind) ≡ true
     → are_compared c kind kind ≡ true
     → compares_kinds c (v ∷ a ∷ rest) ≡ Some (Plain elementary.Bool ∷ rest)
-two_shown c kind v a rest h g e =
+two-shown c kind v a rest h g e =
     ap (λ (o : Option ElementaryType). o
     >>= (λ t. type_of_kind a
     >>= (λ u. if are_compared c u t then Some (Plain elementary.Bool ∷ rest) else None)))
@@ -180,10 +180,10 @@ two_shown c kind v a rest h g e =
     (shown a kind g)
     ∙ ap (λ b. if b then Some (Plain elementary.Bool ∷ rest) else None) e
 
-second_within : (o : Operation) (w : Width) (v : CellKind)
+second-within : (o : Operation) (w : Width) (v : CellKind)
     → is_within v (Plain (type_of_width w)) ≡ true
     → (divides o ≡ true → is_within v (NotZero w) ≡ true) → is_within v (second_kind o w) ≡ true
-second_within o w v h d =
+second-within o w v h d =
     elim (divides o) as (λ b. divides o ≡ b
     → is_within v (if b then NotZero w else Plain (type_of_width w)) ≡ true)
     [ true ↦ (λ e. d e) | false ↦ (λ e. h) ] refl
@@ -201,7 +201,7 @@ widened from to top rest h =
     (λ b. is_within top (NotZero from) ≡ b → Widened from to top rest) [
       | true ↦ (λ e. record {
         wider = NotZero to;
-        fits = same_self (type_of_width to);
+        fits = same-self (type_of_width to);
         effect =
             ap (λ b. if b then Some (NotZero to ∷ rest)
             else (if is_within top (Plain (type_of_width from))
@@ -209,7 +209,7 @@ widened from to top rest h =
       })
       | false ↦ (λ e. record {
         wider = Plain (type_of_width to);
-        fits = same_self (type_of_width to);
+        fits = same-self (type_of_width to);
         effect =
             ap (λ b. if b then Some (NotZero to ∷ rest)
             else (if is_within top (Plain (type_of_width from))
@@ -258,10 +258,10 @@ module _ (c : Checked) where
   Flow [] ks js = ks ≡ js
   Flow (i ∷ is) ks ls = (js : List CellKind) × Steps i ks js × Flow is js ls
 
-  pub flow_both : (a b : List Instr) (ks js ls : List CellKind) → Flow a ks js → Flow b js ls
+  pub flow-both : (a b : List Instr) (ks js ls : List CellKind) → Flow a ks js → Flow b js ls
       → Flow (a ++ b) ks ls
-  flow_both [] b ks js ls e g = subst (λ x. Flow b x ls) (sym e) g
-  flow_both (i ∷ a) b ks js ls f g = (f.0, f.1, flow_both a b f.0 js ls f.2 g)
+  flow-both [] b ks js ls e g = subst (λ x. Flow b x ls) (sym e) g
+  flow-both (i ∷ a) b ks js ls f g = (f.0, f.1, flow-both a b f.0 js ls f.2 g)
 
   pub pushed : (v : Value) (ks : List CellKind) → length ks ≤ 32
       → Steps (Push v) ks (kind_of v ∷ ks)
@@ -271,7 +271,7 @@ module _ (c : Checked) where
   pub dropped : (top : CellKind) (ks : List CellKind) → length ks < 32 → Steps Drop (top ∷ ks) ks
   dropped top ks room =
       record {
-        effect = below_top Any top ks (within_any top);
+        effect = below-top Any top ks (within-any top);
         room = omega arith;
         goes = refl;
         straight = λ d e. e;
@@ -284,7 +284,7 @@ module _ (c : Checked) where
   inverted top ks h room = record {
     effect =
         ap (λ (o : Option (List CellKind)). o >>= (λ rest. Some (Plain elementary.Bool ∷ rest)))
-        (below_top (Plain elementary.Bool) top ks h);
+        (below-top (Plain elementary.Bool) top ks h);
     room = omega arith;
     goes = refl;
     straight = λ d e. e;
@@ -293,36 +293,36 @@ module _ (c : Checked) where
 
   -- ---- slots and timers
 
-  pub typed_slot : (s : typed.Slot) (kind : ElementaryType) → slot_type c s ≡ Some kind
+  pub typed-slot : (s : typed.Slot) (kind : ElementaryType) → slot_type c s ≡ Some kind
       → slice_get slots (slot_number (length c.externals) s) ≡ Some kind
-  typed_slot (External n) kind h =
-      get_front (map (λ p. p.elementary) (map point_of c.externals))
+  typed-slot (External n) kind h =
+      get-front (map (λ p. p.elementary) (map point_of c.externals))
       (map type_of (map (λ v. v.initial) c.variables)) n kind
-      (get_map_map (λ p. p.elementary) point_of c.externals n ∙ h)
-  typed_slot (Variable n) kind h =
-      get_back (map (λ p. p.elementary) (map point_of c.externals))
+      (get-map-map (λ p. p.elementary) point_of c.externals n ∙ h)
+  typed-slot (Variable n) kind h =
+      get-back (map (λ p. p.elementary) (map point_of c.externals))
       (map type_of (map (λ v. v.initial) c.variables)) n (length c.externals)
       (length-map (map point_of c.externals) (λ p. p.elementary) ∙ length-map c.externals point_of)
-      ∙ get_map_map type_of (λ v. v.initial) c.variables n ∙ h
+      ∙ get-map-map type_of (λ v. v.initial) c.variables n ∙ h
 
-  pub written_slot : (s : typed.Slot) (kind : ElementaryType) → slot_type c s ≡ Some kind
+  pub written-slot : (s : typed.Slot) (kind : ElementaryType) → slot_type c s ≡ Some kind
       → may_write c s ≡ true → slice_get writable (slot_number (length c.externals) s) ≡ Some true
-  written_slot (External n) kind h w =
-      get_front (map (λ e. e.writable) c.externals) (map (λ v. true) c.variables) n true
-      (get_map (λ e. e.writable) c.externals n ∙ there (slice_get c.externals n) h w)
+  written-slot (External n) kind h w =
+      get-front (map (λ e. e.writable) c.externals) (map (λ v. true) c.variables) n true
+      (get-map (λ e. e.writable) c.externals n ∙ there (slice_get c.externals n) h w)
     where
       there : (o : Option TypedExternal) → option_map (λ e. e.kind) o ≡ Some kind
           → is_writable o ≡ true → option_map (λ e. e.writable) o ≡ Some true
       there None h w = absurd cc
       there (Some e) h w = ap Some w
-  written_slot (Variable n) kind h w =
-      get_back (map (λ e. e.writable) c.externals) (map (λ v. true) c.variables) n
+  written-slot (Variable n) kind h w =
+      get-back (map (λ e. e.writable) c.externals) (map (λ v. true) c.variables) n
       (length c.externals) (length-map c.externals (λ e. e.writable))
-      ∙ get_below c.variables n true (some_below (λ v. type_of v.initial) c.variables n kind h)
+      ∙ get-below c.variables n true (some-below (λ v. type_of v.initial) c.variables n kind h)
 
-  timer_there : (n : ℕ) (o : Option (List CellKind)) → n < length c.timers
+  timer-there : (n : ℕ) (o : Option (List CellKind)) → n < length c.timers
       → with_timer timers n o ≡ o
-  timer_there n o lt =
+  timer-there n o lt =
       ap (λ b. if b then o else None)
       (lt-ltb n timers (let l = length-map c.timers (λ t. t.kind) in omega arith))
 
@@ -339,20 +339,20 @@ module _ (c : Checked) where
       → length ks ≤ 32 → Fetched x kind ks
   fetched (operand.Literal v) kind ks ok room = record {
     top = kind_of v;
-    fits = subst (λ k. is_within (kind_of v) (Plain k) ≡ true) ok.1 (kind_within v);
+    fits = subst (λ k. is_within (kind_of v) (Plain k) ≡ true) ok.1 (kind-within v);
     divides =
         λ d n. subst (λ k. is_within (kind_of v) (NotZero (width_of k)) ≡ true) ok.1
-        (divisor_within v d (ap rules.is_number ok.1 ∙ n));
+        (divisor-within v d (ap rules.is_number ok.1 ∙ n));
     step = pushed v ks room;
   }
   fetched (operand.Slot s) kind ks ok room = record {
     top = Plain kind;
-    fits = same_self kind;
+    fits = same-self kind;
     divides = λ d n. absurd cc;
     step = record {
       effect =
           ap (λ (o : Option ElementaryType). o >>= (λ t. Some (Plain t ∷ ks)))
-          (typed_slot s kind ok);
+          (typed-slot s kind ok);
       room = room;
       goes = refl;
       straight = λ d e. e;
@@ -364,7 +364,7 @@ module _ (c : Checked) where
     fits = subst (λ k. is_within (Plain elementary.Bool) (Plain k) ≡ true) ok.1 refl;
     divides = λ d n. absurd cc;
     step = record {
-      effect = timer_there n (Some (Plain elementary.Bool ∷ ks)) ok.0;
+      effect = timer-there n (Some (Plain elementary.Bool ∷ ks)) ok.0;
       room = room;
       goes = refl;
       straight = λ d e. e;
@@ -376,7 +376,7 @@ module _ (c : Checked) where
     fits = subst (λ k. is_within (Plain elementary.Time) (Plain k) ≡ true) ok.1 refl;
     divides = λ d n. absurd cc;
     step = record {
-      effect = timer_there n (Some (Plain elementary.Time ∷ ks)) ok.0;
+      effect = timer-there n (Some (Plain elementary.Time ∷ ks)) ok.0;
       room = room;
       goes = refl;
       straight = λ d e. e;
@@ -399,7 +399,7 @@ module _ (c : Checked) where
       → (sense_divides x ≡ true → is_within v (NotZero (width_of kind)) ≡ true)
       → length rest + 2 ≤ 32 → Joins (sense_instr x kind) v a rest (sense_gives x kind)
   joined (connects x) kind v a rest t h g d room =
-      let e = boolean_is kind t in
+      let e = boolean-is kind t in
       let h' : is_within v (Plain elementary.Bool) ≡ true =
       subst (λ k. is_within v (Plain k) ≡ true) e h in
       let g' : is_within a (Plain elementary.Bool) ≡ true =
@@ -409,7 +409,7 @@ module _ (c : Checked) where
         fits = subst (λ k. is_within (Plain elementary.Bool) (Plain k) ≡ true) (sym e) refl;
         step = record {
           effect =
-              two_tops (Plain elementary.Bool) (Plain elementary.Bool) (Plain elementary.Bool) v a
+              two-tops (Plain elementary.Bool) (Plain elementary.Bool) (Plain elementary.Bool) v a
               rest h' g';
           room = omega arith;
           goes = refl;
@@ -419,7 +419,7 @@ module _ (c : Checked) where
       }
   joined (computes o) kind v a rest t h g d room =
       let w = width_of kind in
-      let e : type_of_width w ≡ kind = width_back kind t in
+      let e : type_of_width w ≡ kind = width-back kind t in
       let h' : is_within v (Plain (type_of_width w)) ≡ true =
       subst (λ k. is_within v (Plain k) ≡ true) (sym e) h in
       let g' : is_within a (Plain (type_of_width w)) ≡ true =
@@ -427,12 +427,12 @@ module _ (c : Checked) where
       record {
         top = Plain (type_of_width w);
         fits = subst (λ k. is_within (Plain (type_of_width w)) (Plain k) ≡ true) e
-            (same_self (type_of_width w));
+            (same-self (type_of_width w));
         step = record {
           effect =
-              two_tops (second_kind o w) (Plain (type_of_width w)) (Plain (type_of_width w)) v a
+              two-tops (second_kind o w) (Plain (type_of_width w)) (Plain (type_of_width w)) v a
               rest
-              (second_within o w v h' d) g';
+              (second-within o w v h' d) g';
           room = omega arith;
           goes = refl;
           straight = λ n l. l;
@@ -443,7 +443,7 @@ module _ (c : Checked) where
     top = Plain elementary.Bool;
     fits = refl;
     step = record {
-      effect = two_shown x kind v a rest h g (compared x kind t);
+      effect = two-shown x kind v a rest h g (compared x kind t);
       room = omega arith;
       goes = refl;
       straight = λ n l. l;
@@ -504,10 +504,10 @@ module _ (c : Checked) where
     keeps = w;
   }
 
-  truth_looked : (n : ℕ) (top : CellKind) (rest : List CellKind)
+  truth-looked : (n : ℕ) (top : CellKind) (rest : List CellKind)
       → slice_get slots n ≡ Some elementary.Bool → is_within top (Plain elementary.Bool) ≡ true
       → with_truth slots n (top ∷ rest) ≡ Some (top ∷ rest)
-  truth_looked n top rest s h =
+  truth-looked n top rest s h =
       ap (λ (o : Option ElementaryType). o
       >>= (λ t. if same_type t elementary.Bool
       then looks_at (Plain elementary.Bool) (top ∷ rest) else None)) s
@@ -519,46 +519,46 @@ module _ (c : Checked) where
       → Steps (Slot SetIf n) (top ∷ rest) (top ∷ rest)
   set_if n top rest s w h room =
       record {
-        effect = truth_looked n top rest s h;
+        effect = truth-looked n top rest s h;
         room = omega arith;
         goes = refl;
         straight = λ d e. e;
         keeps = w;
       }
 
-  pub reset_if : (n : ℕ) (top : CellKind) (rest : List CellKind)
+  pub reset-if : (n : ℕ) (top : CellKind) (rest : List CellKind)
       → slice_get slots n ≡ Some elementary.Bool → slice_get writable n ≡ Some true
       → is_within top (Plain elementary.Bool) ≡ true → length rest < 32
       → Steps (Slot ResetIf n) (top ∷ rest) (top ∷ rest)
-  reset_if n top rest s w h room =
+  reset-if n top rest s w h room =
       record {
-        effect = truth_looked n top rest s h;
+        effect = truth-looked n top rest s h;
         room = omega arith;
         goes = refl;
         straight = λ d e. e;
         keeps = w;
       }
 
-  pub input_set : (n : ℕ) (top : CellKind) (rest : List CellKind) → n < length c.timers
+  pub input-set : (n : ℕ) (top : CellKind) (rest : List CellKind) → n < length c.timers
       → is_within top (Plain elementary.Bool) ≡ true → length rest < 32
       → Steps (Timer SetInput n) (top ∷ rest) rest
-  input_set n top rest lt h room = record {
+  input-set n top rest lt h room = record {
     effect =
-        timer_there n (below (Plain elementary.Bool) (top ∷ rest)) lt
-        ∙ below_top (Plain elementary.Bool) top rest h;
+        timer-there n (below (Plain elementary.Bool) (top ∷ rest)) lt
+        ∙ below-top (Plain elementary.Bool) top rest h;
     room = omega arith;
     goes = refl;
     straight = λ d e. e;
     keeps = tt;
   }
 
-  pub preset_set : (n : ℕ) (top : CellKind) (rest : List CellKind) → n < length c.timers
+  pub preset-set : (n : ℕ) (top : CellKind) (rest : List CellKind) → n < length c.timers
       → is_within top (Plain elementary.Time) ≡ true → length rest < 32
       → Steps (Timer SetPreset n) (top ∷ rest) rest
-  preset_set n top rest lt h room = record {
+  preset-set n top rest lt h room = record {
     effect =
-        timer_there n (below (Plain elementary.Time) (top ∷ rest)) lt
-        ∙ below_top (Plain elementary.Time) top rest h;
+        timer-there n (below (Plain elementary.Time) (top ∷ rest)) lt
+        ∙ below-top (Plain elementary.Time) top rest h;
     room = omega arith;
     goes = refl;
     straight = λ d e. e;
@@ -569,7 +569,7 @@ module _ (c : Checked) where
       → Steps (Timer Run n) ks ks
   ran n ks lt room =
       record {
-        effect = timer_there n (Some ks) lt;
+        effect = timer-there n (Some ks) lt;
         room = room;
         goes = refl;
         straight = λ d e. e;

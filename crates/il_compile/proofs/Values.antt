@@ -8,7 +8,7 @@ use Rattle.il_text.specs.declared.program.Conversion.{Conversion}
 use Rattle.il_text.specs.declared.program.Conversion.TheVariants.{IntToDint, DintToLint}
 use Rattle.il_text.specs.declared.program.Operator.{Operator}
 use Rattle.il_text.specs.declared.program.Operator.TheVariants as operator
-use Rattle.il_image.specs.Arithmetic.{compared, computed, connected, widened}
+use Rattle.il_image.specs.Arithmetic.{comparison_holds, computation_of, logic_of, wider_value}
 use Rattle.il_image.specs.Machine.{divides, tells_equality, value_of_width}
 use Rattle.il_image.specs.Values.{number_of, type_of}
 use Rattle.il_image.specs.declared.arithmetic.Comparison.{Comparison}
@@ -18,7 +18,7 @@ use Rattle.il_image.specs.declared.arithmetic.Width.TheVariants as width
 use Rattle.il_image.specs.declared.value.Value.{Value}
 use Rattle.il_image.specs.declared.value.Value.TheVariants.{Truth, Short, Long, Wide, Span}
 use Rattle.il_check.specs.Rules as rules
-use Rattle.il_compile.specs.Meaning.{combined, inverse}
+use Rattle.il_compile.specs.Meaning.{combination_of, inverse}
 use Rattle.il_compile.specs.Senses.{Sense, connects, computes, compares, sense_of, widening_of}
 
 -- ---- operators by what they do
@@ -43,45 +43,45 @@ pub record Same (o : Operator) : Type 0 where
   pub gives : (kind : ElementaryType) → rules.gives o kind ≡ sense_gives (sense_of o) kind
   pub divides : rules.divides o ≡ sense_divides (sense_of o)
 
-pub same_sense : (o : Operator) → Same o
-same_sense operator.And = record { takes = λ k. refl; gives = λ k. refl; divides = refl }
-same_sense operator.Or = record { takes = λ k. refl; gives = λ k. refl; divides = refl }
-same_sense operator.Xor = record { takes = λ k. refl; gives = λ k. refl; divides = refl }
-same_sense operator.Add = record { takes = λ k. refl; gives = λ k. refl; divides = refl }
-same_sense operator.Sub = record { takes = λ k. refl; gives = λ k. refl; divides = refl }
-same_sense operator.Mul = record { takes = λ k. refl; gives = λ k. refl; divides = refl }
-same_sense operator.Div = record { takes = λ k. refl; gives = λ k. refl; divides = refl }
-same_sense operator.Mod = record { takes = λ k. refl; gives = λ k. refl; divides = refl }
-same_sense operator.Gt = record { takes = λ k. refl; gives = λ k. refl; divides = refl }
-same_sense operator.Ge = record { takes = λ k. refl; gives = λ k. refl; divides = refl }
-same_sense operator.Eq = record { takes = λ k. refl; gives = λ k. refl; divides = refl }
-same_sense operator.Ne = record { takes = λ k. refl; gives = λ k. refl; divides = refl }
-same_sense operator.Le = record { takes = λ k. refl; gives = λ k. refl; divides = refl }
-same_sense operator.Lt = record { takes = λ k. refl; gives = λ k. refl; divides = refl }
+pub same-sense : (o : Operator) → Same o
+same-sense operator.And = record { takes = λ k. refl; gives = λ k. refl; divides = refl }
+same-sense operator.Or = record { takes = λ k. refl; gives = λ k. refl; divides = refl }
+same-sense operator.Xor = record { takes = λ k. refl; gives = λ k. refl; divides = refl }
+same-sense operator.Add = record { takes = λ k. refl; gives = λ k. refl; divides = refl }
+same-sense operator.Sub = record { takes = λ k. refl; gives = λ k. refl; divides = refl }
+same-sense operator.Mul = record { takes = λ k. refl; gives = λ k. refl; divides = refl }
+same-sense operator.Div = record { takes = λ k. refl; gives = λ k. refl; divides = refl }
+same-sense operator.Mod = record { takes = λ k. refl; gives = λ k. refl; divides = refl }
+same-sense operator.Gt = record { takes = λ k. refl; gives = λ k. refl; divides = refl }
+same-sense operator.Ge = record { takes = λ k. refl; gives = λ k. refl; divides = refl }
+same-sense operator.Eq = record { takes = λ k. refl; gives = λ k. refl; divides = refl }
+same-sense operator.Ne = record { takes = λ k. refl; gives = λ k. refl; divides = refl }
+same-sense operator.Le = record { takes = λ k. refl; gives = λ k. refl; divides = refl }
+same-sense operator.Lt = record { takes = λ k. refl; gives = λ k. refl; divides = refl }
 
 -- ---- values
 
-pub type_self : (k : ElementaryType) → same_type k k ≡ true
-type_self elementary.Bool = refl
-type_self elementary.Int = refl
-type_self elementary.Dint = refl
-type_self elementary.Lint = refl
-type_self elementary.Time = refl
+pub type-self : (k : ElementaryType) → same_type k k ≡ true
+type-self elementary.Bool = refl
+type-self elementary.Int = refl
+type-self elementary.Dint = refl
+type-self elementary.Lint = refl
+type-self elementary.Time = refl
 
 -- a BOOL
-pub truth_is : (v : Value) → type_of v ≡ elementary.Bool → (b : Bool) × (v ≡ Truth b)
-truth_is (Truth b) e = (b, refl)
-truth_is (Short z) e = absurd cc
-truth_is (Long z) e = absurd cc
-truth_is (Wide z) e = absurd cc
-truth_is (Span n) e = absurd cc
+pub truth-is : (v : Value) → type_of v ≡ elementary.Bool → (b : Bool) × (v ≡ Truth b)
+truth-is (Truth b) e = (b, refl)
+truth-is (Short z) e = absurd cc
+truth-is (Long z) e = absurd cc
+truth-is (Wide z) e = absurd cc
+truth-is (Span n) e = absurd cc
 
-pub boolean_is : (k : ElementaryType) → rules.is_boolean k ≡ true → k ≡ elementary.Bool
-boolean_is elementary.Bool h = refl
-boolean_is elementary.Int h = absurd cc
-boolean_is elementary.Dint h = absurd cc
-boolean_is elementary.Lint h = absurd cc
-boolean_is elementary.Time h = absurd cc
+pub boolean-is : (k : ElementaryType) → rules.is_boolean k ≡ true → k ≡ elementary.Bool
+boolean-is elementary.Bool h = refl
+boolean-is elementary.Int h = absurd cc
+boolean-is elementary.Dint h = absurd cc
+boolean-is elementary.Lint h = absurd cc
+boolean-is elementary.Time h = absurd cc
 
 -- a value that something makes, of a type
 pub record Made (made : Option Value) (kind : ElementaryType) : Type 0 where
@@ -89,31 +89,35 @@ pub record Made (made : Option Value) (kind : ElementaryType) : Type 0 where
   pub is : made ≡ Some value
   pub type : type_of value ≡ kind
 
-pub inverse_made : (v : Value) (kind : ElementaryType) → type_of v ≡ kind
+pub inverse-made : (v : Value) (kind : ElementaryType) → type_of v ≡ kind
     → rules.is_boolean kind ≡ true → Made (inverse v) kind
-inverse_made (Truth b) kind e h = record { value = Truth (not b); is = refl; type = e }
-inverse_made (Short z) kind e h =
-    absurd (let f : elementary.Int ≡ elementary.Bool = e ∙ boolean_is kind h in cc)
-inverse_made (Long z) kind e h =
-    absurd (let f : elementary.Dint ≡ elementary.Bool = e ∙ boolean_is kind h in cc)
-inverse_made (Wide z) kind e h =
-    absurd (let f : elementary.Lint ≡ elementary.Bool = e ∙ boolean_is kind h in cc)
-inverse_made (Span n) kind e h =
-    absurd (let f : elementary.Time ≡ elementary.Bool = e ∙ boolean_is kind h in cc)
+inverse-made (Truth b) kind e h = record { value = Truth (not b); is = refl; type = e }
+inverse-made (Short z) kind e h =
+    absurd (let f : elementary.Int ≡ elementary.Bool = e ∙ boolean-is kind h in cc)
+inverse-made (Long z) kind e h =
+    absurd (let f : elementary.Dint ≡ elementary.Bool = e ∙ boolean-is kind h in cc)
+inverse-made (Wide z) kind e h =
+    absurd (let f : elementary.Lint ≡ elementary.Bool = e ∙ boolean-is kind h in cc)
+inverse-made (Span n) kind e h =
+    absurd (let f : elementary.Time ≡ elementary.Bool = e ∙ boolean-is kind h in cc)
 
-computed_made : (o : Operation) (w : Width) (a b : ℤ) (zero : Bool) (kind : ElementaryType)
-    → type_of (value_of_width w (computed o w a b)) ≡ kind → zero ≡ false
-    → Made (if zero then None else Some (value_of_width w (computed o w a b))) kind
-computed_made o w a b true kind t z = absurd cc
-computed_made o w a b false kind t z =
-    record { value = value_of_width w (computed o w a b); is = refl; type = t }
+computed-made : (o : Operation) (w : Width) (a b : ℤ) (zero : Bool) (kind : ElementaryType)
+    → type_of (value_of_width w (computation_of o w a b)) ≡ kind → zero ≡ false
+    → Made (if zero then None else Some (value_of_width w (computation_of o w a b))) kind
+computed-made o w a b true kind t z = absurd cc
+computed-made o w a b false kind t z =
+    record { value = value_of_width w (computation_of o w a b); is = refl; type = t }
 
-compared_made : (c : Comparison) (a b : Value) (fits : Bool) → fits ≡ true
-    → Made (if fits then Some (Truth (compared c (number_of a) (number_of b))) else None)
+compared-made : (c : Comparison) (a b : Value) (fits : Bool) → fits ≡ true
+    → Made (if fits then Some (Truth (comparison_holds c (number_of a) (number_of b))) else None)
     elementary.Bool
-compared_made c a b true h =
-    record { value = Truth (compared c (number_of a) (number_of b)); is = refl; type = refl }
-compared_made c a b false h = absurd cc
+compared-made c a b true h =
+    record {
+      value = Truth (comparison_holds c (number_of a) (number_of b));
+      is = refl;
+      type = refl;
+    }
+compared-made c a b false h = absurd cc
 
 comparable : (c : Comparison) (k l : ElementaryType) → k ≡ l
     → tells_equality c || not (rules.is_boolean k) ≡ true
@@ -129,52 +133,52 @@ comparable c elementary.Time l e h = rw (sym e) refl
 
 -- an operator makes a value of two of a type that it takes, of which the second is not 0 where it
 -- divides
-pub combined_made : (sense : Sense) (a b : Value) → type_of b ≡ type_of a
+pub combined-made : (sense : Sense) (a b : Value) → type_of b ≡ type_of a
     → sense_takes sense (type_of a) ≡ true
     → sense_divides sense && int_eq (number_of b) (pos 0) ≡ false
-    → Made (combined sense a b) (sense_gives sense (type_of a))
-combined_made (connects x) (Truth a) (Truth b) e h z =
-    record { value = Truth (connected x a b); is = refl; type = refl }
-combined_made (connects x) (Truth a) (Short b) e h z = absurd cc
-combined_made (connects x) (Truth a) (Long b) e h z = absurd cc
-combined_made (connects x) (Truth a) (Wide b) e h z = absurd cc
-combined_made (connects x) (Truth a) (Span b) e h z = absurd cc
-combined_made (connects x) (Short a) b e h z = absurd cc
-combined_made (connects x) (Long a) b e h z = absurd cc
-combined_made (connects x) (Wide a) b e h z = absurd cc
-combined_made (connects x) (Span a) b e h z = absurd cc
-combined_made (computes o) (Short a) (Short b) e h z =
-    computed_made o width.Int a b _ elementary.Int refl z
-combined_made (computes o) (Long a) (Long b) e h z =
-    computed_made o width.Dint a b _ elementary.Dint refl z
-combined_made (computes o) (Wide a) (Wide b) e h z =
-    computed_made o width.Lint a b _ elementary.Lint refl z
-combined_made (computes o) (Truth a) b e h z = absurd cc
-combined_made (computes o) (Span a) b e h z = absurd cc
-combined_made (computes o) (Short a) (Truth b) e h z = absurd cc
-combined_made (computes o) (Short a) (Long b) e h z = absurd cc
-combined_made (computes o) (Short a) (Wide b) e h z = absurd cc
-combined_made (computes o) (Short a) (Span b) e h z = absurd cc
-combined_made (computes o) (Long a) (Truth b) e h z = absurd cc
-combined_made (computes o) (Long a) (Short b) e h z = absurd cc
-combined_made (computes o) (Long a) (Wide b) e h z = absurd cc
-combined_made (computes o) (Long a) (Span b) e h z = absurd cc
-combined_made (computes o) (Wide a) (Truth b) e h z = absurd cc
-combined_made (computes o) (Wide a) (Short b) e h z = absurd cc
-combined_made (computes o) (Wide a) (Long b) e h z = absurd cc
-combined_made (computes o) (Wide a) (Span b) e h z = absurd cc
-combined_made (compares c) a b e h z =
-    compared_made c a b _ (comparable c (type_of a) (type_of b) (sym e) h)
+    → Made (combination_of sense a b) (sense_gives sense (type_of a))
+combined-made (connects x) (Truth a) (Truth b) e h z =
+    record { value = Truth (logic_of x a b); is = refl; type = refl }
+combined-made (connects x) (Truth a) (Short b) e h z = absurd cc
+combined-made (connects x) (Truth a) (Long b) e h z = absurd cc
+combined-made (connects x) (Truth a) (Wide b) e h z = absurd cc
+combined-made (connects x) (Truth a) (Span b) e h z = absurd cc
+combined-made (connects x) (Short a) b e h z = absurd cc
+combined-made (connects x) (Long a) b e h z = absurd cc
+combined-made (connects x) (Wide a) b e h z = absurd cc
+combined-made (connects x) (Span a) b e h z = absurd cc
+combined-made (computes o) (Short a) (Short b) e h z =
+    computed-made o width.Int a b _ elementary.Int refl z
+combined-made (computes o) (Long a) (Long b) e h z =
+    computed-made o width.Dint a b _ elementary.Dint refl z
+combined-made (computes o) (Wide a) (Wide b) e h z =
+    computed-made o width.Lint a b _ elementary.Lint refl z
+combined-made (computes o) (Truth a) b e h z = absurd cc
+combined-made (computes o) (Span a) b e h z = absurd cc
+combined-made (computes o) (Short a) (Truth b) e h z = absurd cc
+combined-made (computes o) (Short a) (Long b) e h z = absurd cc
+combined-made (computes o) (Short a) (Wide b) e h z = absurd cc
+combined-made (computes o) (Short a) (Span b) e h z = absurd cc
+combined-made (computes o) (Long a) (Truth b) e h z = absurd cc
+combined-made (computes o) (Long a) (Short b) e h z = absurd cc
+combined-made (computes o) (Long a) (Wide b) e h z = absurd cc
+combined-made (computes o) (Long a) (Span b) e h z = absurd cc
+combined-made (computes o) (Wide a) (Truth b) e h z = absurd cc
+combined-made (computes o) (Wide a) (Short b) e h z = absurd cc
+combined-made (computes o) (Wide a) (Long b) e h z = absurd cc
+combined-made (computes o) (Wide a) (Span b) e h z = absurd cc
+combined-made (compares c) a b e h z =
+    compared-made c a b _ (comparable c (type_of a) (type_of b) (sym e) h)
 
-pub widened_made : (c : Conversion) (v : Value) → type_of v ≡ rules.converted_from c
-    → Made (widened (widening_of c) v) (rules.converted_to c)
-widened_made IntToDint (Short z) e = record { value = Long z; is = refl; type = refl }
-widened_made IntToDint (Truth z) e = absurd cc
-widened_made IntToDint (Long z) e = absurd cc
-widened_made IntToDint (Wide z) e = absurd cc
-widened_made IntToDint (Span z) e = absurd cc
-widened_made DintToLint (Long z) e = record { value = Wide z; is = refl; type = refl }
-widened_made DintToLint (Truth z) e = absurd cc
-widened_made DintToLint (Short z) e = absurd cc
-widened_made DintToLint (Wide z) e = absurd cc
-widened_made DintToLint (Span z) e = absurd cc
+pub widened-made : (c : Conversion) (v : Value) → type_of v ≡ rules.converted_from c
+    → Made (wider_value (widening_of c) v) (rules.converted_to c)
+widened-made IntToDint (Short z) e = record { value = Long z; is = refl; type = refl }
+widened-made IntToDint (Truth z) e = absurd cc
+widened-made IntToDint (Long z) e = absurd cc
+widened-made IntToDint (Wide z) e = absurd cc
+widened-made IntToDint (Span z) e = absurd cc
+widened-made DintToLint (Long z) e = record { value = Wide z; is = refl; type = refl }
+widened-made DintToLint (Truth z) e = absurd cc
+widened-made DintToLint (Short z) e = absurd cc
+widened-made DintToLint (Wide z) e = absurd cc
+widened-made DintToLint (Span z) e = absurd cc

@@ -68,8 +68,8 @@ sense_instr (computes o) kind = Compute o (width_of kind)
 sense_instr (compares c) kind = Compare c
 
 -- what stands behind an operand or a parenthesis
-abbrev pub operated : Operator → ElementaryType → Bool → List Instr
-operated operator kind negated = negation negated ++ sense_instr (sense_of operator) kind ∷ []
+abbrev pub operator_code : Operator → ElementaryType → Bool → List Instr
+operator_code operator kind negated = negation negated ++ sense_instr (sense_of operator) kind ∷ []
 
 -- ---- operations and parentheses
 
@@ -85,7 +85,7 @@ abbrev pub operation_code : ℕ → SimpleOperation → List Instr
 operation_code externals (op.Load negated x) = Drop ∷ fetch externals x ∷ negation negated
 operation_code externals (op.Store how s) = store_code how (slot_number externals s)
 operation_code externals (op.Combine operator kind negated x) =
-    fetch externals x ∷ operated operator kind negated
+    fetch externals x ∷ operator_code operator kind negated
 operation_code externals op.Not = Not ∷ []
 operation_code externals (op.Convert conversion) = Widen (widening_of conversion) ∷ []
 
@@ -97,7 +97,7 @@ abbrev mutual
   pub entry_code : ℕ → Entry → List Instr
   entry_code externals (operation o) = operation_code externals o
   entry_code externals (block operator kind negated es) =
-      unset ∷ entries_code externals es ++ operated operator kind negated
+      unset ∷ entries_code externals es ++ operator_code operator kind negated
 
   pub entries_code : ℕ → Entries → List Instr
   entries_code externals no_entries = []

@@ -1,6 +1,6 @@
 -- The image of a program.
 use Rattle.std.specs.Prelude.{ℕ, ◌+◌, List, [], ◌∷◌, length, map, nat_le, Result, Ok, Err, if◌then◌else◌}
-use Rattle.il_image.specs.Images.{Image, all_spelled, encoded}
+use Rattle.il_image.specs.Images.{Image, all_spelled, image_octets}
 use Rattle.il_image.specs.declared.image.ImagePoint.{ImagePoint}
 use Rattle.il_image.specs.declared.opcode.Version.TheVariants.{Two}
 use Rattle.il_check.specs.Program.{Checked}
@@ -30,7 +30,7 @@ points_octets (e ∷ es) = 3 + length e.name + points_octets es
 
 -- how many octets the image has as it is written
 abbrev pub image_size : Checked → ℕ
-image_size c = length (encoded Two (image_of c))
+image_size c = length (image_octets Two (image_of c))
 
 -- the image, unless it would have more than 65,535 octets
 abbrev pub compiled_of : Checked → Result Image CompileFault

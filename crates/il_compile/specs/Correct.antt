@@ -1,6 +1,6 @@
 -- Compiled code does what the text means.
 use Rattle.std.specs.Prelude.{◌≡◌, ℕ, List, ◌++◌, length, map, Some}
-use Rattle.il_image.specs.Machine.{run, initial_state, Halted}
+use Rattle.il_image.specs.Machine.{run_from, initial_state, Halted}
 use Rattle.il_image.specs.Values.{type_of}
 use Rattle.il_check.specs.Program.{Checked}
 use Rattle.il_compile.specs.Meaning.{Memory, mean}
@@ -21,7 +21,8 @@ pub record Means (c : Checked) (now : ℕ) (m : Memory) : Type 0 where
 pub record Follows (c : Checked) (code : List ℕ) (now : ℕ) (m : Memory) : Type 0 where
   pub means : Means c now m
   pub steps : ℕ
-  pub halts : run code now (length code) (initial_state (m.externals ++ m.variables) m.timers) 0
+  pub halts : run_from code now (length code) (initial_state (m.externals ++ m.variables) m.timers)
+      0
       ≡ Halted (means.after.externals ++ means.after.variables) means.after.timers steps
 
 -- It does so at each moment, from all values of the program's types.

@@ -1,3 +1,17 @@
+-- What a program means, and that its code does that (IEC 61131-3:2003, 3.2 and table 52).
+--
+-- `Meaning` is the main file. It goes by structure, on a current result that may be unset, the
+-- values of externals, variables and timers, and a time. An item is done, or a label is sought
+-- among the items; a parenthesis begins with an unset result, and its operator takes what it ends
+-- with. What meets an unset result, a missing name, a value of another type or a divisor of 0 means
+-- nothing. `Senses` says what operators do: an operator connects BOOLs, computes with numbers of
+-- one width, or compares values of one type.
+--
+-- `Code` is the list of instructions of operations, parentheses, calls and items, with the
+-- distances of jumps in bytes. `Compiled` is the image, its size, and which programs are too long
+-- for one. `Correct` joins the two: code does what the text means. `Faults` numbers the one fault
+-- (85). `Laws`: what the meaning comes to at a label.
+
 -- What public clauses cite of the crates below.
 pub use Rattle.bay_base.specs.Exact
 pub use Rattle.il_check.specs.Program

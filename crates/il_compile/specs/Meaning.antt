@@ -14,9 +14,9 @@ use Rattle.il_text.specs.declared.program.Output.{Output}
 use Rattle.il_text.specs.declared.program.Output.TheVariants.{Q, Et}
 use Rattle.il_text.specs.declared.program.StoreKind.{StoreKind}
 use Rattle.il_text.specs.declared.program.StoreKind.TheVariants as store
-use Rattle.il_image.specs.Arithmetic.{compared, computed, connected, widened}
+use Rattle.il_image.specs.Arithmetic.{comparison_holds, computation_of, logic_of, wider_value}
 use Rattle.il_image.specs.Machine.{divides, is_comparable, value_of_width}
-use Rattle.il_image.specs.Timers.{called}
+use Rattle.il_image.specs.Timers.{after_call}
 use Rattle.il_image.specs.Values.{number_of, type_of}
 use Rattle.il_image.specs.declared.arithmetic.Operation.{Operation}
 use Rattle.il_image.specs.declared.arithmetic.Width.{Width}
@@ -69,7 +69,7 @@ connected_values a b f = None
 -- of two numbers of one width; none is divided by 0
 abbrev pub computed_in : Width → Operation → ℤ → ℤ → Option Value
 computed_in w o a b =
-    if divides o && int_eq b (pos 0) then None else Some (value_of_width w (computed o w a b))
+    if divides o && int_eq b (pos 0) then None else Some (value_of_width w (computation_of o w a b))
 
 -- of two numbers of one type
 abbrev pub computed_values : Operation → Value → Value → Option Value
@@ -79,11 +79,13 @@ computed_values o (Wide a) (Wide b) = computed_in width.Lint o a b
 computed_values o a b = None
 
 -- what an operator makes of the current result and an operand
-abbrev pub combined : Sense → Value → Value → Option Value
-combined (connects c) a b = connected_values a b (connected c)
-combined (computes o) a b = computed_values o a b
-combined (compares c) a b =
-    if is_comparable c a b then Some (Truth (compared c (number_of a) (number_of b))) else None
+abbrev pub combination_of : Sense → Value → Value → Option Value
+combination_of (connects c) a b = connected_values a b (logic_of c)
+combination_of (computes o) a b = computed_values o a b
+combination_of (compares c) a b =
+    if is_comparable c a b
+    then Some (Truth (comparison_holds c (number_of a) (number_of b)))
+    else None
 
 -- ---- reading and writing
 
@@ -98,10 +100,10 @@ slot_value (External n) m = slice_get m.externals n
 slot_value (Variable n) m = slice_get m.variables n
 
 -- the value of an operand
-abbrev pub read : TypedOperand → Memory → Option Value
-read (operand.Literal v) m = Some v
-read (operand.Slot s) m = slot_value s m
-read (operand.Output n what) m = option_map (output_of what) (slice_get m.timers n)
+abbrev pub operand_value : TypedOperand → Memory → Option Value
+operand_value (operand.Literal v) m = Some v
+operand_value (operand.Slot s) m = slot_value s m
+operand_value (operand.Output n what) m = option_map (output_of what) (slice_get m.timers n)
 
 -- the memory with a value in a slot
 abbrev pub with_value : Slot → Value → Memory → Memory
@@ -109,65 +111,65 @@ with_value (External n) v m = record m { externals = slice_set m.externals n v }
 with_value (Variable n) v m = record m { variables = slice_set m.variables n v }
 
 -- A variable takes only values of its type.
-abbrev pub written : Slot → Value → Memory → Option Memory
-written s v m = do
+abbrev pub memory_with : Slot → Value → Memory → Option Memory
+memory_with s v m = do
   old ← slot_value s m
   if same_type (type_of v) (type_of old) then Some (with_value s v m) else None
 
 -- what a BOOL decides
-abbrev pub decided : Value → Option Bool
-decided (Truth b) = Some b
-decided other = None
+abbrev pub decision_of : Value → Option Bool
+decision_of (Truth b) = Some b
+decision_of other = None
 
 -- TRUE is written where the result is TRUE, or FALSE
 abbrev pub set_to : Bool → Slot → Value → Memory → Option Memory
 set_to new s v m = do
-  is_on ← decided v
-  if is_on then written s (Truth new) m else Some m
+  is_on ← decision_of v
+  if is_on then memory_with s (Truth new) m else Some m
 
 -- what a store of a value leaves in memory
-abbrev pub stored : StoreKind → Slot → Value → Memory → Option Memory
-stored store.Plain s v m = written s v m
-stored store.Negated s v m = do
+abbrev pub memory_after_store : StoreKind → Slot → Value → Memory → Option Memory
+memory_after_store store.Plain s v m = memory_with s v m
+memory_after_store store.Negated s v m = do
   w ← inverse v
-  written s w m
-stored store.Set s v m = set_to true s v m
-stored store.Reset s v m = set_to false s v m
+  memory_with s w m
+memory_after_store store.Set s v m = set_to true s v m
+memory_after_store store.Reset s v m = set_to false s v m
 
 -- ---- operations and parentheses
 
 -- what an operation makes of a state
-abbrev pub acted : SimpleOperation → State → Option State
-acted (op.Load negated x) s = do
-  v ← read x s.memory
+abbrev pub state_after : SimpleOperation → State → Option State
+state_after (op.Load negated x) s = do
+  v ← operand_value x s.memory
   w ← inverse_if negated v
   Some (record s { result = Some w })
-acted (op.Store how slot) s = do
+state_after (op.Store how slot) s = do
   v ← s.result
-  m ← stored how slot v s.memory
+  m ← memory_after_store how slot v s.memory
   Some (record s { memory = m })
-acted (op.Combine operator kind negated x) s = do
+state_after (op.Combine operator kind negated x) s = do
   a ← s.result
-  v ← read x s.memory
+  v ← operand_value x s.memory
   b ← inverse_if negated v
-  c ← combined (sense_of operator) a b
+  c ← combination_of (sense_of operator) a b
   Some (record s { result = Some c })
-acted op.Not s = do
+state_after op.Not s = do
   v ← s.result
   w ← inverse v
   Some (record s { result = Some w })
-acted (op.Convert conversion) s = do
+state_after (op.Convert conversion) s = do
   v ← s.result
-  w ← widened (widening_of conversion) v
+  w ← wider_value (widening_of conversion) v
   Some (record s { result = Some w })
 
 -- the operator of a parenthesis takes the result of what is in it
-abbrev pub closed : Operator → Bool → Option Value → State → Option State
-closed operator negated before inner = do
+abbrev pub state_after_close : Operator → Bool → Option Value → State → Option State
+state_after_close operator negated before inner = do
   a ← before
   v ← inner.result
   b ← inverse_if negated v
-  c ← combined (sense_of operator) a b
+  c ← combination_of (sense_of operator) a b
   Some (record inner { result = Some c })
 
 -- the state in which the result is not set
@@ -177,10 +179,10 @@ without_result s = record s { result = None }
 -- What is in a parenthesis begins with a result that is not set.
 abbrev mutual
   pub mean_entry : Entry → State → Option State
-  mean_entry (operation o) s = acted o s
+  mean_entry (operation o) s = state_after o s
   mean_entry (block operator kind negated es) s = do
     inner ← mean_entries es (without_result s)
-    closed operator negated s.result inner
+    state_after_close operator negated s.result inner
 
   pub mean_entries : Entries → State → Option State
   mean_entries no_entries s = Some s
@@ -193,14 +195,14 @@ abbrev mutual
 -- Only a BOOL decides.
 abbrev pub goes : Condition → Option Value → Option Bool
 goes Always result = Some true
-goes IfTrue result = result >>= decided
-goes IfFalse result = option_map not (result >>= decided)
+goes IfTrue result = result >>= decision_of
+goes IfFalse result = option_map not (result >>= decision_of)
 
 -- a timer with an input, which has the type of its value
-abbrev pub given : Input → Value → TimerState → Option TimerState
-given In (Truth b) t = Some (record t { input = b })
-given Pt (Span n) t = Some (record t { preset = n })
-given input other t = None
+abbrev pub timer_with_input : Input → Value → TimerState → Option TimerState
+timer_with_input In (Truth b) t = Some (record t { input = b })
+timer_with_input Pt (Span n) t = Some (record t { preset = n })
+timer_with_input input other t = None
 
 -- the memory with a timer changed, if it is there
 abbrev pub with_timer : ℕ → (TimerState → Option TimerState) → Memory → Option Memory
@@ -212,8 +214,8 @@ with_timer n f m = do
 -- the memory with an input of a timer set
 abbrev pub with_argument : ℕ → TypedArgument → Memory → Option Memory
 with_argument n a m = do
-  v ← read a.operand m
-  with_timer n (given a.input v) m
+  v ← operand_value a.operand m
+  with_timer n (timer_with_input a.input v) m
 
 -- the memory with the inputs of a timer set, in the order of the text
 abbrev pub with_arguments : ℕ → TypedArguments → Memory → Option Memory
@@ -227,7 +229,7 @@ with_arguments n (arguments.Two a b) m = do
 abbrev pub run_timer : ℕ → ℕ → TypedArguments → State → Option State
 run_timer now n args s = do
   m ← with_arguments n args s.memory
-  after ← with_timer n (λ t. Some (called t now)) m
+  after ← with_timer n (λ t. Some (after_call t now)) m
   Some (record { result = None; memory = after })
 
 -- ---- the items

@@ -133,7 +133,8 @@ fn put_operated(
     kind: ElementaryType,
     negated: bool,
 ) -> Result<(), AllocError>
-    ensures { OnOk result (code.new.items ≡ code.old.items ++ spec.operated operator kind negated) }
+    ensures { OnOk result (code.new.items
+        ≡ code.old.items ++ spec.operator_code operator kind negated) }
 {
     put_negation(code, negated)?;
     put(code, operator_instr(operator, kind))

@@ -12,67 +12,67 @@ use Rattle.il_image.specs.declared.opcode.TimerUse.TheVariants.{SetInput, SetPre
 use Rattle.il_image.specs.declared.timer.TimerState.{TimerState}
 use Rattle.il_image.specs.declared.value.Value.{Value}
 use Rattle.il_image.specs.declared.value.Value.TheVariants.{Truth, Short, Long, Wide, Span}
-use Rattle.il_image.specs.Machine.{State, Turn, Goes, Halts, Traps, MissingSlot, MissingTimer, WrongKind, ZeroDivisor, Ending, Unfinished, act, as_number, as_span, as_truth, divides, ending_of, goes, is_comparable, pushes, run, stores, value_of_width, turn_of, with_slot, with_timer, with_top, with_truths, with_two}
+use Rattle.il_image.specs.Machine.{State, Turn, Goes, Halts, Traps, MissingSlot, MissingTimer, WrongKind, ZeroDivisor, Ending, Unfinished, act, as_number, as_span, as_truth, divides, ending_of, goes, is_comparable, pushes, run_from, stores, value_of_width, turn_of, with_slot, with_timer, with_top, with_truths, with_two}
 use Rattle.bay_base.specs.Types.{same_type}
-use Rattle.il_image.specs.Arithmetic.{compared, computed, widened}
+use Rattle.il_image.specs.Arithmetic.{comparison_holds, computation_of, wider_value}
 use Rattle.il_image.specs.Values.{number_of, type_of}
 use Rattle.il_image.specs.Images.{Image}
 use Rattle.il_image.specs.Places.{IsPlace, behind_place, begun_at, is_among, is_place, is_there, place_of}
 use Rattle.il_image.specs.Reading.{instr_at}
 use Rattle.il_image.specs.Tables.{Agrees, IsSuccessor, LeadsTo, Table}
-use Rattle.il_image.proofs.PlaceLemmas.{goes_forward}
+use Rattle.il_image.proofs.PlaceLemmas.{goes-forward}
 
 -- ---- a place is told by the test
 
 -- each instruction is at its number or behind it
-read_grows : (code : List ℕ) (n start place : ℕ) (r : Option (Instr × ℕ)) → instr_at code start ≡ r
+read-grows : (code : List ℕ) (n start place : ℕ) (r : Option (Instr × ℕ)) → instr_at code start ≡ r
     → n ≤ start → option_map (λ (q : Instr × ℕ). q.1) r ≡ Some place → suc n ≤ place
-read_grows code n start place None here le f = absurd cc
-read_grows code n start place (Some r) here le f =
-    let forward = (goes_forward code start r.0 r.1 here).0 in
+read-grows code n start place None here le f = absurd cc
+read-grows code n start place (Some r) here le f =
+    let forward = (goes-forward code start r.0 r.1 here).0 in
     let same : r.1 ≡ place = cc in
     omega arith
 
-behind_grows : (code : List ℕ) (n place : ℕ) (o : Option ℕ) → place_of code n ≡ o
+behind-grows : (code : List ℕ) (n place : ℕ) (o : Option ℕ) → place_of code n ≡ o
     → ((start : ℕ) → place_of code n ≡ Some start → n ≤ start) → behind_place code o ≡ Some place
     → suc n ≤ place
-behind_grows code n place None is before f = absurd cc
-behind_grows code n place (Some start) is before f =
-    read_grows code n start place (instr_at code start) refl (before start is) f
+behind-grows code n place None is before f = absurd cc
+behind-grows code n place (Some start) is before f =
+    read-grows code n start place (instr_at code start) refl (before start is) f
 
-place_grows : (code : List ℕ) (n place : ℕ) → place_of code n ≡ Some place → n ≤ place
-place_grows code zero place e = omega arith
-place_grows code (suc n) place e =
-    behind_grows code n place (place_of code n) refl (λ start is. place_grows code n start is) e
+place-grows : (code : List ℕ) (n place : ℕ) → place_of code n ≡ Some place → n ≤ place
+place-grows code zero place e = omega arith
+place-grows code (suc n) place e =
+    behind-grows code n place (place_of code n) refl (λ start is. place-grows code n start is) e
 
-there_is : (o : Option ℕ) (place : ℕ) → is_there o place ≡ true → o ≡ Some place
-there_is None place e = absurd cc
-there_is (Some start) place e = ap (λ (p : ℕ). Some p) (eqb-true start place e)
+there-is : (o : Option ℕ) (place : ℕ) → is_there o place ≡ true → o ≡ Some place
+there-is None place e = absurd cc
+there-is (Some start) place e = ap (λ (p : ℕ). Some p) (eqb-true start place e)
 
-is_there_so : (o : Option ℕ) (place : ℕ) → o ≡ Some place → is_there o place ≡ true
-is_there_so o place e = ap (λ (x : Option ℕ). is_there x place) e ∙ eq-eqb place place refl
+is-there-so : (o : Option ℕ) (place : ℕ) → o ≡ Some place → is_there o place ≡ true
+is-there-so o place e = ap (λ (x : Option ℕ). is_there x place) e ∙ eq-eqb place place refl
 
-among_either : (code : List ℕ) (n place : ℕ) (b : Bool) → is_there (place_of code n) place ≡ b
+among-either : (code : List ℕ) (n place : ℕ) (b : Bool) → is_there (place_of code n) place ≡ b
     → (is_among code n place ≡ true → (k : ℕ) × (place_of code k ≡ Some place))
     → b || is_among code n place ≡ true
     → (k : ℕ) × (place_of code k ≡ Some place)
-among_either code n place true h before f = (n, there_is (place_of code n) place h)
-among_either code n place false h before f = before f
+among-either code n place true h before f = (n, there-is (place_of code n) place h)
+among-either code n place false h before f = before f
 
-among_is : (code : List ℕ) (n place : ℕ) → is_among code n place ≡ true
+among-is : (code : List ℕ) (n place : ℕ) → is_among code n place ≡ true
     → (k : ℕ) × (place_of code k ≡ Some place)
-among_is code zero place e = absurd cc
-among_is code (suc n) place e =
-    among_either code n place (is_there (place_of code n) place) refl (λ f. among_is code n place f)
+among-is code zero place e = absurd cc
+among-is code (suc n) place e =
+    among-either code n place (is_there (place_of code n) place) refl (λ f. among-is code n place f)
     e
 
-is_among_so : (code : List ℕ) (n k place : ℕ) → k < n → place_of code k ≡ Some place
+is-among-so : (code : List ℕ) (n k place : ℕ) → k < n → place_of code k ≡ Some place
     → is_among code n place ≡ true
-is_among_so code zero k place h e = absurd (omega arith)
-is_among_so code (suc n) k place h e = elim (cases_eq k n) [
+is-among-so code zero k place h e = absurd (omega arith)
+is-among-so code (suc n) k place h e = elim (cases_eq k n) [
   | inl same ↦ ap (λ (b : Bool). b || is_among code n place)
-      (is_there_so (place_of code n) place (subst (λ (j : ℕ). place_of code j ≡ Some place) same e))
-  | inr ne ↦ later (is_there (place_of code n) place) (is_among_so code n k place (omega arith) e)
+      (is-there-so (place_of code n) place (subst (λ (j : ℕ). place_of code j ≡ Some place) same e))
+  | inr ne ↦ later (is_there (place_of code n) place) (is-among-so code n k place (omega arith) e)
 ]
   where
     later : (b : Bool) → is_among code n place ≡ true → b || is_among code n place ≡ true
@@ -82,10 +82,10 @@ is_among_so code (suc n) k place h e = elim (cases_eq k n) [
 pub told : (code : List ℕ) (place : ℕ) → IsPlace code place → is_place code place ≡ true
 unfolding is_place
 told code place p =
-    let grows = place_grows code p.1.0 place p.1.1 in
+    let grows = place-grows code p.1.0 place p.1.1 in
     let within = p.0 in
     rw (lt-ltb place (length code) p.0)
-    (is_among_so code (length code) p.1.0 place (omega arith) p.1.1)
+    (is-among-so code (length code) p.1.0 place (omega arith) p.1.1)
 
 pub tells : (code : List ℕ) (place : ℕ) → is_place code place ≡ true → IsPlace code place
 unfolding is_place
@@ -93,7 +93,7 @@ tells code place e = both (ltb place (length code)) refl e
   where
     both : (b : Bool) → ltb place (length code) ≡ b → b && is_among code (length code) place ≡ true
         → IsPlace code place
-    both true h f = (ltb-true place (length code) h, among_is code (length code) place f)
+    both true h f = (ltb-true place (length code) h, among-is code (length code) place f)
     both false h f = absurd cc
 
 pub a_place_is_told : (code : List ℕ) (place : ℕ) → IsTrue (is_place code place)
@@ -113,76 +113,76 @@ Lands P Halts = Unit {0}
 Lands P (Traps trap) = Unit {0}
 
 module _ (P : ℕ → Type 0) where
-  lands_if : (b : Bool) (x y : Turn) → Lands P x → Lands P y → Lands P (cond b x y)
-  lands_if true x y h g = h
-  lands_if false x y h g = g
+  lands-if : (b : Bool) (x y : Turn) → Lands P x → Lands P y → Lands P (cond b x y)
+  lands-if true x y h g = h
+  lands-if false x y h g = g
 
-  lands_pushes : (v : Value) (to : ℕ) (s : State) → P to → Lands P (pushes v to s)
-  lands_pushes v to s h = lands_if (ltb (length s.cells) 32) _ _ h tt
+  lands-pushes : (v : Value) (to : ℕ) (s : State) → P to → Lands P (pushes v to s)
+  lands-pushes v to s h = lands-if (ltb (length s.cells) 32) _ _ h tt
 
-  lands_top : (cells : List Value) (f : Value → List Value → Turn)
+  lands-top : (cells : List Value) (f : Value → List Value → Turn)
       → ((v : Value) (below : List Value) → Lands P (f v below)) → Lands P (with_top cells f)
-  lands_top [] f h = tt
-  lands_top (v ∷ below) f h = h v below
+  lands-top [] f h = tt
+  lands-top (v ∷ below) f h = h v below
 
-  lands_two : (cells : List Value) (f : Value → Value → List Value → Turn)
+  lands-two : (cells : List Value) (f : Value → Value → List Value → Turn)
       → ((a b : Value) (below : List Value) → Lands P (f a b below)) → Lands P (with_two cells f)
-  lands_two [] f h = tt
-  lands_two (v ∷ []) f h = tt
-  lands_two (b ∷ a ∷ below) f h = h a b below
+  lands-two [] f h = tt
+  lands-two (v ∷ []) f h = tt
+  lands-two (b ∷ a ∷ below) f h = h a b below
 
-  lands_truth : (v : Value) (f : Bool → Turn) → ((b : Bool) → Lands P (f b))
+  lands-truth : (v : Value) (f : Bool → Turn) → ((b : Bool) → Lands P (f b))
       → Lands P (as_truth v f)
-  lands_truth (Truth b) f h = h b
-  lands_truth (Short z) f h = tt
-  lands_truth (Long z) f h = tt
-  lands_truth (Wide z) f h = tt
-  lands_truth (Span n) f h = tt
+  lands-truth (Truth b) f h = h b
+  lands-truth (Short z) f h = tt
+  lands-truth (Long z) f h = tt
+  lands-truth (Wide z) f h = tt
+  lands-truth (Span n) f h = tt
 
-  lands_span : (v : Value) (f : ℕ → Turn) → ((n : ℕ) → Lands P (f n)) → Lands P (as_span v f)
-  lands_span (Truth b) f h = tt
-  lands_span (Short z) f h = tt
-  lands_span (Long z) f h = tt
-  lands_span (Wide z) f h = tt
-  lands_span (Span n) f h = h n
+  lands-span : (v : Value) (f : ℕ → Turn) → ((n : ℕ) → Lands P (f n)) → Lands P (as_span v f)
+  lands-span (Truth b) f h = tt
+  lands-span (Short z) f h = tt
+  lands-span (Long z) f h = tt
+  lands-span (Wide z) f h = tt
+  lands-span (Span n) f h = h n
 
-  lands_number : (w : Width) (v : Value) (f : ℤ → Turn) → ((z : ℤ) → Lands P (f z))
+  lands-number : (w : Width) (v : Value) (f : ℤ → Turn) → ((z : ℤ) → Lands P (f z))
       → Lands P (as_number w v f)
-  lands_number width.Int (Truth b) f h = tt
-  lands_number width.Int (Short z) f h = h z
-  lands_number width.Int (Long z) f h = tt
-  lands_number width.Int (Wide z) f h = tt
-  lands_number width.Int (Span n) f h = tt
-  lands_number width.Dint (Truth b) f h = tt
-  lands_number width.Dint (Short z) f h = tt
-  lands_number width.Dint (Long z) f h = h z
-  lands_number width.Dint (Wide z) f h = tt
-  lands_number width.Dint (Span n) f h = tt
-  lands_number width.Lint (Truth b) f h = tt
-  lands_number width.Lint (Short z) f h = tt
-  lands_number width.Lint (Long z) f h = tt
-  lands_number width.Lint (Wide z) f h = h z
-  lands_number width.Lint (Span n) f h = tt
+  lands-number width.Int (Truth b) f h = tt
+  lands-number width.Int (Short z) f h = h z
+  lands-number width.Int (Long z) f h = tt
+  lands-number width.Int (Wide z) f h = tt
+  lands-number width.Int (Span n) f h = tt
+  lands-number width.Dint (Truth b) f h = tt
+  lands-number width.Dint (Short z) f h = tt
+  lands-number width.Dint (Long z) f h = h z
+  lands-number width.Dint (Wide z) f h = tt
+  lands-number width.Dint (Span n) f h = tt
+  lands-number width.Lint (Truth b) f h = tt
+  lands-number width.Lint (Short z) f h = tt
+  lands-number width.Lint (Long z) f h = tt
+  lands-number width.Lint (Wide z) f h = h z
+  lands-number width.Lint (Span n) f h = tt
 
-  lands_slot : (n : ℕ) (s : State) (f : Value → Turn) → ((v : Value) → Lands P (f v))
+  lands-slot : (n : ℕ) (s : State) (f : Value → Turn) → ((v : Value) → Lands P (f v))
       → Lands P (with_slot n s f)
-  lands_slot n s f h =
+  lands-slot n s f h =
       elim (slice_get s.slots n) as
       (λ o. Lands P (elim o [ None ↦ Traps MissingSlot | Some v ↦ f v ]))
       [ None ↦ tt | Some v ↦ h v ]
 
-  lands_timer : (n : ℕ) (s : State) (f : TimerState → Turn) → ((t : TimerState) → Lands P (f t))
+  lands-timer : (n : ℕ) (s : State) (f : TimerState → Turn) → ((t : TimerState) → Lands P (f t))
       → Lands P (with_timer n s f)
-  lands_timer n s f h =
+  lands-timer n s f h =
       elim (slice_get s.timers n) as
       (λ o. Lands P (elim o [ None ↦ Traps MissingTimer | Some t ↦ f t ]))
       [ None ↦ tt | Some t ↦ h t ]
 
-  lands_truths : (n : ℕ) (s : State) (f : Bool → Bool → Turn) → ((a b : Bool) → Lands P (f a b))
+  lands-truths : (n : ℕ) (s : State) (f : Bool → Bool → Turn) → ((a b : Bool) → Lands P (f a b))
       → Lands P (with_truths n s f)
-  lands_truths n s f h =
-      lands_slot n s _ (λ slot. lands_top s.cells _
-      (λ top below. lands_truth top _ (λ b. lands_truth slot _ (λ old. h b old))))
+  lands-truths n s f h =
+      lands-slot n s _ (λ slot. lands-top s.cells _
+      (λ top below. lands-truth top _ (λ b. lands-truth slot _ (λ old. h b old))))
 
 either_place : (P : ℕ → Type 0) (b : Bool) (x y : ℕ) → P x → P y → P (cond b x y)
 either_place P true x y h g = h
@@ -193,65 +193,66 @@ lands : (now : ℕ) (i : Instr) (next : ℕ) (s : State)
     → Lands (λ to. LeadsTo i next to) (act now i next s)
 unfolding act
 lands now Halt next s = tt
-lands now (Push v) next s = lands_pushes (λ to. to ≡ next) v next s refl
-lands now Drop next s = lands_top (λ to. to ≡ next) s.cells _ (λ top below. refl)
+lands now (Push v) next s = lands-pushes (λ to. to ≡ next) v next s refl
+lands now Drop next s = lands-top (λ to. to ≡ next) s.cells _ (λ top below. refl)
 lands now (Slot Load n) next s =
-    lands_slot (λ to. to ≡ next) n s _ (λ v. lands_pushes (λ to. to ≡ next) v next s refl)
+    lands-slot (λ to. to ≡ next) n s _ (λ v. lands-pushes (λ to. to ≡ next) v next s refl)
 lands now (Slot Store n) next s =
-    lands_slot (λ to. to ≡ next) n s _
-    (λ v. lands_top (λ to. to ≡ next) s.cells _
-    (λ top below. lands_if (λ to. to ≡ next) (same_type (type_of top) (type_of v))
+    lands-slot (λ to. to ≡ next) n s _
+    (λ v. lands-top (λ to. to ≡ next) s.cells _
+    (λ top below. lands-if (λ to. to ≡ next) (same_type (type_of top) (type_of v))
     (stores n top next s) (Traps WrongKind) refl tt))
-lands now (Slot SetIf n) next s = lands_truths (λ to. to ≡ next) n s _ (λ a b. refl)
-lands now (Slot ResetIf n) next s = lands_truths (λ to. to ≡ next) n s _ (λ a b. refl)
+lands now (Slot SetIf n) next s = lands-truths (λ to. to ≡ next) n s _ (λ a b. refl)
+lands now (Slot ResetIf n) next s = lands-truths (λ to. to ≡ next) n s _ (λ a b. refl)
 lands now Not next s =
-    lands_top (λ to. to ≡ next) s.cells _
-    (λ top below. lands_truth (λ to. to ≡ next) top _ (λ b. refl))
+    lands-top (λ to. to ≡ next) s.cells _
+    (λ top below. lands-truth (λ to. to ≡ next) top _ (λ b. refl))
 lands now (Combine c) next s =
-    lands_two (λ to. to ≡ next) s.cells _
-    (λ first second below. lands_truth (λ to. to ≡ next) second _
-    (λ b. lands_truth (λ to. to ≡ next) first _ (λ a. refl)))
+    lands-two (λ to. to ≡ next) s.cells _
+    (λ first second below. lands-truth (λ to. to ≡ next) second _
+    (λ b. lands-truth (λ to. to ≡ next) first _ (λ a. refl)))
 lands now (Compute o w) next s =
-    lands_two (λ to. to ≡ next) s.cells _
-    (λ first second below. lands_number (λ to. to ≡ next) w second _
-    (λ b. lands_number (λ to. to ≡ next) w first _
-    (λ a. lands_if (λ to. to ≡ next) (divides o && int_eq b (pos 0)) (Traps ZeroDivisor)
-    (goes next (value_of_width w (computed o w a b) ∷ below) s) tt refl)))
+    lands-two (λ to. to ≡ next) s.cells _
+    (λ first second below. lands-number (λ to. to ≡ next) w second _
+    (λ b. lands-number (λ to. to ≡ next) w first _
+    (λ a. lands-if (λ to. to ≡ next) (divides o && int_eq b (pos 0)) (Traps ZeroDivisor)
+    (goes next (value_of_width w (computation_of o w a b) ∷ below) s) tt refl)))
 lands now (Compare c) next s =
-    lands_two (λ to. to ≡ next) s.cells _
-    (λ a b below. lands_if (λ to. to ≡ next) (is_comparable c a b)
-    (goes next (Truth (compared c (number_of a) (number_of b)) ∷ below) s) (Traps WrongKind) refl
+    lands-two (λ to. to ≡ next) s.cells _
+    (λ a b below. lands-if (λ to. to ≡ next) (is_comparable c a b)
+    (goes next (Truth (comparison_holds c (number_of a) (number_of b)) ∷ below) s) (Traps WrongKind)
+    refl
     tt)
 lands now (Widen w) next s =
-    lands_top (λ to. to ≡ next) s.cells _
-    (λ top below. elim (widened w top) as
+    lands-top (λ to. to ≡ next) s.cells _
+    (λ top below. elim (wider_value w top) as
     (λ o. Lands (λ to. to ≡ next)
     (elim o [ None ↦ Traps WrongKind | Some v ↦ goes next (v ∷ below) s ]))
     [ None ↦ tt | Some v ↦ refl ])
 lands now (Jump Always distance) next s = refl
 lands now (Jump IfTrue distance) next s =
-    lands_top (λ to. (to ≡ next) ⊎ (to ≡ next + distance)) s.cells _
-    (λ top below. lands_truth (λ to. (to ≡ next) ⊎ (to ≡ next + distance)) top _
+    lands-top (λ to. (to ≡ next) ⊎ (to ≡ next + distance)) s.cells _
+    (λ top below. lands-truth (λ to. (to ≡ next) ⊎ (to ≡ next + distance)) top _
     (λ b. either_place (λ to. (to ≡ next) ⊎ (to ≡ next + distance)) b (next + distance) next
     (inr refl) (inl refl)))
 lands now (Jump IfFalse distance) next s =
-    lands_top (λ to. (to ≡ next) ⊎ (to ≡ next + distance)) s.cells _
-    (λ top below. lands_truth (λ to. (to ≡ next) ⊎ (to ≡ next + distance)) top _
+    lands-top (λ to. (to ≡ next) ⊎ (to ≡ next + distance)) s.cells _
+    (λ top below. lands-truth (λ to. (to ≡ next) ⊎ (to ≡ next + distance)) top _
     (λ b. either_place (λ to. (to ≡ next) ⊎ (to ≡ next + distance)) b next (next + distance)
     (inl refl) (inr refl)))
 lands now (Timer SetInput n) next s =
-    lands_timer (λ to. to ≡ next) n s _
-    (λ t. lands_top (λ to. to ≡ next) s.cells _
-    (λ top below. lands_truth (λ to. to ≡ next) top _ (λ b. refl)))
+    lands-timer (λ to. to ≡ next) n s _
+    (λ t. lands-top (λ to. to ≡ next) s.cells _
+    (λ top below. lands-truth (λ to. to ≡ next) top _ (λ b. refl)))
 lands now (Timer SetPreset n) next s =
-    lands_timer (λ to. to ≡ next) n s _
-    (λ t. lands_top (λ to. to ≡ next) s.cells _
-    (λ top below. lands_span (λ to. to ≡ next) top _ (λ b. refl)))
-lands now (Timer Run n) next s = lands_timer (λ to. to ≡ next) n s _ (λ t. refl)
+    lands-timer (λ to. to ≡ next) n s _
+    (λ t. lands-top (λ to. to ≡ next) s.cells _
+    (λ top below. lands-span (λ to. to ≡ next) top _ (λ b. refl)))
+lands now (Timer Run n) next s = lands-timer (λ to. to ≡ next) n s _ (λ t. refl)
 lands now (Timer LoadOutput n) next s =
-    lands_timer (λ to. to ≡ next) n s _ (λ t. lands_pushes (λ to. to ≡ next) _ next s refl)
+    lands-timer (λ to. to ≡ next) n s _ (λ t. lands-pushes (λ to. to ≡ next) _ next s refl)
 lands now (Timer LoadElapsed n) next s =
-    lands_timer (λ to. to ≡ next) n s _ (λ t. lands_pushes (λ to. to ≡ next) _ next s refl)
+    lands-timer (λ to. to ≡ next) n s _ (λ t. lands-pushes (λ to. to ≡ next) _ next s refl)
 
 -- ---- code whose instructions lead to instructions
 
@@ -270,65 +271,65 @@ loose_run code now (suc most) s steps =
     (λ after. loose_run code now most after (steps + 1))
 
 module _ (code : List ℕ) (now : ℕ) (closed : IsClosed code) where
-  same_ending : (most steps : ℕ) (s : State) (t : Turn) → Lands (λ to. IsPlace code to) t
+  same-ending : (most steps : ℕ) (s : State) (t : Turn) → Lands (λ to. IsPlace code to) t
       → ((after : State) → IsPlace code after.place
-      → loose_run code now most after (steps + 1) ≡ run code now most after (steps + 1))
+      → loose_run code now most after (steps + 1) ≡ run_from code now most after (steps + 1))
       → ending_of t s (steps + 1) (λ after. loose_run code now most after (steps + 1))
-      ≡ ending_of t s (steps + 1) (λ after. run code now most after (steps + 1))
-  same_ending most steps s (Goes after) h more = more after h
-  same_ending most steps s Halts h more = refl
-  same_ending most steps s (Traps trap) h more = refl
+      ≡ ending_of t s (steps + 1) (λ after. run_from code now most after (steps + 1))
+  same-ending most steps s (Goes after) h more = more after h
+  same-ending most steps s Halts h more = refl
+  same-ending most steps s (Traps trap) h more = refl
 
-  lands_more : (i : Instr) (next place : ℕ) (t : Turn) → IsPlace code place
+  lands-more : (i : Instr) (next place : ℕ) (t : Turn) → IsPlace code place
       → instr_at code place ≡ Some (i, next) → Lands (λ to. LeadsTo i next to) t
       → Lands (λ to. IsPlace code to) t
-  lands_more i next place (Goes after) p here h =
+  lands-more i next place (Goes after) p here h =
       closed.leads place after.place p (record { instr = i; next = next; here = here; leads = h })
-  lands_more i next place Halts p here h = tt
-  lands_more i next place (Traps trap) p here h = tt
+  lands-more i next place Halts p here h = tt
+  lands-more i next place (Traps trap) p here h = tt
 
-  lands_at : (s : State) (o : Option (Instr × ℕ)) → instr_at code s.place ≡ o → IsPlace code s.place
+  lands-at : (s : State) (o : Option (Instr × ℕ)) → instr_at code s.place ≡ o → IsPlace code s.place
       → Lands (λ to. IsPlace code to) (turn_of now o s)
-  lands_at s None here p = tt
-  lands_at s (Some r) here p =
-      lands_more r.0 r.1 s.place (act now r.0 r.1 s) p here (lands now r.0 r.1 s)
+  lands-at s None here p = tt
+  lands-at s (Some r) here p =
+      lands-more r.0 r.1 s.place (act now r.0 r.1 s) p here (lands now r.0 r.1 s)
 
-  pub loose_is_run : (most : ℕ) (s : State) (steps : ℕ) → IsPlace code s.place
-      → loose_run code now most s steps ≡ run code now most s steps
-  unfolding loose_run run
-  loose_is_run zero s steps p = refl
-  loose_is_run (suc most) s steps p =
-      same_ending most steps s (loose_turn code now s) (lands_at s (instr_at code s.place) refl p)
-      (λ after q. loose_is_run most after (steps + 1) q)
+  pub loose-is-run : (most : ℕ) (s : State) (steps : ℕ) → IsPlace code s.place
+      → loose_run code now most s steps ≡ run_from code now most s steps
+  unfolding loose_run run_from
+  loose-is-run zero s steps p = refl
+  loose-is-run (suc most) s steps p =
+      same-ending most steps s (loose_turn code now s) (lands-at s (instr_at code s.place) refl p)
+      (λ after q. loose-is-run most after (steps + 1) q)
       ∙ ap (λ (o : Option (Instr × ℕ)). ending_of (turn_of now o s) s (steps + 1)
-      (λ after. run code now most after (steps + 1))) (sym (begun code s.place p))
+      (λ after. run_from code now most after (steps + 1))) (sym (begun code s.place p))
 
 -- ---- an agreeing table's code
 
-is_some_so : {A : Type 0} (o : Option A) (x : A) → o ≡ Some x → IsSome o
-is_some_so None x e = absurd cc
-is_some_so (Some y) x e = refl
+is-some-so : {A : Type 0} (o : Option A) (x : A) → o ≡ Some x → IsSome o
+is-some-so None x e = absurd cc
+is-some-so (Some y) x e = refl
 
-some_is : {A : Type 0} (o : Option A) → IsSome o → (x : A) × (o ≡ Some x)
-some_is None e = absurd cc
-some_is (Some y) e = (y, refl)
+some-is : {A : Type 0} (o : Option A) → IsSome o → (x : A) × (o ≡ Some x)
+some-is None e = absurd cc
+some-is (Some y) e = (y, refl)
 
-pair_same : {A B : Type 0} (a b : A) (x y : B)
+pair-same : {A B : Type 0} (a b : A) (x y : B)
     → ◌≡◌ {A = Option (A × B)} (Some (a, x)) (Some (b, y)) → (a ≡ b) × (x ≡ y)
-pair_same {A} {B} a b x y e = let p : ◌≡◌ {A = A × B} (a, x) (b, y) =
+pair-same {A} {B} a b x y e = let p : ◌≡◌ {A = A × B} (a, x) (b, y) =
     cc in (ap (λ (q : A × B). q.0) p, ap (λ (q : A × B). q.1) p)
 
 pub closed_by : (image : Image) (table : Table) → Agrees image table → IsClosed image.code
 closed_by image table agrees = record {
   leads = λ place to p s.
-      (let known = some_is (table place) ((agrees.places place).1 p) in
+      (let known = some-is (table place) ((agrees.places place).1 p) in
       let a = agrees.allowed place known.0 known.1 in
-      let same = pair_same s.instr a.instr s.next a.next (sym s.here ∙ a.here) in
+      let same = pair-same s.instr a.instr s.next a.next (sym s.here ∙ a.here) in
       let enter =
       a.enters to (subst (λ (n : ℕ). LeadsTo a.instr n to) same.1
       (subst (λ (i : Instr). LeadsTo i s.next to) same.0 s.leads)) in
-      (agrees.places to).0 (is_some_so (table to) enter.0 enter.1));
+      (agrees.places to).0 (is-some-so (table to) enter.0 enter.1));
 }
 
-pub first_place : (image : Image) (table : Table) → Agrees image table → IsPlace image.code 0
-first_place image table agrees = (agrees.places 0).0 (is_some_so (table 0) [] agrees.starts)
+pub first-place : (image : Image) (table : Table) → Agrees image table → IsPlace image.code 0
+first-place image table agrees = (agrees.places 0).0 (is-some-so (table 0) [] agrees.starts)

@@ -25,17 +25,17 @@ use Rattle.il_image.specs.Cuts.{IsInstrOf, IsShortOf}
 use Rattle.il_image.specs.Decoding.{code_at, code_fault, code_of_length, fault_behind, unless}
 use Rattle.il_image.specs.Octets.{AreOctets, number_octets, octet_count, size_of}
 use Rattle.il_image.specs.Opcodes.{is_known, opcode_of, width_of}
-use Rattle.il_image.specs.Reading.{Read, instr_from, known, known_opcode, number_at, operand_from, value_at}
+use Rattle.il_image.specs.Reading.{Read, instr_from, known_value, known_opcode, number_at, operand_from, value_at}
 use Rattle.il_image.specs.Spelling.{spelling}
 use Rattle.il_image.specs.Values.{default_value}
-use Rattle.il_image.proofs.CodeLemmas.{fault_step, less}
-use Rattle.il_image.proofs.LocalLemmas.{again, local_instr}
-use Rattle.il_image.proofs.EndLemmas.{EndsIn, Few, IsAll, all_told, are_more, are_none, few_told, join_octets, ok_is, through}
-use Rattle.il_image.proofs.InstrLemmas.{behind_octets}
-use Rattle.il_image.proofs.PlaceLemmas.{spelled_so}
-use Rattle.il_image.proofs.ReadLemmas.{take_octets, took_number}
-use Rattle.il_image.proofs.SteadyLemmas.{err_same, steady_instr, steady_number}
-use Rattle.il_image.proofs.ShortLemmas.{behind_number, Never, copies, copies_fit, copies_size, err_mapped, known_never, number_short, take_all, taken_short, value_few}
+use Rattle.il_image.proofs.CodeLemmas.{fault-step, less}
+use Rattle.il_image.proofs.LocalLemmas.{again, local-instr}
+use Rattle.il_image.proofs.EndLemmas.{EndsIn, Few, IsAll, all-told, are-more, are-none, few-told, join-octets, ok-is, through}
+use Rattle.il_image.proofs.InstrLemmas.{behind-octets}
+use Rattle.il_image.proofs.PlaceLemmas.{spelled-so}
+use Rattle.il_image.proofs.ReadLemmas.{take_octets, took-number}
+use Rattle.il_image.proofs.SteadyLemmas.{err-same, steady-instr, steady-number}
+use Rattle.il_image.proofs.ShortLemmas.{behind-number, Never, copies, copies-fit, copies-size, err-mapped, known-never, number-short, take-all, taken-short, value-few}
 
 -- ---- code
 
@@ -50,15 +50,15 @@ record InCode (version : Version) (octets : List ℕ) : Type 0 where
   pub on : (more : List ℕ) → code_fault version (length (cut ++ more)) (cut ++ more) ≡ None
       → code_fault version (length (octets ++ more)) (octets ++ more) ≡ None
 
-some_fault : (e f : ImageFault) → Some e ≡ Some f → e ≡ f
-some_fault e f h = cc
+some-fault : (e f : ImageFault) → Some e ≡ Some f → e ≡ f
+some-fault e f h = cc
 
-code_cut : (version : Version) (n : ℕ) (octets : List ℕ) → length octets ≤ n → AreOctets octets
+code-cut : (version : Version) (n : ℕ) (octets : List ℕ) → length octets ≤ n → AreOctets octets
     → code_fault version n octets ≡ Some Truncated → InCode version octets
-code_cut version zero octets le fits e = absurd cc
-code_cut version (suc n) [] le fits e = absurd cc
-code_cut version (suc n) (x ∷ octets) le fits e =
-    go (code_cut version n) (instr_from version (x ∷ octets)) refl e
+code-cut version zero octets le fits e = absurd cc
+code-cut version (suc n) [] le fits e = absurd cc
+code-cut version (suc n) (x ∷ octets) le fits e =
+    go (code-cut version n) (instr_from version (x ∷ octets)) refl e
   where
     go : ((rest : List ℕ) → length rest ≤ n → AreOctets rest
         → code_fault version n rest ≡ Some Truncated → InCode version rest)
@@ -71,41 +71,41 @@ code_cut version (suc n) (x ∷ octets) le fits e =
       parts = refl;
       whole = refl;
       some = omega arith;
-      short = is ∙ ap (λ (g : ImageFault). Err g) (some_fault f Truncated e);
+      short = is ∙ ap (λ (g : ImageFault). Err g) (some-fault f Truncated e);
       on = λ more h. h;
     }
     go on (Ok (i, rest)) is e =
-        let s = spelled_so version (x ∷ octets) i rest fits is in
+        let s = spelled-so version (x ∷ octets) i rest fits is in
         let fewer = less version (x ∷ octets) i rest is in
         let c =
         on rest (omega arith)
-        (behind_octets (spelling i) rest (subst AreOctets s.1 fits)) e in
+        (behind-octets (spelling i) rest (subst AreOctets s.1 fits)) e in
         record {
           done = spelling i ++ c.done;
           cut = c.cut;
           parts = s.1 ∙ ap (λ (ys : List ℕ). spelling i ++ ys) c.parts
               ∙ sym (append_assoc (spelling i) c.done c.cut);
           whole =
-              fault_step version (spelling i ++ c.done) i c.done
-              (again (instr_from version) (spelling i) i (steady_instr version) (x ∷ octets) rest
+              fault-step version (spelling i ++ c.done) i c.done
+              (again (instr_from version) (spelling i) i (steady-instr version) (x ∷ octets) rest
               fits
-              (local_instr version (x ∷ octets) i rest is)
-              (λ front good is. (spelled_so version front i [] good is).1) c.done) ∙ c.whole;
+              (local-instr version (x ∷ octets) i rest is)
+              (λ front good is. (spelled-so version front i [] good is).1) c.done) ∙ c.whole;
           some = c.some;
           short = c.short;
           on = λ more h.
-              fault_step version (x ∷ octets ++ more) i (rest ++ more)
-              (ok_is (instr_from version) (steady_instr version) (x ∷ octets) more i rest is)
+              fault-step version (x ∷ octets ++ more) i (rest ++ more)
+              (ok-is (instr_from version) (steady-instr version) (x ∷ octets) more i rest is)
               ∙ c.on more h;
         }
 
-code_whole : (version : Version) (n : ℕ) (octets more : List ℕ) → length octets ≤ n
+code-whole : (version : Version) (n : ℕ) (octets more : List ℕ) → length octets ≤ n
     → code_fault version n octets ≡ None → code_fault version (length more) more ≡ None
     → code_fault version (length (octets ++ more)) (octets ++ more) ≡ None
-code_whole version n [] more le e h = h
-code_whole version zero (x ∷ octets) more le e h = absurd (omega arith)
-code_whole version (suc n) (x ∷ octets) more le e h =
-    go (λ rest fewer f. code_whole version n rest more fewer f h)
+code-whole version n [] more le e h = h
+code-whole version zero (x ∷ octets) more le e h = absurd (omega arith)
+code-whole version (suc n) (x ∷ octets) more le e h =
+    go (λ rest fewer f. code-whole version n rest more fewer f h)
     (instr_from version (x ∷ octets)) refl e
   where
     go : ((rest : List ℕ) → length rest ≤ n → code_fault version n rest ≡ None
@@ -116,8 +116,8 @@ code_whole version (suc n) (x ∷ octets) more le e h =
     go on (Err f) is e = absurd cc
     go on (Ok (i, rest)) is e =
         let fewer = less version (x ∷ octets) i rest is in
-        fault_step version (x ∷ octets ++ more) i (rest ++ more)
-        (ok_is (instr_from version) (steady_instr version) (x ∷ octets) more i rest is)
+        fault-step version (x ∷ octets ++ more) i (rest ++ more)
+        (ok-is (instr_from version) (steady-instr version) (x ∷ octets) more i rest is)
         ∙ on rest (omega arith) e
 
 -- An instruction of the version has the part's first octet, and more octets.
@@ -132,92 +132,92 @@ record Operand (version : Version) (o : Opcode) (octets : List ℕ) : Type 0 whe
   pub is : operand_from version o operand ≡ Ok (instr, [])
   pub fewer : length octets < length operand
 
-zero_operand : (version : Version) (o : Opcode) (n : ℕ) (i : Instr) (octets : List ℕ)
+zero-operand : (version : Version) (o : Opcode) (n : ℕ) (i : Instr) (octets : List ℕ)
     → operand_from version o (copies 0 n) ≡ Ok (i, []) → length octets < n
     → Operand version o octets
-zero_operand version o n i octets is fewer = record {
+zero-operand version o n i octets is fewer = record {
   operand = copies 0 n;
   instr = i;
-  fits = copies_fit 0 n (omega arith);
+  fits = copies-fit 0 n (omega arith);
   is = is;
-  fewer = omega (arith, copies_size 0 n);
+  fewer = omega (arith, copies-size 0 n);
 }
 
-numbered_few : (make : ℕ → Instr) (octets : List ℕ)
+numbered-few : (make : ℕ → Instr) (octets : List ℕ)
     → ◌≡◌ {A = Read Instr} (number_at octets >>= (λ n. Ok (make n.0, n.1))) (Err Truncated)
     → length octets < 2
-numbered_few make octets =
-    taken_short 2 octets (from_be_bytes w16 octets, drop 2 octets)
+numbered-few make octets =
+    taken-short 2 octets (from_be_bytes w16 octets, drop 2 octets)
     (λ (n : ℕ × List ℕ). Ok (make n.0, n.1)) (λ e. cc)
 
-push_begins : (version : Version) (t : ElementaryType) (octets : List ℕ)
+push-begins : (version : Version) (t : ElementaryType) (octets : List ℕ)
     → length octets < octet_count (size_of t) → Operand version (opcode.Push t) octets
 unfolding copies
-push_begins version elementary.Bool octets = zero_operand version (opcode.Push elementary.Bool) 1
+push-begins version elementary.Bool octets = zero-operand version (opcode.Push elementary.Bool) 1
     (instr.Push (default_value elementary.Bool)) octets refl
-push_begins version elementary.Int octets = zero_operand version (opcode.Push elementary.Int) 2
+push-begins version elementary.Int octets = zero-operand version (opcode.Push elementary.Int) 2
     (instr.Push (default_value elementary.Int)) octets refl
-push_begins version elementary.Dint octets = zero_operand version (opcode.Push elementary.Dint) 4
+push-begins version elementary.Dint octets = zero-operand version (opcode.Push elementary.Dint) 4
     (instr.Push (default_value elementary.Dint)) octets refl
-push_begins version elementary.Lint octets = zero_operand version (opcode.Push elementary.Lint) 8
+push-begins version elementary.Lint octets = zero-operand version (opcode.Push elementary.Lint) 8
     (instr.Push (default_value elementary.Lint)) octets refl
-push_begins version elementary.Time octets = zero_operand version (opcode.Push elementary.Time) 4
+push-begins version elementary.Time octets = zero-operand version (opcode.Push elementary.Time) 4
     (instr.Push (default_value elementary.Time)) octets refl
 
-width_reads : (version : Version) (o : Operation)
+width-reads : (version : Version) (o : Operation)
     → operand_from version (opcode.Compute o) (2 ∷ []) ≡ Ok (instr.Compute o width.Int, [])
-width_reads One o = refl
-width_reads Two o = refl
+width-reads One o = refl
+width-reads Two o = refl
 
-operand_begins : (version : Version) (o : Opcode) (octets : List ℕ)
+operand-begins : (version : Version) (o : Opcode) (octets : List ℕ)
     → operand_from version o octets ≡ Err Truncated → Operand version o octets
 unfolding copies
-operand_begins version opcode.Halt octets e = absurd cc
-operand_begins version (opcode.Push t) octets e =
-    push_begins version t octets
-    (value_few (size_of t) t octets (err_mapped (value_at (size_of t) t octets)
+operand-begins version opcode.Halt octets e = absurd cc
+operand-begins version (opcode.Push t) octets e =
+    push-begins version t octets
+    (value-few (size_of t) t octets (err-mapped (value_at (size_of t) t octets)
     (λ (v : Value × List ℕ). (instr.Push v.0, v.1)) e))
-operand_begins version opcode.Drop octets e = absurd cc
-operand_begins version (opcode.Slot u) octets e =
-    zero_operand version (opcode.Slot u) 2 (instr.Slot u 0) octets refl
-    (numbered_few (λ n. instr.Slot u n) octets e)
-operand_begins version opcode.Not octets e = absurd cc
-operand_begins version (opcode.Combine c) octets e = absurd cc
-operand_begins version (opcode.Compute o) [] e = record {
+operand-begins version opcode.Drop octets e = absurd cc
+operand-begins version (opcode.Slot u) octets e =
+    zero-operand version (opcode.Slot u) 2 (instr.Slot u 0) octets refl
+    (numbered-few (λ n. instr.Slot u n) octets e)
+operand-begins version opcode.Not octets e = absurd cc
+operand-begins version (opcode.Combine c) octets e = absurd cc
+operand-begins version (opcode.Compute o) [] e = record {
   operand = 2 ∷ [];
   instr = instr.Compute o width.Int;
-  fits = are_more 2 [] (omega arith) are_none;
-  is = width_reads version o;
+  fits = are-more 2 [] (omega arith) are-none;
+  is = width-reads version o;
   fewer = omega arith;
 }
-operand_begins version (opcode.Compute o) (x ∷ octets) e =
-    absurd (known_never (width_of version x) octets
-    (err_mapped (known (width_of version x) >>= (λ (w : Width). Ok (w, octets)))
+operand-begins version (opcode.Compute o) (x ∷ octets) e =
+    absurd (known-never (width_of version x) octets
+    (err-mapped (known_value (width_of version x) >>= (λ (w : Width). Ok (w, octets)))
     (λ (w : Width × List ℕ). (instr.Compute o w.0, w.1)) e))
-operand_begins version (opcode.Compare c) octets e = absurd cc
-operand_begins version (opcode.Widen w) octets e = absurd cc
-operand_begins version (opcode.Jump when) octets e =
-    zero_operand version (opcode.Jump when) 2 (instr.Jump when 0) octets refl
-    (numbered_few (λ n. instr.Jump when n) octets e)
-operand_begins version (opcode.Timer u) octets e =
-    zero_operand version (opcode.Timer u) 2 (instr.Timer u 0) octets refl
-    (numbered_few (λ n. instr.Timer u n) octets e)
+operand-begins version (opcode.Compare c) octets e = absurd cc
+operand-begins version (opcode.Widen w) octets e = absurd cc
+operand-begins version (opcode.Jump when) octets e =
+    zero-operand version (opcode.Jump when) 2 (instr.Jump when 0) octets refl
+    (numbered-few (λ n. instr.Jump when n) octets e)
+operand-begins version (opcode.Timer u) octets e =
+    zero-operand version (opcode.Timer u) 2 (instr.Timer u 0) octets refl
+    (numbered-few (λ n. instr.Timer u n) octets e)
 
-instr_begins : (version : Version) (octets : List ℕ) → AreOctets octets → 0 < length octets
+instr-begins : (version : Version) (octets : List ℕ) → AreOctets octets → 0 < length octets
     → instr_from version octets ≡ Err Truncated → BeginsInstr version octets
 unfolding instr_from
-instr_begins version [] fits some e = absurd (omega arith)
-instr_begins version (x ∷ octets) fits some e = named_by (opcode_of x) refl e
+instr-begins version [] fits some e = absurd (omega arith)
+instr-begins version (x ∷ octets) fits some e = named-by (opcode_of x) refl e
   where
-    known_by : (o : Opcode) (b : Bool) → opcode_of x ≡ Some o → is_known version o ≡ b
+    known-by : (o : Opcode) (b : Bool) → opcode_of x ≡ Some o → is_known version o ≡ b
         → ◌≡◌ {A = Read Instr} (◌>>=◌ {A = Opcode} (cond b (Ok o) (Err BadOpcode))
         (λ o. operand_from version o octets)) (Err Truncated) → BeginsInstr version (x ∷ octets)
-    known_by o false is k e = absurd cc
-    known_by o true is k e =
-        let a = operand_begins version o octets e in
+    known-by o false is k e = absurd cc
+    known-by o true is k e =
+        let a = operand-begins version o octets e in
         let read : instr_from version (x ∷ a.operand) ≡ Ok (a.instr, []) = rw (is, k) a.is in
         let same : x ∷ a.operand ≡ spelling a.instr =
-        (spelled_so version (x ∷ a.operand) a.instr [] (are_more x a.operand (fits 0) a.fits)
+        (spelled-so version (x ∷ a.operand) a.instr [] (are-more x a.operand (fits 0) a.fits)
         read).1 ∙ append-nil (spelling a.instr) in
         let fewer = a.fewer in
         let size : suc (length a.operand) ≡ length (spelling a.instr) = ap length same in (
@@ -226,35 +226,35 @@ instr_begins version (x ∷ octets) fits some e = named_by (opcode_of x) refl e
           record { first = ap (take 1) same; fewer = omega arith },
         )
 
-    named_by : (o : Option Opcode) → opcode_of x ≡ o
+    named-by : (o : Option Opcode) → opcode_of x ≡ o
         → ◌≡◌ {A = Read Instr} (known_opcode version o >>= (λ o. operand_from version o octets))
         (Err Truncated) → BeginsInstr version (x ∷ octets)
-    named_by None is e = absurd cc
-    named_by (Some o) is e = known_by o (is_known version o) is refl e
+    named-by None is e = absurd cc
+    named-by (Some o) is e = known-by o (is_known version o) is refl e
 
-halt_reads : (version : Version) (rest : List ℕ)
+halt-reads : (version : Version) (rest : List ℕ)
     → instr_from version (1 ∷ rest) ≡ Ok (instr.Halt, rest)
 unfolding instr_from opcode_of
-halt_reads One rest = refl
-halt_reads Two rest = refl
+halt-reads One rest = refl
+halt-reads Two rest = refl
 
 halts : (version : Version) (n : ℕ) → code_fault version (length (copies 1 n)) (copies 1 n) ≡ None
 unfolding copies
 halts version zero = refl
 halts version (suc n) =
-    fault_step version (1 ∷ copies 1 n) instr.Halt (copies 1 n) (halt_reads version (copies 1 n))
+    fault-step version (1 ∷ copies 1 n) instr.Halt (copies 1 n) (halt-reads version (copies 1 n))
     ∙ halts version n
 
 -- nothing is asked
 abbrev pub Any : {B : Type 0} → B → Type 0
 Any x = Unit {0}
 
-code_reads : (version : Version) (n : ℕ) (octets more : List ℕ) → AreOctets more
+code-reads : (version : Version) (n : ℕ) (octets more : List ℕ) → AreOctets more
     → length (octets ++ more) ≡ n
     → code_fault version (length (octets ++ more)) (octets ++ more) ≡ None
     → EndsIn (code_of_length version n) Any octets
-code_reads version n octets more fits size none =
-    let all = take_all n (octets ++ more) (omega arith) in
+code-reads version n octets more fits size none =
+    let all = take-all n (octets ++ more) (omega arith) in
     record {
       more = more;
       fits = fits;
@@ -263,9 +263,9 @@ code_reads version n octets more fits size none =
       ends = tt;
     }
 
-pub code_start : (version : Version) (n : ℕ) → EndsIn (code_of_length version n) Any []
-code_start version n =
-    code_reads version n [] (copies 1 n) (copies_fit 1 n (omega arith)) (copies_size 1 n)
+pub code-start : (version : Version) (n : ℕ) → EndsIn (code_of_length version n) Any []
+code-start version n =
+    code-reads version n [] (copies 1 n) (copies-fit 1 n (omega arith)) (copies-size 1 n)
     (halts version n)
 
 -- Code of the length stands first, and others behind it.
@@ -290,19 +290,19 @@ pub record Part (version : Version) (size : ℕ) (octets : List ℕ) : Type 0 wh
       → size - length done < length (spelling i)
 
 module _ (version : Version) (n : ℕ) (octets : List ℕ) (fits : AreOctets octets) where
-  whole_front : code_fault version (length (take n octets)) (take n octets) ≡ None
+  whole-front : code_fault version (length (take n octets)) (take n octets) ≡ None
       → ◌≡◌ {A = Result (List ℕ) ImageFault}
       (cond (eqb (length octets) n) (Ok octets) (Err Truncated)) (Err Truncated)
       → EndsIn (code_of_length version n) Any octets
       ⊎ (Past version n octets ⊎ Part version n octets)
-  whole_front none e = elim (cases_lt (length octets) n) [
+  whole-front none e = elim (cases_lt (length octets) n) [
     | inl short ↦ inl (
         let k = n - length octets in
-        let all = take_all n octets (omega arith) in
+        let all = take-all n octets (omega arith) in
         let size : length (octets ++ copies 1 k) ≡ n =
-        omega (arith, length-append octets (copies 1 k), copies_size 1 k) in
-        code_reads version n octets (copies 1 k) (copies_fit 1 k (omega arith)) size
-        (code_whole version (length octets) octets (copies 1 k) (omega arith)
+        omega (arith, length-append octets (copies 1 k), copies-size 1 k) in
+        code-reads version n octets (copies 1 k) (copies-fit 1 k (omega arith)) size
+        (code-whole version (length octets) octets (copies 1 k) (omega arith)
         (ap (λ (xs : List ℕ). code_fault version (length xs) xs) (sym all) ∙ none)
         (halts version k)))
     | inr long ↦ inr (inl (record {
@@ -335,14 +335,14 @@ module _ (version : Version) (n : ℕ) (octets : List ℕ) (fits : AreOctets oct
     exact long =
         sym (ap length c.parts ∙ length-append c.done c.cut) ∙ length-take-le n octets long
 
-    front_is : take (n - length c.done) (c.cut ++ drop n octets) ≡ c.cut
-    front_is = elim (cases_lt (length octets) n) [
+    front-is : take (n - length c.done) (c.cut ++ drop n octets) ≡ c.cut
+    front-is = elim (cases_lt (length octets) n) [
       | inl short ↦
           let few = sizes in
           rw (
             drop_of_length-le octets (let h : length octets ≤ n = omega arith in h),
             append-nil c.cut,
-          ) (take_all (n - length c.done) c.cut (omega arith))
+          ) (take-all (n - length c.done) c.cut (omega arith))
       | inr long ↦
           let same = exact long in
           let is : n - length c.done ≡ length c.cut = omega arith in
@@ -354,7 +354,7 @@ module _ (version : Version) (n : ℕ) (octets : List ℕ) (fits : AreOctets oct
         (n - length c.done - length c.cut) → EndsIn (code_of_length version n) Any octets
     ended f = elim (cases_lt (length octets) n) [
       | inl short ↦
-          let all = take_all n octets (omega arith) in
+          let all = take-all n octets (omega arith) in
           let k = n - length octets - length f.octets in
           let front : length octets ≡ length c.done + length c.cut =
           ap length (sym all ∙ c.parts) ∙ length-append c.done c.cut in
@@ -365,35 +365,35 @@ module _ (version : Version) (n : ℕ) (octets : List ℕ) (fits : AreOctets oct
             arith,
             length-append octets more,
             length-append f.octets (copies 1 k),
-            copies_size 1 k,
+            copies-size 1 k,
           ) in
           let here : code_fault version (length (c.cut ++ more)) (c.cut ++ more) ≡ None =
           ap (λ (xs : List ℕ). code_fault version (length xs) xs)
           (sym (append_assoc c.cut f.octets (copies 1 k)))
-          ∙ fault_step version ((c.cut ++ f.octets) ++ copies 1 k) f.is.0 (copies 1 k)
-          (ok_is (instr_from version) (steady_instr version) (c.cut ++ f.octets) (copies 1 k)
+          ∙ fault-step version ((c.cut ++ f.octets) ++ copies 1 k) f.is.0 (copies 1 k)
+          (ok-is (instr_from version) (steady-instr version) (c.cut ++ f.octets) (copies 1 k)
           f.is.0 [] f.is.1) ∙ halts version k in
-          code_reads version n octets more
-          (join_octets f.octets (copies 1 k) f.fits (copies_fit 1 k (omega arith))) size
+          code-reads version n octets more
+          (join-octets f.octets (copies 1 k) f.fits (copies-fit 1 k (omega arith))) size
           (ap (λ (xs : List ℕ). code_fault version (length (xs ++ more)) (xs ++ more)) (sym all)
           ∙ c.on more here)
       | inr long ↦
           let same = exact long in
           let few = f.few in
-          absurd (none_left f.octets (omega arith) f.is)
+          absurd (none-left f.octets (omega arith) f.is)
     ]
       where
-        none_left : (more : List ℕ) → length more ≤ 0 → IsAll (instr_from version (c.cut ++ more))
+        none-left : (more : List ℕ) → length more ≤ 0 → IsAll (instr_from version (c.cut ++ more))
             → ⊥
-        none_left [] le is =
+        none-left [] le is =
             (let no : ◌≡◌ {A = Read Instr} (Err Truncated) (Ok (is.0, [])) =
             sym c.short ∙ ap (instr_from version) (sym (append-nil c.cut)) ∙ is.1 in cc)
-        none_left (x ∷ more) le is = omega arith
+        none-left (x ∷ more) le is = omega arith
 
-    part_front : EndsIn (code_of_length version n) Any octets
+    part-front : EndsIn (code_of_length version n) Any octets
         ⊎ (Past version n octets ⊎ Part version n octets)
-    part_front = elim (few_told (λ more. IsAll (instr_from version (c.cut ++ more)))
-        (λ more. all_told (instr_from version (c.cut ++ more)))
+    part-front = elim (few-told (λ more. IsAll (instr_from version (c.cut ++ more)))
+        (λ more. all-told (instr_from version (c.cut ++ more)))
         (n - length c.done - length c.cut)) [
           | inl f ↦ inl (ended f)
           | inr none ↦ inr (inr (
@@ -407,9 +407,9 @@ module _ (version : Version) (n : ℕ) (octets : List ℕ) (fits : AreOctets oct
                     ∙ append_assoc c.done c.cut (drop n octets);
                 whole = c.whole;
                 few = omega arith;
-                begins = subst (BeginsInstr version) (sym front_is)
-                    (instr_begins version c.cut
-                    (behind_octets c.done c.cut
+                begins = subst (BeginsInstr version) (sym front-is)
+                    (instr-begins version c.cut
+                    (behind-octets c.done c.cut
                     (subst AreOctets c.parts (take_octets n octets fits)))
                     c.some c.short);
                 none = λ i rest good is e. elim
@@ -417,7 +417,7 @@ module _ (version : Version) (n : ℕ) (octets : List ℕ) (fits : AreOctets oct
                       | inl lt ↦ lt
                       | inr le ↦ absurd (
                           let parts : c.cut ++ rest ≡ spelling i =
-                          ap (λ (xs : List ℕ). xs ++ rest) (sym front_is) ∙ e in
+                          ap (λ (xs : List ℕ). xs ++ rest) (sym front-is) ∙ e in
                           let size : length (c.cut ++ rest) ≡ length (spelling i) =
                           ap length parts in
                           none (record {
@@ -430,10 +430,10 @@ module _ (version : Version) (n : ℕ) (octets : List ℕ) (fits : AreOctets oct
               }))
         ]
 
-  length_of_code : code_of_length version n octets ≡ Err Truncated
+  length-of-code : code_of_length version n octets ≡ Err Truncated
       → EndsIn (code_of_length version n) Any octets
       ⊎ (Past version n octets ⊎ Part version n octets)
-  length_of_code = go (code_fault version (length (take n octets)) (take n octets)) refl
+  length-of-code = go (code_fault version (length (take n octets)) (take n octets)) refl
     where
       go : (o : Option ImageFault)
           → code_fault version (length (take n octets)) (take n octets) ≡ o
@@ -441,10 +441,10 @@ module _ (version : Version) (n : ℕ) (octets : List ℕ) (fits : AreOctets oct
           (unless o (cond (eqb (length octets) n) (Ok octets) (Err Truncated))) (Err Truncated)
           → EndsIn (code_of_length version n) Any octets
           ⊎ (Past version n octets ⊎ Part version n octets)
-      go None is e = whole_front is e
+      go None is e = whole-front is e
       go (Some f) is e =
-          let same : f ≡ Truncated = err_same {A = List ℕ} f Truncated e in
-          part_front (code_cut version (length (take n octets)) (take n octets) (omega arith)
+          let same : f ≡ Truncated = err-same {A = List ℕ} f Truncated e in
+          part-front (code-cut version (length (take n octets)) (take n octets) (omega arith)
           (take_octets n octets fits) (is ∙ ap (λ (x : ImageFault). Some x) same))
 
 -- Code behind its length, with others behind it or cut short within an instruction.
@@ -455,20 +455,20 @@ pub record CodeCut (version : Version) (octets : List ℕ) : Type 0 where
   pub parts : octets ≡ number_octets size ++ rest
   pub is : Past version size rest ⊎ Part version size rest
 
-pub code_short : (version : Version) (octets : List ℕ) → AreOctets octets
+pub code-short : (version : Version) (octets : List ℕ) → AreOctets octets
     → code_at version octets ≡ Err Truncated → EndsIn (code_at version) Any octets
     ⊎ CodeCut version octets
 unfolding code_at
-code_short version octets fits e =
-    elim (through number_at (λ n octets. code_of_length version n octets) Any steady_number Never
-    (λ n rest. Past version n rest ⊎ Part version n rest) octets (λ f. inl (number_short octets f))
-    (code_start version)
-    (λ n rest is f. length_of_code version n rest (behind_number octets n rest fits is) f) e) [
+code-short version octets fits e =
+    elim (through number_at (λ n octets. code_of_length version n octets) Any steady-number Never
+    (λ n rest. Past version n rest ⊎ Part version n rest) octets (λ f. inl (number-short octets f))
+    (code-start version)
+    (λ n rest is f. length-of-code version n rest (behind-number octets n rest fits is) f) e) [
       | inl a ↦ inl a
       | inr c ↦ elim c [
         | inl d ↦ absurd d
         | inr d ↦ inr (
-            let took = took_number octets d.0.0 d.0.1 d.1 in
+            let took = took-number octets d.0.0 d.0.1 d.1 in
             let small : d.0.0 < 2 ^ 16 = took.1 fits in
             record {
               size = d.0.0;

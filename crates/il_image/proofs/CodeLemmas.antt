@@ -11,14 +11,14 @@ use Rattle.il_image.specs.Images.{Each, IsCode, all_spelled}
 use Rattle.il_image.specs.Octets.{AreOctets}
 use Rattle.il_image.specs.Reading.{Read, instr_from}
 use Rattle.il_image.specs.Spelling.{IsInstr, spelling}
-use Rattle.il_image.proofs.InstrLemmas.{took_instr, back_instr, behind_octets}
-use Rattle.il_image.proofs.PlaceLemmas.{spelled_so}
+use Rattle.il_image.proofs.InstrLemmas.{took-instr, back-instr, behind-octets}
+use Rattle.il_image.proofs.PlaceLemmas.{spelled-so}
 
 -- what is read leaves fewer octets
 pub less : (version : Version) (octets : List ℕ) (i : Instr) (rest : List ℕ)
     → instr_from version octets ≡ Ok (i, rest) → length rest < length octets
 less version octets i rest e =
-    let took = took_instr version octets i rest e in
+    let took = took-instr version octets i rest e in
     let all : length octets ≡ length took.front.front + length rest =
     ap length took.front.parts ∙ length-append took.front.front rest in
     let size = took.front.len in
@@ -46,27 +46,27 @@ enough version (suc n) (suc m) (x ∷ octets) h g =
         less version octets r.0 r.1 e in more r.1 (omega arith) (omega arith)
     go version n m octets (Err fault) e h g more = refl
 
-pub fault_step : (version : Version) (octets : List ℕ) (i : Instr) (rest : List ℕ)
+pub fault-step : (version : Version) (octets : List ℕ) (i : Instr) (rest : List ℕ)
     → instr_from version octets ≡ Ok (i, rest)
     → code_fault version (length octets) octets ≡ code_fault version (length rest) rest
-fault_step version [] i rest e = let fewer = less version [] i rest e in absurd (omega arith)
-fault_step version (x ∷ octets) i rest e = let fewer = less version (x ∷ octets) i rest e in
+fault-step version [] i rest e = let fewer = less version [] i rest e in absurd (omega arith)
+fault-step version (x ∷ octets) i rest e = let fewer = less version (x ∷ octets) i rest e in
     rw e (enough version (length octets) (length rest) rest (omega arith) (omega arith))
 
-pub fault_here : (version : Version) (octets : List ℕ) (fault : ImageFault) → 0 < length octets
+pub fault-here : (version : Version) (octets : List ℕ) (fault : ImageFault) → 0 < length octets
     → instr_from version octets ≡ Err fault → code_fault version (length octets) octets ≡ Some fault
-fault_here version [] fault some e = absurd (omega arith)
-fault_here version (x ∷ octets) fault some e = rw e refl
+fault-here version [] fault some e = absurd (omega arith)
+fault-here version (x ∷ octets) fault some e = rw e refl
 
 -- ---- code without a fault
 
-code_is : (version : Version) (n : ℕ) (octets : List ℕ) → length octets ≤ n → AreOctets octets
+code-is : (version : Version) (n : ℕ) (octets : List ℕ) → length octets ≤ n → AreOctets octets
     → code_fault version n octets ≡ None → IsCode octets
-code_is version zero [] h fits e = record { instrs = []; are = tt; spelled = refl }
-code_is version zero (x ∷ octets) h fits e = absurd (omega arith)
-code_is version (suc n) [] h fits e = record { instrs = []; are = tt; spelled = refl }
-code_is version (suc n) (x ∷ octets) h fits e =
-    go version n (x ∷ octets) (instr_from version (x ∷ octets)) refl h fits (code_is version n) e
+code-is version zero [] h fits e = record { instrs = []; are = tt; spelled = refl }
+code-is version zero (x ∷ octets) h fits e = absurd (omega arith)
+code-is version (suc n) [] h fits e = record { instrs = []; are = tt; spelled = refl }
+code-is version (suc n) (x ∷ octets) h fits e =
+    go version n (x ∷ octets) (instr_from version (x ∷ octets)) refl h fits (code-is version n) e
   where
     go : (version : Version) (n : ℕ) (octets : List ℕ) (r : Read Instr)
         → instr_from version octets ≡ r → length octets ≤ suc n → AreOctets octets
@@ -75,9 +75,9 @@ code_is version (suc n) (x ∷ octets) h fits e =
     go version n octets (Err fault) is h fits more e = absurd cc
     go version n octets (Ok r) is h fits more e =
         let fewer = less version octets r.0 r.1 is in
-        let s = spelled_so version octets r.0 r.1 fits is in
+        let s = spelled-so version octets r.0 r.1 fits is in
         let rest =
-        more r.1 (omega arith) (behind_octets (spelling r.0) r.1 (subst AreOctets s.1 fits)) e
+        more r.1 (omega arith) (behind-octets (spelling r.0) r.1 (subst AreOctets s.1 fits)) e
         in
         record {
           instrs = r.0 ∷ rest.instrs;
@@ -87,14 +87,14 @@ code_is version (suc n) (x ∷ octets) h fits e =
 
 pub no_fault : (version : Version) (octets : List ℕ) → AreOctets octets
     → code_fault version (length octets) octets ≡ None → IsCode octets
-no_fault version octets fits e = code_is version (length octets) octets (omega arith) fits e
+no_fault version octets fits e = code-is version (length octets) octets (omega arith) fits e
 
-spelled_faultless : (n : ℕ) (is : List Instr) → Each IsInstr is
+spelled-faultless : (n : ℕ) (is : List Instr) → Each IsInstr is
     → code_fault Two n (all_spelled is) ≡ None
-spelled_faultless zero is good = refl
-spelled_faultless (suc n) [] good = refl
-spelled_faultless (suc n) (i ∷ is) good =
-    rw (back_instr i (all_spelled is) good.0) (spelled_faultless n is good.1)
+spelled-faultless zero is good = refl
+spelled-faultless (suc n) [] good = refl
+spelled-faultless (suc n) (i ∷ is) good =
+    rw (back-instr i (all_spelled is) good.0) (spelled-faultless n is good.1)
 
 pub faultless : (code : List ℕ) (n : ℕ) → IsCode code → code_fault Two n code ≡ None
-faultless code n c = rw c.spelled (spelled_faultless n c.instrs c.are)
+faultless code n c = rw c.spelled (spelled-faultless n c.instrs c.are)

@@ -12,18 +12,18 @@ use Rattle.il_image.specs.declared.opcode.Version.{Version}
 use Rattle.il_image.specs.declared.opcode.Version.TheVariants.{One, Two}
 use Rattle.il_image.specs.declared.value.Value.{Value}
 use Rattle.il_image.specs.Cuts.{EndsInInstr, EndsInValue, HasOthers, IsImageOf, IsRightSoFar}
-use Rattle.il_image.specs.Decoding.{behind, code_at, code_fault, code_of_length, counted_at, decoded, items_at, point_at, timer_at, variable_at, version_at}
-use Rattle.il_image.specs.Images.{HasName, Image, IsValue, counted, each_spelled, encoded, mark, point_octets, timer_octets, variable_octets, version_octet}
+use Rattle.il_image.specs.Decoding.{behind, code_at, code_fault, code_of_length, counted_at, image_spelled, items_at, point_at, timer_at, variable_at, version_at}
+use Rattle.il_image.specs.Images.{HasName, Image, IsValue, count_and_items, each_spelled, image_octets, mark, point_octets, timer_octets, variable_octets, version_octet}
 use Rattle.il_image.specs.Octets.{AreOctets, number_octets}
 use Rattle.il_image.specs.Reading.{Read, number_at}
-use Rattle.il_image.proofs.LocalLemmas.{Local, again, local_counted, local_point, local_timer, local_variable}
-use Rattle.il_image.proofs.EndLemmas.{Empty, Ends, EndsIn, are_more, are_none, ends_here, join_octets, through}
-use Rattle.il_image.proofs.InstrLemmas.{behind_octets}
-use Rattle.il_image.proofs.ReadLemmas.{back_number, took_number}
-use Rattle.il_image.proofs.SteadyLemmas.{Steady, steady_counted, steady_items, steady_number, steady_point, steady_timer, steady_variable, steady_version}
-use Rattle.il_image.proofs.TookLemmas.{IsKind, Takes, took_counted, took_mark, took_point, took_timer, took_variable, took_version}
-use Rattle.il_image.proofs.ShortLemmas.{behind_number, Never, NeverBehind, NoValue, err_mapped, number_short, ok_more, ok_start, point_short, take_all, timer_short, timer_start, variable_short, variable_start, version_short}
-use Rattle.il_image.proofs.CodeCuts.{Any, CodeCut, code_short, code_start}
+use Rattle.il_image.proofs.LocalLemmas.{Local, again, local-counted, local-point, local-timer, local-variable}
+use Rattle.il_image.proofs.EndLemmas.{Empty, Ends, EndsIn, are-more, are-none, ends-here, join-octets, through}
+use Rattle.il_image.proofs.InstrLemmas.{behind-octets}
+use Rattle.il_image.proofs.ReadLemmas.{back-number, took-number}
+use Rattle.il_image.proofs.SteadyLemmas.{Steady, steady-counted, steady-items, steady-number, steady-point, steady-timer, steady-variable, steady-version}
+use Rattle.il_image.proofs.TookLemmas.{IsKind, Takes, took-counted, took-mark, took-point, took-timer, took-variable, took-version}
+use Rattle.il_image.proofs.ShortLemmas.{behind-number, Never, NeverBehind, NoValue, err-mapped, number-short, ok-more, ok-start, point-short, take-all, timer-short, timer-start, variable-short, variable-start, version-short}
+use Rattle.il_image.proofs.CodeCuts.{Any, CodeCut, code-short, code-start}
 
 -- ---- so many items
 
@@ -48,23 +48,23 @@ record InCounted {A : Type 0} (spell : A → List ℕ) (item : List ℕ → Read
   parts : octets ≡ number_octets n ++ (each_spelled spell xs ++ cut)
   few : length xs < n
   is : C cut
-  reads : (more : List ℕ) → counted_at item (counted spell xs ++ more) ≡ Ok (xs, more)
+  reads : (more : List ℕ) → counted_at item (count_and_items spell xs ++ more) ≡ Ok (xs, more)
 
 module _ {A : Type 0} (spell : A → List ℕ) (P : A → Type 0) (C : List ℕ → Type 0)
     (item : List ℕ → Read A) (takes : Takes spell P item) (s : Steady item) (l : Local item)
     (start : Ends item [])
     (short : (octets : List ℕ) → AreOctets octets → item octets ≡ Err Truncated
     → Ends item octets ⊎ C octets) where
-  items_start : (n : ℕ) → Ends (items_at item n) []
-  items_start zero = ok_start []
-  items_start (suc n) =
-      ends_here item (λ x octets. items_at item n octets >>= (λ xs. Ok (x ∷ xs.0, xs.1))) Empty s []
-      start (λ x. ends_here (items_at item n) (λ xs octets. Ok (x ∷ xs, octets)) Empty
-      (steady_items item s n) [] (items_start n) (λ xs. ok_start (x ∷ xs)))
+  items-start : (n : ℕ) → Ends (items_at item n) []
+  items-start zero = ok-start []
+  items-start (suc n) =
+      ends-here item (λ x octets. items_at item n octets >>= (λ xs. Ok (x ∷ xs.0, xs.1))) Empty s []
+      start (λ x. ends-here (items_at item n) (λ xs octets. Ok (x ∷ xs, octets)) Empty
+      (steady-items item s n) [] (items-start n) (λ xs. ok-start (x ∷ xs)))
 
-  more_items : (n : ℕ) (octets : List ℕ) (x : A) (rest : List ℕ) → AreOctets octets
+  more-items : (n : ℕ) (octets : List ℕ) (x : A) (rest : List ℕ) → AreOctets octets
       → item octets ≡ Ok (x, rest) → InItem spell item C n rest → InItem spell item C (suc n) octets
-  more_items n octets x rest fits e c =
+  more-items n octets x rest fits e c =
       let took = takes octets x rest fits e in
       let less_than = c.few in
       let one = again item (spell x) x s octets rest fits (l octets x rest e)
@@ -83,21 +83,21 @@ module _ {A : Type 0} (spell : A → List ℕ) (P : A → Type 0) (C : List ℕ 
         ) refl;
       }
 
-  items_short : (n : ℕ) (octets : List ℕ) → AreOctets octets
+  items-short : (n : ℕ) (octets : List ℕ) → AreOctets octets
       → items_at item n octets ≡ Err Truncated
       → Ends (items_at item n) octets ⊎ InItem spell item C n octets
-  items_short zero octets fits e = absurd cc
-  items_short (suc n) octets fits e =
+  items-short zero octets fits e = absurd cc
+  items-short (suc n) octets fits e =
       elim (through item (λ x octets. items_at item n octets >>= (λ xs. Ok (x ∷ xs.0, xs.1))) Empty
       s
       C (λ x rest. InItem spell item C n rest) octets (short octets fits)
-      (λ x. ends_here (items_at item n) (λ xs octets. Ok (x ∷ xs, octets)) Empty
-      (steady_items item s n) [] (items_start n) (λ xs. ok_start (x ∷ xs)))
+      (λ x. ends-here (items_at item n) (λ xs octets. Ok (x ∷ xs, octets)) Empty
+      (steady-items item s n) [] (items-start n) (λ xs. ok-start (x ∷ xs)))
       (λ x rest is f. elim (through (items_at item n) (λ xs octets. Ok (x ∷ xs, octets)) Empty
-      (steady_items item s n) (λ rest. InItem spell item C n rest) NeverBehind rest
-      (items_short n rest (behind_octets (spell x) rest
+      (steady-items item s n) (λ rest. InItem spell item C n rest) NeverBehind rest
+      (items-short n rest (behind-octets (spell x) rest
       (subst AreOctets (takes octets x rest fits is).parts fits)))
-      (λ xs. ok_start (x ∷ xs)) (λ xs rest is f. inl (ok_more (x ∷ xs) rest f)) f) [
+      (λ xs. ok-start (x ∷ xs)) (λ xs rest is f. inl (ok-more (x ∷ xs) rest f)) f) [
         | inl a ↦ inl a
         | inr c ↦ inr (elim c [ inl d ↦ d | inr n ↦ absurd n.2 ])
       ]) e) [
@@ -111,26 +111,26 @@ module _ {A : Type 0} (spell : A → List ℕ) (P : A → Type 0) (C : List ℕ 
             is = d;
             reads = λ more. refl;
           })
-          | inr d ↦ inr (more_items n octets d.0.0 d.0.1 fits d.1 d.2)
+          | inr d ↦ inr (more-items n octets d.0.0 d.0.1 fits d.1 d.2)
         ]
       ]
 
-  counted_start : Ends (counted_at item) []
-  counted_start =
-      ends_here number_at (λ n octets. items_at item n octets) Empty steady_number []
-      (number_short [] refl) items_start
+  counted-start : Ends (counted_at item) []
+  counted-start =
+      ends-here number_at (λ n octets. items_at item n octets) Empty steady-number []
+      (number-short [] refl) items-start
 
-  counted_short : (octets : List ℕ) → AreOctets octets → counted_at item octets ≡ Err Truncated
+  counted-short : (octets : List ℕ) → AreOctets octets → counted_at item octets ≡ Err Truncated
       → Ends (counted_at item) octets ⊎ InCounted spell item C octets
-  counted_short octets fits e =
-      elim (through number_at (λ n octets. items_at item n octets) Empty steady_number Never
-      (λ n rest. InItem spell item C n rest) octets (λ f. inl (number_short octets f)) items_start
-      (λ n rest is f. items_short n rest (behind_number octets n rest fits is) f) e) [
+  counted-short octets fits e =
+      elim (through number_at (λ n octets. items_at item n octets) Empty steady-number Never
+      (λ n rest. InItem spell item C n rest) octets (λ f. inl (number-short octets f)) items-start
+      (λ n rest is f. items-short n rest (behind-number octets n rest fits is) f) e) [
         | inl a ↦ inl a
         | inr c ↦ elim c [
           | inl d ↦ absurd d
           | inr d ↦ inr (
-              let took = took_number octets d.0.0 d.0.1 d.1 in
+              let took = took-number octets d.0.0 d.0.1 d.1 in
               let small : d.0.0 < 2 ^ 16 = took.1 fits in
               let i = d.2 in
               record {
@@ -145,7 +145,7 @@ module _ {A : Type 0} (spell : A → List ℕ) (P : A → Type 0) (C : List ℕ 
                 reads = λ more. (let few = i.few in
                     rw (
                       append_assoc (number_octets (length i.xs)) (each_spelled spell i.xs) more,
-                      back_number (length i.xs) (each_spelled spell i.xs ++ more) (omega arith),
+                      back-number (length i.xs) (each_spelled spell i.xs ++ more) (omega arith),
                     )
                     (i.reads more));
               })
@@ -154,9 +154,9 @@ module _ {A : Type 0} (spell : A → List ℕ) (P : A → Type 0) (C : List ℕ 
 
 -- ---- the image
 
-ends_mapped : {A B : Type 0} (f : List ℕ → Result A ImageFault) (h : A → B) (octets : List ℕ)
+ends-mapped : {A B : Type 0} (f : List ℕ → Result A ImageFault) (h : A → B) (octets : List ℕ)
     → EndsIn f Any octets → EndsIn (λ octets. f octets >>= (λ x. Ok (h x))) Any octets
-ends_mapped f h octets a =
+ends-mapped f h octets a =
     record { more = a.more; fits = a.fits; what = h a.what; is = rw a.is refl; ends = tt }
 
 abbrev image_of : List ImagePoint → List Value → List TimerKind → List ℕ → Image
@@ -215,126 +215,126 @@ only C D X item octets never (inr (inl c)) = absurd (never c)
 only C D X item octets never (inr (inr c)) = inr c
 
 module _ (version : Version) where
-  points_steady : Steady (counted_at (point_at version))
-  points_steady = steady_counted (point_at version) (steady_point version)
+  points-steady : Steady (counted_at (point_at version))
+  points-steady = steady-counted (point_at version) (steady-point version)
 
-  variables_steady : Steady (counted_at (variable_at version))
-  variables_steady = steady_counted (variable_at version) (steady_variable version)
+  variables-steady : Steady (counted_at (variable_at version))
+  variables-steady = steady-counted (variable_at version) (steady-variable version)
 
-  timers_steady : Steady (counted_at (timer_at version))
-  timers_steady = steady_counted (timer_at version) (steady_timer version)
+  timers-steady : Steady (counted_at (timer_at version))
+  timers-steady = steady-counted (timer_at version) (steady-timer version)
 
-  point_start : Ends (point_at version) []
+  point-start : Ends (point_at version) []
   unfolding point_at
-  point_start = point_short version [] refl
+  point-start = point-short version [] refl
 
-  code_none : (p : List ImagePoint) (v : List Value) (t : List TimerKind)
+  code-none : (p : List ImagePoint) (v : List Value) (t : List TimerKind)
       → EndsIn (code_image version p v t) Any []
   unfolding code_at
-  code_none p v t =
-      ends_mapped (code_at version) (image_of p v t) []
-      (ends_here number_at (λ n octets. code_of_length version n octets) Any steady_number []
-      (number_short [] refl) (code_start version))
+  code-none p v t =
+      ends-mapped (code_at version) (image_of p v t) []
+      (ends-here number_at (λ n octets. code_of_length version n octets) Any steady-number []
+      (number-short [] refl) (code-start version))
 
-  timers_none : (p : List ImagePoint) (v : List Value)
+  timers-none : (p : List ImagePoint) (v : List Value)
       → EndsIn (timers_image version p v) Any []
-  timers_none p v =
-      ends_here (counted_at (timer_at version)) (code_image version p v) Any timers_steady []
-      (counted_start (timer_octets version) IsKind Never (timer_at version) (took_timer version)
-      (steady_timer version) (local_timer version) (timer_start version)
-      (λ octets good f. inl (timer_short version octets f))) (code_none p v)
+  timers-none p v =
+      ends-here (counted_at (timer_at version)) (code_image version p v) Any timers-steady []
+      (counted-start (timer_octets version) IsKind Never (timer_at version) (took-timer version)
+      (steady-timer version) (local-timer version) (timer-start version)
+      (λ octets good f. inl (timer-short version octets f))) (code-none p v)
 
-  variables_none : (p : List ImagePoint) → EndsIn (variables_image version p) Any []
-  variables_none p =
-      ends_here (counted_at (variable_at version)) (timers_image version p) Any variables_steady []
-      (counted_start (variable_octets version) IsValue (NoValue version) (variable_at version)
-      (took_variable version) (steady_variable version) (local_variable version)
-      (variable_start version)
-      (variable_short version)) (timers_none p)
+  variables-none : (p : List ImagePoint) → EndsIn (variables_image version p) Any []
+  variables-none p =
+      ends-here (counted_at (variable_at version)) (timers_image version p) Any variables-steady []
+      (counted-start (variable_octets version) IsValue (NoValue version) (variable_at version)
+      (took-variable version) (steady-variable version) (local-variable version)
+      (variable-start version)
+      (variable-short version)) (timers-none p)
 
-  points_none : EndsIn (points_image version) Any []
-  points_none =
-      ends_here (counted_at (point_at version)) (variables_image version) Any points_steady []
-      (counted_start point_octets HasName Never (point_at version) (took_point version)
-      (steady_point version) (local_point version) point_start
-      (λ octets good f. inl (point_short version octets f))) variables_none
+  points-none : EndsIn (points_image version) Any []
+  points-none =
+      ends-here (counted_at (point_at version)) (variables_image version) Any points-steady []
+      (counted-start point_octets HasName Never (point_at version) (took-point version)
+      (steady-point version) (local-point version) point-start
+      (λ octets good f. inl (point-short version octets f))) variables-none
 
-  code_cuts : (p : List ImagePoint) (v : List Value) (t : List TimerKind) (octets : List ℕ)
+  code-cuts : (p : List ImagePoint) (v : List Value) (t : List TimerKind) (octets : List ℕ)
       → AreOctets octets → code_image version p v t octets ≡ Err Truncated
       → EndsIn (code_image version p v t) Any octets ⊎ CodeCut version octets
-  code_cuts p v t octets fits e = elim (code_short version octets fits
-      (err_mapped (code_at version octets) (image_of p v t) e)) [
-        | inl a ↦ inl (ends_mapped (code_at version) (image_of p v t) octets a)
+  code-cuts p v t octets fits e = elim (code-short version octets fits
+      (err-mapped (code_at version octets) (image_of p v t) e)) [
+        | inl a ↦ inl (ends-mapped (code_at version) (image_of p v t) octets a)
         | inr c ↦ inr c
       ]
 
-  timers_cut : (p : List ImagePoint) (v : List Value) (octets : List ℕ) → AreOctets octets
+  timers-cut : (p : List ImagePoint) (v : List Value) (octets : List ℕ) → AreOctets octets
       → timers_image version p v octets ≡ Err Truncated
       → EndsIn (timers_image version p v) Any octets ⊎ TimersCut version octets
-  timers_cut p v octets fits e =
+  timers-cut p v octets fits e =
       only (InCounted (timer_octets version) (timer_at version) Never)
       (EndsIn (timers_image version p v) Any) (λ t rest. CodeCut version rest)
       (counted_at (timer_at version)) octets (λ c. c.is)
-      (through (counted_at (timer_at version)) (code_image version p v) Any timers_steady
+      (through (counted_at (timer_at version)) (code_image version p v) Any timers-steady
       (InCounted (timer_octets version) (timer_at version) Never) (λ t rest. CodeCut version rest)
       octets
-      (counted_short (timer_octets version) IsKind Never (timer_at version) (took_timer version)
-      (steady_timer version) (local_timer version) (timer_start version)
-      (λ octets good f. inl (timer_short version octets f)) octets fits) (code_none p v)
-      (λ t rest is. code_cuts p v t rest
-      (behind_octets (counted (timer_octets version) t) rest
-      (subst AreOctets (took_counted (timer_octets version) IsKind (timer_at version)
-      (took_timer version) octets t rest fits is).parts fits))) e)
+      (counted-short (timer_octets version) IsKind Never (timer_at version) (took-timer version)
+      (steady-timer version) (local-timer version) (timer-start version)
+      (λ octets good f. inl (timer-short version octets f)) octets fits) (code-none p v)
+      (λ t rest is. code-cuts p v t rest
+      (behind-octets (count_and_items (timer_octets version) t) rest
+      (subst AreOctets (took-counted (timer_octets version) IsKind (timer_at version)
+      (took-timer version) octets t rest fits is).parts fits))) e)
 
-  variables_cut : (p : List ImagePoint) (octets : List ℕ) → AreOctets octets
+  variables-cut : (p : List ImagePoint) (octets : List ℕ) → AreOctets octets
       → variables_image version p octets ≡ Err Truncated
       → EndsIn (variables_image version p) Any octets ⊎ VariablesCut version octets
-  variables_cut p octets fits e =
-      through (counted_at (variable_at version)) (timers_image version p) Any variables_steady
+  variables-cut p octets fits e =
+      through (counted_at (variable_at version)) (timers_image version p) Any variables-steady
       (InCounted (variable_octets version) (variable_at version) (NoValue version))
       (λ v rest. TimersCut version rest) octets
-      (counted_short (variable_octets version) IsValue (NoValue version) (variable_at version)
-      (took_variable version) (steady_variable version) (local_variable version)
-      (variable_start version)
-      (variable_short version) octets fits) (timers_none p)
-      (λ v rest is. timers_cut p v rest
-      (behind_octets (counted (variable_octets version) v) rest
-      (subst AreOctets (took_counted (variable_octets version) IsValue (variable_at version)
-      (took_variable version) octets v rest fits is).parts fits))) e
+      (counted-short (variable_octets version) IsValue (NoValue version) (variable_at version)
+      (took-variable version) (steady-variable version) (local-variable version)
+      (variable-start version)
+      (variable-short version) octets fits) (timers-none p)
+      (λ v rest is. timers-cut p v rest
+      (behind-octets (count_and_items (variable_octets version) v) rest
+      (subst AreOctets (took-counted (variable_octets version) IsValue (variable_at version)
+      (took-variable version) octets v rest fits is).parts fits))) e
 
-  points_cut : (octets : List ℕ) → AreOctets octets → points_image version octets ≡ Err Truncated
+  points-cut : (octets : List ℕ) → AreOctets octets → points_image version octets ≡ Err Truncated
       → EndsIn (points_image version) Any octets ⊎ PointsCut version octets
-  points_cut octets fits e =
+  points-cut octets fits e =
       only (InCounted point_octets (point_at version) Never) (EndsIn (points_image version) Any)
       (λ p rest. VariablesCut version rest) (counted_at (point_at version)) octets (λ c. c.is)
-      (through (counted_at (point_at version)) (variables_image version) Any points_steady
+      (through (counted_at (point_at version)) (variables_image version) Any points-steady
       (InCounted point_octets (point_at version) Never) (λ p rest. VariablesCut version rest) octets
-      (counted_short point_octets HasName Never (point_at version) (took_point version)
-      (steady_point version) (local_point version) point_start
-      (λ octets good f. inl (point_short version octets f)) octets fits) variables_none
-      (λ p rest is. variables_cut p rest
-      (behind_octets (counted point_octets p) rest
-      (subst AreOctets (took_counted point_octets HasName (point_at version)
-      (took_point version) octets p rest fits is).parts fits))) e)
+      (counted-short point_octets HasName Never (point_at version) (took-point version)
+      (steady-point version) (local-point version) point-start
+      (λ octets good f. inl (point-short version octets f)) octets fits) variables-none
+      (λ p rest is. variables-cut p rest
+      (behind-octets (count_and_items point_octets p) rest
+      (subst AreOctets (took-counted point_octets HasName (point_at version)
+      (took-point version) octets p rest fits is).parts fits))) e)
 
 abbrev VersionCut : List ℕ → Type 0
 VersionCut octets = (version : Version × List ℕ) × (version_at octets ≡ Ok version)
     × PointsCut version.0 version.1
 
-version_cut : (octets : List ℕ) → AreOctets octets → version_image octets ≡ Err Truncated
+version-cut : (octets : List ℕ) → AreOctets octets → version_image octets ≡ Err Truncated
     → EndsIn version_image Any octets ⊎ VersionCut octets
-version_cut octets fits e =
+version-cut octets fits e =
     only Never (EndsIn version_image Any) (λ v rest. PointsCut v rest) version_at octets
     (λ n. n)
-    (through version_at points_image Any steady_version Never (λ v rest. PointsCut v rest) octets
-    (λ f. inl (version_short octets f)) points_none
-    (λ v rest is. points_cut v rest
-    (behind_octets (version_octet v ∷ []) rest
-    (subst AreOctets (took_version octets v rest is) fits))) e)
+    (through version_at points_image Any steady-version Never (λ v rest. PointsCut v rest) octets
+    (λ f. inl (version-short octets f)) points-none
+    (λ v rest is. points-cut v rest
+    (behind-octets (version_octet v ∷ []) rest
+    (subst AreOctets (took-version octets v rest is) fits))) e)
 
-version_none : EndsIn version_image Any []
-version_none =
-    ends_here version_at points_image Any steady_version [] (version_short [] refl) points_none
+version-none : EndsIn version_image Any []
+version-none =
+    ends-here version_at points_image Any steady-version [] (version-short [] refl) points-none
 
 -- ---- behind the mark
 
@@ -353,10 +353,10 @@ behind_mark [] octets fits more e = elim (more octets refl e) [
   | inr c ↦ inr (octets, refl, c)
 ]
 behind_mark (m ∷ marks) [] fits more e = inl (
-    let a = version_none in
+    let a = version-none in
     record {
       more = m ∷ marks ++ a.more;
-      fits = join_octets (m ∷ marks) a.more fits a.fits;
+      fits = join-octets (m ∷ marks) a.more fits a.fits;
       what = a.what;
       is = rw (marked (m ∷ marks) a.more) a.is;
       ends = tt;
@@ -391,9 +391,9 @@ behind_mark (m ∷ marks) (x ∷ octets) fits more e =
 -- ---- what the octets are
 
 -- parts one behind the other, and others behind the last
-others_behind : (a b d f g others : List ℕ)
+others-behind : (a b d f g others : List ℕ)
     → a ++ (b ++ (d ++ (f ++ (g ++ others)))) ≡ (a ++ (b ++ (d ++ (f ++ g)))) ++ others
-others_behind a b d f g others =
+others-behind a b d f g others =
     ap (λ (ys : List ℕ). a ++ ys)
     (ap (λ (ys : List ℕ). b ++ ys)
     (ap (λ (ys : List ℕ). d ++ ys) (sym (append_assoc f g others))
@@ -403,116 +403,118 @@ others_behind a b d f g others =
 -- Items are read of their spelling, whatever follows it.
 abbrev ReadsAll : {A : Type 0} → (A → List ℕ) → (List ℕ → Read A) → List A → Type 0
 ReadsAll {A} spell item xs =
-    (more : List ℕ) → counted_at item (counted spell xs ++ more) ≡ Ok (xs, more)
+    (more : List ℕ) → counted_at item (count_and_items spell xs ++ more) ≡ Ok (xs, more)
 
-reads_none : {A : Type 0} (spell : A → List ℕ) (item : List ℕ → Read A) → ReadsAll spell item []
-reads_none spell item more = rw (back_number 0 more (omega arith)) refl
+reads-none : {A : Type 0} (spell : A → List ℕ) (item : List ℕ → Read A) → ReadsAll spell item []
+reads-none spell item more = rw (back-number 0 more (omega arith)) refl
 
-reads_all : {A : Type 0} (spell : A → List ℕ) (P : A → Type 0) (item : List ℕ → Read A)
+reads-all : {A : Type 0} (spell : A → List ℕ) (P : A → Type 0) (item : List ℕ → Read A)
     → Takes spell P item → Steady item → Local item → (octets : List ℕ) (xs : List A)
     (rest : List ℕ) → AreOctets octets → counted_at item octets ≡ Ok (xs, rest)
     → ReadsAll spell item xs
-reads_all spell P item takes s l octets xs rest fits e =
-    again (counted_at item) (counted spell xs) xs (steady_counted item s) octets rest fits
-    (local_counted item s l octets xs rest e)
-    (λ front good is. (took_counted spell P item takes front xs [] good is).parts)
+reads-all spell P item takes s l octets xs rest fits e =
+    again (counted_at item) (count_and_items spell xs) xs (steady-counted item s) octets rest fits
+    (local-counted item s l octets xs rest e)
+    (λ front good is. (took-counted spell P item takes front xs [] good is).parts)
 
-reads_code : (version : Version) (code : List ℕ) → length code ≤ 65_535
+reads-code : (version : Version) (code : List ℕ) → length code ≤ 65_535
     → code_fault version (length code) code ≡ None
     → code_at version (number_octets (length code) ++ code) ≡ Ok code
 unfolding code_at
-reads_code version code small whole =
+reads-code version code small whole =
     rw (
-      back_number (length code) code (omega arith),
-      take_all (length code) code (omega arith),
+      back-number (length code) code (omega arith),
+      take-all (length code) code (omega arith),
       whole,
       eq-eqb (length code) (length code) refl,
     ) refl
 
-reads_image : (version : Version) (p : List ImagePoint) (v : List Value) (t : List TimerKind)
+reads-image : (version : Version) (p : List ImagePoint) (v : List Value) (t : List TimerKind)
     (code : List ℕ) → ReadsAll point_octets (point_at version) p
     → ReadsAll (variable_octets version) (variable_at version) v
     → ReadsAll (timer_octets version) (timer_at version) t
     → code_at version (number_octets (length code) ++ code) ≡ Ok code
     → IsImageOf version (image_of p v t code)
-unfolding decoded encoded
-reads_image One p v t code a b d f =
+unfolding image_spelled image_octets
+reads-image One p v t code a b d f =
     let rest3 = number_octets (length code) ++ code in
-    let rest2 = counted (timer_octets One) t ++ rest3 in
-    let rest1 = counted (variable_octets One) v ++ rest2 in
+    let rest2 = count_and_items (timer_octets One) t ++ rest3 in
+    let rest1 = count_and_items (variable_octets One) v ++ rest2 in
     rw (a rest1, b rest2, d rest3, f) refl
-reads_image Two p v t code a b d f =
+reads-image Two p v t code a b d f =
     let rest3 = number_octets (length code) ++ code in
-    let rest2 = counted (timer_octets Two) t ++ rest3 in
-    let rest1 = counted (variable_octets Two) v ++ rest2 in
+    let rest2 = count_and_items (timer_octets Two) t ++ rest3 in
+    let rest1 = count_and_items (variable_octets Two) v ++ rest2 in
     rw (a rest1, b rest2, d rest3, f) refl
 
 module _ (octets : List ℕ) (version : Version) (rest1 : List ℕ)
     (front : octets ≡ mark ++ (version_octet version ∷ rest1)) (points : List ImagePoint)
-    (rest2 : List ℕ) (fits2 : AreOctets rest2) (p : rest1 ≡ counted point_octets points ++ rest2)
+    (rest2 : List ℕ) (fits2 : AreOctets rest2)
+    (p : rest1 ≡ count_and_items point_octets points ++ rest2)
     (p_reads : ReadsAll point_octets (point_at version) points) where
-  in_value : InCounted (variable_octets version) (variable_at version) (NoValue version) rest2
+  in-value : InCounted (variable_octets version) (variable_at version) (NoValue version) rest2
       → EndsInValue octets
-  in_value c = record {
+  in-value c = record {
     version = version;
     image = image_of points c.xs [] [];
     count = c.n;
     part = c.cut;
-    reads = reads_image version points c.xs [] [] p_reads c.reads
-        (reads_none (timer_octets version) (timer_at version))
-        (reads_code version [] (omega arith) refl);
+    reads = reads-image version points c.xs [] [] p_reads c.reads
+        (reads-none (timer_octets version) (timer_at version))
+        (reads-code version [] (omega arith) refl);
     few = c.few;
     small = c.small;
     begins = c.is.begins;
     none = c.is.none;
     parts = front ∙ ap (λ (ys : List ℕ). mark ++ (version_octet version ∷ ys))
-        (p ∙ ap (λ (ys : List ℕ). counted point_octets points ++ ys) c.parts);
+        (p ∙ ap (λ (ys : List ℕ). count_and_items point_octets points ++ ys) c.parts);
   }
 
   module _ (variables : List Value) (rest3 : List ℕ)
-      (v : rest2 ≡ counted (variable_octets version) variables ++ rest3)
+      (v : rest2 ≡ count_and_items (variable_octets version) variables ++ rest3)
       (v_reads : ReadsAll (variable_octets version) (variable_at version) variables)
       (timers : List TimerKind) (rest4 : List ℕ)
-      (t : rest3 ≡ counted (timer_octets version) timers ++ rest4)
+      (t : rest3 ≡ count_and_items (timer_octets version) timers ++ rest4)
       (t_reads : ReadsAll (timer_octets version) (timer_at version) timers) where
-    in_all : (rest5 : List ℕ) (size : ℕ) → rest4 ≡ number_octets size ++ rest5 → octets
-        ≡ mark ++ (version_octet version ∷ (counted point_octets points ++
-        (counted (variable_octets version) variables ++
-        (counted (timer_octets version) timers ++ (number_octets size ++ rest5)))))
-    in_all rest5 size is =
+    in-all : (rest5 : List ℕ) (size : ℕ) → rest4 ≡ number_octets size ++ rest5 → octets
+        ≡ mark ++ (version_octet version ∷ (count_and_items point_octets points ++
+        (count_and_items (variable_octets version) variables ++
+        (count_and_items (timer_octets version) timers ++ (number_octets size ++ rest5)))))
+    in-all rest5 size is =
         front ∙ ap (λ (ys : List ℕ). mark ++ (version_octet version ∷ ys))
-        (p ∙ ap (λ (ys : List ℕ). counted point_octets points ++ ys)
-        (v ∙ ap (λ (ys : List ℕ). counted (variable_octets version) variables ++ ys)
-        (t ∙ ap (λ (ys : List ℕ). counted (timer_octets version) timers ++ ys) is)))
+        (p ∙ ap (λ (ys : List ℕ). count_and_items point_octets points ++ ys)
+        (v ∙ ap (λ (ys : List ℕ). count_and_items (variable_octets version) variables ++ ys)
+        (t ∙ ap (λ (ys : List ℕ). count_and_items (timer_octets version) timers ++ ys) is)))
 
-    good_image : (code : List ℕ) → length code ≤ 65_535
+    good-image : (code : List ℕ) → length code ≤ 65_535
         → code_fault version (length code) code ≡ None
         → IsImageOf version (image_of points variables timers code)
-    good_image code small whole =
-        reads_image version points variables timers code p_reads v_reads t_reads
-        (reads_code version code small whole)
+    good-image code small whole =
+        reads-image version points variables timers code p_reads v_reads t_reads
+        (reads-code version code small whole)
 
-    in_code : CodeCut version rest4 → HasOthers octets ⊎ EndsInInstr octets
-    unfolding encoded
-    in_code c = let small = c.small in elim c.is [
+    in-code : CodeCut version rest4 → HasOthers octets ⊎ EndsInInstr octets
+    unfolding image_octets
+    in-code c = let small = c.small in elim c.is [
       | inl d ↦ inl (
           let len = d.len in
           record {
-            front = encoded version (image_of points variables timers d.code);
+            front = image_octets version (image_of points variables timers d.code);
             others = d.others;
             image = image_of points variables timers d.code;
-            reads = good_image d.code (omega arith) d.whole;
+            reads = good-image d.code (omega arith) d.whole;
             some = d.some;
-            parts = in_all c.rest c.size c.parts
+            parts = in-all c.rest c.size c.parts
                 ∙ ap (λ (ys : List ℕ). mark ++ (version_octet version ∷ ys))
-                (ap (λ (ys : List ℕ). counted point_octets points ++
-                (counted (variable_octets version) variables ++
-                (counted (timer_octets version) timers ++ ys)))
+                (ap (λ (ys : List ℕ). count_and_items point_octets points ++
+                (count_and_items (variable_octets version) variables ++
+                (count_and_items (timer_octets version) timers ++ ys)))
                 (ap (λ (n : ℕ). number_octets n ++ c.rest) (sym d.len)
                 ∙ ap (λ (ys : List ℕ). number_octets (length d.code) ++ ys) d.parts)
-                ∙ others_behind (counted point_octets points)
-                (counted (variable_octets version) variables)
-                (counted (timer_octets version) timers) (number_octets (length d.code)) d.code
+                ∙ others-behind (count_and_items point_octets points)
+                (count_and_items (variable_octets version) variables)
+                (count_and_items (timer_octets version) timers) (number_octets (length d.code))
+                d.code
                 d.others);
           })
       | inr d ↦ inr (
@@ -522,65 +524,66 @@ module _ (octets : List ℕ) (version : Version) (rest1 : List ℕ)
             image = image_of points variables timers d.done;
             size = c.size;
             part = d.part;
-            reads = good_image d.done (omega arith) d.whole;
+            reads = good-image d.done (omega arith) d.whole;
             few = d.few;
             small = c.small;
             begins = d.begins;
             none = d.none;
-            parts = in_all (d.done ++ d.part) c.size
+            parts = in-all (d.done ++ d.part) c.size
                 (c.parts ∙ ap (λ (ys : List ℕ). number_octets c.size ++ ys) d.parts);
           })
     ]
 
   in_rest : VariablesCut version rest2
       → HasOthers octets ⊎ (EndsInValue octets ⊎ EndsInInstr octets)
-  in_rest (inl c) = inr (inl (in_value c))
+  in_rest (inl c) = inr (inl (in-value c))
   in_rest (inr d) =
-      let v = took_counted (variable_octets version) IsValue (variable_at version)
-      (took_variable version) rest2 d.0.0 d.0.1 fits2 d.1 in
+      let v = took-counted (variable_octets version) IsValue (variable_at version)
+      (took-variable version) rest2 d.0.0 d.0.1 fits2 d.1 in
       let fits3 =
-      behind_octets (counted (variable_octets version) d.0.0) d.0.1 (subst AreOctets v.parts fits2)
+      behind-octets (count_and_items (variable_octets version) d.0.0) d.0.1
+      (subst AreOctets v.parts fits2)
       in
-      let t = took_counted (timer_octets version) IsKind (timer_at version) (took_timer version)
+      let t = took-counted (timer_octets version) IsKind (timer_at version) (took-timer version)
       d.0.1 d.2.0.0 d.2.0.1 fits3 d.2.1 in
-      elim (in_code d.0.0 d.0.1 v.parts
-      (reads_all (variable_octets version) IsValue (variable_at version) (took_variable version)
-      (steady_variable version) (local_variable version) rest2 d.0.0 d.0.1 fits2 d.1)
+      elim (in-code d.0.0 d.0.1 v.parts
+      (reads-all (variable_octets version) IsValue (variable_at version) (took-variable version)
+      (steady-variable version) (local-variable version) rest2 d.0.0 d.0.1 fits2 d.1)
       d.2.0.0 d.2.0.1 t.parts
-      (reads_all (timer_octets version) IsKind (timer_at version) (took_timer version)
-      (steady_timer version) (local_timer version) d.0.1 d.2.0.0 d.2.0.1 fits3 d.2.1) d.2.2) [
+      (reads-all (timer_octets version) IsKind (timer_at version) (took-timer version)
+      (steady-timer version) (local-timer version) d.0.1 d.2.0.0 d.2.0.1 fits3 d.2.1) d.2.2) [
         | inl o ↦ inl o
         | inr i ↦ inr (inr i)
       ]
 
-mark_octets : AreOctets mark
-mark_octets =
-    are_more 0x49 (0x4C ∷ 0x42 ∷ 0x43 ∷ []) (omega arith)
-    (are_more 0x4C (0x42 ∷ 0x43 ∷ []) (omega arith)
-    (are_more 0x42 (0x43 ∷ []) (omega arith) (are_more 0x43 [] (omega arith) are_none)))
+mark-octets : AreOctets mark
+mark-octets =
+    are-more 0x49 (0x4C ∷ 0x42 ∷ 0x43 ∷ []) (omega arith)
+    (are-more 0x4C (0x42 ∷ 0x43 ∷ []) (omega arith)
+    (are-more 0x42 (0x43 ∷ []) (omega arith) (are-more 0x43 [] (omega arith) are-none)))
 
-pub right_so_far : (octets : List ℕ) → AreOctets octets → decoded octets ≡ Err Truncated
+pub right-so-far : (octets : List ℕ) → AreOctets octets → image_spelled octets ≡ Err Truncated
     → IsRightSoFar octets
-unfolding decoded
-right_so_far octets fits e = elim (behind_mark mark octets mark_octets
-    (λ rest is. version_cut rest
-    (behind_octets mark rest (subst AreOctets (took_mark octets rest is) fits))) e) [
+unfolding image_spelled
+right-so-far octets fits e = elim (behind_mark mark octets mark-octets
+    (λ rest is. version-cut rest
+    (behind-octets mark rest (subst AreOctets (took-mark octets rest is) fits))) e) [
       | inl a ↦ inl (record { more = a.more; image = a.what; fits = a.fits; ends = a.is })
       | inr c ↦ inr (
-          let first = took_mark octets c.0 c.1 in
-          let fits0 = behind_octets mark c.0 (subst AreOctets first fits) in
+          let first = took-mark octets c.0 c.1 in
+          let fits0 = behind-octets mark c.0 (subst AreOctets first fits) in
           let v = c.2 in
-          let second = took_version c.0 v.0.0 v.0.1 v.1 in
+          let second = took-version c.0 v.0.0 v.0.1 v.1 in
           let fits1 =
-          behind_octets (version_octet v.0.0 ∷ []) v.0.1 (subst AreOctets second fits0) in
+          behind-octets (version_octet v.0.0 ∷ []) v.0.1 (subst AreOctets second fits0) in
           let points = v.2 in
-          let p = took_counted point_octets HasName (point_at v.0.0) (took_point v.0.0) v.0.1
+          let p = took-counted point_octets HasName (point_at v.0.0) (took-point v.0.0) v.0.1
           points.0.0 points.0.1 fits1 points.1 in
           let fits2 =
-          behind_octets (counted point_octets points.0.0) points.0.1
+          behind-octets (count_and_items point_octets points.0.0) points.0.1
           (subst AreOctets p.parts fits1) in
           in_rest octets v.0.0 v.0.1 (first ∙ ap (λ (ys : List ℕ). mark ++ ys) second)
           points.0.0 points.0.1 fits2 p.parts
-          (reads_all point_octets HasName (point_at v.0.0) (took_point v.0.0) (steady_point v.0.0)
-          (local_point v.0.0) v.0.1 points.0.0 points.0.1 fits1 points.1) points.2)
+          (reads-all point_octets HasName (point_at v.0.0) (took-point v.0.0) (steady-point v.0.0)
+          (local-point v.0.0) v.0.1 points.0.0 points.0.1 fits1 points.1) points.2)
     ]

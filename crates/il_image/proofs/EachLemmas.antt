@@ -26,25 +26,25 @@ each_at P (x ∷ xs) zero d h within = h.0
 each_at P (x ∷ xs) (suc i) d h within = each_at P xs i d h.1 (omega arith)
 
 -- one turn of a loop that spells items
-pub each_turn : {A : Type 0} (spell : A → List ℕ) (xs : List A) (i : ℕ) (x : A)
+pub each-turn : {A : Type 0} (spell : A → List ℕ) (xs : List A) (i : ℕ) (x : A)
     (before now new : List ℕ) → i < length xs → x ≡ get_or xs i x
     → now ≡ before ++ each_spelled spell (take i xs) → new ≡ now ++ spell x
     → new ≡ before ++ each_spelled spell (take (i + 1) xs)
-each_turn spell xs i x before now new within is so_far more =
+each-turn spell xs i x before now new within is so_far more =
     more ∙ ap (λ (zs : List ℕ). zs ++ spell x) so_far
     ∙ append_assoc before (each_spelled spell (take i xs)) (spell x)
     ∙ ap (λ (zs : List ℕ). before ++ zs) (sym (each_spelled-more spell xs i x within is))
 
 -- within a list what is read past its end does not matter
-within_same : {A : Type 0} (xs : List A) (i : ℕ) (d e : A) → i < length xs
+within-same : {A : Type 0} (xs : List A) (i : ℕ) (d e : A) → i < length xs
     → get_or xs i d ≡ get_or xs i e
-within_same [] i d e within = absurd (omega arith)
-within_same (x ∷ xs) zero d e within = refl
-within_same (x ∷ xs) (suc i) d e within = within_same xs i d e (omega arith)
+within-same [] i d e within = absurd (omega arith)
+within-same (x ∷ xs) zero d e within = refl
+within-same (x ∷ xs) (suc i) d e within = within-same xs i d e (omega arith)
 
-pub each_turn_at : {A : Type 0} (spell : A → List ℕ) (xs : List A) (i : ℕ) (d : A)
+pub each-turn-at : {A : Type 0} (spell : A → List ℕ) (xs : List A) (i : ℕ) (d : A)
     (before now new : List ℕ) → i < length xs → now ≡ before ++ each_spelled spell (take i xs)
     → new ≡ now ++ spell (get_or xs i d) → new ≡ before ++ each_spelled spell (take (i + 1) xs)
-each_turn_at spell xs i d before now new within so_far more =
-    each_turn spell xs i (get_or xs i d) before now new within
-    (within_same xs i d (get_or xs i d) within) so_far more
+each-turn-at spell xs i d before now new within so_far more =
+    each-turn spell xs i (get_or xs i d) before now new within
+    (within-same xs i d (get_or xs i d) within) so_far more

@@ -8,8 +8,8 @@ use Rattle.il_image.specs.declared.fault.ImageFault.{ImageFault}
 use Rattle.il_image.specs.declared.fault.ImageFault.TheVariants.{Truncated}
 use Rattle.il_image.specs.Octets.{AreOctets}
 use Rattle.il_image.specs.Reading.{Read}
-use Rattle.il_image.proofs.ReadLemmas.{ok_same}
-use Rattle.il_image.proofs.SteadyLemmas.{Steady, err_same, later}
+use Rattle.il_image.proofs.ReadLemmas.{ok-same}
+use Rattle.il_image.proofs.SteadyLemmas.{Steady, err-same, later}
 
 -- ---- a search among octets
 
@@ -21,11 +21,11 @@ Told A = A ⊎ (A → ⊥)
 abbrev pub First : (ℕ → Type 0) → ℕ → Type 0
 First P n = (x : ℕ) × (x < n) × P x
 
-first_told : (P : ℕ → Type 0) → ((x : ℕ) → Told (P x)) → (n : ℕ) → Told (First P n)
-first_told P told zero = inr (λ f. (let h = f.1 in omega arith))
-first_told P told (suc n) = elim (told n) [
+first-told : (P : ℕ → Type 0) → ((x : ℕ) → Told (P x)) → (n : ℕ) → Told (First P n)
+first-told P told zero = inr (λ f. (let h = f.1 in omega arith))
+first-told P told (suc n) = elim (told n) [
   | inl p ↦ inl (n, omega arith, p)
-  | inr not_it ↦ elim (first_told P told n) [
+  | inr not_it ↦ elim (first-told P told n) [
     | inl f ↦ inl (f.0, (let h = f.1 in omega arith), f.2)
     | inr none ↦ inr (λ f. elim (cases_eq f.0 n) [
       | inl same ↦ not_it (subst P same f.2)
@@ -41,41 +41,41 @@ pub record Few (P : List ℕ → Type 0) (n : ℕ) : Type 0 where
   pub few : length octets ≤ n
   pub is : P octets
 
-pub are_none : AreOctets []
-are_none = λ i. omega arith
+pub are-none : AreOctets []
+are-none = λ i. omega arith
 
-pub are_more : (x : ℕ) (octets : List ℕ) → x < 256 → AreOctets octets → AreOctets (x ∷ octets)
-are_more x octets small fits zero = small
-are_more x octets small fits (suc i) = fits i
+pub are-more : (x : ℕ) (octets : List ℕ) → x < 256 → AreOctets octets → AreOctets (x ∷ octets)
+are-more x octets small fits zero = small
+are-more x octets small fits (suc i) = fits i
 
-pub few_told : (P : List ℕ → Type 0) → ((octets : List ℕ) → Told (P octets)) → (n : ℕ)
+pub few-told : (P : List ℕ → Type 0) → ((octets : List ℕ) → Told (P octets)) → (n : ℕ)
     → Told (Few P n)
-few_told P told zero = elim (told []) [
-  | inl p ↦ inl (record { octets = []; fits = are_none; few = omega arith; is = p })
-  | inr not_it ↦ inr (λ f. none_of f.octets f.few f.is not_it)
+few-told P told zero = elim (told []) [
+  | inl p ↦ inl (record { octets = []; fits = are-none; few = omega arith; is = p })
+  | inr not_it ↦ inr (λ f. none-of f.octets f.few f.is not_it)
 ]
   where
-    none_of : (octets : List ℕ) → length octets ≤ 0 → P octets → (P [] → ⊥) → ⊥
-    none_of [] le p not_it = not_it p
-    none_of (x ∷ octets) le p not_it = omega arith
-few_told P told (suc n) = elim (told []) [
-  | inl p ↦ inl (record { octets = []; fits = are_none; few = omega arith; is = p })
-  | inr not_it ↦ elim (first_told (λ x. Few (λ octets. P (x ∷ octets)) n)
-      (λ x. few_told (λ octets. P (x ∷ octets)) (λ octets. told (x ∷ octets)) n) 256) [
+    none-of : (octets : List ℕ) → length octets ≤ 0 → P octets → (P [] → ⊥) → ⊥
+    none-of [] le p not_it = not_it p
+    none-of (x ∷ octets) le p not_it = omega arith
+few-told P told (suc n) = elim (told []) [
+  | inl p ↦ inl (record { octets = []; fits = are-none; few = omega arith; is = p })
+  | inr not_it ↦ elim (first-told (λ x. Few (λ octets. P (x ∷ octets)) n)
+      (λ x. few-told (λ octets. P (x ∷ octets)) (λ octets. told (x ∷ octets)) n) 256) [
         | inl f ↦ inl (record {
           octets = f.0 ∷ f.2.octets;
-          fits = are_more f.0 f.2.octets f.1 f.2.fits;
+          fits = are-more f.0 f.2.octets f.1 f.2.fits;
           few = (let h = f.2.few in omega arith);
           is = f.2.is;
         })
-        | inr none ↦ inr (λ f. one_of f.octets f.fits f.few f.is not_it none)
+        | inr none ↦ inr (λ f. one-of f.octets f.fits f.few f.is not_it none)
       ]
 ]
   where
-    one_of : (octets : List ℕ) → AreOctets octets → length octets ≤ suc n → P octets → (P [] → ⊥)
+    one-of : (octets : List ℕ) → AreOctets octets → length octets ≤ suc n → P octets → (P [] → ⊥)
         → (First (λ x. Few (λ octets. P (x ∷ octets)) n) 256 → ⊥) → ⊥
-    one_of [] fits le p not_it none = not_it p
-    one_of (x ∷ octets) fits le p not_it none =
+    one-of [] fits le p not_it none = not_it p
+    one-of (x ∷ octets) fits le p not_it none =
         none (
           x,
           fits 0,
@@ -86,12 +86,12 @@ few_told P told (suc n) = elim (told []) [
 abbrev pub IsAll : {A : Type 0} → Read A → Type 0
 IsAll {A} r = (x : A) × (r ≡ Ok (x, []))
 
-pub all_told : {A : Type 0} (r : Read A) → Told (IsAll r)
-all_told (Ok (x, [])) = inl (x, refl)
-all_told {A} (Ok (x, y ∷ ys)) =
-    inr (λ f. (let h : y ∷ ys ≡ [] = ap (λ q. q.1) (ok_same (x, y ∷ ys) (f.0, []) f.1) in
+pub all-told : {A : Type 0} (r : Read A) → Told (IsAll r)
+all-told (Ok (x, [])) = inl (x, refl)
+all-told {A} (Ok (x, y ∷ ys)) =
+    inr (λ f. (let h : y ∷ ys ≡ [] = ap (λ q. q.1) (ok-same (x, y ∷ ys) (f.0, []) f.1) in
     absurd cc))
-all_told (Err e) = inr (λ f. (let h = f.1 in absurd cc))
+all-told (Err e) = inr (λ f. (let h = f.1 in absurd cc))
 
 -- ---- octets that others complete
 
@@ -110,16 +110,16 @@ Empty r = r.1 ≡ []
 abbrev pub Ends : {A : Type 0} → (List ℕ → Read A) → List ℕ → Type 0
 Ends item octets = EndsIn item Empty octets
 
-pub join_octets : (front rest : List ℕ) → AreOctets front → AreOctets rest
+pub join-octets : (front rest : List ℕ) → AreOctets front → AreOctets rest
     → AreOctets (front ++ rest)
-join_octets [] rest fits good = good
-join_octets (x ∷ front) rest fits good =
-    are_more x (front ++ rest) (fits 0) (join_octets front rest (λ i. fits (suc i)) good)
+join-octets [] rest fits good = good
+join-octets (x ∷ front) rest fits good =
+    are-more x (front ++ rest) (fits 0) (join-octets front rest (λ i. fits (suc i)) good)
 
 -- what was read is read with more behind it
-pub ok_is : {A : Type 0} (item : List ℕ → Read A) → Steady item → (octets more : List ℕ) (x : A)
+pub ok-is : {A : Type 0} (item : List ℕ → Read A) → Steady item → (octets more : List ℕ) (x : A)
     (rest : List ℕ) → item octets ≡ Ok (x, rest) → item (octets ++ more) ≡ Ok (x, rest ++ more)
-ok_is {A} item s octets more x rest e =
+ok-is {A} item s octets more x rest e =
     s octets more
     (λ f. (let no : ◌≡◌ {A = Read A} (Ok (x, rest)) (Err Truncated) = sym e ∙ f in cc))
     ∙ ap (λ (q : Read A). later q more) e
@@ -127,24 +127,24 @@ ok_is {A} item s octets more x rest e =
 module _ {A B : Type 0} (item : List ℕ → Read A) (g : A → List ℕ → Result B ImageFault)
     (Q : B → Type 0) (s : Steady item) where
   -- what follows is completed
-  pub ends_behind : (octets : List ℕ) (x : A) (rest : List ℕ) → item octets ≡ Ok (x, rest)
+  pub ends-behind : (octets : List ℕ) (x : A) (rest : List ℕ) → item octets ≡ Ok (x, rest)
       → EndsIn (g x) Q rest → EndsIn (λ octets. item octets >>= (λ r. g r.0 r.1)) Q octets
-  ends_behind octets x rest e b =
-      let here = ok_is item s octets b.more x rest e in
+  ends-behind octets x rest e b =
+      let here = ok-is item s octets b.more x rest e in
       record { more = b.more; fits = b.fits; what = b.what; is = rw here b.is; ends = b.ends }
 
   -- it is completed, and then what follows from nothing
-  pub ends_here : (octets : List ℕ) → Ends item octets → ((x : A) → EndsIn (g x) Q [])
+  pub ends-here : (octets : List ℕ) → Ends item octets → ((x : A) → EndsIn (g x) Q [])
       → EndsIn (λ octets. item octets >>= (λ r. g r.0 r.1)) Q octets
-  ends_here octets a start =
+  ends-here octets a start =
       let b = start a.what.0 in
       let first : item (octets ++ a.more) ≡ Ok (a.what.0, []) =
       a.is ∙ ap (λ (ys : List ℕ). Ok (a.what.0, ys)) a.ends in
-      let here = ok_is item s (octets ++ a.more) b.more a.what.0 [] first in
+      let here = ok-is item s (octets ++ a.more) b.more a.what.0 [] first in
       let joined = append_assoc octets a.more b.more in
       record {
         more = a.more ++ b.more;
-        fits = join_octets a.more b.more a.fits b.fits;
+        fits = join-octets a.more b.more a.fits b.fits;
         what = b.what;
         is = rw (sym joined, here) b.is;
         ends = b.ends;
@@ -165,14 +165,14 @@ module _ {A B : Type 0} (item : List ℕ → Read A) (g : A → List ℕ → Res
           ⊎ (C octets ⊎ ((r : A × List ℕ) × (item octets ≡ Ok r) × X r.0 r.1))
       go (Ok (x, rest)) is = elim (more x rest is
           (ap (λ (q : Read A). q >>= (λ (p : A × List ℕ). g p.0 p.1)) (sym is) ∙ e)) [
-            | inl b ↦ inl (ends_behind octets x rest is b)
+            | inl b ↦ inl (ends-behind octets x rest is b)
             | inr c ↦ inr (inr ((x, rest), is, c))
           ]
       go (Err f) is =
           let same : f ≡ Truncated =
-          err_same {A = B} f Truncated
+          err-same {A = B} f Truncated
           (ap (λ (q : Read A). q >>= (λ (p : A × List ℕ). g p.0 p.1)) (sym is) ∙ e) in
           elim (short (is ∙ ap (λ (x : ImageFault). Err x) same)) [
-            | inl a ↦ inl (ends_here octets a start)
+            | inl a ↦ inl (ends-here octets a start)
             | inr c ↦ inr (inl c)
           ]

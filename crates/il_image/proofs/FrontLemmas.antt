@@ -4,7 +4,7 @@ use Rattle.std.specs.Prelude.{Result, Err, slice_index}
 use Rattle.std.proofs.lemmas.Bool.{ne_eqb}
 use Rattle.il_image.specs.declared.fault.ImageFault.{ImageFault}
 use Rattle.il_image.specs.declared.fault.ImageFault.TheVariants.{BadMagic, BadVersion}
-use Rattle.il_image.specs.Decoding.{behind, decoded}
+use Rattle.il_image.specs.Decoding.{behind, image_spelled}
 use Rattle.il_image.specs.Images.{mark}
 
 either : (b : Bool) (r : Result (List ℕ) ImageFault) → r ≡ Err BadMagic
@@ -12,21 +12,21 @@ either : (b : Bool) (r : Result (List ℕ) ImageFault) → r ≡ Err BadMagic
 either true r e = e
 either false r e = refl
 
-other_mark : (marks octets : List ℕ) (k : ℕ) → k < length marks → k < length octets
+other-mark : (marks octets : List ℕ) (k : ℕ) → k < length marks → k < length octets
     → (slice_index octets k ≡ slice_index marks k → ⊥) → behind marks octets ≡ Err BadMagic
-other_mark [] octets k h g other = absurd (omega arith)
-other_mark (m ∷ marks) [] k h g other = absurd (omega arith)
-other_mark (m ∷ marks) (x ∷ octets) zero h g other = rw (ne_eqb x m other) refl
-other_mark (m ∷ marks) (x ∷ octets) (suc k) h g other =
+other-mark [] octets k h g other = absurd (omega arith)
+other-mark (m ∷ marks) [] k h g other = absurd (omega arith)
+other-mark (m ∷ marks) (x ∷ octets) zero h g other = rw (ne_eqb x m other) refl
+other-mark (m ∷ marks) (x ∷ octets) (suc k) h g other =
     either (eqb x m) (behind marks octets)
-    (other_mark marks octets k (omega arith) (omega arith) other)
+    (other-mark marks octets k (omega arith) (omega arith) other)
 
-pub no_mark : (octets : List ℕ) (k : ℕ) → k < 4 → k < length octets
-    → (slice_index octets k ≡ slice_index mark k → ⊥) → decoded octets ≡ Err BadMagic
-unfolding decoded
-no_mark octets k h g other = rw (other_mark mark octets k h g other) refl
+pub no-mark : (octets : List ℕ) (k : ℕ) → k < 4 → k < length octets
+    → (slice_index octets k ≡ slice_index mark k → ⊥) → image_spelled octets ≡ Err BadMagic
+unfolding image_spelled
+no-mark octets k h g other = rw (other-mark mark octets k h g other) refl
 
-pub no_version : (octet : ℕ) (rest : List ℕ) → (octet ≡ 1 → ⊥) → (octet ≡ 2 → ⊥)
-    → decoded (mark ++ octet ∷ rest) ≡ Err BadVersion
-unfolding decoded
-no_version octet rest one two = rw (ne_eqb octet 1 one, ne_eqb octet 2 two) refl
+pub no-version : (octet : ℕ) (rest : List ℕ) → (octet ≡ 1 → ⊥) → (octet ≡ 2 → ⊥)
+    → image_spelled (mark ++ octet ∷ rest) ≡ Err BadVersion
+unfolding image_spelled
+no-version octet rest one two = rw (ne_eqb octet 1 one, ne_eqb octet 2 two) refl

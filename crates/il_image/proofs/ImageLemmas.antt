@@ -7,29 +7,29 @@ use Rattle.il_image.specs.declared.opcode.Version.{Version}
 use Rattle.il_image.specs.declared.opcode.Version.TheVariants.{One, Two}
 use Rattle.bay_base.specs.declared.types.TimerKind.{TimerKind}
 use Rattle.il_image.specs.declared.value.Value.{Value}
-use Rattle.il_image.specs.Decoding.{behind, code_at, counted_at, decoded, point_at, timer_at, variable_at, version_at}
-use Rattle.il_image.specs.Images.{HasName, Image, IsImage, IsValue, counted, encoded, mark, point_octets, timer_octets, variable_octets, version_octet}
+use Rattle.il_image.specs.Decoding.{behind, code_at, counted_at, image_spelled, point_at, timer_at, variable_at, version_at}
+use Rattle.il_image.specs.Images.{HasName, Image, IsImage, IsValue, count_and_items, image_octets, mark, point_octets, timer_octets, variable_octets, version_octet}
 use Rattle.il_image.specs.Octets.{AreOctets, number_octets}
-use Rattle.il_image.proofs.ReadLemmas.{bind_ok, ok_same}
-use Rattle.il_image.proofs.InstrLemmas.{behind_octets}
-use Rattle.il_image.proofs.TookLemmas.{IsKind, took_counted, took_point, took_variable, took_timer, took_code, took_mark, took_version}
+use Rattle.il_image.proofs.ReadLemmas.{bind-ok, ok-same}
+use Rattle.il_image.proofs.InstrLemmas.{behind-octets}
+use Rattle.il_image.proofs.TookLemmas.{IsKind, took-counted, took-point, took-variable, took-timer, took-code, took-mark, took-version}
 
 -- Octets that were read as an image spell it, and it is what an image has to be.
 pub record TookImage (version : Version) (octets : List ℕ) (i : Image) : Type 0 where
-  pub spelled : octets ≡ encoded version i
+  pub spelled : octets ≡ image_octets version i
   pub good : IsImage i
 
 -- parts one behind the other
-joined_parts : (octets rest0 rest1 rest2 rest3 rest4 a b d f g : List ℕ) (v : ℕ)
+joined-parts : (octets rest0 rest1 rest2 rest3 rest4 a b d f g : List ℕ) (v : ℕ)
     → octets ≡ a ++ rest0 → rest0 ≡ v ∷ rest1 → rest1 ≡ b ++ rest2 → rest2 ≡ d ++ rest3
     → rest3 ≡ f ++ rest4 → rest4 ≡ g → octets ≡ a ++ (v ∷ (b ++ (d ++ (f ++ g))))
-joined_parts octets rest0 rest1 rest2 rest3 rest4 a b d f g v h i j k l m =
+joined-parts octets rest0 rest1 rest2 rest3 rest4 a b d f g v h i j k l m =
     h ∙ ap (λ (ys : List ℕ). a ++ ys)
     (i ∙ ap (λ (ys : List ℕ). v ∷ ys)
     (j ∙ ap (λ (ys : List ℕ). b ++ ys)
     (k ∙ ap (λ (ys : List ℕ). d ++ ys) (l ∙ ap (λ (ys : List ℕ). f ++ ys) m))))
 
-pub took_stages : (octets rest0 : List ℕ) (version : Version) (rest1 : List ℕ)
+pub took-stages : (octets rest0 : List ℕ) (version : Version) (rest1 : List ℕ)
     (points : List ImagePoint) (rest2 : List ℕ) (variables : List Value) (rest3 : List ℕ)
     (timers : List TimerKind) (rest4 code : List ℕ) → AreOctets octets
     → behind mark octets ≡ Ok rest0 → version_at rest0 ≡ Ok (version, rest1)
@@ -38,32 +38,36 @@ pub took_stages : (octets rest0 : List ℕ) (version : Version) (rest1 : List �
     → counted_at (timer_at version) rest3 ≡ Ok (timers, rest4) → code_at version rest4 ≡ Ok code
     → TookImage version octets
     (record { points = points; variables = variables; timers = timers; code = code })
-unfolding encoded
-took_stages octets rest0 version rest1 points rest2 variables rest3 timers rest4 code fits a b d f g
+unfolding image_octets
+took-stages octets rest0 version rest1 points rest2 variables rest3 timers rest4 code fits a b d f g
     h =
-    let marked = took_mark octets rest0 a in
-    let fits0 = behind_octets mark rest0 (subst AreOctets marked fits) in
-    let versioned = took_version rest0 version rest1 b in
+    let marked = took-mark octets rest0 a in
+    let fits0 = behind-octets mark rest0 (subst AreOctets marked fits) in
+    let versioned = took-version rest0 version rest1 b in
     let fits1 =
-    behind_octets (version_octet version ∷ []) rest1 (subst AreOctets versioned fits0) in
-    let p = took_counted point_octets HasName (point_at version) (took_point version) rest1 points
+    behind-octets (version_octet version ∷ []) rest1 (subst AreOctets versioned fits0) in
+    let p = took-counted point_octets HasName (point_at version) (took-point version) rest1 points
     rest2 fits1 d in
-    let fits2 = behind_octets (counted point_octets points) rest2 (subst AreOctets p.parts fits1) in
-    let v = took_counted (variable_octets version) IsValue (variable_at version)
-    (took_variable version) rest2 variables rest3 fits2 f in
+    let fits2 =
+    behind-octets (count_and_items point_octets points) rest2 (subst AreOctets p.parts fits1) in
+    let v = took-counted (variable_octets version) IsValue (variable_at version)
+    (took-variable version) rest2 variables rest3 fits2 f in
     let fits3 =
-    behind_octets (counted (variable_octets version) variables) rest3
+    behind-octets (count_and_items (variable_octets version) variables) rest3
     (subst AreOctets v.parts fits2) in
-    let t = took_counted (timer_octets version) IsKind (timer_at version) (took_timer version) rest3
+    let t = took-counted (timer_octets version) IsKind (timer_at version) (took-timer version) rest3
     timers rest4 fits3 g in
     let fits4 =
-    behind_octets (counted (timer_octets version) timers) rest4 (subst AreOctets t.parts fits3)
+    behind-octets (count_and_items (timer_octets version) timers) rest4
+    (subst AreOctets t.parts fits3)
     in
-    let c = took_code version rest4 code fits4 h in
+    let c = took-code version rest4 code fits4 h in
     record {
       spelled =
-          joined_parts octets rest0 rest1 rest2 rest3 rest4 mark (counted point_octets points)
-          (counted (variable_octets version) variables) (counted (timer_octets version) timers)
+          joined-parts octets rest0 rest1 rest2 rest3 rest4 mark
+          (count_and_items point_octets points)
+          (count_and_items (variable_octets version) variables)
+          (count_and_items (timer_octets version) timers)
           (number_octets (length code) ++ code) (version_octet version) marked versioned p.parts
           v.parts t.parts c.parts;
       good = record {
@@ -87,7 +91,7 @@ of_parts : (version : Version) (octets : List ℕ) (points : List ImagePoint) (v
 of_parts version octets points variables timers code i same took =
     subst (TookImage version octets) same took
 
-took_parts : (octets rest0 : List ℕ) (version : Version) (rest1 : List ℕ) (i : Image)
+took-parts : (octets rest0 : List ℕ) (version : Version) (rest1 : List ℕ) (i : Image)
     → AreOctets octets → behind mark octets ≡ Ok rest0 → version_at rest0 ≡ Ok (version, rest1)
     → (counted_at (point_at version) rest1
     >>= (λ (p : List ImagePoint × List ℕ). counted_at (variable_at version) p.1
@@ -96,38 +100,38 @@ took_parts : (octets rest0 : List ℕ) (version : Version) (rest1 : List ℕ) (i
     >>= (λ (code : List ℕ). Ok
     (record { points = p.0; variables = x.0; timers = t.0; code = code })))))) ≡ Ok i
     → (version : Version) × TookImage version octets i
-took_parts octets rest0 version rest1 i fits marked versioned e =
-    let d = bind_ok (counted_at (point_at version) rest1)
+took-parts octets rest0 version rest1 i fits marked versioned e =
+    let d = bind-ok (counted_at (point_at version) rest1)
     (λ (p : List ImagePoint × List ℕ). counted_at (variable_at version) p.1
     >>= (λ (x : List Value × List ℕ). counted_at (timer_at version) x.1
     >>= (λ (t : List TimerKind × List ℕ). code_at version t.1
     >>= (λ (code : List ℕ). Ok
     (record { points = p.0; variables = x.0; timers = t.0; code = code }))))) i e in
-    let f = bind_ok (counted_at (variable_at version) d.0.1)
+    let f = bind-ok (counted_at (variable_at version) d.0.1)
     (λ (x : List Value × List ℕ). counted_at (timer_at version) x.1
     >>= (λ (t : List TimerKind × List ℕ). code_at version t.1
     >>= (λ (code : List ℕ). Ok
     (record { points = d.0.0; variables = x.0; timers = t.0; code = code })))) i d.2 in
-    let g = bind_ok (counted_at (timer_at version) f.0.1)
+    let g = bind-ok (counted_at (timer_at version) f.0.1)
     (λ (t : List TimerKind × List ℕ). code_at version t.1
     >>= (λ (code : List ℕ). Ok
     (record { points = d.0.0; variables = f.0.0; timers = t.0; code = code }))) i f.2 in
-    let h = bind_ok (code_at version g.0.1)
+    let h = bind-ok (code_at version g.0.1)
     (λ (code : List ℕ). Ok (record
     { points = d.0.0; variables = f.0.0; timers = g.0.0; code = code })) i g.2 in (
       version,
       of_parts version octets d.0.0 f.0.0 g.0.0 h.0 i
-          (ok_same (record { points = d.0.0; variables = f.0.0; timers = g.0.0; code = h.0 }) i h.2)
-          (took_stages octets rest0 version rest1 d.0.0 d.0.1 f.0.0 f.0.1 g.0.0 g.0.1 h.0 fits
+          (ok-same (record { points = d.0.0; variables = f.0.0; timers = g.0.0; code = h.0 }) i h.2)
+          (took-stages octets rest0 version rest1 d.0.0 d.0.1 f.0.0 f.0.1 g.0.0 g.0.1 h.0 fits
           marked
           versioned d.1 f.1 g.1 h.1),
     )
 
-pub took_decoded : (octets : List ℕ) (i : Image) → AreOctets octets → decoded octets ≡ Ok i
+pub took-decoded : (octets : List ℕ) (i : Image) → AreOctets octets → image_spelled octets ≡ Ok i
     → (version : Version) × TookImage version octets i
-unfolding decoded
-took_decoded octets i fits e =
-    let a = bind_ok (behind mark octets)
+unfolding image_spelled
+took-decoded octets i fits e =
+    let a = bind-ok (behind mark octets)
     (λ (rest : List ℕ). version_at rest
     >>= (λ (v : Version × List ℕ). counted_at (point_at v.0) v.1
     >>= (λ (p : List ImagePoint × List ℕ). counted_at (variable_at v.0) p.1
@@ -135,41 +139,43 @@ took_decoded octets i fits e =
     >>= (λ (t : List TimerKind × List ℕ). code_at v.0 t.1
     >>= (λ (code : List ℕ). Ok
     (record { points = p.0; variables = x.0; timers = t.0; code = code }))))))) i e in
-    let b = bind_ok (version_at a.0)
+    let b = bind-ok (version_at a.0)
     (λ (v : Version × List ℕ). counted_at (point_at v.0) v.1
     >>= (λ (p : List ImagePoint × List ℕ). counted_at (variable_at v.0) p.1
     >>= (λ (x : List Value × List ℕ). counted_at (timer_at v.0) x.1
     >>= (λ (t : List TimerKind × List ℕ). code_at v.0 t.1
     >>= (λ (code : List ℕ). Ok
     (record { points = p.0; variables = x.0; timers = t.0; code = code })))))) i a.2 in
-    took_parts octets a.0 b.0.0 b.0.1 i fits a.1 b.1 b.2
+    took-parts octets a.0 b.0.0 b.0.1 i fits a.1 b.1 b.2
 
 -- ---- no second spelling
 
-fifth : (version : Version) (i : Image) → slice_index (encoded version i) 4 ≡ version_octet version
-unfolding encoded
+fifth : (version : Version) (i : Image)
+    → slice_index (image_octets version i) 4 ≡ version_octet version
+unfolding image_octets
 fifth version i = refl
 
-same_version : (a b : Version) → version_octet a ≡ version_octet b → a ≡ b
-same_version One One e = refl
-same_version One Two e = absurd (omega arith)
-same_version Two One e = absurd (omega arith)
-same_version Two Two e = refl
+same-version : (a b : Version) → version_octet a ≡ version_octet b → a ≡ b
+same-version One One e = refl
+same-version One Two e = absurd (omega arith)
+same-version Two One e = absurd (omega arith)
+same-version Two Two e = refl
 
-pub one_of_each : (octets others : List ℕ) (i : Image) → AreOctets octets → AreOctets others
-    → decoded octets ≡ Ok i → decoded others ≡ Ok i → slice_index octets 4 ≡ slice_index others 4
+pub one-of-each : (octets others : List ℕ) (i : Image) → AreOctets octets → AreOctets others
+    → image_spelled octets ≡ Ok i → image_spelled others ≡ Ok i
+    → slice_index octets 4 ≡ slice_index others 4
     → octets ≡ others
-one_of_each octets others i fits good e f same =
-    let a = took_decoded octets i fits e in
-    let b = took_decoded others i good f in
+one-of-each octets others i fits good e f same =
+    let a = took-decoded octets i fits e in
+    let b = took-decoded others i good f in
     let here : slice_index octets 4 ≡ version_octet a.0 =
     ap (λ (xs : List ℕ). slice_index xs 4) a.1.spelled ∙ fifth a.0 i in
     let there : slice_index others 4 ≡ version_octet b.0 =
     ap (λ (xs : List ℕ). slice_index xs 4) b.1.spelled ∙ fifth b.0 i in
-    let version = same_version a.0 b.0 (sym here ∙ same ∙ there) in
-    a.1.spelled ∙ ap (λ (v : Version). encoded v i) version ∙ sym b.1.spelled
+    let version = same-version a.0 b.0 (sym here ∙ same ∙ there) in
+    a.1.spelled ∙ ap (λ (v : Version). image_octets v i) version ∙ sym b.1.spelled
 
-pub spelled_image : (octets : List ℕ) (i : Image) → AreOctets octets → decoded octets ≡ Ok i
-    → IsImage i × ((version : Version) × (octets ≡ encoded version i))
-spelled_image octets i fits e = let took =
-    took_decoded octets i fits e in (took.1.good, (took.0, took.1.spelled))
+pub spelled-image : (octets : List ℕ) (i : Image) → AreOctets octets → image_spelled octets ≡ Ok i
+    → IsImage i × ((version : Version) × (octets ≡ image_octets version i))
+spelled-image octets i fits e = let took =
+    took-decoded octets i fits e in (took.1.good, (took.0, took.1.spelled))

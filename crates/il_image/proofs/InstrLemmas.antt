@@ -28,17 +28,17 @@ use Rattle.il_image.specs.declared.write.Size.{Size}
 use Rattle.il_image.specs.declared.write.Size.TheVariants as size
 use Rattle.il_image.specs.Octets.{AreOctets, octet_count, number_octets, signed_octets, size_of}
 use Rattle.il_image.specs.Opcodes.{octet_of, opcodes, opcode_of, is_known, width_octet, width_of}
-use Rattle.il_image.specs.Reading.{Read, known, known_opcode, octet_at, number_at, signed_at, value_at, width_at, with_number, operand_from, instr_from}
+use Rattle.il_image.specs.Reading.{Read, known_value, known_opcode, octet_at, number_at, signed_at, value_at, width_at, with_number, operand_from, instr_from}
 use Rattle.il_image.specs.Spelling.{opcode_of_instr, operand_of, spelling, IsInstr}
 use Rattle.il_image.specs.Values.{type_of, number_of, value_of}
-use Rattle.il_image.proofs.ReadLemmas.{bind_ok, bind_is, known_ok, ok_same, Front, took_octet, took_number, took_signed, back_number, back_signed}
-use Rattle.il_image.proofs.ValueLemmas.{value_is, value_back}
+use Rattle.il_image.proofs.ReadLemmas.{bind-ok, bind-is, known-ok, ok-same, Front, took-octet, took-number, took-signed, back-number, back-signed}
+use Rattle.il_image.proofs.ValueLemmas.{value_is, value-back}
 
 -- ---- opcodes
 
-found_passes : {A : Type 0} (p : A → Bool) (xs : List A) (x : A) → find p xs ≡ Some x → p x ≡ true
-found_passes p [] x e = absurd cc
-found_passes p (y ∷ xs) x e = go p xs x y (p y) refl (found_passes p xs x) e
+found-passes : {A : Type 0} (p : A → Bool) (xs : List A) (x : A) → find p xs ≡ Some x → p x ≡ true
+found-passes p [] x e = absurd cc
+found-passes p (y ∷ xs) x e = go p xs x y (p y) refl (found-passes p xs x) e
   where
     go : {A : Type 0} (p : A → Bool) (xs : List A) (x y : A) (b : Bool) → p y ≡ b
         → (find p xs ≡ Some x → p x ≡ true) → cond b (Some y) (find p xs) ≡ Some x → p x ≡ true
@@ -48,57 +48,57 @@ found_passes p (y ∷ xs) x e = go p xs x y (p y) refl (found_passes p xs x) e
 pub opcode_is : (octet : ℕ) (o : Opcode) → opcode_of octet ≡ Some o → octet ≡ octet_of o
 unfolding opcode_of
 opcode_is octet o e =
-    eqb-true octet (octet_of o) (found_passes (λ (x : Opcode). eqb octet (octet_of x)) opcodes o e)
+    eqb-true octet (octet_of o) (found-passes (λ (x : Opcode). eqb octet (octet_of x)) opcodes o e)
 
-pub opcode_back : (o : Opcode) → opcode_of (octet_of o) ≡ Some o
+pub opcode-back : (o : Opcode) → opcode_of (octet_of o) ≡ Some o
 unfolding opcode_of
-opcode_back Halt = refl
-opcode_back (Push elementary.Bool) = refl
-opcode_back (Push elementary.Int) = refl
-opcode_back (Push elementary.Dint) = refl
-opcode_back (Push elementary.Time) = refl
-opcode_back (Push elementary.Lint) = refl
-opcode_back Drop = refl
-opcode_back (Slot Load) = refl
-opcode_back (Slot Store) = refl
-opcode_back (Slot SetIf) = refl
-opcode_back (Slot ResetIf) = refl
-opcode_back Not = refl
-opcode_back (Combine And) = refl
-opcode_back (Combine Or) = refl
-opcode_back (Combine Xor) = refl
-opcode_back (Compute Add) = refl
-opcode_back (Compute Sub) = refl
-opcode_back (Compute Mul) = refl
-opcode_back (Compute Div) = refl
-opcode_back (Compute Mod) = refl
-opcode_back (Compare Gt) = refl
-opcode_back (Compare Ge) = refl
-opcode_back (Compare Eq) = refl
-opcode_back (Compare Ne) = refl
-opcode_back (Compare Le) = refl
-opcode_back (Compare Lt) = refl
-opcode_back (Widen IntToDint) = refl
-opcode_back (Widen DintToLint) = refl
-opcode_back (Jump Always) = refl
-opcode_back (Jump IfTrue) = refl
-opcode_back (Jump IfFalse) = refl
-opcode_back (Timer SetInput) = refl
-opcode_back (Timer SetPreset) = refl
-opcode_back (Timer Run) = refl
-opcode_back (Timer LoadOutput) = refl
-opcode_back (Timer LoadElapsed) = refl
+opcode-back Halt = refl
+opcode-back (Push elementary.Bool) = refl
+opcode-back (Push elementary.Int) = refl
+opcode-back (Push elementary.Dint) = refl
+opcode-back (Push elementary.Time) = refl
+opcode-back (Push elementary.Lint) = refl
+opcode-back Drop = refl
+opcode-back (Slot Load) = refl
+opcode-back (Slot Store) = refl
+opcode-back (Slot SetIf) = refl
+opcode-back (Slot ResetIf) = refl
+opcode-back Not = refl
+opcode-back (Combine And) = refl
+opcode-back (Combine Or) = refl
+opcode-back (Combine Xor) = refl
+opcode-back (Compute Add) = refl
+opcode-back (Compute Sub) = refl
+opcode-back (Compute Mul) = refl
+opcode-back (Compute Div) = refl
+opcode-back (Compute Mod) = refl
+opcode-back (Compare Gt) = refl
+opcode-back (Compare Ge) = refl
+opcode-back (Compare Eq) = refl
+opcode-back (Compare Ne) = refl
+opcode-back (Compare Le) = refl
+opcode-back (Compare Lt) = refl
+opcode-back (Widen IntToDint) = refl
+opcode-back (Widen DintToLint) = refl
+opcode-back (Jump Always) = refl
+opcode-back (Jump IfTrue) = refl
+opcode-back (Jump IfFalse) = refl
+opcode-back (Timer SetInput) = refl
+opcode-back (Timer SetPreset) = refl
+opcode-back (Timer Run) = refl
+opcode-back (Timer LoadOutput) = refl
+opcode-back (Timer LoadElapsed) = refl
 
-known_is : (version : Version) (o : Option Opcode) (opcode : Opcode)
+known-is : (version : Version) (o : Option Opcode) (opcode : Opcode)
     → known_opcode version o ≡ Ok opcode → (o ≡ Some opcode) × (is_known version opcode ≡ true)
-known_is version None opcode e = absurd cc
-known_is version (Some o) opcode e = go version o opcode (is_known version o) refl e
+known-is version None opcode e = absurd cc
+known-is version (Some o) opcode e = go version o opcode (is_known version o) refl e
   where
     go : (version : Version) (o opcode : Opcode) (b : Bool) → is_known version o ≡ b
         → (◌≡◌ {A = Result Opcode ImageFault} (cond b (Ok o) (Err BadOpcode)) (Ok opcode))
         → (Some o ≡ Some opcode) × (is_known version opcode ≡ true)
     go version o opcode true is e = let same : o ≡ opcode =
-        ok_same o opcode e in (ap Some same, ap (is_known version) (sym same) ∙ is)
+        ok-same o opcode e in (ap Some same, ap (is_known version) (sym same) ∙ is)
     go version o opcode false is e = absurd cc
 
 -- ---- values and widths
@@ -111,28 +111,29 @@ pub record TookValue (size : Size) (t : ElementaryType) (octets : List ℕ) (v :
   pub type : type_of v ≡ t
   pub is : value_of t (number_of v) ≡ Some v
 
-pub took_value : (size : Size) (t : ElementaryType) (octets : List ℕ) (v : Value) (rest : List ℕ)
+pub took-value : (size : Size) (t : ElementaryType) (octets : List ℕ) (v : Value) (rest : List ℕ)
     → value_at size t octets ≡ Ok (v, rest) → TookValue size t octets v rest
-took_value size t octets v rest e =
-    let a = bind_ok (signed_at size octets)
-    (λ (z : ℤ × List ℕ). known (value_of t z.0) >>= (λ (x : Value). Ok (x, z.1))) (v, rest) e in
+took-value size t octets v rest e =
+    let a = bind-ok (signed_at size octets)
+    (λ (z : ℤ × List ℕ). known_value (value_of t z.0) >>= (λ (x : Value). Ok (x, z.1))) (v, rest) e
+    in
     let z = a.0.0 in
-    let b = bind_ok (known (value_of t z)) (λ (x : Value). Ok (x, a.0.1)) (v, rest) a.2 in
-    let same = ok_same (b.0, a.0.1) (v, rest) b.2 in
+    let b = bind-ok (known_value (value_of t z)) (λ (x : Value). Ok (x, a.0.1)) (v, rest) a.2 in
+    let same = ok-same (b.0, a.0.1) (v, rest) b.2 in
     let is : value_of t z ≡ Some v =
-    known_ok (value_of t z) b.0 b.1 ∙ ap Some (ap (λ q. q.0) same) in
+    known-ok (value_of t z) b.0 b.1 ∙ ap Some (ap (λ q. q.0) same) in
     let of = value_is t z v is in
     record {
       front = subst (λ (y : ℤ). Front (octet_count size) (signed_octets size y) octets rest)
-          (sym of.number) (took_signed size octets z rest
+          (sym of.number) (took-signed size octets z rest
           (a.1 ∙ ap (λ (r : List ℕ). Ok (z, r)) (ap (λ q. q.1) same)));
       type = of.type;
       is = subst (λ (y : ℤ). value_of t y ≡ Some v) (sym of.number) is;
     }
 
-width_is : (version : Version) (octet : ℕ) (w : Width) → width_of version octet ≡ Some w
+width-is : (version : Version) (octet : ℕ) (w : Width) → width_of version octet ≡ Some w
     → octet ≡ width_octet w
-width_is One octet w e = go octet w (eqb octet 2) (eqb octet 3) refl refl e
+width-is One octet w e = go octet w (eqb octet 2) (eqb octet 3) refl refl e
   where
     go : (octet : ℕ) (w : Width) (a b : Bool) → eqb octet 2 ≡ a → eqb octet 3 ≡ b
         → cond a (Some width.Int) (cond b (Some width.Dint) None) ≡ Some w → octet ≡ width_octet w
@@ -141,7 +142,7 @@ width_is One octet w e = go octet w (eqb octet 2) (eqb octet 3) refl refl e
     go octet w false true is other e = let same : width.Dint ≡ w =
         cc in eqb-true octet 3 other ∙ ap width_octet same
     go octet w false false is other e = absurd cc
-width_is Two octet w e = go octet w (eqb octet 2) (eqb octet 3) (eqb octet 5) refl refl refl e
+width-is Two octet w e = go octet w (eqb octet 2) (eqb octet 3) (eqb octet 5) refl refl refl e
   where
     go : (octet : ℕ) (w : Width) (a b d : Bool) → eqb octet 2 ≡ a → eqb octet 3 ≡ b
         → eqb octet 5 ≡ d → cond a (Some width.Int)
@@ -154,19 +155,20 @@ width_is Two octet w e = go octet w (eqb octet 2) (eqb octet 3) (eqb octet 5) re
         cc in eqb-true octet 5 third ∙ ap width_octet same
     go octet w false false false is other third e = absurd cc
 
-took_width : (version : Version) (octets : List ℕ) (w : Width) (rest : List ℕ)
+took-width : (version : Version) (octets : List ℕ) (w : Width) (rest : List ℕ)
     → width_at version octets ≡ Ok (w, rest) → Front 1 (width_octet w ∷ []) octets rest
-took_width version octets w rest e =
-    let a = bind_ok (octet_at octets)
-    (λ (x : ℕ × List ℕ). known (width_of version x.0) >>= (λ (y : Width). Ok (y, x.1)))
+took-width version octets w rest e =
+    let a = bind-ok (octet_at octets)
+    (λ (x : ℕ × List ℕ). known_value (width_of version x.0) >>= (λ (y : Width). Ok (y, x.1)))
     (w, rest) e in
-    let b = bind_ok (known (width_of version a.0.0)) (λ (y : Width). Ok (y, a.0.1)) (w, rest) a.2 in
-    let same = ok_same (b.0, a.0.1) (w, rest) b.2 in
+    let b = bind-ok (known_value (width_of version a.0.0)) (λ (y : Width). Ok (y, a.0.1)) (w, rest)
+    a.2 in
+    let same = ok-same (b.0, a.0.1) (w, rest) b.2 in
     let is =
-    width_is version a.0.0 w
-    (known_ok (width_of version a.0.0) b.0 b.1 ∙ ap Some (ap (λ q. q.0) same)) in
+    width-is version a.0.0 w
+    (known-ok (width_of version a.0.0) b.0 b.1 ∙ ap Some (ap (λ q. q.0) same)) in
     subst (λ (x : ℕ). Front 1 (x ∷ []) octets rest) is
-    (took_octet octets a.0.0 rest
+    (took-octet octets a.0.0 rest
     (a.1 ∙ ap (λ (r : List ℕ). Ok (a.0.0, r)) (ap (λ q. q.1) same)))
 
 -- ---- operands
@@ -178,32 +180,32 @@ pub record TookOperand (opcode : Opcode) (octets : List ℕ) (i : Instr) (rest :
   pub front : Front (length (operand_of i)) (operand_of i) octets rest
   pub good : AreOctets octets → IsInstr i
 
-none_taken : (octets rest : List ℕ) → octets ≡ rest → Front 0 [] octets rest
-none_taken octets rest e = record { front = []; parts = e; len = refl; is = λ fits. refl }
+none-taken : (octets rest : List ℕ) → octets ≡ rest → Front 0 [] octets rest
+none-taken octets rest e = record { front = []; parts = e; len = refl; is = λ fits. refl }
 
-took_none : (opcode : Opcode) (i : Instr) (octets : List ℕ) (j : Instr) (rest : List ℕ)
+took-none : (opcode : Opcode) (i : Instr) (octets : List ℕ) (j : Instr) (rest : List ℕ)
     → opcode_of_instr i ≡ opcode → operand_of i ≡ [] → IsInstr i
     → (◌≡◌ {A = Read Instr} (Ok (i, octets)) (Ok (j, rest))) → TookOperand opcode octets j rest
-took_none opcode i octets j rest is none good e =
-    let same = ok_same (i, octets) (j, rest) e in
+took-none opcode i octets j rest is none good e =
+    let same = ok-same (i, octets) (j, rest) e in
     let made : TookOperand opcode octets i rest = record {
       opcode_is = is;
       front = subst (λ (text : List ℕ). Front (length text) text octets rest) (sym none)
-          (none_taken octets rest (ap (λ q. q.1) same));
+          (none-taken octets rest (ap (λ q. q.1) same));
       good = λ fits. good;
     } in
     subst (λ (k : Instr). TookOperand opcode octets k rest) (ap (λ q. q.0) same) made
 
-took_numbered : (opcode : Opcode) (make : ℕ → Instr) (octets : List ℕ) (i : Instr) (rest : List ℕ)
+took-numbered : (opcode : Opcode) (make : ℕ → Instr) (octets : List ℕ) (i : Instr) (rest : List ℕ)
     → ((n : ℕ) → opcode_of_instr (make n) ≡ opcode)
     → ((n : ℕ) → operand_of (make n) ≡ number_octets n) → ((n : ℕ) → n < 2 ^ 16 → IsInstr (make n))
     → with_number make octets ≡ Ok (i, rest) → TookOperand opcode octets i rest
-took_numbered opcode make octets i rest is text good e =
-    let a = bind_ok (number_at octets) (λ (n : ℕ × List ℕ). Ok (make n.0, n.1)) (i, rest) e in
+took-numbered opcode make octets i rest is text good e =
+    let a = bind-ok (number_at octets) (λ (n : ℕ × List ℕ). Ok (make n.0, n.1)) (i, rest) e in
     let n = a.0.0 in
-    let same = ok_same (make n, a.0.1) (i, rest) a.2 in
+    let same = ok-same (make n, a.0.1) (i, rest) a.2 in
     let took =
-    took_number octets n rest (a.1 ∙ ap (λ (r : List ℕ). Ok (n, r)) (ap (λ q. q.1) same)) in
+    took-number octets n rest (a.1 ∙ ap (λ (r : List ℕ). Ok (n, r)) (ap (λ q. q.1) same)) in
     let made : TookOperand opcode octets (make n) rest = record {
       opcode_is = is n;
       front = subst (λ (t : List ℕ). Front (length t) t octets rest) (sym (text n)) took.0;
@@ -211,9 +213,9 @@ took_numbered opcode make octets i rest is text good e =
     } in
     subst (λ (k : Instr). TookOperand opcode octets k rest) (ap (λ q. q.0) same) made
 
-some_is : {A : Type 0} (o : Option A) (x : A) → o ≡ Some x → IsSome o
-some_is None x e = absurd cc
-some_is (Some y) x e = refl
+some-is : {A : Type 0} (o : Option A) (x : A) → o ≡ Some x → IsSome o
+some-is None x e = absurd cc
+some-is (Some y) x e = refl
 
 length-signed : (s : Size) (z : ℤ) → length (signed_octets s z) ≡ octet_count s
 length-signed size.One z = refl
@@ -221,17 +223,17 @@ length-signed size.Two z = refl
 length-signed size.Four z = refl
 length-signed size.Eight z = refl
 
-pub took_operand : (version : Version) (opcode : Opcode) (octets : List ℕ) (i : Instr)
+pub took-operand : (version : Version) (opcode : Opcode) (octets : List ℕ) (i : Instr)
     (rest : List ℕ) → operand_from version opcode octets ≡ Ok (i, rest)
     → TookOperand opcode octets i rest
-took_operand version Halt octets i rest e = took_none Halt instr.Halt octets i rest refl refl tt e
-took_operand version (Push t) octets i rest e =
-    let a = bind_ok (value_at (size_of t) t octets)
+took-operand version Halt octets i rest e = took-none Halt instr.Halt octets i rest refl refl tt e
+took-operand version (Push t) octets i rest e =
+    let a = bind-ok (value_at (size_of t) t octets)
     (λ (v : Value × List ℕ). Ok (instr.Push v.0, v.1)) (i, rest) e in
     let v = a.0.0 in
-    let same = ok_same (instr.Push v, a.0.1) (i, rest) a.2 in
+    let same = ok-same (instr.Push v, a.0.1) (i, rest) a.2 in
     let took =
-    took_value (size_of t) t octets v rest
+    took-value (size_of t) t octets v rest
     (a.1 ∙ ap (λ (r : List ℕ). Ok (v, r)) (ap (λ q. q.1) same)) in
     let sized : Front (length (signed_octets (size_of t) (number_of v)))
     (signed_octets (size_of t) (number_of v)) octets rest =
@@ -243,44 +245,44 @@ took_operand version (Push t) octets i rest e =
           (length (signed_octets (size_of u) (number_of v)))
           (signed_octets (size_of u) (number_of v)) octets rest) (sym took.type) sized;
       good = λ fits. subst (λ (u : ElementaryType). IsSome (value_of u (number_of v)))
-          (sym took.type) (some_is (value_of t (number_of v)) v took.is);
+          (sym took.type) (some-is (value_of t (number_of v)) v took.is);
     } in
     subst (λ (k : Instr). TookOperand (Push t) octets k rest) (ap (λ q. q.0) same) made
-took_operand version Drop octets i rest e = took_none Drop instr.Drop octets i rest refl refl tt e
-took_operand version (Slot u) octets i rest e =
-    took_numbered (Slot u) (λ n. instr.Slot u n) octets i rest (λ n. refl) (λ n. refl)
+took-operand version Drop octets i rest e = took-none Drop instr.Drop octets i rest refl refl tt e
+took-operand version (Slot u) octets i rest e =
+    took-numbered (Slot u) (λ n. instr.Slot u n) octets i rest (λ n. refl) (λ n. refl)
     (λ n small. small) e
-took_operand version Not octets i rest e = took_none Not instr.Not octets i rest refl refl tt e
-took_operand version (Combine c) octets i rest e =
-    took_none (Combine c) (instr.Combine c) octets i rest refl refl tt e
-took_operand version (Compute o) octets i rest e =
-    let a = bind_ok (width_at version octets)
+took-operand version Not octets i rest e = took-none Not instr.Not octets i rest refl refl tt e
+took-operand version (Combine c) octets i rest e =
+    took-none (Combine c) (instr.Combine c) octets i rest refl refl tt e
+took-operand version (Compute o) octets i rest e =
+    let a = bind-ok (width_at version octets)
     (λ (w : Width × List ℕ). Ok (instr.Compute o w.0, w.1)) (i, rest) e in
     let w = a.0.0 in
-    let same = ok_same (instr.Compute o w, a.0.1) (i, rest) a.2 in
+    let same = ok-same (instr.Compute o w, a.0.1) (i, rest) a.2 in
     let made : TookOperand (Compute o) octets (instr.Compute o w) rest = record {
       opcode_is = refl;
-      front = took_width version octets w rest
+      front = took-width version octets w rest
           (a.1 ∙ ap (λ (r : List ℕ). Ok (w, r)) (ap (λ q. q.1) same));
       good = λ fits. tt;
     } in
     subst (λ (k : Instr). TookOperand (Compute o) octets k rest) (ap (λ q. q.0) same) made
-took_operand version (Compare c) octets i rest e =
-    took_none (Compare c) (instr.Compare c) octets i rest refl refl tt e
-took_operand version (Widen w) octets i rest e =
-    took_none (Widen w) (instr.Widen w) octets i rest refl refl tt e
-took_operand version (Jump when) octets i rest e =
-    took_numbered (Jump when) (λ n. instr.Jump when n) octets i rest (λ n. refl) (λ n. refl)
+took-operand version (Compare c) octets i rest e =
+    took-none (Compare c) (instr.Compare c) octets i rest refl refl tt e
+took-operand version (Widen w) octets i rest e =
+    took-none (Widen w) (instr.Widen w) octets i rest refl refl tt e
+took-operand version (Jump when) octets i rest e =
+    took-numbered (Jump when) (λ n. instr.Jump when n) octets i rest (λ n. refl) (λ n. refl)
     (λ n small. small) e
-took_operand version (Timer u) octets i rest e =
-    took_numbered (Timer u) (λ n. instr.Timer u n) octets i rest (λ n. refl) (λ n. refl)
+took-operand version (Timer u) octets i rest e =
+    took-numbered (Timer u) (λ n. instr.Timer u n) octets i rest (λ n. refl) (λ n. refl)
     (λ n small. small) e
 
 -- ---- instructions
 
-pub behind_octets : (front rest : List ℕ) → AreOctets (front ++ rest) → AreOctets rest
-behind_octets [] rest fits = fits
-behind_octets (x ∷ front) rest fits = behind_octets front rest (λ i. fits (suc i))
+pub behind-octets : (front rest : List ℕ) → AreOctets (front ++ rest) → AreOctets rest
+behind-octets [] rest fits = fits
+behind-octets (x ∷ front) rest fits = behind-octets front rest (λ i. fits (suc i))
 
 -- An instruction that was read is spelled, and is one that can be, of an opcode that the version
 -- has.
@@ -290,22 +292,22 @@ pub record TookInstr (version : Version) (octets : List ℕ) (i : Instr) (rest :
   pub good : AreOctets octets → IsInstr i
   pub known : is_known version (opcode_of_instr i) ≡ true
 
-pub took_instr : (version : Version) (octets : List ℕ) (i : Instr) (rest : List ℕ)
+pub took-instr : (version : Version) (octets : List ℕ) (i : Instr) (rest : List ℕ)
     → instr_from version octets ≡ Ok (i, rest) → TookInstr version octets i rest
 unfolding instr_from
-took_instr version octets i rest e =
-    let a = bind_ok (octet_at octets)
+took-instr version octets i rest e =
+    let a = bind-ok (octet_at octets)
     (λ (x : ℕ × List ℕ). known_opcode version (opcode_of x.0)
     >>= (λ (o : Opcode). operand_from version o x.1)) (i, rest) e in
-    let b = bind_ok (known_opcode version (opcode_of a.0.0))
+    let b = bind-ok (known_opcode version (opcode_of a.0.0))
     (λ (o : Opcode). operand_from version o a.0.1) (i, rest) a.2 in
-    let is = known_is version (opcode_of a.0.0) b.0 b.1 in
-    let first = took_octet octets a.0.0 a.0.1 a.1 in
-    let operand = took_operand version b.0 a.0.1 i rest b.2 in
+    let is = known-is version (opcode_of a.0.0) b.0 b.1 in
+    let first = took-octet octets a.0.0 a.0.1 a.1 in
+    let operand = took-operand version b.0 a.0.1 i rest b.2 in
     let octet : a.0.0 ≡ octet_of (opcode_of_instr i) =
     opcode_is a.0.0 b.0 is.0 ∙ ap octet_of (sym operand.opcode_is) in
     let behind : AreOctets octets → AreOctets a.0.1 =
-    λ fits. behind_octets first.front a.0.1 (subst AreOctets first.parts fits) in
+    λ fits. behind-octets first.front a.0.1 (subst AreOctets first.parts fits) in
     record {
       front = record {
         front = first.front ++ operand.front.front;
@@ -319,48 +321,48 @@ took_instr version octets i rest e =
       known = ap (is_known version) operand.opcode_is ∙ is.1;
     }
 
-width_back : (w : Width) → width_of Two (width_octet w) ≡ Some w
-width_back width.Int = refl
-width_back width.Dint = refl
-width_back width.Lint = refl
+width-back : (w : Width) → width_of Two (width_octet w) ≡ Some w
+width-back width.Int = refl
+width-back width.Dint = refl
+width-back width.Lint = refl
 
-back_value : (v : Value) (rest : List ℕ) → IsSome (value_of (type_of v) (number_of v))
+back-value : (v : Value) (rest : List ℕ) → IsSome (value_of (type_of v) (number_of v))
     → value_at (size_of (type_of v)) (type_of v)
     (signed_octets (size_of (type_of v)) (number_of v) ++ rest) ≡ Ok (v, rest)
-back_value v rest good =
+back-value v rest good =
     let t = type_of v in
-    let is = value_back v good in
-    bind_is (signed_at (size_of t) (signed_octets (size_of t) (number_of v) ++ rest))
-    (λ (z : ℤ × List ℕ). known (value_of t z.0) >>= (λ (x : Value). Ok (x, z.1)))
+    let is = value-back v good in
+    bind-is (signed_at (size_of t) (signed_octets (size_of t) (number_of v) ++ rest))
+    (λ (z : ℤ × List ℕ). known_value (value_of t z.0) >>= (λ (x : Value). Ok (x, z.1)))
     (number_of v, rest) (Ok (v, rest))
-    (back_signed (size_of t) (number_of v) rest (value_is t (number_of v) v is).fits)
+    (back-signed (size_of t) (number_of v) rest (value_is t (number_of v) v is).fits)
     (rw is refl)
 
-back_numbered : (make : ℕ → Instr) (n : ℕ) (rest : List ℕ) → n < 2 ^ 16
+back-numbered : (make : ℕ → Instr) (n : ℕ) (rest : List ℕ) → n < 2 ^ 16
     → with_number make (number_octets n ++ rest) ≡ Ok (make n, rest)
-back_numbered make n rest small =
-    bind_is (number_at (number_octets n ++ rest)) (λ (m : ℕ × List ℕ). Ok (make m.0, m.1)) (n, rest)
-    (Ok (make n, rest)) (back_number n rest small) refl
+back-numbered make n rest small =
+    bind-is (number_at (number_octets n ++ rest)) (λ (m : ℕ × List ℕ). Ok (make m.0, m.1)) (n, rest)
+    (Ok (make n, rest)) (back-number n rest small) refl
 
-back_operand : (i : Instr) (rest : List ℕ) → IsInstr i
+back-operand : (i : Instr) (rest : List ℕ) → IsInstr i
     → operand_from Two (opcode_of_instr i) (operand_of i ++ rest) ≡ Ok (i, rest)
-back_operand instr.Halt rest good = refl
-back_operand (instr.Push v) rest good =
-    bind_is (value_at (size_of (type_of v)) (type_of v)
+back-operand instr.Halt rest good = refl
+back-operand (instr.Push v) rest good =
+    bind-is (value_at (size_of (type_of v)) (type_of v)
     (signed_octets (size_of (type_of v)) (number_of v) ++ rest))
     (λ (x : Value × List ℕ). Ok (instr.Push x.0, x.1)) (v, rest) (Ok (instr.Push v, rest))
-    (back_value v rest good) refl
-back_operand instr.Drop rest good = refl
-back_operand (instr.Slot u n) rest good = back_numbered (λ m. instr.Slot u m) n rest good
-back_operand instr.Not rest good = refl
-back_operand (instr.Combine c) rest good = refl
-back_operand (instr.Compute o w) rest good = rw (width_back w) refl
-back_operand (instr.Compare c) rest good = refl
-back_operand (instr.Widen w) rest good = refl
-back_operand (instr.Jump when n) rest good = back_numbered (λ m. instr.Jump when m) n rest good
-back_operand (instr.Timer u n) rest good = back_numbered (λ m. instr.Timer u m) n rest good
+    (back-value v rest good) refl
+back-operand instr.Drop rest good = refl
+back-operand (instr.Slot u n) rest good = back-numbered (λ m. instr.Slot u m) n rest good
+back-operand instr.Not rest good = refl
+back-operand (instr.Combine c) rest good = refl
+back-operand (instr.Compute o w) rest good = rw (width-back w) refl
+back-operand (instr.Compare c) rest good = refl
+back-operand (instr.Widen w) rest good = refl
+back-operand (instr.Jump when n) rest good = back-numbered (λ m. instr.Jump when m) n rest good
+back-operand (instr.Timer u n) rest good = back-numbered (λ m. instr.Timer u m) n rest good
 
-pub back_instr : (i : Instr) (rest : List ℕ) → IsInstr i
+pub back-instr : (i : Instr) (rest : List ℕ) → IsInstr i
     → instr_from Two (spelling i ++ rest) ≡ Ok (i, rest)
 unfolding instr_from
-back_instr i rest good = rw (opcode_back (opcode_of_instr i)) (back_operand i rest good)
+back-instr i rest good = rw (opcode-back (opcode_of_instr i)) (back-operand i rest good)

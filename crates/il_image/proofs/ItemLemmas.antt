@@ -12,36 +12,36 @@ abbrev pub joined : {A : Type 0} → List A → Read (List A) → Read (List A)
 joined done (Ok r) = Ok (done ++ r.0, r.1)
 joined done (Err e) = Err e
 
-joined_nil : {A : Type 0} (r : Read (List A)) → r ≡ joined [] r
-joined_nil (Ok r) = refl
-joined_nil (Err e) = refl
+joined-nil : {A : Type 0} (r : Read (List A)) → r ≡ joined [] r
+joined-nil (Ok r) = refl
+joined-nil (Err e) = refl
 
-joined_more : {A : Type 0} (done : List A) (x : A) (r : Read (List A))
+joined-more : {A : Type 0} (done : List A) (x : A) (r : Read (List A))
     → joined done (r >>= (λ xs. Ok (x ∷ xs.0, xs.1))) ≡ joined (done ++ x ∷ []) r
-joined_more done x (Ok r) =
+joined-more done x (Ok r) =
     ap (λ (xs : List _). Ok (xs, r.1)) (sym (append_assoc done (x ∷ []) r.0))
-joined_more done x (Err e) = refl
+joined-more done x (Err e) = refl
 
 turn : {A : Type 0} (item : List ℕ → Read A) (n m : ℕ) (done : List A) (octets : List ℕ) (x : A)
     (rest : List ℕ) → n ≡ suc m → item octets ≡ Ok (x, rest)
     → joined done (items_at item n octets) ≡ joined (done ++ x ∷ []) (items_at item m rest)
-turn item n m done octets x rest is e = rw (is, e) (joined_more done x (items_at item m rest))
+turn item n m done octets x rest is e = rw (is, e) (joined-more done x (items_at item m rest))
 
 -- ---- a loop that has read i of the items
 
-pub going_init : {A : Type 0} (item : List ℕ → Read A) (octets : List ℕ) (count : ℕ) (rest : List ℕ)
+pub going-init : {A : Type 0} (item : List ℕ → Read A) (octets : List ℕ) (count : ℕ) (rest : List ℕ)
     → number_at octets ≡ Ok (count, rest)
     → counted_at item octets ≡ joined [] (items_at item (count - 0) rest)
-going_init item octets count rest e =
-    rw e (joined_nil (items_at item count rest)
+going-init item octets count rest e =
+    rw e (joined-nil (items_at item count rest)
     ∙ ap (λ (n : ℕ). joined [] (items_at item n rest)) (omega arith))
 
-pub going_turn : {A : Type 0} (item : List ℕ → Read A) (octets : List ℕ) (count i : ℕ)
+pub going-turn : {A : Type 0} (item : List ℕ → Read A) (octets : List ℕ) (count i : ℕ)
     (done new : List A) (rest behind : List ℕ) (x : A)
     → counted_at item octets ≡ joined done (items_at item (count - i) rest) → i < count
     → item rest ≡ Ok (x, behind) → new ≡ done ++ x ∷ []
     → counted_at item octets ≡ joined new (items_at item (count - (i + 1)) behind)
-going_turn item octets count i done new rest behind x so_far within e more =
+going-turn item octets count i done new rest behind x so_far within e more =
     so_far ∙ turn item (count - i) (count - (i + 1)) done rest x behind (omega arith) e
     ∙ ap (λ (xs : List _). joined xs (items_at item (count - (i + 1)) behind)) (sym more)
 
@@ -50,20 +50,20 @@ refused : {A : Type 0} (item : List ℕ → Read A) (n m : ℕ) (done : List A) 
     → joined done (items_at item n octets) ≡ Err fault
 refused item n m done octets fault is e = rw (is, e) refl
 
-pub going_err : {A : Type 0} (item : List ℕ → Read A) (octets : List ℕ) (count i : ℕ)
+pub going-err : {A : Type 0} (item : List ℕ → Read A) (octets : List ℕ) (count i : ℕ)
     (done : List A) (rest : List ℕ) (fault : ImageFault)
     → counted_at item octets ≡ joined done (items_at item (count - i) rest) → i < count
     → item rest ≡ Err fault → counted_at item octets ≡ Err fault
-going_err item octets count i done rest fault so_far within e =
+going-err item octets count i done rest fault so_far within e =
     so_far ∙ refused item (count - i) (count - (i + 1)) done rest fault (omega arith) e
 
 ended : {A : Type 0} (item : List ℕ → Read A) (n : ℕ) (done : List A) (octets : List ℕ) → n ≡ 0
     → joined done (items_at item n octets) ≡ Ok (done, octets)
 ended item n done octets is = rw (is, append-nil done) refl
 
-pub going_end : {A : Type 0} (item : List ℕ → Read A) (octets : List ℕ) (count i : ℕ)
+pub going-end : {A : Type 0} (item : List ℕ → Read A) (octets : List ℕ) (count i : ℕ)
     (done : List A) (rest : List ℕ)
     → counted_at item octets ≡ joined done (items_at item (count - i) rest) → count ≤ i
     → counted_at item octets ≡ Ok (done, rest)
-going_end item octets count i done rest so_far over =
+going-end item octets count i done rest so_far over =
     so_far ∙ ended item (count - i) done rest (omega arith)

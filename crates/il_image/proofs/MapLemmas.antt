@@ -3,11 +3,11 @@ use Rattle.std.proofs.Common.{◌≡◌, ℕ, ◌+◌, ◌<◌, List, [], ◌∷
 use Rattle.std.proofs.lemmas.List.{map-append, take_more}
 
 -- one turn: the item at i has its place behind those of the items before it
-pub mapped_turn : {A B : Type 0} (f : A → B) (xs : List A) (i : ℕ) (x : A) (y : B)
+pub mapped-turn : {A B : Type 0} (f : A → B) (xs : List A) (i : ℕ) (x : A) (y : B)
     (first done new : List B) → done ≡ first ++ map f (take i xs) → i < length xs
     → y ≡ f (get_or xs i x) → new ≡ done ++ y ∷ []
     → new ≡ first ++ map f (take (i + 1) xs)
-mapped_turn f xs i x y first done new so_far within is more =
+mapped-turn f xs i x y first done new so_far within is more =
     more ∙ ap (λ (ys : List _). ys ++ y ∷ []) so_far
     ∙ append_assoc first (map f (take i xs)) (y ∷ [])
     ∙ ap (λ (z : _). first ++ (map f (take i xs) ++ z ∷ [])) is

@@ -8,10 +8,10 @@ use Rattle.il_image.specs.declared.instr.Instr.{Instr}
 use Rattle.il_image.specs.declared.opcode.Version.{Version}
 use Rattle.il_image.specs.declared.opcode.Version.TheVariants.{One, Two}
 use Rattle.il_image.specs.Octets.{AreOctets}
-use Rattle.il_image.specs.Reading.{Read, instr_from, instr_at, placed, StandsAt}
+use Rattle.il_image.specs.Reading.{Read, instr_from, instr_at, with_next_place, StandsAt}
 use Rattle.il_image.specs.Spelling.{spelling, IsInstr}
-use Rattle.il_image.proofs.ReadLemmas.{drop_octets}
-use Rattle.il_image.proofs.InstrLemmas.{took_instr, back_instr}
+use Rattle.il_image.proofs.ReadLemmas.{drop-octets}
+use Rattle.il_image.proofs.InstrLemmas.{took-instr, back-instr}
 
 -- what was read at a place
 pub record Placed (code : List ℕ) (place : ℕ) (i : Instr) (next : ℕ) : Type 0 where
@@ -19,23 +19,24 @@ pub record Placed (code : List ℕ) (place : ℕ) (i : Instr) (next : ℕ) : Typ
   pub read : instr_from Two (drop place code) ≡ Ok (i, rest)
   pub is : next ≡ length code - length rest
 
-some_same : {A : Type 0} (x y : A) → Some x ≡ Some y → x ≡ y
-some_same x y e = cc
+some-same : {A : Type 0} (x y : A) → Some x ≡ Some y → x ≡ y
+some-same x y e = cc
 
-placed_is : (size : ℕ) (r : Read Instr) (i : Instr) (next : ℕ) → placed size r ≡ Some (i, next)
+placed-is : (size : ℕ) (r : Read Instr) (i : Instr) (next : ℕ)
+    → with_next_place size r ≡ Some (i, next)
     → (rest : List ℕ) × (r ≡ Ok (i, rest)) × (next ≡ size - length rest)
-placed_is size (Err e) i next h = absurd cc
-placed_is size (Ok r) i next h =
-    let pair = some_same (r.0, size - length r.1) (i, next) h in
+placed-is size (Err e) i next h = absurd cc
+placed-is size (Ok r) i next h =
+    let pair = some-same (r.0, size - length r.1) (i, next) h in
     let first : r.0 ≡ i = ap (λ q. q.0) pair in
     let second : size - length r.1 ≡ next = ap (λ q. q.1) pair in
     (r.1, ap (λ (j : Instr). Ok (j, r.1)) first, sym second)
 
-pub read_at : (code : List ℕ) (place : ℕ) (i : Instr) (next : ℕ)
+pub read-at : (code : List ℕ) (place : ℕ) (i : Instr) (next : ℕ)
     → instr_at code place ≡ Some (i, next) → Placed code place i next
 unfolding instr_at
-read_at code place i next e = let h =
-    placed_is (length code) (instr_from Two (drop place code)) i next e in
+read-at code place i next e = let h =
+    placed-is (length code) (instr_from Two (drop place code)) i next e in
     record { rest = h.0; read = h.1; is = h.2 }
 
 -- what is read behind a front leads forward, to a place of the code or its end
@@ -47,7 +48,7 @@ pub record Forward (code : List ℕ) (place : ℕ) (i : Instr) (rest : List ℕ)
 pub forward : (code : List ℕ) (place : ℕ) (i : Instr) (rest : List ℕ)
     → instr_from Two (drop place code) ≡ Ok (i, rest) → Forward code place i rest
 forward code place i rest e =
-    let took = took_instr Two (drop place code) i rest e in
+    let took = took-instr Two (drop place code) i rest e in
     let all : length (drop place code) ≡ length took.front.front + length rest =
     ap length took.front.parts ∙ length-append took.front.front rest in
     let cut : length (drop place code) ≡ length code - place = length-drop place code in
@@ -64,10 +65,10 @@ behind place n next code front rest e size is =
 pub stands : (code : List ℕ) (place : ℕ) (i : Instr) (next : ℕ) → AreOctets code
     → instr_at code place ≡ Some (i, next) → StandsAt code place i next
 stands code place i next fits e =
-    let p = read_at code place i next e in
+    let p = read-at code place i next e in
     let f = forward code place i p.rest p.read in
-    let took = took_instr Two (drop place code) i p.rest p.read in
-    let octets = drop_octets place code fits in
+    let took = took-instr Two (drop place code) i p.rest p.read in
+    let octets = drop-octets place code fits in
     let is : drop place code ≡ spelling i ++ p.rest =
     took.front.parts ∙ ap (λ (xs : List ℕ). xs ++ p.rest) (took.front.is octets) in
     let size : next ≡ place + length (spelling i) = p.is ∙ f.next in
@@ -85,25 +86,25 @@ pub stood : (code : List ℕ) (place : ℕ) (i : Instr) (next : ℕ) → StandsA
     → instr_at code place ≡ Some (i, next)
 unfolding instr_at
 stood code place i next s =
-    let back = back_instr i (drop next code) s.is_instr in
+    let back = back-instr i (drop next code) s.is_instr in
     let within = s.within in
     let left : length code - length (drop next code) ≡ next =
     omega (arith, length-drop next code) in
     rw (s.spelled, back, left) refl
 
 -- past the end there is none
-pub none_past_end : (code : List ℕ) (place : ℕ) → length code ≤ place → instr_at code place ≡ None
+pub none-past-end : (code : List ℕ) (place : ℕ) → length code ≤ place → instr_at code place ≡ None
 unfolding instr_at instr_from
-none_past_end code place past = rw (drop_of_length-le code past) refl
+none-past-end code place past = rw (drop_of_length-le code past) refl
 
 pub shorter : (octets : List ℕ) (i : Instr) (rest : List ℕ) → instr_from Two octets ≡ Ok (i, rest)
     → length rest ≤ length octets
 shorter octets i rest e = (forward octets 0 i rest e).small
 
-pub goes_forward : (code : List ℕ) (place : ℕ) (i : Instr) (next : ℕ)
+pub goes-forward : (code : List ℕ) (place : ℕ) (i : Instr) (next : ℕ)
     → instr_at code place ≡ Some (i, next) → (place < next) × (next ≤ length code)
-goes_forward code place i next e =
-    let p = read_at code place i next e in
+goes-forward code place i next e =
+    let p = read-at code place i next e in
     let f = forward code place i p.rest p.read in
     let size : next ≡ place + length (spelling i) = p.is ∙ f.next in
     let within = f.within in
@@ -115,32 +116,33 @@ whole code place =
     ap (λ (n : ℕ). take n (drop place code)) (sym (length-drop place code))
     ∙ take-length (drop place code)
 
-pub from_place : (code : List ℕ) (place : ℕ) (found : Option (Instr × ℕ))
-    → found ≡ placed (length code) (instr_from Two (take (length code - place) (drop place code)))
+pub from-place : (code : List ℕ) (place : ℕ) (found : Option (Instr × ℕ))
+    → found ≡ with_next_place (length code)
+    (instr_from Two (take (length code - place) (drop place code)))
     → found ≡ instr_at code place
 unfolding instr_at
-from_place code place found e =
-    e ∙ ap (λ (xs : List ℕ). placed (length code) (instr_from Two xs)) (whole code place)
+from-place code place found e =
+    e ∙ ap (λ (xs : List ℕ). with_next_place (length code) (instr_from Two xs)) (whole code place)
 
-pub found_forward : (code : List ℕ) (place : ℕ) (found : Option (Instr × ℕ))
+pub found-forward : (code : List ℕ) (place : ℕ) (found : Option (Instr × ℕ))
     → found ≡ instr_at code place → IfSome found (λ r. (place < r.1) × (r.1 ≤ length code))
-found_forward code place None e = tt
-found_forward code place (Some r) e = goes_forward code place r.0 r.1 (sym e)
+found-forward code place None e = tt
+found-forward code place (Some r) e = goes-forward code place r.0 r.1 (sym e)
 
-pub stands_or_none : (code : List ℕ) (place : ℕ) (i : Instr) (next : ℕ) → AreOctets code
+pub stands-or-none : (code : List ℕ) (place : ℕ) (i : Instr) (next : ℕ) → AreOctets code
     → (instr_at code place ≡ Some (i, next)) ↔ StandsAt code place i next
-stands_or_none code place i next fits = (stands code place i next fits, stood code place i next)
+stands-or-none code place i next fits = (stands code place i next fits, stood code place i next)
 
 -- what was read of octets is spelled by their front
-pub spelled_so : (version : Version) (octets : List ℕ) (i : Instr) (rest : List ℕ)
+pub spelled-so : (version : Version) (octets : List ℕ) (i : Instr) (rest : List ℕ)
     → AreOctets octets → instr_from version octets ≡ Ok (i, rest)
     → IsInstr i × (octets ≡ spelling i ++ rest)
-spelled_so version octets i rest fits e =
-    let took = took_instr version octets i rest e in
+spelled-so version octets i rest fits e =
+    let took = took-instr version octets i rest e in
     (took.good fits, took.front.parts ∙ ap (λ (xs : List ℕ). xs ++ rest) (took.front.is fits))
 
 -- what version 1 reads version 2 reads
-pub newer_reads : (octets : List ℕ) (i : Instr) (rest : List ℕ) → AreOctets octets
+pub newer-reads : (octets : List ℕ) (i : Instr) (rest : List ℕ) → AreOctets octets
     → instr_from One octets ≡ Ok (i, rest) → instr_from Two octets ≡ Ok (i, rest)
-newer_reads octets i rest fits e = let s =
-    spelled_so One octets i rest fits e in rw s.1 (back_instr i rest s.0)
+newer-reads octets i rest fits e = let s =
+    spelled-so One octets i rest fits e in rw s.1 (back-instr i rest s.0)

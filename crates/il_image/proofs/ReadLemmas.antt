@@ -10,32 +10,32 @@ use Rattle.il_image.specs.declared.fault.ImageFault.TheVariants.{Truncated}
 use Rattle.il_image.specs.declared.write.Size.{Size}
 use Rattle.il_image.specs.declared.write.Size.TheVariants.{One, Two, Four, Eight}
 use Rattle.il_image.specs.Octets.{AreOctets, octet_count, bits_of_size, number_octets, signed_octets}
-use Rattle.il_image.specs.Reading.{known, octet_at, number_at, signed_at}
-use Rattle.il_image.proofs.OctetLemmas.{written_number, written_signed, read_number, read_signed, number_below}
+use Rattle.il_image.specs.Reading.{known_value, octet_at, number_at, signed_at}
+use Rattle.il_image.proofs.OctetLemmas.{written-number, written-signed, read_number, read-signed, number-below}
 
 -- ---- steps
 
-pub bind_ok : {A B : Type 0} (r : Result A ImageFault) (f : A → Result B ImageFault) (y : B)
+pub bind-ok : {A B : Type 0} (r : Result A ImageFault) (f : A → Result B ImageFault) (y : B)
     → (r >>= f) ≡ Ok y → (x : A) × (r ≡ Ok x) × (f x ≡ Ok y)
-bind_ok (Ok x) f y e = (x, refl, e)
-bind_ok (Err fault) f y e = absurd cc
+bind-ok (Ok x) f y e = (x, refl, e)
+bind-ok (Err fault) f y e = absurd cc
 
-pub bind_is : {A B : Type 0} (r : Result A ImageFault) (f : A → Result B ImageFault) (x : A)
+pub bind-is : {A B : Type 0} (r : Result A ImageFault) (f : A → Result B ImageFault) (x : A)
     (s : Result B ImageFault) → r ≡ Ok x → f x ≡ s → (r >>= f) ≡ s
-bind_is (Ok y) f x s e g = let same : y ≡ x = cc in ap f same ∙ g
-bind_is (Err fault) f x s e g = absurd cc
+bind-is (Ok y) f x s e g = let same : y ≡ x = cc in ap f same ∙ g
+bind-is (Err fault) f x s e g = absurd cc
 
-pub known_ok : {A : Type 0} (o : Option A) (x : A) → known o ≡ Ok x → o ≡ Some x
-known_ok None x e = absurd cc
-known_ok (Some y) x e = cc
+pub known-ok : {A : Type 0} (o : Option A) (x : A) → known_value o ≡ Ok x → o ≡ Some x
+known-ok None x e = absurd cc
+known-ok (Some y) x e = cc
 
-pub ok_same : {A : Type 0} (x y : A) → (◌≡◌ {A = Result A ImageFault} (Ok x) (Ok y)) → x ≡ y
-ok_same x y e = cc
+pub ok-same : {A : Type 0} (x y : A) → (◌≡◌ {A = Result A ImageFault} (Ok x) (Ok y)) → x ≡ y
+ok-same x y e = cc
 
-pub chosen_ok : {A : Type 0} (b : Bool) (x y : A)
+pub chosen-ok : {A : Type 0} (b : Bool) (x y : A)
     → (◌≡◌ {A = Result A ImageFault} (cond b (Err Truncated) (Ok x)) (Ok y)) → (b ≡ false) × (x ≡ y)
-chosen_ok true x y e = absurd cc
-chosen_ok false x y e = (refl, cc)
+chosen-ok true x y e = absurd cc
+chosen-ok false x y e = (refl, cc)
 
 -- ---- fronts
 
@@ -57,10 +57,10 @@ take_octets (suc n) (x ∷ octets) fits =
     go n x octets rest first zero = first
     go n x octets rest first (suc i) = rest i
 
-pub drop_octets : (n : ℕ) (octets : List ℕ) → AreOctets octets → AreOctets (drop n octets)
-drop_octets zero octets fits = fits
-drop_octets (suc n) [] fits = fits
-drop_octets (suc n) (x ∷ octets) fits = drop_octets n octets (λ i. fits (suc i))
+pub drop-octets : (n : ℕ) (octets : List ℕ) → AreOctets octets → AreOctets (drop n octets)
+drop-octets zero octets fits = fits
+drop-octets (suc n) [] fits = fits
+drop-octets (suc n) (x ∷ octets) fits = drop-octets n octets (λ i. fits (suc i))
 
 -- the octets taken and the rest
 taken : (n : ℕ) (text octets rest : List ℕ) → ltb (length octets) n ≡ false → drop n octets ≡ rest
@@ -78,11 +78,11 @@ taken n text octets rest enough e is =
 
 -- ---- octets and numbers
 
-pub took_octet : (octets : List ℕ) (octet : ℕ) (rest : List ℕ) → octet_at octets ≡ Ok (octet, rest)
+pub took-octet : (octets : List ℕ) (octet : ℕ) (rest : List ℕ) → octet_at octets ≡ Ok (octet, rest)
     → Front 1 (octet ∷ []) octets rest
-took_octet [] octet rest e = absurd cc
-took_octet (x ∷ xs) octet rest e =
-    let p = ok_same (x, xs) (octet, rest) e in
+took-octet [] octet rest e = absurd cc
+took-octet (x ∷ xs) octet rest e =
+    let p = ok-same (x, xs) (octet, rest) e in
     record {
       front = x ∷ [];
       parts = ap (λ ys. x ∷ ys) (ap (λ q. q.1) p);
@@ -90,20 +90,20 @@ took_octet (x ∷ xs) octet rest e =
       is = λ fits. ap (λ y. y ∷ []) (ap (λ q. q.0) p);
     }
 
-pub from_front : (size : Size) (octets : List ℕ)
+pub from-front : (size : Size) (octets : List ℕ)
     → from_be_bytes (bits_of_size size) (take (octet_count size) octets)
     ≡ from_be_bytes (bits_of_size size) octets
-from_front One octets = get_or-take 1 octets 0 0 (omega arith)
-from_front Two octets =
+from-front One octets = get_or-take 1 octets 0 0 (omega arith)
+from-front Two octets =
     rw (get_or-take 2 octets 0 0 (omega arith), get_or-take 2 octets 1 0 (omega arith)) refl
-from_front Four octets =
+from-front Four octets =
     rw (
       get_or-take 4 octets 0 0 (omega arith),
       get_or-take 4 octets 1 0 (omega arith),
       get_or-take 4 octets 2 0 (omega arith),
       get_or-take 4 octets 3 0 (omega arith),
     ) refl
-from_front Eight octets =
+from-front Eight octets =
     rw (
       get_or-take 8 octets 0 0 (omega arith),
       get_or-take 8 octets 1 0 (omega arith),
@@ -115,39 +115,39 @@ from_front Eight octets =
       get_or-take 8 octets 7 0 (omega arith),
     ) refl
 
-pub took_number : (octets : List ℕ) (n : ℕ) (rest : List ℕ) → number_at octets ≡ Ok (n, rest)
+pub took-number : (octets : List ℕ) (n : ℕ) (rest : List ℕ) → number_at octets ≡ Ok (n, rest)
     → Front 2 (number_octets n) octets rest × (AreOctets octets → n < 2 ^ 16)
-took_number octets n rest e =
-    let p = chosen_ok (ltb (length octets) 2) (from_be_bytes w16 octets, drop 2 octets) (n, rest) e
+took-number octets n rest e =
+    let p = chosen-ok (ltb (length octets) 2) (from_be_bytes w16 octets, drop 2 octets) (n, rest) e
     in
     let number : from_be_bytes w16 (take 2 octets) ≡ n =
-    from_front Two octets ∙ ap (λ q. q.0) p.1 in (
+    from-front Two octets ∙ ap (λ q. q.0) p.1 in (
       taken 2 (number_octets n) octets rest p.0 (ap (λ q. q.1) p.1)
           (λ fits len. sym (read_number (take 2 octets) len fits) ∙ ap number_octets number),
       λ fits. subst (λ (m : ℕ). m < 2 ^ 16) number
-          (number_below (take 2 octets) (take_octets 2 octets fits)),
+          (number-below (take 2 octets) (take_octets 2 octets fits)),
     )
 
-pub took_signed : (size : Size) (octets : List ℕ) (z : ℤ) (rest : List ℕ)
+pub took-signed : (size : Size) (octets : List ℕ) (z : ℤ) (rest : List ℕ)
     → signed_at size octets ≡ Ok (z, rest)
     → Front (octet_count size) (signed_octets size z) octets rest
-took_signed size octets z rest e =
+took-signed size octets z rest e =
     let w = bits_of_size size in
     let n = octet_count size in
-    let p = chosen_ok (ltb (length octets) n)
+    let p = chosen-ok (ltb (length octets) n)
     (cast_signed w (from_be_bytes w octets), drop n octets) (z, rest) e in
     let number : cast_signed w (from_be_bytes w (take n octets)) ≡ z =
-    ap (cast_signed w) (from_front size octets) ∙ ap (λ q. q.0) p.1 in
+    ap (cast_signed w) (from-front size octets) ∙ ap (λ q. q.0) p.1 in
     taken n (signed_octets size z) octets rest p.0 (ap (λ q. q.1) p.1)
-    (λ fits len. sym (read_signed size (take n octets) len fits)
+    (λ fits len. sym (read-signed size (take n octets) len fits)
     ∙ ap (signed_octets size) number)
 
 -- a number that is whole, and what is left behind it
-pub whole_signed : (size : Size) (octets : List ℕ) (z : ℤ) → octet_count size ≤ length octets
+pub whole-signed : (size : Size) (octets : List ℕ) (z : ℤ) → octet_count size ≤ length octets
     → z ≡ cast_signed (bits_of_size size) (from_be_bytes (bits_of_size size) octets)
     → signed_at size octets ≡ Ok
     (z, take (length octets - octet_count size) (drop (octet_count size) octets))
-whole_signed size octets z enough is =
+whole-signed size octets z enough is =
     let n = octet_count size in
     rw (le-ltb (length octets) n enough)
     (ap (λ (x : ℤ). Ok (x, drop n octets)) (sym is)
@@ -155,23 +155,23 @@ whole_signed size octets z enough is =
 
 -- ---- back again
 
-pub back_number : (n : ℕ) (rest : List ℕ) → n < 2 ^ 16
+pub back-number : (n : ℕ) (rest : List ℕ) → n < 2 ^ 16
     → number_at (number_octets n ++ rest) ≡ Ok (n, rest)
-back_number n rest small =
+back-number n rest small =
     rw (let e : ltb (length (number_octets n ++ rest)) 2 ≡ false = le-ltb _ 2 (omega arith) in e)
-    (ap (λ (m : ℕ). Ok (m, rest)) (written_number n rest small))
+    (ap (λ (m : ℕ). Ok (m, rest)) (written-number n rest small))
 
-pub back_signed : (size : Size) (z : ℤ) (rest : List ℕ) → FitsSigned (bits_of_size size) z
+pub back-signed : (size : Size) (z : ℤ) (rest : List ℕ) → FitsSigned (bits_of_size size) z
     → signed_at size (signed_octets size z ++ rest) ≡ Ok (z, rest)
-back_signed One z rest fits =
+back-signed One z rest fits =
     rw (let e : ltb (length (signed_octets One z ++ rest)) 1 ≡ false = le-ltb _ 1 (omega arith) in
-    e) (ap (λ (m : ℤ). Ok (m, rest)) (written_signed One z rest fits))
-back_signed Two z rest fits =
+    e) (ap (λ (m : ℤ). Ok (m, rest)) (written-signed One z rest fits))
+back-signed Two z rest fits =
     rw (let e : ltb (length (signed_octets Two z ++ rest)) 2 ≡ false = le-ltb _ 2 (omega arith) in
-    e) (ap (λ (m : ℤ). Ok (m, rest)) (written_signed Two z rest fits))
-back_signed Four z rest fits =
+    e) (ap (λ (m : ℤ). Ok (m, rest)) (written-signed Two z rest fits))
+back-signed Four z rest fits =
     rw (let e : ltb (length (signed_octets Four z ++ rest)) 4 ≡ false = le-ltb _ 4 (omega arith) in
-    e) (ap (λ (m : ℤ). Ok (m, rest)) (written_signed Four z rest fits))
-back_signed Eight z rest fits =
+    e) (ap (λ (m : ℤ). Ok (m, rest)) (written-signed Four z rest fits))
+back-signed Eight z rest fits =
     rw (let e : ltb (length (signed_octets Eight z ++ rest)) 8 ≡ false = le-ltb _ 8 (omega arith) in
-    e) (ap (λ (m : ℤ). Ok (m, rest)) (written_signed Eight z rest fits))
+    e) (ap (λ (m : ℤ). Ok (m, rest)) (written-signed Eight z rest fits))

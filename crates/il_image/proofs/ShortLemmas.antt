@@ -23,13 +23,13 @@ use Rattle.il_image.specs.Cuts.{IsShortOf, IsValueOf}
 use Rattle.il_image.specs.Decoding.{access_at, access_of, kind_of_octet, name_at, name_of_length, point_at, timer_at, type_at, type_of_octet, variable_at, version_at}
 use Rattle.il_image.specs.Images.{is_name_octet, value_size, variable_octets}
 use Rattle.il_image.specs.Octets.{AreOctets, bits_of_size, octet_count}
-use Rattle.il_image.specs.Reading.{Read, known, number_at, octet_at, value_at}
+use Rattle.il_image.specs.Reading.{Read, known_value, number_at, octet_at, value_at}
 use Rattle.il_image.specs.Values.{default_value, value_of}
-use Rattle.il_image.proofs.EndLemmas.{Empty, Ends, IsAll, all_told, are_more, are_none, few_told, through}
-use Rattle.il_image.proofs.InstrLemmas.{behind_octets}
-use Rattle.il_image.proofs.ReadLemmas.{took_number}
-use Rattle.il_image.proofs.SteadyLemmas.{Steady, err_same, steady_access, steady_name, steady_type}
-use Rattle.il_image.proofs.TookLemmas.{took_variable}
+use Rattle.il_image.proofs.EndLemmas.{Empty, Ends, IsAll, all-told, are-more, are-none, few-told, through}
+use Rattle.il_image.proofs.InstrLemmas.{behind-octets}
+use Rattle.il_image.proofs.ReadLemmas.{took-number}
+use Rattle.il_image.proofs.SteadyLemmas.{Steady, err-same, steady-access, steady-name, steady-type}
+use Rattle.il_image.proofs.TookLemmas.{took-variable}
 
 -- ---- readers that are completed always
 
@@ -40,47 +40,47 @@ Never octets = ⊥
 abbrev pub NeverBehind : {A : Type 0} → A → List ℕ → Type 0
 NeverBehind x octets = ⊥
 
-pub known_never : {A : Type 0} (o : Option A) (octets : List ℕ)
-    → ◌≡◌ {A = Read A} (known o >>= (λ (t : A). Ok (t, octets))) (Err Truncated) → ⊥
-known_never None octets e = absurd cc
-known_never (Some x) octets e = absurd cc
+pub known-never : {A : Type 0} (o : Option A) (octets : List ℕ)
+    → ◌≡◌ {A = Read A} (known_value o >>= (λ (t : A). Ok (t, octets))) (Err Truncated) → ⊥
+known-never None octets e = absurd cc
+known-never (Some x) octets e = absurd cc
 
 -- an octet of a table
 abbrev tabled : {A : Type 0} → (ℕ → Option A) → List ℕ → Read A
 tabled f octets = do
   o ← octet_at octets
-  t ← known (f o.0)
+  t ← known_value (f o.0)
   Ok (t, o.1)
 
-octet_short : {A : Type 0} (f : ℕ → Option A) (d : ℕ) (y : A) → d < 256 → f d ≡ Some y
+octet-short : {A : Type 0} (f : ℕ → Option A) (d : ℕ) (y : A) → d < 256 → f d ≡ Some y
     → (octets : List ℕ) → tabled f octets ≡ Err Truncated → Ends (tabled f) octets
-octet_short f d y small is [] e =
+octet-short f d y small is [] e =
     record {
       more = d ∷ [];
-      fits = are_more d [] small are_none;
+      fits = are-more d [] small are-none;
       what = (y, []);
       is = rw is refl;
       ends = refl;
     }
-octet_short f d y small is (x ∷ octets) e = absurd (known_never (f x) octets e)
+octet-short f d y small is (x ∷ octets) e = absurd (known-never (f x) octets e)
 
-type_short : (version : Version) (octets : List ℕ) → type_at version octets ≡ Err Truncated
+type-short : (version : Version) (octets : List ℕ) → type_at version octets ≡ Err Truncated
     → Ends (type_at version) octets
-type_short version = octet_short (type_of_octet version) 1 elementary.Bool (omega arith) refl
+type-short version = octet-short (type_of_octet version) 1 elementary.Bool (omega arith) refl
 
-access_short : (octets : List ℕ) → access_at octets ≡ Err Truncated → Ends access_at octets
-access_short = octet_short access_of 0 false (omega arith) refl
+access-short : (octets : List ℕ) → access_at octets ≡ Err Truncated → Ends access_at octets
+access-short = octet-short access_of 0 false (omega arith) refl
 
-pub version_short : (octets : List ℕ) → version_at octets ≡ Err Truncated → Ends version_at octets
-version_short [] e =
+pub version-short : (octets : List ℕ) → version_at octets ≡ Err Truncated → Ends version_at octets
+version-short [] e =
     record {
       more = 1 ∷ [];
-      fits = are_more 1 [] (omega arith) are_none;
+      fits = are-more 1 [] (omega arith) are-none;
       what = (One, []);
       is = refl;
       ends = refl;
     }
-version_short (x ∷ octets) e = absurd (never (eqb x 1) (eqb x 2) e)
+version-short (x ∷ octets) e = absurd (never (eqb x 1) (eqb x 2) e)
   where
     never : (a b : Bool) → ◌≡◌ {A = Read Version}
         (cond a (Ok (One, octets)) (cond b (Ok (Two, octets)) (Err BadVersion))) (Err Truncated)
@@ -89,22 +89,22 @@ version_short (x ∷ octets) e = absurd (never (eqb x 1) (eqb x 2) e)
     never false true e = absurd cc
     never false false e = absurd cc
 
-pub number_short : (octets : List ℕ) → number_at octets ≡ Err Truncated → Ends number_at octets
-number_short [] e = record {
+pub number-short : (octets : List ℕ) → number_at octets ≡ Err Truncated → Ends number_at octets
+number-short [] e = record {
   more = 0 ∷ 0 ∷ [];
-  fits = are_more 0 (0 ∷ []) (omega arith) (are_more 0 [] (omega arith) are_none);
+  fits = are-more 0 (0 ∷ []) (omega arith) (are-more 0 [] (omega arith) are-none);
   what = (from_be_bytes w16 (0 ∷ 0 ∷ []), []);
   is = refl;
   ends = refl;
 }
-number_short (h ∷ []) e = record {
+number-short (h ∷ []) e = record {
   more = 0 ∷ [];
-  fits = are_more 0 [] (omega arith) are_none;
+  fits = are-more 0 [] (omega arith) are-none;
   what = (from_be_bytes w16 (h ∷ 0 ∷ []), []);
   is = refl;
   ends = refl;
 }
-number_short (h ∷ l ∷ octets) e =
+number-short (h ∷ l ∷ octets) e =
     absurd (enough (ltb (length (h ∷ l ∷ octets)) 2)
     (le-ltb (length (h ∷ l ∷ octets)) 2 (omega arith)) e)
   where
@@ -119,30 +119,30 @@ unfoldable pub copies : ℕ → ℕ → List ℕ
 copies x zero = []
 copies x (suc n) = x ∷ copies x n
 
-pub copies_fit : (x n : ℕ) → x < 256 → AreOctets (copies x n)
+pub copies-fit : (x n : ℕ) → x < 256 → AreOctets (copies x n)
 unfolding copies
-copies_fit x zero small = are_none
-copies_fit x (suc n) small = are_more x (copies x n) small (copies_fit x n small)
+copies-fit x zero small = are-none
+copies-fit x (suc n) small = are-more x (copies x n) small (copies-fit x n small)
 
-pub copies_size : (x n : ℕ) → length (copies x n) ≡ n
+pub copies-size : (x n : ℕ) → length (copies x n) ≡ n
 unfolding copies
-copies_size x zero = refl
-copies_size x (suc n) = ap suc (copies_size x n)
+copies-size x zero = refl
+copies-size x (suc n) = ap suc (copies-size x n)
 
-copies_name : (n : ℕ) → list_all is_name_octet (copies 0x41 n) ≡ true
+copies-name : (n : ℕ) → list_all is_name_octet (copies 0x41 n) ≡ true
 unfolding copies
-copies_name zero = refl
-copies_name (suc n) = copies_name n
+copies-name zero = refl
+copies-name (suc n) = copies-name n
 
-pub take_all : (n : ℕ) (xs : List ℕ) → length xs ≤ n → take n xs ≡ xs
-take_all zero [] le = refl
-take_all zero (x ∷ xs) le = absurd (omega arith)
-take_all (suc n) [] le = refl
-take_all (suc n) (x ∷ xs) le = ap (λ (ys : List ℕ). x ∷ ys) (take_all n xs (omega arith))
+pub take-all : (n : ℕ) (xs : List ℕ) → length xs ≤ n → take n xs ≡ xs
+take-all zero [] le = refl
+take-all zero (x ∷ xs) le = absurd (omega arith)
+take-all (suc n) [] le = refl
+take-all (suc n) (x ∷ xs) le = ap (λ (ys : List ℕ). x ∷ ys) (take-all n xs (omega arith))
 
-length_short : (n : ℕ) (octets : List ℕ) → name_of_length n octets ≡ Err Truncated
+length-short : (n : ℕ) (octets : List ℕ) → name_of_length n octets ≡ Err Truncated
     → Ends (name_of_length n) octets
-length_short n octets e =
+length-short n octets e =
     go (list_all is_name_octet (take n octets)) (ltb (length octets) n) refl refl e
   where
     go : (a b : Bool) → list_all is_name_octet (take n octets) ≡ a → ltb (length octets) n ≡ b
@@ -155,43 +155,43 @@ length_short n octets e =
         let lt : length octets < n = ltb-true (length octets) n g in
         let more = copies 0x41 (n - length octets) in
         let size : length (octets ++ more) ≡ n =
-        omega (arith, length-append octets more, copies_size 0x41 (n - length octets)) in
+        omega (arith, length-append octets more, copies-size 0x41 (n - length octets)) in
         let all : take n (octets ++ more) ≡ octets ++ more =
-        take_all n (octets ++ more) (omega arith) in
+        take-all n (octets ++ more) (omega arith) in
         let none : drop n (octets ++ more) ≡ [] =
         drop_of_length-le (octets ++ more) (omega arith) in
         let front : list_all is_name_octet octets ≡ true =
-        ap (list_all is_name_octet) (sym (take_all n octets (omega arith))) ∙ f in
+        ap (list_all is_name_octet) (sym (take-all n octets (omega arith))) ∙ f in
         let good : list_all is_name_octet (octets ++ more) ≡ true =
         list_all-append is_name_octet octets more
         ∙ ap (λ (b : Bool). b && list_all is_name_octet more) front
-        ∙ copies_name (n - length octets) in
+        ∙ copies-name (n - length octets) in
         let enough : ltb (length (octets ++ more)) n ≡ false =
         le-ltb (length (octets ++ more)) n (omega arith) in
         record {
           more = more;
-          fits = copies_fit 0x41 (n - length octets) (omega arith);
+          fits = copies-fit 0x41 (n - length octets) (omega arith);
           what = (octets ++ more, []);
           is = rw (all, good, enough, none) refl;
           ends = refl;
         }
 
-name_short : (octets : List ℕ) → name_at octets ≡ Err Truncated → Ends name_at octets
-name_short [] e = record {
+name-short : (octets : List ℕ) → name_at octets ≡ Err Truncated → Ends name_at octets
+name-short [] e = record {
   more = 1 ∷ 0x41 ∷ [];
-  fits = are_more 1 (0x41 ∷ []) (omega arith) (are_more 0x41 [] (omega arith) are_none);
+  fits = are-more 1 (0x41 ∷ []) (omega arith) (are-more 0x41 [] (omega arith) are-none);
   what = (0x41 ∷ [], []);
   is = refl;
   ends = refl;
 }
-name_short (x ∷ octets) e = go (eqb x 0 || ltb 64 x) refl e
+name-short (x ∷ octets) e = go (eqb x 0 || ltb 64 x) refl e
   where
     go : (b : Bool) → (eqb x 0 || ltb 64 x) ≡ b
         → ◌≡◌ {A = Read (List ℕ)} (cond b (Err BadOpcode) (name_of_length x octets)) (Err Truncated)
         → Ends name_at (x ∷ octets)
     go true f e = absurd cc
     go false f e =
-        let a = length_short x octets e in
+        let a = length-short x octets e in
         record { more = a.more; fits = a.fits; what = a.what; is = rw f a.is; ends = a.ends }
 
 -- ---- readers one behind the other
@@ -208,23 +208,23 @@ module _ {A B : Type 0} (item : List ℕ → Read A) (g : A → List ℕ → Rea
         | inr c ↦ absurd (elim c [ inl n ↦ n | inr n ↦ n.2 ])
       ]
 
-pub ok_start : {A : Type 0} (x : A) → Ends (λ octets. Ok (x, octets)) []
-ok_start x = record { more = []; fits = are_none; what = (x, []); is = refl; ends = refl }
+pub ok-start : {A : Type 0} (x : A) → Ends (λ octets. Ok (x, octets)) []
+ok-start x = record { more = []; fits = are-none; what = (x, []); is = refl; ends = refl }
 
-pub ok_more : {A : Type 0} (x : A) (rest : List ℕ)
+pub ok-more : {A : Type 0} (x : A) (rest : List ℕ)
     → ◌≡◌ {A = Read A} (Ok (x, rest)) (Err Truncated) → Ends (λ octets. Ok (x, octets)) rest
-ok_more x rest e = absurd cc
+ok-more x rest e = absurd cc
 
 abbrev named : {B : Type 0} → (List ℕ → B) → List ℕ → Read B
 named make octets = do
   n ← name_at octets
   Ok (make n.0, n.1)
 
-named_short : {B : Type 0} (make : List ℕ → B) (octets : List ℕ)
+named-short : {B : Type 0} (make : List ℕ → B) (octets : List ℕ)
     → named make octets ≡ Err Truncated → Ends (named make) octets
-named_short make octets =
-    sure name_at (λ n octets. Ok (make n, octets)) steady_name octets (name_short octets)
-    (λ n. ok_start (make n)) (λ n. ok_more (make n))
+named-short make octets =
+    sure name_at (λ n octets. Ok (make n, octets)) steady-name octets (name-short octets)
+    (λ n. ok-start (make n)) (λ n. ok-more (make n))
 
 -- the point of a type, what is allowed and a name
 abbrev point_of : ElementaryType → Bool → List ℕ → ImagePoint
@@ -235,73 +235,73 @@ allowed t octets = do
   w ← access_at octets
   named (point_of t w.0) w.1
 
-allowed_short : (t : ElementaryType) (octets : List ℕ) → allowed t octets ≡ Err Truncated
+allowed-short : (t : ElementaryType) (octets : List ℕ) → allowed t octets ≡ Err Truncated
     → Ends (allowed t) octets
-allowed_short t octets =
-    sure access_at (λ w. named (point_of t w)) steady_access octets (access_short octets)
-    (λ w. named_short (point_of t w) [] refl) (λ w. named_short (point_of t w))
+allowed-short t octets =
+    sure access_at (λ w. named (point_of t w)) steady-access octets (access-short octets)
+    (λ w. named-short (point_of t w) [] refl) (λ w. named-short (point_of t w))
 
-pub point_short : (version : Version) (octets : List ℕ) → point_at version octets ≡ Err Truncated
+pub point-short : (version : Version) (octets : List ℕ) → point_at version octets ≡ Err Truncated
     → Ends (point_at version) octets
 unfolding point_at
-point_short version octets =
-    sure (type_at version) allowed (steady_type version) octets (type_short version octets)
-    (λ t. allowed_short t [] refl) allowed_short
+point-short version octets =
+    sure (type_at version) allowed (steady-type version) octets (type-short version octets)
+    (λ t. allowed-short t [] refl) allowed-short
 
-pub timer_start : (version : Version) → Ends (timer_at version) []
+pub timer-start : (version : Version) → Ends (timer_at version) []
 unfolding timer_at
-timer_start One = ok_start OnDelay
-timer_start Two = octet_short kind_of_octet 1 OnDelay (omega arith) refl [] refl
+timer-start One = ok-start OnDelay
+timer-start Two = octet-short kind_of_octet 1 OnDelay (omega arith) refl [] refl
 
-pub timer_short : (version : Version) (octets : List ℕ) → timer_at version octets ≡ Err Truncated
+pub timer-short : (version : Version) (octets : List ℕ) → timer_at version octets ≡ Err Truncated
     → Ends (timer_at version) octets
 unfolding timer_at
-timer_short One octets = ok_more OnDelay octets
-timer_short Two octets = octet_short kind_of_octet 1 OnDelay (omega arith) refl octets
+timer-short One octets = ok-more OnDelay octets
+timer-short Two octets = octet-short kind_of_octet 1 OnDelay (omega arith) refl octets
 
 -- ---- initial values
 
-pub variable_start : (version : Version) → Ends (variable_at version) []
+pub variable-start : (version : Version) → Ends (variable_at version) []
 unfolding variable_at copies
-variable_start One = record {
+variable-start One = record {
   more = 1 ∷ copies 0 4;
-  fits = are_more 1 (copies 0 4) (omega arith) (copies_fit 0 4 (omega arith));
+  fits = are-more 1 (copies 0 4) (omega arith) (copies-fit 0 4 (omega arith));
   what = (Truth false, []);
   is = refl;
   ends = refl;
 }
-variable_start Two = record {
+variable-start Two = record {
   more = 1 ∷ copies 0 8;
-  fits = are_more 1 (copies 0 8) (omega arith) (copies_fit 0 8 (omega arith));
+  fits = are-more 1 (copies 0 8) (omega arith) (copies-fit 0 8 (omega arith));
   what = (Truth false, []);
   is = refl;
   ends = refl;
 }
 
 -- what is mapped, and a number that is taken
-pub err_mapped : {A B : Type 0} (r : Result A ImageFault) (h : A → B)
+pub err-mapped : {A B : Type 0} (r : Result A ImageFault) (h : A → B)
     → ◌≡◌ {A = Result B ImageFault} (r >>= (λ x. Ok (h x))) (Err Truncated) → r ≡ Err Truncated
-err_mapped (Ok x) h e = absurd cc
-err_mapped {A} {B} (Err f) h e = ap (λ (g : ImageFault). Err g) (err_same {A = B} f Truncated e)
+err-mapped (Ok x) h e = absurd cc
+err-mapped {A} {B} (Err f) h e = ap (λ (g : ImageFault). Err g) (err-same {A = B} f Truncated e)
 
-pub taken_short : {A B : Type 0} (n : ℕ) (octets : List ℕ) (q : A) (f : A → Result B ImageFault)
+pub taken-short : {A B : Type 0} (n : ℕ) (octets : List ℕ) (q : A) (f : A → Result B ImageFault)
     → (f q ≡ Err Truncated → ⊥)
     → (◌>>=◌ {A = A} (cond (ltb (length octets) n) (Err Truncated) (Ok q)) f) ≡ Err Truncated
     → length octets < n
-taken_short {A} {B} n octets q f never e = go (ltb (length octets) n) refl e
+taken-short {A} {B} n octets q f never e = go (ltb (length octets) n) refl e
   where
     go : (b : Bool) → ltb (length octets) n ≡ b
         → (◌>>=◌ {A = A} (cond b (Err Truncated) (Ok q)) f) ≡ Err Truncated → length octets < n
     go true is e = ltb-true (length octets) n is
     go false is e = absurd (never e)
 
-pub value_few : (s : Size) (t : ElementaryType) (octets : List ℕ)
+pub value-few : (s : Size) (t : ElementaryType) (octets : List ℕ)
     → value_at s t octets ≡ Err Truncated → length octets < octet_count s
-value_few s t octets =
+value-few s t octets =
     let number = cast_signed (bits_of_size s) (from_be_bytes (bits_of_size s) octets) in
-    taken_short (octet_count s) octets (number, drop (octet_count s) octets)
-    (λ z. known (value_of t z.0) >>= (λ (v : Value). Ok (v, z.1)))
-    (known_never (value_of t number) (drop (octet_count s) octets))
+    taken-short (octet_count s) octets (number, drop (octet_count s) octets)
+    (λ z. known_value (value_of t z.0) >>= (λ (v : Value). Ok (v, z.1)))
+    (known-never (value_of t number) (drop (octet_count s) octets))
 
 -- A value of the version has the part's first octet, and more octets.
 abbrev BeginsValue : Version → List ℕ → Type 0
@@ -314,59 +314,59 @@ pub record NoValue (version : Version) (part : List ℕ) : Type 0 where
   pub none : (v : Value) (rest : List ℕ) → AreOctets rest → IsValueOf version v
       → part ++ rest ≡ variable_octets version v → ⊥
 
-zero_value : (version : Version) (t : ElementaryType)
+zero-value : (version : Version) (t : ElementaryType)
     → value_at (value_size version) t (copies 0 (octet_count (value_size version)))
     ≡ Ok (default_value t, [])
 unfolding copies
-zero_value One elementary.Bool = refl
-zero_value One elementary.Int = refl
-zero_value One elementary.Dint = refl
-zero_value One elementary.Lint = refl
-zero_value One elementary.Time = refl
-zero_value Two elementary.Bool = refl
-zero_value Two elementary.Int = refl
-zero_value Two elementary.Dint = refl
-zero_value Two elementary.Lint = refl
-zero_value Two elementary.Time = refl
+zero-value One elementary.Bool = refl
+zero-value One elementary.Int = refl
+zero-value One elementary.Dint = refl
+zero-value One elementary.Lint = refl
+zero-value One elementary.Time = refl
+zero-value Two elementary.Bool = refl
+zero-value Two elementary.Int = refl
+zero-value Two elementary.Dint = refl
+zero-value Two elementary.Lint = refl
+zero-value Two elementary.Time = refl
 
-value_begins : (version : Version) (x : ℕ) (octets : List ℕ) → x < 256
+value-begins : (version : Version) (x : ℕ) (octets : List ℕ) → x < 256
     → variable_at version (x ∷ octets) ≡ Err Truncated → BeginsValue version (x ∷ octets)
 unfolding variable_at
-value_begins version x octets small e = typed (type_of_octet version x) refl e
+value-begins version x octets small e = typed (type_of_octet version x) refl e
   where
     typed : (o : Option ElementaryType) → type_of_octet version x ≡ o → ◌≡◌ {A = Read Value}
         (◌>>=◌ {A = ElementaryType × List ℕ}
-        (known o >>= (λ (t : ElementaryType). Ok (t, octets)))
+        (known_value o >>= (λ (t : ElementaryType). Ok (t, octets)))
         (λ t. value_at (value_size version) t.0 t.1)) (Err Truncated)
         → BeginsValue version (x ∷ octets)
     typed None is e = absurd cc
     typed (Some t) is e =
         let n = octet_count (value_size version) in
-        let fits = are_more x (copies 0 n) small (copies_fit 0 n (omega arith)) in
+        let fits = are-more x (copies 0 n) small (copies-fit 0 n (omega arith)) in
         let read : variable_at version (x ∷ copies 0 n) ≡ Ok (default_value t, []) =
-        rw is (zero_value version t) in
+        rw is (zero-value version t) in
         let same : x ∷ copies 0 n ≡ variable_octets version (default_value t) =
-        (took_variable version (x ∷ copies 0 n) (default_value t) [] fits read).parts
+        (took-variable version (x ∷ copies 0 n) (default_value t) [] fits read).parts
         ∙ append-nil (variable_octets version (default_value t)) in
-        let fewer = value_few (value_size version) t octets e in
+        let fewer = value-few (value_size version) t octets e in
         let size : suc (length (copies 0 n)) ≡ length (variable_octets version (default_value t)) =
         ap length same in (
           default_value t,
           ap (variable_at version) (sym same) ∙ read,
-          record { first = ap (take 1) same; fewer = omega (arith, copies_size 0 n) },
+          record { first = ap (take 1) same; fewer = omega (arith, copies-size 0 n) },
         )
 
-length_variable : (version : Version) (v : Value) → length (variable_octets version v) ≤ 9
-length_variable One v = omega arith
-length_variable Two v = omega arith
+length-variable : (version : Version) (v : Value) → length (variable_octets version v) ≤ 9
+length-variable One v = omega arith
+length-variable Two v = omega arith
 
-pub variable_short : (version : Version) (octets : List ℕ) → AreOctets octets
+pub variable-short : (version : Version) (octets : List ℕ) → AreOctets octets
     → variable_at version octets ≡ Err Truncated
     → Ends (variable_at version) octets ⊎ NoValue version octets
-variable_short version [] fits e = inl (variable_start version)
-variable_short version (x ∷ octets) fits e = elim (few_told
+variable-short version [] fits e = inl (variable-start version)
+variable-short version (x ∷ octets) fits e = elim (few-told
     (λ more. IsAll (variable_at version (x ∷ octets ++ more)))
-    (λ more. all_told (variable_at version (x ∷ octets ++ more))) 9) [
+    (λ more. all-told (variable_at version (x ∷ octets ++ more))) 9) [
       | inl f ↦ inl (record {
         more = f.octets;
         fits = f.fits;
@@ -375,11 +375,11 @@ variable_short version (x ∷ octets) fits e = elim (few_told
         ends = refl;
       })
       | inr none ↦ inr (record {
-        begins = value_begins version x octets (fits 0) e;
+        begins = value-begins version x octets (fits 0) e;
         none = λ v rest good is parts. none (record {
           octets = rest;
           fits = good;
-          few = (let a = length_variable version v in let b : length (x ∷ octets ++ rest)
+          few = (let a = length-variable version v in let b : length (x ∷ octets ++ rest)
               ≡ length (variable_octets version v) = ap length parts in
               omega (arith, length-append octets rest));
           is = (v, ap (variable_at version) parts ∙ is);
@@ -388,8 +388,8 @@ variable_short version (x ∷ octets) fits e = elim (few_told
     ]
 
 -- what stands behind a number
-pub behind_number : (octets : List ℕ) (n : ℕ) (rest : List ℕ) → AreOctets octets
+pub behind-number : (octets : List ℕ) (n : ℕ) (rest : List ℕ) → AreOctets octets
     → number_at octets ≡ Ok (n, rest) → AreOctets rest
-behind_number octets n rest fits e =
-    let took = took_number octets n rest e in
-    behind_octets took.0.front rest (subst AreOctets took.0.parts fits)
+behind-number octets n rest fits e =
+    let took = took-number octets n rest e in
+    behind-octets took.0.front rest (subst AreOctets took.0.parts fits)

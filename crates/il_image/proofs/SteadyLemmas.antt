@@ -19,14 +19,14 @@ use Rattle.il_image.specs.declared.opcode.Version.{Version}
 use Rattle.il_image.specs.declared.opcode.Version.TheVariants.{One, Two}
 use Rattle.il_image.specs.declared.write.Size.{Size}
 use Rattle.il_image.specs.declared.write.Size.TheVariants as size
-use Rattle.il_image.specs.Decoding.{IsFirstBad, access_at, access_of, behind, code_at, code_fault, code_of_length, counted_at, decoded, fault_behind, items_at, kind_of_octet, name_at, name_of_length, point_at, timer_at, type_at, type_of_octet, variable_at, version_at}
+use Rattle.il_image.specs.Decoding.{IsFirstBad, access_at, access_of, behind, code_at, code_fault, code_of_length, counted_at, image_spelled, fault_behind, items_at, kind_of_octet, name_at, name_of_length, point_at, timer_at, type_at, type_of_octet, variable_at, version_at}
 use Rattle.il_image.specs.Images.{Image, is_name_octet, mark, value_size}
 use Rattle.il_image.specs.Octets.{bits_of_size, octet_count, size_of}
 use Rattle.il_image.specs.Opcodes.{opcode_of, width_of}
-use Rattle.il_image.specs.Reading.{Read, instr_from, known, known_opcode, number_at, octet_at, operand_from, signed_at, value_at, width_at, with_number}
+use Rattle.il_image.specs.Reading.{Read, instr_from, known_value, known_opcode, number_at, octet_at, operand_from, signed_at, value_at, width_at, with_number}
 use Rattle.il_image.specs.Values.{value_of}
 use Rattle.il_image.proofs.CodeLemmas.{less}
-use Rattle.il_image.proofs.ReadLemmas.{from_front}
+use Rattle.il_image.proofs.ReadLemmas.{from-front}
 
 -- ---- readers
 
@@ -40,13 +40,13 @@ abbrev pub Steady : {A : Type 0} → (List ℕ → Read A) → Type 0
 Steady item = (octets more : List ℕ) → (item octets ≡ Err Truncated → ⊥)
     → item (octets ++ more) ≡ later (item octets) more
 
-pub err_same : {A : Type 0} (e f : ImageFault) → ◌≡◌ {A = Result A ImageFault} (Err e) (Err f)
+pub err-same : {A : Type 0} (e f : ImageFault) → ◌≡◌ {A = Result A ImageFault} (Err e) (Err f)
     → e ≡ f
-err_same e f h = cc
+err-same e f h = cc
 
-pub steady_then : {A B : Type 0} (item : List ℕ → Read A) (g : A → List ℕ → Read B) → Steady item
+pub steady-then : {A B : Type 0} (item : List ℕ → Read A) (g : A → List ℕ → Read B) → Steady item
     → ((x : A) → Steady (g x)) → Steady (λ octets. item octets >>= (λ r. g r.0 r.1))
-steady_then {A} {B} item g s t octets more = go (item octets) refl
+steady-then {A} {B} item g s t octets more = go (item octets) refl
   where
     go : (r : Read A) → item octets ≡ r
         → (item octets >>= (λ (q : A × List ℕ). g q.0 q.1) ≡ Err Truncated → ⊥)
@@ -67,42 +67,42 @@ steady_then {A} {B} item g s t octets more = go (item octets) refl
         s octets more (λ h. ne
         (ap (λ (q : Read A). q >>= (λ (p : A × List ℕ). g p.0 p.1)) e
         ∙ ap (λ (x : ImageFault). ◌>>=◌ {A = A × List ℕ} (Err x)
-        (λ (p : A × List ℕ). g p.0 p.1)) (err_same {A = A × List ℕ} f Truncated (sym e ∙ h))))
+        (λ (p : A × List ℕ). g p.0 p.1)) (err-same {A = A × List ℕ} f Truncated (sym e ∙ h))))
         ∙ ap (λ (q : Read A). later q more) e in
         ap (λ (q : Read A). q >>= (λ (p : A × List ℕ). g p.0 p.1)) here
         ∙ ap (λ (q : Read A). later (q >>= (λ (p : A × List ℕ). g p.0 p.1)) more) (sym e)
 
-pub steady_ok : {A : Type 0} (x : A) → Steady (λ octets. Ok (x, octets))
-steady_ok x octets more ne = refl
+pub steady-ok : {A : Type 0} (x : A) → Steady (λ octets. Ok (x, octets))
+steady-ok x octets more ne = refl
 
-pub steady_known : {A B : Type 0} (o : Option A) (f : A → List ℕ → Read B)
+pub steady-known : {A B : Type 0} (o : Option A) (f : A → List ℕ → Read B)
     → ((x : A) → Steady (f x))
-    → Steady (λ octets. known o >>= (λ x. f x octets))
-steady_known None f s octets more ne = refl
-steady_known (Some x) f s octets more ne = s x octets more ne
+    → Steady (λ octets. known_value o >>= (λ x. f x octets))
+steady-known None f s octets more ne = refl
+steady-known (Some x) f s octets more ne = s x octets more ne
 
-pub steady_if : {A : Type 0} (b : Bool) (f g : List ℕ → Read A) → Steady f → Steady g
+pub steady-if : {A : Type 0} (b : Bool) (f g : List ℕ → Read A) → Steady f → Steady g
     → Steady (λ octets. cond b (f octets) (g octets))
-steady_if true f g s t octets more ne = s octets more ne
-steady_if false f g s t octets more ne = t octets more ne
+steady-if true f g s t octets more ne = s octets more ne
+steady-if false f g s t octets more ne = t octets more ne
 
-pub steady_octet : Steady octet_at
-steady_octet [] more ne = absurd (ne refl)
-steady_octet (x ∷ octets) more ne = refl
+pub steady-octet : Steady octet_at
+steady-octet [] more ne = absurd (ne refl)
+steady-octet (x ∷ octets) more ne = refl
 
-whole_front : (s : Size) (octets more : List ℕ) → octet_count s ≤ length octets
+whole-front : (s : Size) (octets more : List ℕ) → octet_count s ≤ length octets
     → from_be_bytes (bits_of_size s) (octets ++ more) ≡ from_be_bytes (bits_of_size s) octets
-whole_front s octets more le =
-    sym (from_front s (octets ++ more))
+whole-front s octets more le =
+    sym (from-front s (octets ++ more))
     ∙ ap (from_be_bytes (bits_of_size s)) (take-append-le (octet_count s) octets more le)
-    ∙ from_front s octets
+    ∙ from-front s octets
 
 -- so many octets are taken
-pub steady_taken : {A : Type 0} (n : ℕ) (f : List ℕ → A)
+pub steady-taken : {A : Type 0} (n : ℕ) (f : List ℕ → A)
     → ((octets more : List ℕ) → n ≤ length octets → f (octets ++ more) ≡ f octets)
     → Steady {A = A} (λ octets. cond {A = Read A} (ltb (length octets) n) (Err Truncated)
     (Ok (f octets, drop n octets)))
-steady_taken {A} n f same octets more = go (ltb (length octets) n) refl
+steady-taken {A} n f same octets more = go (ltb (length octets) n) refl
   where
     go : (b : Bool) → ltb (length octets) n ≡ b
         → (cond {A = Read A} (ltb (length octets) n) (Err Truncated) (Ok (f octets, drop n octets))
@@ -118,82 +118,83 @@ steady_taken {A} n f same octets more = go (ltb (length octets) n) refl
         le-ltb (length (octets ++ more)) n (omega (arith, length-append octets more)) in
         rw (e, longer, same octets more le, drop-append-le n octets more le) refl
 
-pub steady_number : Steady number_at
-steady_number =
-    steady_taken 2 (from_be_bytes w16) (λ octets more le. whole_front size.Two octets more le)
+pub steady-number : Steady number_at
+steady-number =
+    steady-taken 2 (from_be_bytes w16) (λ octets more le. whole-front size.Two octets more le)
 
-pub steady_signed : (s : Size) → Steady (signed_at s)
-steady_signed s =
-    steady_taken (octet_count s)
+pub steady-signed : (s : Size) → Steady (signed_at s)
+steady-signed s =
+    steady-taken (octet_count s)
     (λ octets. cast_signed (bits_of_size s) (from_be_bytes (bits_of_size s) octets))
-    (λ octets more le. ap (cast_signed (bits_of_size s)) (whole_front s octets more le))
+    (λ octets more le. ap (cast_signed (bits_of_size s)) (whole-front s octets more le))
 
-pub steady_value : (s : Size) (t : ElementaryType) → Steady (value_at s t)
-steady_value s t =
-    steady_then (signed_at s) (λ z octets. known (value_of t z) >>= (λ v. Ok (v, octets)))
-    (steady_signed s) (λ z. steady_known (value_of t z) (λ v octets. Ok (v, octets))
-    (λ v. steady_ok v))
+pub steady-value : (s : Size) (t : ElementaryType) → Steady (value_at s t)
+steady-value s t =
+    steady-then (signed_at s) (λ z octets. known_value (value_of t z) >>= (λ v. Ok (v, octets)))
+    (steady-signed s) (λ z. steady-known (value_of t z) (λ v octets. Ok (v, octets))
+    (λ v. steady-ok v))
 
-pub steady_width : (version : Version) → Steady (width_at version)
-steady_width version =
-    steady_then octet_at (λ octet octets. known (width_of version octet) >>= (λ w. Ok (w, octets)))
-    steady_octet (λ octet. steady_known (width_of version octet) (λ w octets. Ok (w, octets))
-    (λ w. steady_ok w))
+pub steady-width : (version : Version) → Steady (width_at version)
+steady-width version =
+    steady-then octet_at (λ octet octets. known_value (width_of version octet)
+    >>= (λ w. Ok (w, octets)))
+    steady-octet (λ octet. steady-known (width_of version octet) (λ w octets. Ok (w, octets))
+    (λ w. steady-ok w))
 
-pub steady_with : (make : ℕ → Instr) → Steady (with_number make)
-steady_with make =
-    steady_then number_at (λ n octets. Ok (make n, octets)) steady_number (λ n. steady_ok (make n))
+pub steady-with : (make : ℕ → Instr) → Steady (with_number make)
+steady-with make =
+    steady-then number_at (λ n octets. Ok (make n, octets)) steady-number (λ n. steady-ok (make n))
 
-pub steady_operand : (version : Version) (o : Opcode) → Steady (operand_from version o)
-steady_operand version Halt = steady_ok instr.Halt
-steady_operand version (Push t) =
-    steady_then (value_at (size_of t) t) (λ v octets. Ok (instr.Push v, octets))
-    (steady_value (size_of t) t) (λ v. steady_ok (instr.Push v))
-steady_operand version Drop = steady_ok instr.Drop
-steady_operand version (Slot use_of) = steady_with (λ n. instr.Slot use_of n)
-steady_operand version Not = steady_ok instr.Not
-steady_operand version (Combine c) = steady_ok (instr.Combine c)
-steady_operand version (Compute o) =
-    steady_then (width_at version) (λ w octets. Ok (instr.Compute o w, octets))
-    (steady_width version) (λ w. steady_ok (instr.Compute o w))
-steady_operand version (Compare c) = steady_ok (instr.Compare c)
-steady_operand version (Widen w) = steady_ok (instr.Widen w)
-steady_operand version (Jump when) = steady_with (λ n. instr.Jump when n)
-steady_operand version (Timer use_of) = steady_with (λ n. instr.Timer use_of n)
+pub steady-operand : (version : Version) (o : Opcode) → Steady (operand_from version o)
+steady-operand version Halt = steady-ok instr.Halt
+steady-operand version (Push t) =
+    steady-then (value_at (size_of t) t) (λ v octets. Ok (instr.Push v, octets))
+    (steady-value (size_of t) t) (λ v. steady-ok (instr.Push v))
+steady-operand version Drop = steady-ok instr.Drop
+steady-operand version (Slot use_of) = steady-with (λ n. instr.Slot use_of n)
+steady-operand version Not = steady-ok instr.Not
+steady-operand version (Combine c) = steady-ok (instr.Combine c)
+steady-operand version (Compute o) =
+    steady-then (width_at version) (λ w octets. Ok (instr.Compute o w, octets))
+    (steady-width version) (λ w. steady-ok (instr.Compute o w))
+steady-operand version (Compare c) = steady-ok (instr.Compare c)
+steady-operand version (Widen w) = steady-ok (instr.Widen w)
+steady-operand version (Jump when) = steady-with (λ n. instr.Jump when n)
+steady-operand version (Timer use_of) = steady-with (λ n. instr.Timer use_of n)
 
-pub steady_opcode : {A : Type 0} (r : Result Opcode ImageFault) (f : Opcode → List ℕ → Read A)
+pub steady-opcode : {A : Type 0} (r : Result Opcode ImageFault) (f : Opcode → List ℕ → Read A)
     → ((o : Opcode) → Steady (f o)) → Steady (λ octets. r >>= (λ o. f o octets))
-steady_opcode (Ok o) f s octets more ne = s o octets more ne
-steady_opcode (Err e) f s octets more ne = refl
+steady-opcode (Ok o) f s octets more ne = s o octets more ne
+steady-opcode (Err e) f s octets more ne = refl
 
-pub steady_instr : (version : Version) → Steady (instr_from version)
+pub steady-instr : (version : Version) → Steady (instr_from version)
 unfolding instr_from
-steady_instr version =
-    steady_then octet_at (λ octet octets. known_opcode version (opcode_of octet)
-    >>= (λ o. operand_from version o octets)) steady_octet
-    (λ octet. steady_opcode (known_opcode version (opcode_of octet)) (operand_from version)
-    (steady_operand version))
+steady-instr version =
+    steady-then octet_at (λ octet octets. known_opcode version (opcode_of octet)
+    >>= (λ o. operand_from version o octets)) steady-octet
+    (λ octet. steady-opcode (known_opcode version (opcode_of octet)) (operand_from version)
+    (steady-operand version))
 
-pub steady_type : (version : Version) → Steady (type_at version)
-steady_type version =
-    steady_then octet_at (λ octet octets. known (type_of_octet version octet)
-    >>= (λ t. Ok (t, octets))) steady_octet
-    (λ octet. steady_known (type_of_octet version octet) (λ t octets. Ok (t, octets))
-    (λ t. steady_ok t))
+pub steady-type : (version : Version) → Steady (type_at version)
+steady-type version =
+    steady-then octet_at (λ octet octets. known_value (type_of_octet version octet)
+    >>= (λ t. Ok (t, octets))) steady-octet
+    (λ octet. steady-known (type_of_octet version octet) (λ t octets. Ok (t, octets))
+    (λ t. steady-ok t))
 
-pub steady_access : Steady access_at
-steady_access =
-    steady_then octet_at (λ octet octets. known (access_of octet) >>= (λ w. Ok (w, octets)))
-    steady_octet (λ octet. steady_known (access_of octet) (λ w octets. Ok (w, octets))
-    (λ w. steady_ok w))
+pub steady-access : Steady access_at
+steady-access =
+    steady-then octet_at (λ octet octets. known_value (access_of octet) >>= (λ w. Ok (w, octets)))
+    steady-octet (λ octet. steady-known (access_of octet) (λ w octets. Ok (w, octets))
+    (λ w. steady-ok w))
 
 -- an octet that is none of a name stays one
-still_bad : (n : ℕ) (octets more : List ℕ) → list_all is_name_octet (take n octets) ≡ false
+still-bad : (n : ℕ) (octets more : List ℕ) → list_all is_name_octet (take n octets) ≡ false
     → list_all is_name_octet (take n (octets ++ more)) ≡ false
-still_bad n octets more e = elim (cases_lt (length octets) n) [
+still-bad n octets more e = elim (cases_lt (length octets) n) [
   | inl short ↦ (
       let size : n ≡ length octets + (n - length octets) = omega arith in
-      let all : take n octets ≡ octets = take_all octets n (omega arith) in
+      let all : take n octets ≡ octets = take-all octets n (omega arith) in
       ap (λ (k : ℕ). list_all is_name_octet (take k (octets ++ more))) size
       ∙ ap (list_all is_name_octet) (take-append-add octets more (n - length octets))
       ∙ list_all-append is_name_octet octets (take (n - length octets) more)
@@ -202,79 +203,80 @@ still_bad n octets more e = elim (cases_lt (length octets) n) [
   | inr long ↦ ap (list_all is_name_octet) (take-append-le n octets more long) ∙ e
 ]
   where
-    take_all : (xs : List ℕ) (k : ℕ) → length xs ≤ k → take k xs ≡ xs
-    take_all [] zero h = refl
-    take_all [] (suc k) h = refl
-    take_all (x ∷ xs) zero h = absurd (omega arith)
-    take_all (x ∷ xs) (suc k) h = ap (λ (ys : List ℕ). x ∷ ys) (take_all xs k (omega arith))
+    take-all : (xs : List ℕ) (k : ℕ) → length xs ≤ k → take k xs ≡ xs
+    take-all [] zero h = refl
+    take-all [] (suc k) h = refl
+    take-all (x ∷ xs) zero h = absurd (omega arith)
+    take-all (x ∷ xs) (suc k) h = ap (λ (ys : List ℕ). x ∷ ys) (take-all xs k (omega arith))
 
-pub steady_length : (n : ℕ) → Steady (name_of_length n)
-steady_length n octets more =
+pub steady-length : (n : ℕ) → Steady (name_of_length n)
+steady-length n octets more =
     go (list_all is_name_octet (take n octets)) (ltb (length octets) n) refl refl
   where
     go : (a b : Bool) → list_all is_name_octet (take n octets) ≡ a → ltb (length octets) n ≡ b
         → (name_of_length n octets ≡ Err Truncated → ⊥)
         → name_of_length n (octets ++ more) ≡ later (name_of_length n octets) more
     go true true e f ne = absurd (ne (rw (e, f) refl))
-    go false b e f ne = rw (still_bad n octets more e, e) refl
+    go false b e f ne = rw (still-bad n octets more e, e) refl
     go true false e f ne =
         let le : n ≤ length octets = ltb-false (length octets) n f in
         let longer : ltb (length (octets ++ more)) n ≡ false =
         le-ltb (length (octets ++ more)) n (omega (arith, length-append octets more)) in
         rw (take-append-le n octets more le, e, longer, f, drop-append-le n octets more le) refl
 
-pub steady_name : Steady name_at
-steady_name =
-    steady_then octet_at (λ n octets. cond (eqb n 0 || ltb 64 n) (Err BadOpcode)
-    (name_of_length n octets)) steady_octet
-    (λ n. steady_if (eqb n 0 || ltb 64 n) (λ octets. Err BadOpcode) (name_of_length n)
-    (λ octets more ne. refl) (steady_length n))
+pub steady-name : Steady name_at
+steady-name =
+    steady-then octet_at (λ n octets. cond (eqb n 0 || ltb 64 n) (Err BadOpcode)
+    (name_of_length n octets)) steady-octet
+    (λ n. steady-if (eqb n 0 || ltb 64 n) (λ octets. Err BadOpcode) (name_of_length n)
+    (λ octets more ne. refl) (steady-length n))
 
-pub steady_point : (version : Version) → Steady (point_at version)
+pub steady-point : (version : Version) → Steady (point_at version)
 unfolding point_at
-steady_point version =
-    steady_then (type_at version)
+steady-point version =
+    steady-then (type_at version)
     (λ t octets. access_at octets
     >>= (λ w. name_at w.1 >>=
     (λ n. Ok (record { name = n.0; elementary = t; writable = w.0 }, n.1))))
-    (steady_type version)
-    (λ t. steady_then access_at
+    (steady-type version)
+    (λ t. steady-then access_at
     (λ w octets. name_at octets
-    >>= (λ n. Ok (record { name = n.0; elementary = t; writable = w }, n.1))) steady_access
-    (λ w. steady_then name_at
-    (λ n octets. Ok (record { name = n; elementary = t; writable = w }, octets)) steady_name
-    (λ n. steady_ok (record { name = n; elementary = t; writable = w }))))
+    >>= (λ n. Ok (record { name = n.0; elementary = t; writable = w }, n.1))) steady-access
+    (λ w. steady-then name_at
+    (λ n octets. Ok (record { name = n; elementary = t; writable = w }, octets)) steady-name
+    (λ n. steady-ok (record { name = n; elementary = t; writable = w }))))
 
-pub steady_variable : (version : Version) → Steady (variable_at version)
+pub steady-variable : (version : Version) → Steady (variable_at version)
 unfolding variable_at
-steady_variable version =
-    steady_then (type_at version) (λ t octets. value_at (value_size version) t octets)
-    (steady_type version) (λ t. steady_value (value_size version) t)
+steady-variable version =
+    steady-then (type_at version) (λ t octets. value_at (value_size version) t octets)
+    (steady-type version) (λ t. steady-value (value_size version) t)
 
-pub steady_timer : (version : Version) → Steady (timer_at version)
+pub steady-timer : (version : Version) → Steady (timer_at version)
 unfolding timer_at
-steady_timer One = λ octets more ne. refl
-steady_timer Two =
-    steady_then octet_at (λ octet octets. known (kind_of_octet octet) >>= (λ k. Ok (k, octets)))
-    steady_octet (λ octet. steady_known (kind_of_octet octet) (λ k octets. Ok (k, octets))
-    (λ k. steady_ok k))
+steady-timer One = λ octets more ne. refl
+steady-timer Two =
+    steady-then octet_at (λ octet octets. known_value (kind_of_octet octet)
+    >>= (λ k. Ok (k, octets)))
+    steady-octet (λ octet. steady-known (kind_of_octet octet) (λ k octets. Ok (k, octets))
+    (λ k. steady-ok k))
 
-pub steady_items : {A : Type 0} (item : List ℕ → Read A) → Steady item → (n : ℕ)
+pub steady-items : {A : Type 0} (item : List ℕ → Read A) → Steady item → (n : ℕ)
     → Steady (items_at item n)
-steady_items item s zero = steady_ok []
-steady_items item s (suc n) =
-    steady_then item (λ x octets. items_at item n octets >>= (λ xs. Ok (x ∷ xs.0, xs.1))) s
-    (λ x. steady_then (items_at item n) (λ xs octets. Ok (x ∷ xs, octets))
-    (steady_items item s n) (λ xs. steady_ok (x ∷ xs)))
+steady-items item s zero = steady-ok []
+steady-items item s (suc n) =
+    steady-then item (λ x octets. items_at item n octets >>= (λ xs. Ok (x ∷ xs.0, xs.1))) s
+    (λ x. steady-then (items_at item n) (λ xs octets. Ok (x ∷ xs, octets))
+    (steady-items item s n) (λ xs. steady-ok (x ∷ xs)))
 
-pub steady_counted : {A : Type 0} (item : List ℕ → Read A) → Steady item → Steady (counted_at item)
-steady_counted item s =
-    steady_then number_at (λ n octets. items_at item n octets) steady_number
-    (λ n. steady_items item s n)
+pub steady-counted : {A : Type 0} (item : List ℕ → Read A) → Steady item → Steady (counted_at item)
+steady-counted item s =
+    steady-then number_at (λ n octets. items_at item n octets) steady-number
+    (λ n. steady-items item s n)
 
-pub steady_version : Steady version_at
-steady_version [] more ne = absurd (ne refl)
-steady_version (x ∷ octets) more ne = go (eqb x 1) (eqb x 2)
+pub steady-version : Steady version_at
+steady-version [] more ne = absurd (ne refl)
+steady-version (x ∷ octets) more ne = go (eqb x 1) (eqb x 2)
   where
     go : (a b : Bool) → ◌≡◌ {A = Read Version}
         (cond a (Ok (One, octets ++ more)) (cond b (Ok (Two, octets ++ more)) (Err BadVersion)))
@@ -294,9 +296,9 @@ abbrev pub Final : {A : Type 0} → (List ℕ → Result A ImageFault) → Type 
 Final f = (octets more : List ℕ) → 0 < length more → (f octets ≡ Err Truncated → ⊥)
     → f (octets ++ more) ≡ closed (f octets)
 
-final_then : {A B : Type 0} (item : List ℕ → Read A) (g : A → List ℕ → Result B ImageFault)
+final-then : {A B : Type 0} (item : List ℕ → Read A) (g : A → List ℕ → Result B ImageFault)
     → Steady item → ((x : A) → Final (g x)) → Final (λ octets. item octets >>= (λ r. g r.0 r.1))
-final_then {A} {B} item g s t octets more some = go (item octets) refl
+final-then {A} {B} item g s t octets more some = go (item octets) refl
   where
     go : (r : Read A) → item octets ≡ r
         → (item octets >>= (λ (q : A × List ℕ). g q.0 q.1) ≡ Err Truncated → ⊥)
@@ -317,14 +319,14 @@ final_then {A} {B} item g s t octets more some = go (item octets) refl
         s octets more (λ h. ne
         (ap (λ (q : Read A). q >>= (λ (p : A × List ℕ). g p.0 p.1)) e
         ∙ ap (λ (x : ImageFault). ◌>>=◌ {A = A × List ℕ} (Err x)
-        (λ (p : A × List ℕ). g p.0 p.1)) (err_same {A = A × List ℕ} f Truncated (sym e ∙ h))))
+        (λ (p : A × List ℕ). g p.0 p.1)) (err-same {A = A × List ℕ} f Truncated (sym e ∙ h))))
         ∙ ap (λ (q : Read A). later q more) e in
         ap (λ (q : Read A). q >>= (λ (p : A × List ℕ). g p.0 p.1)) here
         ∙ ap (λ (q : Read A). closed (q >>= (λ (p : A × List ℕ). g p.0 p.1))) (sym e)
 
-final_map : {A B : Type 0} (f : List ℕ → Result A ImageFault) (h : A → B) → Final f
+final-map : {A B : Type 0} (f : List ℕ → Result A ImageFault) (h : A → B) → Final f
     → Final (λ octets. f octets >>= (λ x. Ok (h x)))
-final_map {A} {B} f h s octets more some = go (f octets) refl
+final-map {A} {B} f h s octets more some = go (f octets) refl
   where
     go : (r : Result A ImageFault) → f octets ≡ r
         → (f octets >>= (λ (x : A). Ok (h x)) ≡ Err Truncated → ⊥)
@@ -338,17 +340,17 @@ final_map {A} {B} f h s octets more some = go (f octets) refl
     go (Err g) e ne =
         let here : f (octets ++ more) ≡ Err g =
         s octets more some (λ k. ne
-        (rw e (ap (λ (x : ImageFault). Err x) (err_same {A = A} g Truncated (sym e ∙ k)))))
+        (rw e (ap (λ (x : ImageFault). Err x) (err-same {A = A} g Truncated (sym e ∙ k)))))
         ∙ ap closed e in
         rw (here, e) refl
 
 -- ---- the code
 
-fault_same : (e f : ImageFault) → Some e ≡ Some f → e ≡ f
-fault_same e f h = cc
+fault-same : (e f : ImageFault) → Some e ≡ Some f → e ≡ f
+fault-same e f h = cc
 
 -- a fault of code stays, unless it wants more octets
-fault_on : (version : Version) (n k : ℕ) (octets more : List ℕ) (e : ImageFault)
+fault-on : (version : Version) (n k : ℕ) (octets more : List ℕ) (e : ImageFault)
     → (e ≡ Truncated → ⊥)
     → ((rest : List ℕ) → length rest < length octets → code_fault version n rest ≡ Some e
     → code_fault version k (rest ++ more) ≡ Some e)
@@ -356,35 +358,35 @@ fault_on : (version : Version) (n k : ℕ) (octets more : List ℕ) (e : ImageFa
     → fault_behind r (λ rest. code_fault version n rest) ≡ Some e
     → fault_behind (instr_from version (octets ++ more)) (λ rest. code_fault version k rest)
     ≡ Some e
-fault_on version n k octets more e ne on (Ok r) is f =
+fault-on version n k octets more e ne on (Ok r) is f =
     let here : instr_from version (octets ++ more) ≡ Ok (r.0, r.1 ++ more) =
-    steady_instr version octets more
+    steady-instr version octets more
     (λ g. (let no : ◌≡◌ {A = Read Instr} (Ok r) (Err Truncated) = sym is ∙ g in cc))
     ∙ ap (λ (q : Read Instr). later q more) is in
     rw here (on r.1 (less version octets r.0 r.1 is) f)
-fault_on version n k octets more e ne on (Err g) is f =
-    let same : g ≡ e = fault_same g e f in
+fault-on version n k octets more e ne on (Err g) is f =
+    let same : g ≡ e = fault-same g e f in
     let here : instr_from version (octets ++ more) ≡ Err g =
-    steady_instr version octets more
-    (λ h. ne (sym same ∙ err_same {A = Instr × List ℕ} g Truncated (sym is ∙ h)))
+    steady-instr version octets more
+    (λ h. ne (sym same ∙ err-same {A = Instr × List ℕ} g Truncated (sym is ∙ h)))
     ∙ ap (λ (q : Read Instr). later q more) is in
     rw here f
 
 -- a fault of code stays, unless it wants more octets
-faults_stay : (version : Version) (n k : ℕ) (octets more : List ℕ) (e : ImageFault)
+faults-stay : (version : Version) (n k : ℕ) (octets more : List ℕ) (e : ImageFault)
     → length (octets ++ more) ≤ k → code_fault version n octets ≡ Some e → (e ≡ Truncated → ⊥)
     → code_fault version k (octets ++ more) ≡ Some e
-faults_stay version zero k octets more e le f ne = absurd cc
-faults_stay version (suc n) k [] more e le f ne = absurd cc
-faults_stay version (suc n) zero (x ∷ octets) more e le f ne = absurd (omega arith)
-faults_stay version (suc n) (suc k) (x ∷ octets) more e le f ne =
-    fault_on version n k (x ∷ octets) more e ne
-    (λ rest fewer g. faults_stay version n k rest more e
+faults-stay version zero k octets more e le f ne = absurd cc
+faults-stay version (suc n) k [] more e le f ne = absurd cc
+faults-stay version (suc n) zero (x ∷ octets) more e le f ne = absurd (omega arith)
+faults-stay version (suc n) (suc k) (x ∷ octets) more e le f ne =
+    fault-on version n k (x ∷ octets) more e ne
+    (λ rest fewer g. faults-stay version n k rest more e
     (let a = length-append rest more in let b = length-append octets more in omega arith) g ne)
     (instr_from version (x ∷ octets)) refl f
 
-final_code : (version : Version) (n : ℕ) → Final (code_of_length version n)
-final_code version n octets more some =
+final-code : (version : Version) (n : ℕ) → Final (code_of_length version n)
+final-code version n octets more some =
     go (code_fault version (length (take n octets)) (take n octets)) (eqb (length octets) n) refl
     refl
   where
@@ -400,7 +402,7 @@ final_code version n octets more some =
         let stays : code_fault version (length (take n (octets ++ more))) (take n (octets ++ more))
         ≡ Some e =
         subst (λ (xs : List ℕ). code_fault version (length xs) xs ≡ Some e) (sym all)
-        (faults_stay version (length (take n octets))
+        (faults-stay version (length (take n octets))
         (length (take n octets ++ drop (length (take n octets)) (take n (octets ++ more))))
         (take n octets) (drop (length (take n octets)) (take n (octets ++ more))) e
         (omega arith) f not_short) in
@@ -420,173 +422,179 @@ final_code version n octets more some =
         λ h. omega (arith, length-append octets more) in
         rw (same, f, ne_eqb (length (octets ++ more)) n longer, g) refl
 
-final_code_at : (version : Version) → Final (code_at version)
+final-code-at : (version : Version) → Final (code_at version)
 unfolding code_at
-final_code_at version =
-    final_then number_at (λ n octets. code_of_length version n octets) steady_number
-    (λ n. final_code version n)
+final-code-at version =
+    final-then number_at (λ n octets. code_of_length version n octets) steady-number
+    (λ n. final-code version n)
 
 -- ---- the image
 
-mark_case : {A : Type 0} (b : Bool) (f : List ℕ → Result A ImageFault)
+mark-case : {A : Type 0} (b : Bool) (f : List ℕ → Result A ImageFault)
     (long short : Result (List ℕ) ImageFault)
     → ((short >>= f ≡ Err Truncated → ⊥) → long >>= f ≡ closed (short >>= f))
     → (cond b short (Err BadMagic) >>= f ≡ Err Truncated → ⊥)
     → cond b long (Err BadMagic) >>= f ≡ closed (cond b short (Err BadMagic) >>= f)
-mark_case true f long short h ne = h ne
-mark_case false f long short h ne = refl
+mark-case true f long short h ne = h ne
+mark-case false f long short h ne = refl
 
-final_mark : {A : Type 0} (marks : List ℕ) (f : List ℕ → Result A ImageFault) → Final f
+final-mark : {A : Type 0} (marks : List ℕ) (f : List ℕ → Result A ImageFault) → Final f
     → Final (λ octets. behind marks octets >>= f)
-final_mark [] f s octets more some ne = s octets more some ne
-final_mark (m ∷ marks) f s [] more some ne = absurd (ne refl)
-final_mark (m ∷ marks) f s (x ∷ octets) more some ne =
-    mark_case (eqb x m) f (behind marks (octets ++ more)) (behind marks octets)
-    (λ no. final_mark marks f s octets more some no) ne
+final-mark [] f s octets more some ne = s octets more some ne
+final-mark (m ∷ marks) f s [] more some ne = absurd (ne refl)
+final-mark (m ∷ marks) f s (x ∷ octets) more some ne =
+    mark-case (eqb x m) f (behind marks (octets ++ more)) (behind marks octets)
+    (λ no. final-mark marks f s octets more some no) ne
 
-pub final_image : Final decoded
-unfolding decoded
-final_image =
-    final_mark mark (λ octets. version_at octets
+pub final-image : Final image_spelled
+unfolding image_spelled
+final-image =
+    final-mark mark (λ octets. version_at octets
     >>= (λ v. counted_at (point_at v.0) v.1
     >>= (λ p. counted_at (variable_at v.0) p.1
     >>= (λ x. counted_at (timer_at v.0) x.1
     >>= (λ t. code_at v.0 t.1
     >>= (λ code. Ok (record { points = p.0; variables = x.0; timers = t.0; code = code })))))))
-    (final_then version_at (λ version octets. counted_at (point_at version) octets
+    (final-then version_at (λ version octets. counted_at (point_at version) octets
     >>= (λ p. counted_at (variable_at version) p.1
     >>= (λ x. counted_at (timer_at version) x.1
     >>= (λ t. code_at version t.1
     >>= (λ code. Ok (record { points = p.0; variables = x.0; timers = t.0; code = code }))))))
-    steady_version
-    (λ version. final_then (counted_at (point_at version))
+    steady-version
+    (λ version. final-then (counted_at (point_at version))
     (λ points octets. counted_at (variable_at version) octets
     >>= (λ x. counted_at (timer_at version) x.1
     >>= (λ t. code_at version t.1
     >>= (λ code. Ok (record { points = points; variables = x.0; timers = t.0; code = code })))))
-    (steady_counted (point_at version) (steady_point version))
-    (λ points. final_then (counted_at (variable_at version))
+    (steady-counted (point_at version) (steady-point version))
+    (λ points. final-then (counted_at (variable_at version))
     (λ variables octets. counted_at (timer_at version) octets
     >>= (λ t. code_at version t.1
     >>= (λ code. Ok (record
     { points = points; variables = variables; timers = t.0; code = code }))))
-    (steady_counted (variable_at version) (steady_variable version))
-    (λ variables. final_then (counted_at (timer_at version))
+    (steady-counted (variable_at version) (steady-variable version))
+    (λ variables. final-then (counted_at (timer_at version))
     (λ timers octets. code_at version octets
     >>= (λ code. Ok (record
     { points = points; variables = variables; timers = timers; code = code })))
-    (steady_counted (timer_at version) (steady_timer version))
-    (λ timers. final_map (code_at version)
+    (steady-counted (timer_at version) (steady-timer version))
+    (λ timers. final-map (code_at version)
     (λ code. record { points = points; variables = variables; timers = timers; code = code })
-    (final_code_at version))))))
+    (final-code-at version))))))
 
 -- ---- what follows of images
 
-not_err : {A : Type 0} (x : A) (e : ImageFault) (r : Result A ImageFault) → r ≡ Ok x → r ≡ Err e → ⊥
-not_err x e r h g = cc
+not-err : {A : Type 0} (x : A) (e : ImageFault) (r : Result A ImageFault) → r ≡ Ok x → r ≡ Err e → ⊥
+not-err x e r h g = cc
 
-pub octets_behind : (octets more : List ℕ) (i : Image) → decoded octets ≡ Ok i → 0 < length more
-    → decoded (octets ++ more) ≡ Err Truncated
-octets_behind octets more i e some =
-    final_image octets more some (not_err i Truncated (decoded octets) e) ∙ ap closed e
+pub octets-behind : (octets more : List ℕ) (i : Image) → image_spelled octets ≡ Ok i
+    → 0 < length more
+    → image_spelled (octets ++ more) ≡ Err Truncated
+octets-behind octets more i e some =
+    final-image octets more some (not-err i Truncated (image_spelled octets) e) ∙ ap closed e
 
 -- a proper front of what is read wants more octets
-front_case : (octets more : List ℕ) (i : Image) (r : Result Image ImageFault) → decoded octets ≡ r
-    → decoded (octets ++ more) ≡ Ok i → 0 < length more → r ≡ Err Truncated
-front_case octets more i (Ok j) is e some =
-    absurd (not_err i Truncated (decoded (octets ++ more)) e (octets_behind octets more j is some))
-front_case octets more i (Err Truncated) is e some = refl
-front_case octets more i (Err BadMagic) is e some =
-    absurd (not_err i BadMagic (decoded (octets ++ more)) e
-    (final_image octets more some
+front-case : (octets more : List ℕ) (i : Image) (r : Result Image ImageFault)
+    → image_spelled octets ≡ r
+    → image_spelled (octets ++ more) ≡ Ok i → 0 < length more → r ≡ Err Truncated
+front-case octets more i (Ok j) is e some =
+    absurd (not-err i Truncated (image_spelled (octets ++ more)) e
+    (octets-behind octets more j is some))
+front-case octets more i (Err Truncated) is e some = refl
+front-case octets more i (Err BadMagic) is e some =
+    absurd (not-err i BadMagic (image_spelled (octets ++ more)) e
+    (final-image octets more some
     (λ g. (let no : ◌≡◌ {A = Result Image ImageFault} (Err BadMagic) (Err Truncated) = sym is ∙ g in
     cc)) ∙ ap closed is))
-front_case octets more i (Err BadVersion) is e some =
-    absurd (not_err i BadVersion (decoded (octets ++ more)) e
-    (final_image octets more some
+front-case octets more i (Err BadVersion) is e some =
+    absurd (not-err i BadVersion (image_spelled (octets ++ more)) e
+    (final-image octets more some
     (λ g. (let no : ◌≡◌ {A = Result Image ImageFault} (Err BadVersion) (Err Truncated) =
     sym is ∙ g in cc)) ∙ ap closed is))
-front_case octets more i (Err BadOpcode) is e some =
-    absurd (not_err i BadOpcode (decoded (octets ++ more)) e
-    (final_image octets more some
+front-case octets more i (Err BadOpcode) is e some =
+    absurd (not-err i BadOpcode (image_spelled (octets ++ more)) e
+    (final-image octets more some
     (λ g. (let no : ◌≡◌ {A = Result Image ImageFault} (Err BadOpcode) (Err Truncated) =
     sym is ∙ g in cc)) ∙ ap closed is))
-front_case octets more i (Err OutOfMemory) is e some =
-    absurd (not_err i OutOfMemory (decoded (octets ++ more)) e
-    (final_image octets more some
+front-case octets more i (Err OutOfMemory) is e some =
+    absurd (not-err i OutOfMemory (image_spelled (octets ++ more)) e
+    (final-image octets more some
     (λ g. (let no : ◌≡◌ {A = Result Image ImageFault} (Err OutOfMemory) (Err Truncated) =
     sym is ∙ g in cc)) ∙ ap closed is))
 
-left_over : (n : ℕ) (octets : List ℕ) → n < length octets → 0 < length (drop n octets)
-left_over n [] h = absurd (omega arith)
-left_over zero (x ∷ octets) h = omega arith
-left_over (suc n) (x ∷ octets) h = left_over n octets (omega arith)
+left-over : (n : ℕ) (octets : List ℕ) → n < length octets → 0 < length (drop n octets)
+left-over n [] h = absurd (omega arith)
+left-over zero (x ∷ octets) h = omega arith
+left-over (suc n) (x ∷ octets) h = left-over n octets (omega arith)
 
-pub proper_front : (octets : List ℕ) (i : Image) (n : ℕ) → decoded octets ≡ Ok i → n < length octets
-    → decoded (take n octets) ≡ Err Truncated
-proper_front octets i n e h =
-    front_case (take n octets) (drop n octets) i (decoded (take n octets)) refl
-    (ap decoded (take-append-drop n octets) ∙ e) (left_over n octets h)
+pub proper-front : (octets : List ℕ) (i : Image) (n : ℕ) → image_spelled octets ≡ Ok i
+    → n < length octets
+    → image_spelled (take n octets) ≡ Err Truncated
+proper-front octets i n e h =
+    front-case (take n octets) (drop n octets) i (image_spelled (take n octets)) refl
+    (ap image_spelled (take-append-drop n octets) ∙ e) (left-over n octets h)
 
 -- ---- the first bad octet
 
-not_both : (e : ImageFault) (r : Result Image ImageFault) → (e ≡ BadOpcode → ⊥) → r ≡ Err e
+not-both : (e : ImageFault) (r : Result Image ImageFault) → (e ≡ BadOpcode → ⊥) → r ≡ Err e
     → r ≡ Err BadOpcode → ⊥
-not_both e r ne h g = ne (err_same {A = Image} e BadOpcode (sym h ∙ g))
+not-both e r ne h g = ne (err-same {A = Image} e BadOpcode (sym h ∙ g))
 
 module _ (octets : List ℕ) where
-  one_more : (n : ℕ) → n < length octets
+  one-more : (n : ℕ) → n < length octets
       → take (suc n) octets ≡ take n octets ++ (get_or octets n 0 ∷ [])
-  one_more n h = take-suc octets n 0 h
+  one-more n h = take-suc octets n 0 h
 
   -- another fault than a front cut short stays with one more octet
   kept : (n : ℕ) (e : ImageFault) → n < length octets → (e ≡ Truncated → ⊥)
-      → decoded (take n octets) ≡ Err e → decoded (take (suc n) octets) ≡ Err e
+      → image_spelled (take n octets) ≡ Err e → image_spelled (take (suc n) octets) ≡ Err e
   kept n e h ne is =
-      ap decoded (one_more n h)
-      ∙ final_image (take n octets) (get_or octets n 0 ∷ []) (omega arith)
-      (λ g. ne (err_same {A = Image} e Truncated (sym is ∙ g))) ∙ ap closed is
+      ap image_spelled (one-more n h)
+      ∙ final-image (take n octets) (get_or octets n 0 ∷ []) (omega arith)
+      (λ g. ne (err-same {A = Image} e Truncated (sym is ∙ g))) ∙ ap closed is
 
-  bad_for_good : (n : ℕ) → decoded (take n octets) ≡ Err BadOpcode → (more : List ℕ)
-      → decoded (take n octets ++ more) ≡ Err BadOpcode
-  bad_for_good n is [] = ap decoded (append-nil (take n octets)) ∙ is
-  bad_for_good n is (x ∷ more) =
-      final_image (take n octets) (x ∷ more) (omega arith)
+  bad-for-good : (n : ℕ) → image_spelled (take n octets) ≡ Err BadOpcode → (more : List ℕ)
+      → image_spelled (take n octets ++ more) ≡ Err BadOpcode
+  bad-for-good n is [] = ap image_spelled (append-nil (take n octets)) ∙ is
+  bad-for-good n is (x ∷ more) =
+      final-image (take n octets) (x ∷ more) (omega arith)
       (λ g. (let no : ◌≡◌ {A = Result Image ImageFault} (Err BadOpcode) (Err Truncated) =
       sym is ∙ g in cc)) ∙ ap closed is
 
-  empty_is_short : decoded (take 0 octets) ≡ Err Truncated
-  unfolding decoded
-  empty_is_short = refl
+  empty-is-short : image_spelled (take 0 octets) ≡ Err Truncated
+  unfolding image_spelled
+  empty-is-short = refl
 
-  bad_case : (n : ℕ) → n < length octets → decoded (take (suc n) octets) ≡ Err BadOpcode
-      → (decoded (take n octets) ≡ Err BadOpcode → IsFirstBad octets)
-      → (r : Result Image ImageFault) → decoded (take n octets) ≡ r → IsFirstBad octets
-  bad_case n h is before (Ok i) e =
-      absurd (let short : decoded (take (suc n) octets) ≡ Err Truncated =
-      ap decoded (one_more n h)
-      ∙ octets_behind (take n octets) (get_or octets n 0 ∷ []) i e (omega arith) in
-      not_both Truncated (decoded (take (suc n) octets)) (λ g. cc) short is)
-  bad_case n h is before (Err Truncated) e =
-      record { bad = n; within = h; before = e; here = bad_for_good (suc n) is }
-  bad_case n h is before (Err BadOpcode) e = before e
-  bad_case n h is before (Err BadMagic) e =
-      absurd (not_both BadMagic (decoded (take (suc n) octets)) (λ g. cc)
+  bad-case : (n : ℕ) → n < length octets → image_spelled (take (suc n) octets) ≡ Err BadOpcode
+      → (image_spelled (take n octets) ≡ Err BadOpcode → IsFirstBad octets)
+      → (r : Result Image ImageFault) → image_spelled (take n octets) ≡ r → IsFirstBad octets
+  bad-case n h is before (Ok i) e =
+      absurd (let short : image_spelled (take (suc n) octets) ≡ Err Truncated =
+      ap image_spelled (one-more n h)
+      ∙ octets-behind (take n octets) (get_or octets n 0 ∷ []) i e (omega arith) in
+      not-both Truncated (image_spelled (take (suc n) octets)) (λ g. cc) short is)
+  bad-case n h is before (Err Truncated) e =
+      record { bad = n; within = h; before = e; here = bad-for-good (suc n) is }
+  bad-case n h is before (Err BadOpcode) e = before e
+  bad-case n h is before (Err BadMagic) e =
+      absurd (not-both BadMagic (image_spelled (take (suc n) octets)) (λ g. cc)
       (kept n BadMagic h (λ g. cc) e) is)
-  bad_case n h is before (Err BadVersion) e =
-      absurd (not_both BadVersion (decoded (take (suc n) octets)) (λ g. cc)
+  bad-case n h is before (Err BadVersion) e =
+      absurd (not-both BadVersion (image_spelled (take (suc n) octets)) (λ g. cc)
       (kept n BadVersion h (λ g. cc) e) is)
-  bad_case n h is before (Err OutOfMemory) e =
-      absurd (not_both OutOfMemory (decoded (take (suc n) octets)) (λ g. cc)
+  bad-case n h is before (Err OutOfMemory) e =
+      absurd (not-both OutOfMemory (image_spelled (take (suc n) octets)) (λ g. cc)
       (kept n OutOfMemory h (λ g. cc) e) is)
 
-  search_bad : (n : ℕ) → n ≤ length octets → decoded (take n octets) ≡ Err BadOpcode
+  search-bad : (n : ℕ) → n ≤ length octets → image_spelled (take n octets) ≡ Err BadOpcode
       → IsFirstBad octets
-  search_bad zero le is =
+  search-bad zero le is =
       absurd (let no : ◌≡◌ {A = Result Image ImageFault} (Err Truncated) (Err BadOpcode) =
-      sym empty_is_short ∙ is in cc)
-  search_bad (suc n) le is =
-      bad_case n (omega arith) is (λ e. search_bad n (omega arith) e) (decoded (take n octets)) refl
+      sym empty-is-short ∙ is in cc)
+  search-bad (suc n) le is =
+      bad-case n (omega arith) is (λ e. search-bad n (omega arith) e)
+      (image_spelled (take n octets)) refl
 
-  pub first_bad : decoded octets ≡ Err BadOpcode → IsFirstBad octets
-  first_bad is = search_bad (length octets) (omega arith) (ap decoded (take-length octets) ∙ is)
+  pub first-bad : image_spelled octets ≡ Err BadOpcode → IsFirstBad octets
+  first-bad is =
+      search-bad (length octets) (omega arith) (ap image_spelled (take-length octets) ∙ is)

@@ -10,9 +10,9 @@ use Rattle.il_image.specs.Timers.{Call, AllHave, SomeHas, after, phase_after, ou
 
 -- ---- unbroken runs
 
-one_run : (input : Bool) (c : Call) (before : List Call) → c.input ≡ input → IsBroken input before
+one-run : (input : Bool) (c : Call) (before : List Call) → c.input ≡ input → IsBroken input before
     → LastRun input (c ∷ before) c
-one_run input c before has begins =
+one-run input c before has begins =
     record {
       later = [];
       before = before;
@@ -34,29 +34,29 @@ longer input c first calls has run = record {
 }
 
 -- The list after a first call that is no part of an unbroken run is not broken there.
-not_broken : (input : Bool) (later before : List Call) (first : Call) → first.input ≡ input
+not-broken : (input : Bool) (later before : List Call) (first : Call) → first.input ≡ input
     → AllHave input later → IsBroken input (later ++ first ∷ before) → ⊥
-not_broken input [] before first has all broken = broken has
-not_broken input (c ∷ later) before first has all broken = broken all.0
+not-broken input [] before first has all broken = broken has
+not-broken input (c ∷ later) before first has all broken = broken all.0
 
-same_first : (input : Bool) (xs bs ys ds : List Call) (a d : Call) → xs ++ a ∷ bs ≡ ys ++ d ∷ ds
+same-first : (input : Bool) (xs bs ys ds : List Call) (a d : Call) → xs ++ a ∷ bs ≡ ys ++ d ∷ ds
     → a.input ≡ input → d.input ≡ input → AllHave input xs → AllHave input ys → IsBroken input bs
     → IsBroken input ds → a ≡ d
-same_first input [] bs [] ds a d e p q all every begins starts = cc
-same_first input [] bs (y ∷ ys) ds a d e p q all every begins starts =
+same-first input [] bs [] ds a d e p q all every begins starts = cc
+same-first input [] bs (y ∷ ys) ds a d e p q all every begins starts =
     let same : bs ≡ ys ++ d ∷ ds = cc in
-    absurd (not_broken input ys ds d q every.1 (subst (IsBroken input) same begins))
-same_first input (x ∷ xs) bs [] ds a d e p q all every begins starts =
+    absurd (not-broken input ys ds d q every.1 (subst (IsBroken input) same begins))
+same-first input (x ∷ xs) bs [] ds a d e p q all every begins starts =
     let same : xs ++ a ∷ bs ≡ ds = cc in
-    absurd (not_broken input xs bs a p all.1 (subst (IsBroken input) (sym same) starts))
-same_first input (x ∷ xs) bs (y ∷ ys) ds a d e p q all every begins starts =
+    absurd (not-broken input xs bs a p all.1 (subst (IsBroken input) (sym same) starts))
+same-first input (x ∷ xs) bs (y ∷ ys) ds a d e p q all every begins starts =
     let same : xs ++ a ∷ bs ≡ ys ++ d ∷ ds = cc in
-    same_first input xs bs ys ds a d same p q all.1 every.1 begins starts
+    same-first input xs bs ys ds a d same p q all.1 every.1 begins starts
 
-pub one_first : (input : Bool) (calls : List Call) (a d : Call) → LastRun input calls a
+pub one-first : (input : Bool) (calls : List Call) (a d : Call) → LastRun input calls a
     → LastRun input calls d → a ≡ d
-one_first input calls a d r s =
-    same_first input r.later r.before s.later s.before a d (sym r.parts ∙ s.parts) r.first_has
+one-first input calls a d r s =
+    same-first input r.later r.before s.later s.before a d (sym r.parts ∙ s.parts) r.first_has
     s.first_has r.later_have s.later_have r.begins s.begins
 
 -- ---- the on-delay timer
@@ -67,33 +67,33 @@ Delays Idle calls = IsBroken true calls
 Delays Held calls = ⊥
 Delays (Since start) calls = (first : Call) × LastRun true calls first × (first.moment ≡ start)
 
-on_step : (c : Call) (calls : List Call) (input : Bool) (phase : TimerPhase) → c.input ≡ input
+on-step : (c : Call) (calls : List Call) (input : Bool) (phase : TimerPhase) → c.input ≡ input
     → Delays phase calls → Delays (phase_after OnDelay input phase c.moment) (c ∷ calls)
-on_step c calls false phase is h = λ e. absurd cc
-on_step c calls true Idle is h = (c, one_run true c calls is h, refl)
-on_step c calls true Held is h = absurd h
-on_step c calls true (Since start) is h = (h.0, longer true c h.0 calls is h.1, h.2)
+on-step c calls false phase is h = λ e. absurd cc
+on-step c calls true Idle is h = (c, one-run true c calls is h, refl)
+on-step c calls true Held is h = absurd h
+on-step c calls true (Since start) is h = (h.0, longer true c h.0 calls is h.1, h.2)
 
-kind_kept : (kind : TimerKind) (calls : List Call) → (after kind calls).kind ≡ kind
-kind_kept kind [] = refl
-kind_kept kind (c ∷ calls) = kind_kept kind calls
+kind-kept : (kind : TimerKind) (calls : List Call) → (after kind calls).kind ≡ kind
+kind-kept kind [] = refl
+kind-kept kind (c ∷ calls) = kind-kept kind calls
 
-on_phase : (calls : List Call) → Delays (after OnDelay calls).phase calls
-on_phase [] = tt
-on_phase (c ∷ calls) =
-    rw (kind_kept OnDelay calls)
-    (on_step c calls c.input (after OnDelay calls).phase refl (on_phase calls))
+on-phase : (calls : List Call) → Delays (after OnDelay calls).phase calls
+on-phase [] = tt
+on-phase (c ∷ calls) =
+    rw (kind-kept OnDelay calls)
+    (on-step c calls c.input (after OnDelay calls).phase refl (on-phase calls))
 
-on_output : (c : Call) (calls : List Call) (phase : TimerPhase) → Delays phase (c ∷ calls)
+on-output : (c : Call) (calls : List Call) (phase : TimerPhase) → Delays phase (c ∷ calls)
     → (output_of OnDelay c.preset phase c.moment ≡ true) ↔ HasPassed c calls
-on_output c calls Idle h = (
+on-output c calls Idle h = (
   (λ e. absurd cc),
   (λ p. absurd
-      (not_broken true p.run.later p.run.before p.first p.run.first_has p.run.later_have
+      (not-broken true p.run.later p.run.before p.first p.run.first_has p.run.later_have
       (subst (IsBroken true) p.run.parts h))),
 )
-on_output c calls Held h = absurd h
-on_output c calls (Since start) h = (
+on-output c calls Held h = absurd h
+on-output c calls (Since start) h = (
   (λ e. record {
     first = h.0;
     run = h.1;
@@ -101,24 +101,24 @@ on_output c calls (Since start) h = (
   }),
   (λ p. le-leb c.preset (c.moment - start)
       (let same : p.first.moment ≡ start =
-      ap (λ (d : Call). d.moment) (one_first true (c ∷ calls) p.first h.0 p.run h.1) ∙ h.2 in
+      ap (λ (d : Call). d.moment) (one-first true (c ∷ calls) p.first h.0 p.run h.1) ∙ h.2 in
       omega (arith, p.passed))),
 )
 
 pub on_delay : (last : Call) (earlier : List Call)
     → ((after OnDelay (last ∷ earlier)).output ≡ true) ↔ HasPassed last earlier
 on_delay last earlier =
-    rw (kind_kept OnDelay earlier)
-    (on_output last earlier (phase_after OnDelay last.input (after OnDelay earlier).phase
-    last.moment) (on_step last earlier last.input (after OnDelay earlier).phase refl
-    (on_phase earlier)))
+    rw (kind-kept OnDelay earlier)
+    (on-output last earlier (phase_after OnDelay last.input (after OnDelay earlier).phase
+    last.moment) (on-step last earlier last.input (after OnDelay earlier).phase refl
+    (on-phase earlier)))
 
 -- ---- the off-delay timer
 
-all_or_some : (calls : List Call) → AllHave false calls → SomeHas true calls → ⊥
-all_or_some [] all some = some
-all_or_some (c ∷ calls) all (inl e) = absurd cc
-all_or_some (c ∷ calls) all (inr some) = all_or_some calls all.1 some
+all-or-some : (calls : List Call) → AllHave false calls → SomeHas true calls → ⊥
+all-or-some [] all some = some
+all-or-some (c ∷ calls) all (inl e) = absurd cc
+all-or-some (c ∷ calls) all (inr some) = all-or-some calls all.1 some
 
 abbrev LastIs : Bool → List Call → Type 0
 LastIs input [] = ⊥
@@ -131,50 +131,50 @@ Holds Held calls = LastIs true calls
 Holds (Since start) calls =
     ((first : Call) × LastRun false calls first × (first.moment ≡ start)) × SomeHas true calls
 
-broken_last : (calls : List Call) → LastIs true calls → IsBroken false calls × SomeHas true calls
-broken_last [] h = absurd h
-broken_last (c ∷ calls) h = ((λ e. absurd cc), inl h)
+broken-last : (calls : List Call) → LastIs true calls → IsBroken false calls × SomeHas true calls
+broken-last [] h = absurd h
+broken-last (c ∷ calls) h = ((λ e. absurd cc), inl h)
 
-off_step : (c : Call) (calls : List Call) (input : Bool) (phase : TimerPhase) → c.input ≡ input
+off-step : (c : Call) (calls : List Call) (input : Bool) (phase : TimerPhase) → c.input ≡ input
     → Holds phase calls → Holds (phase_after OffDelay input phase c.moment) (c ∷ calls)
-off_step c calls true phase is h = is
-off_step c calls false Idle is h = (is, h)
-off_step c calls false Held is h = let b =
-    broken_last calls h in ((c, one_run false c calls is b.0, refl), inr b.1)
-off_step c calls false (Since start) is h =
+off-step c calls true phase is h = is
+off-step c calls false Idle is h = (is, h)
+off-step c calls false Held is h = let b =
+    broken-last calls h in ((c, one-run false c calls is b.0, refl), inr b.1)
+off-step c calls false (Since start) is h =
     ((h.0.0, longer false c h.0.0 calls is h.0.1, h.0.2), inr h.1)
 
-off_phase : (calls : List Call) → Holds (after OffDelay calls).phase calls
-off_phase [] = tt
-off_phase (c ∷ calls) =
-    rw (kind_kept OffDelay calls)
-    (off_step c calls c.input (after OffDelay calls).phase refl (off_phase calls))
+off-phase : (calls : List Call) → Holds (after OffDelay calls).phase calls
+off-phase [] = tt
+off-phase (c ∷ calls) =
+    rw (kind-kept OffDelay calls)
+    (off-step c calls c.input (after OffDelay calls).phase refl (off-phase calls))
 
-run_is_false : (c : Call) (calls later before : List Call) (first : Call)
+run-is-false : (c : Call) (calls later before : List Call) (first : Call)
     → c ∷ calls ≡ later ++ first ∷ before → first.input ≡ false → AllHave false later
     → c.input ≡ false
-run_is_false c calls [] before first parts has all = cc
-run_is_false c calls (d ∷ later) before first parts has all = let e = all.0 in cc
+run-is-false c calls [] before first parts has all = cc
+run-is-false c calls (d ∷ later) before first parts has all = let e = all.0 in cc
 
-not_false : (b : Bool) → b ≡ true → b ≡ false → ⊥
-not_false b e d = absurd cc
+not-false : (b : Bool) → b ≡ true → b ≡ false → ⊥
+not-false b e d = absurd cc
 
-off_output : (c : Call) (calls : List Call) (phase : TimerPhase) → Holds phase (c ∷ calls)
+off-output : (c : Call) (calls : List Call) (phase : TimerPhase) → Holds phase (c ∷ calls)
     → (output_of OffDelay c.preset phase c.moment ≡ true)
     ↔ ((c.input ≡ true) ⊎ HasNotPassed c calls)
-off_output c calls Idle h = (
+off-output c calls Idle h = (
   (λ e. absurd cc),
   (λ p.
       elim p [
-        | inl e ↦ absurd (not_false c.input e h.0)
-        | inr q ↦ absurd (all_or_some calls h.1 q.held)
+        | inl e ↦ absurd (not-false c.input e h.0)
+        | inr q ↦ absurd (all-or-some calls h.1 q.held)
       ]),
 )
-off_output c calls Held h = ((λ e. inl h), (λ p. refl))
-off_output c calls (Since start) h =
+off-output c calls Held h = ((λ e. inl h), (λ p. refl))
+off-output c calls (Since start) h =
     let no : c.input ≡ true → ⊥ =
-    λ e. not_false c.input e
-    (run_is_false c calls h.0.1.later h.0.1.before h.0.0 h.0.1.parts h.0.1.first_has
+    λ e. not-false c.input e
+    (run-is-false c calls h.0.1.later h.0.1.before h.0.0 h.0.1.parts h.0.1.first_has
     h.0.1.later_have) in
     let held : SomeHas true calls = elim h.1 [ inl e ↦ absurd (no e) | inr some ↦ some ] in (
       (λ e. inr
@@ -188,7 +188,7 @@ off_output c calls (Since start) h =
         | inl e ↦ absurd (no e)
         | inr q ↦ lt-ltb (c.moment - start) c.preset
             (let same : q.first.moment ≡ start =
-            ap (λ (d : Call). d.moment) (one_first false (c ∷ calls) q.first h.0.0 q.run h.0.1)
+            ap (λ (d : Call). d.moment) (one-first false (c ∷ calls) q.first h.0.0 q.run h.0.1)
             ∙ h.0.2 in omega (arith, q.less))
       ]),
     )
@@ -197,7 +197,7 @@ pub off_delay : (last : Call) (earlier : List Call)
     → ((after OffDelay (last ∷ earlier)).output ≡ true)
     ↔ ((last.input ≡ true) ⊎ HasNotPassed last earlier)
 off_delay last earlier =
-    rw (kind_kept OffDelay earlier)
-    (off_output last earlier
+    rw (kind-kept OffDelay earlier)
+    (off-output last earlier
     (phase_after OffDelay last.input (after OffDelay earlier).phase last.moment)
-    (off_step last earlier last.input (after OffDelay earlier).phase refl (off_phase earlier)))
+    (off-step last earlier last.input (after OffDelay earlier).phase refl (off-phase earlier)))

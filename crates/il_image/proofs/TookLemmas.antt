@@ -16,12 +16,12 @@ use Rattle.il_image.specs.declared.opcode.Version.TheVariants.{One, Two}
 use Rattle.bay_base.specs.declared.types.TimerKind.{TimerKind}
 use Rattle.bay_base.specs.declared.types.TimerKind.TheVariants.{OnDelay, OffDelay}
 use Rattle.il_image.specs.Decoding.{access_at, access_of, behind, code_at, code_fault, code_of_length, counted_at, items_at, kind_of_octet, name_at, name_of_length, newest_type, point_at, timer_at, type_at, type_of_octet, unless, variable_at, version_at}
-use Rattle.il_image.specs.Images.{Each, HasName, IsCode, IsName, IsValue, counted, each_spelled, is_name_octet, mark, point_octets, timer_octets, type_octet, value_size, variable_octets, version_octet}
+use Rattle.il_image.specs.Images.{Each, HasName, IsCode, IsName, IsValue, count_and_items, each_spelled, is_name_octet, mark, point_octets, timer_octets, type_octet, value_size, variable_octets, version_octet}
 use Rattle.il_image.specs.Octets.{AreOctets, number_octets, signed_octets}
-use Rattle.il_image.specs.Reading.{Read, known, number_at, octet_at, value_at}
+use Rattle.il_image.specs.Reading.{Read, known_value, number_at, octet_at, value_at}
 use Rattle.il_image.specs.Values.{number_of, type_of, value_of}
-use Rattle.il_image.proofs.ReadLemmas.{bind_ok, known_ok, ok_same, took_octet, took_number}
-use Rattle.il_image.proofs.InstrLemmas.{took_value, behind_octets}
+use Rattle.il_image.proofs.ReadLemmas.{bind-ok, known-ok, ok-same, took-octet, took-number}
+use Rattle.il_image.proofs.InstrLemmas.{took-value, behind-octets}
 use Rattle.il_image.proofs.CodeLemmas.{no_fault}
 
 -- An item was read: its spelling stands first, and it is what it has to be.
@@ -43,28 +43,28 @@ record TookItems {A : Type 0} (spell : A → List ℕ) (P : A → Type 0) (n : �
   good : Each P xs
   size : length xs ≡ n
 
-took_items : {A : Type 0} (spell : A → List ℕ) (P : A → Type 0) (item : List ℕ → Read A)
+took-items : {A : Type 0} (spell : A → List ℕ) (P : A → Type 0) (item : List ℕ → Read A)
     → Takes spell P item → (n : ℕ) (octets : List ℕ) (xs : List A) (rest : List ℕ)
     → AreOctets octets → items_at item n octets ≡ Ok (xs, rest) → TookItems spell P n octets xs rest
-took_items {A} spell P item takes zero octets xs rest fits e =
-    let same = ok_same {A = List A × List ℕ} ([], octets) (xs, rest) e in
+took-items {A} spell P item takes zero octets xs rest fits e =
+    let same = ok-same {A = List A × List ℕ} ([], octets) (xs, rest) e in
     let none : [] ≡ xs = ap (λ q. q.0) same in
     let made : TookItems spell P zero octets [] rest =
     record { parts = ap (λ q. q.1) same; good = tt; size = refl } in
     subst (λ (ys : List A). TookItems spell P zero octets ys rest) none made
-took_items {A} spell P item takes (suc n) octets xs rest fits e =
-    let a = bind_ok (item octets)
+took-items {A} spell P item takes (suc n) octets xs rest fits e =
+    let a = bind-ok (item octets)
     (λ (x : A × List ℕ). items_at item n x.1
     >>= (λ (ys : List A × List ℕ). Ok (x.0 ∷ ys.0, ys.1))) (xs, rest) e in
     let first = takes octets a.0.0 a.0.1 fits a.1 in
-    let b = bind_ok (items_at item n a.0.1) (λ (ys : List A × List ℕ). Ok (a.0.0 ∷ ys.0, ys.1))
+    let b = bind-ok (items_at item n a.0.1) (λ (ys : List A × List ℕ). Ok (a.0.0 ∷ ys.0, ys.1))
     (xs, rest) a.2 in
-    let same = ok_same (a.0.0 ∷ b.0.0, b.0.1) (xs, rest) b.2 in
+    let same = ok-same (a.0.0 ∷ b.0.0, b.0.1) (xs, rest) b.2 in
     let all : a.0.0 ∷ b.0.0 ≡ xs = ap (λ q. q.0) same in
     let end : b.0.1 ≡ rest = ap (λ q. q.1) same in
     let later =
-    took_items spell P item takes n a.0.1 b.0.0 b.0.1
-    (behind_octets (spell a.0.0) a.0.1 (subst AreOctets first.parts fits)) b.1 in
+    took-items spell P item takes n a.0.1 b.0.0 b.0.1
+    (behind-octets (spell a.0.0) a.0.1 (subst AreOctets first.parts fits)) b.1 in
     let made : TookItems spell P (suc n) octets (a.0.0 ∷ b.0.0) b.0.1 = record {
       parts = first.parts ∙ ap (λ (ys : List ℕ). spell a.0.0 ++ ys) later.parts
           ∙ sym (append_assoc (spell a.0.0) (each_spelled spell b.0.0) b.0.1);
@@ -76,22 +76,22 @@ took_items {A} spell P item takes (suc n) octets xs rest fits e =
 
 pub record TookCounted {A : Type 0} (spell : A → List ℕ) (P : A → Type 0) (octets : List ℕ)
     (xs : List A) (rest : List ℕ) : Type 0 where
-  pub parts : octets ≡ counted spell xs ++ rest
+  pub parts : octets ≡ count_and_items spell xs ++ rest
   pub good : Each P xs
   pub size : length xs ≤ 65_535
 
-pub took_counted : {A : Type 0} (spell : A → List ℕ) (P : A → Type 0) (item : List ℕ → Read A)
+pub took-counted : {A : Type 0} (spell : A → List ℕ) (P : A → Type 0) (item : List ℕ → Read A)
     → Takes spell P item → (octets : List ℕ) (xs : List A) (rest : List ℕ) → AreOctets octets
     → counted_at item octets ≡ Ok (xs, rest) → TookCounted spell P octets xs rest
-took_counted {A} spell P item takes octets xs rest fits e =
-    let a = bind_ok (number_at octets) (λ (n : ℕ × List ℕ). items_at item n.0 n.1) (xs, rest) e in
-    let number = took_number octets a.0.0 a.0.1 a.1 in
+took-counted {A} spell P item takes octets xs rest fits e =
+    let a = bind-ok (number_at octets) (λ (n : ℕ × List ℕ). items_at item n.0 n.1) (xs, rest) e in
+    let number = took-number octets a.0.0 a.0.1 a.1 in
     let text = number.0.is fits in
     let first : octets ≡ number_octets a.0.0 ++ a.0.1 =
     number.0.parts ∙ ap (λ (ys : List ℕ). ys ++ a.0.1) text in
     let items =
-    took_items spell P item takes a.0.0 a.0.1 xs rest
-    (behind_octets (number_octets a.0.0) a.0.1 (subst AreOctets first fits)) a.2 in
+    took-items spell P item takes a.0.0 a.0.1 xs rest
+    (behind-octets (number_octets a.0.0) a.0.1 (subst AreOctets first fits)) a.2 in
     let small : a.0.0 < 2 ^ 16 = number.1 fits in
     let size = items.size in
     record {
@@ -104,19 +104,19 @@ took_counted {A} spell P item takes octets xs rest fits e =
 
 -- ---- types, points
 
-some_if_same : {A : Type 0} (x y : A) → Some x ≡ Some y → x ≡ y
-some_if_same x y e = cc
+some-if-same : {A : Type 0} (x y : A) → Some x ≡ Some y → x ≡ y
+some-if-same x y e = cc
 
-type_is : (version : Version) (octet : ℕ) (t : ElementaryType)
+type-is : (version : Version) (octet : ℕ) (t : ElementaryType)
     → type_of_octet version octet ≡ Some t → octet ≡ type_octet t
-type_is version octet t e =
+type-is version octet t e =
     go version octet t (eqb octet 1) (eqb octet 2) (eqb octet 3) (eqb octet 4) (eqb octet 5) refl
     refl refl refl refl e
   where
     last : (version : Version) (octet : ℕ) (t : ElementaryType) → eqb octet 5 ≡ true
         → newest_type version ≡ Some t → octet ≡ type_octet t
     last One octet t is e = absurd cc
-    last Two octet t is e = eqb-true octet 5 is ∙ ap type_octet (some_if_same elementary.Lint t e)
+    last Two octet t is e = eqb-true octet 5 is ∙ ap type_octet (some-if-same elementary.Lint t e)
 
     go : (version : Version) (octet : ℕ) (t : ElementaryType) (a b d f g : Bool) → eqb octet 1 ≡ a
         → eqb octet 2 ≡ b → eqb octet 3 ≡ d → eqb octet 4 ≡ f → eqb octet 5 ≡ g
@@ -126,56 +126,59 @@ type_is version octet t e =
         (cond f (Some elementary.Time) (cond g (newest_type version) None)))) ≡ Some t
         → octet ≡ type_octet t
     go version octet t true b d f g h i j k l e =
-        eqb-true octet 1 h ∙ ap type_octet (some_if_same elementary.Bool t e)
+        eqb-true octet 1 h ∙ ap type_octet (some-if-same elementary.Bool t e)
     go version octet t false true d f g h i j k l e =
-        eqb-true octet 2 i ∙ ap type_octet (some_if_same elementary.Int t e)
+        eqb-true octet 2 i ∙ ap type_octet (some-if-same elementary.Int t e)
     go version octet t false false true f g h i j k l e =
-        eqb-true octet 3 j ∙ ap type_octet (some_if_same elementary.Dint t e)
+        eqb-true octet 3 j ∙ ap type_octet (some-if-same elementary.Dint t e)
     go version octet t false false false true g h i j k l e =
-        eqb-true octet 4 k ∙ ap type_octet (some_if_same elementary.Time t e)
+        eqb-true octet 4 k ∙ ap type_octet (some-if-same elementary.Time t e)
     go version octet t false false false false true h i j k l e = last version octet t l e
     go version octet t false false false false false h i j k l e = absurd cc
 
-took_type : (version : Version) (octets : List ℕ) (t : ElementaryType) (rest : List ℕ)
+took-type : (version : Version) (octets : List ℕ) (t : ElementaryType) (rest : List ℕ)
     → AreOctets octets → type_at version octets ≡ Ok (t, rest) → octets ≡ type_octet t ∷ rest
-took_type version octets t rest fits e =
-    let a = bind_ok (octet_at octets)
-    (λ (x : ℕ × List ℕ). known (type_of_octet version x.0)
+took-type version octets t rest fits e =
+    let a = bind-ok (octet_at octets)
+    (λ (x : ℕ × List ℕ). known_value (type_of_octet version x.0)
     >>= (λ (y : ElementaryType). Ok (y, x.1))) (t, rest) e in
-    let b = bind_ok (known (type_of_octet version a.0.0)) (λ (y : ElementaryType). Ok (y, a.0.1))
+    let b = bind-ok (known_value (type_of_octet version a.0.0))
+    (λ (y : ElementaryType). Ok (y, a.0.1))
     (t, rest) a.2 in
-    let same = ok_same (b.0, a.0.1) (t, rest) b.2 in
+    let same = ok-same (b.0, a.0.1) (t, rest) b.2 in
     let is =
-    type_is version a.0.0 t
-    (known_ok (type_of_octet version a.0.0) b.0 b.1 ∙ ap Some (ap (λ q. q.0) same)) in
-    let first = took_octet octets a.0.0 a.0.1 a.1 in
+    type-is version a.0.0 t
+    (known-ok (type_of_octet version a.0.0) b.0 b.1 ∙ ap Some (ap (λ q. q.0) same)) in
+    let first = took-octet octets a.0.0 a.0.1 a.1 in
     first.parts ∙ ap (λ (ys : List ℕ). ys ++ a.0.1) (first.is fits) ∙ ap (λ (x : ℕ). x ∷ a.0.1) is
     ∙ ap (λ (ys : List ℕ). type_octet t ∷ ys) (ap (λ q. q.1) same)
 
-access_is : (octet : ℕ) (writable : Bool) → access_of octet ≡ Some writable
+access-is : (octet : ℕ) (writable : Bool) → access_of octet ≡ Some writable
     → octet ≡ cond writable 1 0
-access_is octet writable e = go octet writable (eqb octet 0) (eqb octet 1) refl refl e
+access-is octet writable e = go octet writable (eqb octet 0) (eqb octet 1) refl refl e
   where
     go : (octet : ℕ) (writable a b : Bool) → eqb octet 0 ≡ a → eqb octet 1 ≡ b
         → cond a (Some false) (cond b (Some true) None) ≡ Some writable → octet ≡ cond writable 1 0
     go octet writable true b h g e =
-        eqb-true octet 0 h ∙ ap (λ (w : Bool). cond w 1 0) (some_if_same false writable e)
+        eqb-true octet 0 h ∙ ap (λ (w : Bool). cond w 1 0) (some-if-same false writable e)
     go octet writable false true h g e =
-        eqb-true octet 1 g ∙ ap (λ (w : Bool). cond w 1 0) (some_if_same true writable e)
+        eqb-true octet 1 g ∙ ap (λ (w : Bool). cond w 1 0) (some-if-same true writable e)
     go octet writable false false h g e = absurd cc
 
-took_access : (octets : List ℕ) (writable : Bool) (rest : List ℕ) → AreOctets octets
+took-access : (octets : List ℕ) (writable : Bool) (rest : List ℕ) → AreOctets octets
     → access_at octets ≡ Ok (writable, rest) → octets ≡ cond writable 1 0 ∷ rest
-took_access octets writable rest fits e =
-    let a = bind_ok (octet_at octets)
-    (λ (x : ℕ × List ℕ). known (access_of x.0) >>= (λ (y : Bool). Ok (y, x.1))) (writable, rest)
+took-access octets writable rest fits e =
+    let a = bind-ok (octet_at octets)
+    (λ (x : ℕ × List ℕ). known_value (access_of x.0) >>= (λ (y : Bool). Ok (y, x.1)))
+    (writable, rest)
     e in
-    let b = bind_ok (known (access_of a.0.0)) (λ (y : Bool). Ok (y, a.0.1)) (writable, rest) a.2 in
-    let same = ok_same (b.0, a.0.1) (writable, rest) b.2 in
+    let b = bind-ok (known_value (access_of a.0.0)) (λ (y : Bool). Ok (y, a.0.1)) (writable, rest)
+    a.2 in
+    let same = ok-same (b.0, a.0.1) (writable, rest) b.2 in
     let is =
-    access_is a.0.0 writable (known_ok (access_of a.0.0) b.0 b.1 ∙ ap Some (ap (λ q. q.0) same))
+    access-is a.0.0 writable (known-ok (access_of a.0.0) b.0 b.1 ∙ ap Some (ap (λ q. q.0) same))
     in
-    let first = took_octet octets a.0.0 a.0.1 a.1 in
+    let first = took-octet octets a.0.0 a.0.1 a.1 in
     first.parts ∙ ap (λ (ys : List ℕ). ys ++ a.0.1) (first.is fits) ∙ ap (λ (x : ℕ). x ∷ a.0.1) is
     ∙ ap (λ (ys : List ℕ). cond writable 1 0 ∷ ys) (ap (λ q. q.1) same)
 
@@ -189,9 +192,9 @@ record TookLength (n : ℕ) (octets name rest : List ℕ) : Type 0 where
   size : length name ≡ n
   good : list_all is_name_octet name ≡ true
 
-took_length : (n : ℕ) (octets name rest : List ℕ) → name_of_length n octets ≡ Ok (name, rest)
+took-length : (n : ℕ) (octets name rest : List ℕ) → name_of_length n octets ≡ Ok (name, rest)
     → TookLength n octets name rest
-took_length n octets name rest e =
+took-length n octets name rest e =
     go (list_all is_name_octet (take n octets)) (ltb (length octets) n) n octets name rest refl refl
     e
   where
@@ -203,7 +206,7 @@ took_length n octets name rest e =
     go true true n octets name rest h g e = absurd cc
     go false b n octets name rest h g e = absurd cc
     go true false n octets name rest h g e =
-        let same = ok_same (take n octets, drop n octets) (name, rest) e in
+        let same = ok-same (take n octets, drop n octets) (name, rest) e in
         let first : take n octets ≡ name = ap (λ q. q.0) same in
         let second : drop n octets ≡ rest = ap (λ q. q.1) same in
         let made : TookLength n octets (take n octets) (drop n octets) = record {
@@ -214,13 +217,13 @@ took_length n octets name rest e =
         subst (λ (r : List ℕ). TookLength n octets name r) second
         (subst (λ (t : List ℕ). TookLength n octets t (drop n octets)) first made)
 
-took_name : (octets name rest : List ℕ) → AreOctets octets → name_at octets ≡ Ok (name, rest)
+took-name : (octets name rest : List ℕ) → AreOctets octets → name_at octets ≡ Ok (name, rest)
     → TookName octets name rest
-took_name octets name rest fits e =
-    let a = bind_ok (octet_at octets)
+took-name octets name rest fits e =
+    let a = bind-ok (octet_at octets)
     (λ (n : ℕ × List ℕ). cond (eqb n.0 0 || ltb 64 n.0) (Err BadOpcode)
     (name_of_length n.0 n.1)) (name, rest) e in
-    let first = took_octet octets a.0.0 a.0.1 a.1 in
+    let first = took-octet octets a.0.0 a.0.1 a.1 in
     go (eqb a.0.0 0 || ltb 64 a.0.0) octets a.0.0 a.0.1 name rest refl
     (first.parts ∙ ap (λ (ys : List ℕ). ys ++ a.0.1) (first.is fits)) a.2
   where
@@ -233,7 +236,7 @@ took_name octets name rest fits e =
         let p = or_parts (eqb n 0) (ltb 64 n) h in
         let some : n ≡ 0 → ⊥ = eqb-false n 0 p.0 in
         let few : n ≤ 64 = ltb-false 64 n p.1 in
-        let took = took_length n later name rest e in
+        let took = took-length n later name rest e in
         let size = took.size in
         record {
           parts = parts ∙ ap (λ (ys : List ℕ). n ∷ ys) took.parts
@@ -242,17 +245,17 @@ took_name octets name rest fits e =
         }
 
 -- the octets behind one
-tail_octets : (octets : List ℕ) (x : ℕ) (rest : List ℕ) → octets ≡ x ∷ rest → AreOctets octets
+tail-octets : (octets : List ℕ) (x : ℕ) (rest : List ℕ) → octets ≡ x ∷ rest → AreOctets octets
     → AreOctets rest
-tail_octets octets x rest parts fits = behind_octets (x ∷ []) rest (subst AreOctets parts fits)
+tail-octets octets x rest parts fits = behind-octets (x ∷ []) rest (subst AreOctets parts fits)
 
 -- a type, an access and a name, one behind the other
-point_made : (t : ElementaryType) (w : Bool) (name octets first second third : List ℕ)
+point-made : (t : ElementaryType) (w : Bool) (name octets first second third : List ℕ)
     (p : ImagePoint) (rest : List ℕ) → octets ≡ type_octet t ∷ first → first ≡ cond w 1 0 ∷ second
     → TookName second name third
     → (◌≡◌ {A = ImagePoint × List ℕ} (record { name = name; elementary = t; writable = w }, third)
     (p, rest)) → Took point_octets HasName octets p rest
-point_made t w name octets first second third p rest a b took same =
+point-made t w name octets first second third p rest a b took same =
     let made : Took point_octets HasName octets
     (record { name = name; elementary = t; writable = w }) third = record {
       parts = a ∙ ap (λ (ys : List ℕ). type_octet t ∷ ys) b
@@ -263,56 +266,56 @@ point_made t w name octets first second third p rest a b took same =
     (subst (λ (x : ImagePoint). Took point_octets HasName octets x third) (ap (λ q. q.0) same)
     made)
 
-pub took_point : (version : Version) → Takes point_octets HasName (point_at version)
+pub took-point : (version : Version) → Takes point_octets HasName (point_at version)
 unfolding point_at
-took_point version octets p rest fits e =
-    let a = bind_ok (type_at version octets)
+took-point version octets p rest fits e =
+    let a = bind-ok (type_at version octets)
     (λ (t : ElementaryType × List ℕ). access_at t.1
     >>= (λ (w : Bool × List ℕ). name_at w.1
     >>= (λ (n : List ℕ × List ℕ). Ok
     (record { name = n.0; elementary = t.0; writable = w.0 }, n.1)))) (p, rest) e in
-    let b = bind_ok (access_at a.0.1)
+    let b = bind-ok (access_at a.0.1)
     (λ (w : Bool × List ℕ). name_at w.1
     >>= (λ (n : List ℕ × List ℕ). Ok
     (record { name = n.0; elementary = a.0.0; writable = w.0 }, n.1))) (p, rest) a.2 in
-    let d = bind_ok (name_at b.0.1)
+    let d = bind-ok (name_at b.0.1)
     (λ (n : List ℕ × List ℕ). Ok
     (record { name = n.0; elementary = a.0.0; writable = b.0.0 }, n.1)) (p, rest) b.2 in
-    let type = took_type version octets a.0.0 a.0.1 fits a.1 in
-    let fits1 = tail_octets octets (type_octet a.0.0) a.0.1 type fits in
-    let access = took_access a.0.1 b.0.0 b.0.1 fits1 b.1 in
-    let fits2 = tail_octets a.0.1 (cond b.0.0 1 0) b.0.1 access fits1 in
-    point_made a.0.0 b.0.0 d.0.0 octets a.0.1 b.0.1 d.0.1 p rest type access
-    (took_name b.0.1 d.0.0 d.0.1 fits2 d.1)
-    (ok_same (record { name = d.0.0; elementary = a.0.0; writable = b.0.0 }, d.0.1) (p, rest)
+    let type = took-type version octets a.0.0 a.0.1 fits a.1 in
+    let fits1 = tail-octets octets (type_octet a.0.0) a.0.1 type fits in
+    let access = took-access a.0.1 b.0.0 b.0.1 fits1 b.1 in
+    let fits2 = tail-octets a.0.1 (cond b.0.0 1 0) b.0.1 access fits1 in
+    point-made a.0.0 b.0.0 d.0.0 octets a.0.1 b.0.1 d.0.1 p rest type access
+    (took-name b.0.1 d.0.0 d.0.1 fits2 d.1)
+    (ok-same (record { name = d.0.0; elementary = a.0.0; writable = b.0.0 }, d.0.1) (p, rest)
     d.2)
 
 -- ---- variables and timers
 
-some_is : {A : Type 0} (o : Option A) (x : A) → o ≡ Some x → IsSome o
-some_is None x e = absurd cc
-some_is (Some y) x e = refl
+some-is : {A : Type 0} (o : Option A) (x : A) → o ≡ Some x → IsSome o
+some-is None x e = absurd cc
+some-is (Some y) x e = refl
 
-pub took_variable : (version : Version)
+pub took-variable : (version : Version)
     → Takes (variable_octets version) IsValue (variable_at version)
 unfolding variable_at
-took_variable version octets v rest fits e =
-    let a = bind_ok (type_at version octets)
+took-variable version octets v rest fits e =
+    let a = bind-ok (type_at version octets)
     (λ (t : ElementaryType × List ℕ). value_at (value_size version) t.0 t.1) (v, rest) e in
-    let type = took_type version octets a.0.0 a.0.1 fits a.1 in
-    let value = took_value (value_size version) a.0.0 a.0.1 v rest a.2 in
-    let text = value.front.is (tail_octets octets (type_octet a.0.0) a.0.1 type fits) in
+    let type = took-type version octets a.0.0 a.0.1 fits a.1 in
+    let value = took-value (value_size version) a.0.0 a.0.1 v rest a.2 in
+    let text = value.front.is (tail-octets octets (type_octet a.0.0) a.0.1 type fits) in
     record {
-      parts = variable_parts (type_octet a.0.0) (type_octet (type_of v)) octets a.0.1
+      parts = variable-parts (type_octet a.0.0) (type_octet (type_of v)) octets a.0.1
           value.front.front (signed_octets (value_size version) (number_of v)) rest type
           (ap type_octet (sym value.type)) value.front.parts text;
       good = subst (λ (t : ElementaryType). IsSome (value_of t (number_of v))) (sym value.type)
-          (some_is (value_of a.0.0 (number_of v)) v value.is);
+          (some-is (value_of a.0.0 (number_of v)) v value.is);
     }
   where
-    variable_parts : (t u : ℕ) (octets later front text rest : List ℕ) → octets ≡ t ∷ later → t ≡ u
+    variable-parts : (t u : ℕ) (octets later front text rest : List ℕ) → octets ≡ t ∷ later → t ≡ u
         → later ≡ front ++ rest → front ≡ text → octets ≡ u ∷ (text ++ rest)
-    variable_parts t u octets later front text rest a b d f =
+    variable-parts t u octets later front text rest a b d f =
         a ∙ ap (λ (x : ℕ). x ∷ later) b
         ∙ ap (λ (ys : List ℕ). u ∷ ys) (d ∙ ap (λ (ys : List ℕ). ys ++ rest) f)
 
@@ -329,27 +332,28 @@ kind_is octet kind e = go octet kind (eqb octet 1) (eqb octet 2) refl refl e
         → octet ∷ [] ≡ timer_octets Two kind
     go octet kind true b h g e =
         ap (λ (x : ℕ). x ∷ []) (eqb-true octet 1 h)
-        ∙ ap (timer_octets Two) (some_if_same OnDelay kind e)
+        ∙ ap (timer_octets Two) (some-if-same OnDelay kind e)
     go octet kind false true h g e =
         ap (λ (x : ℕ). x ∷ []) (eqb-true octet 2 g)
-        ∙ ap (timer_octets Two) (some_if_same OffDelay kind e)
+        ∙ ap (timer_octets Two) (some-if-same OffDelay kind e)
     go octet kind false false h g e = absurd cc
 
-pub took_timer : (version : Version) → Takes (timer_octets version) IsKind (timer_at version)
+pub took-timer : (version : Version) → Takes (timer_octets version) IsKind (timer_at version)
 unfolding timer_at
-took_timer One octets kind rest fits e =
-    record { parts = ap (λ q. q.1) (ok_same (OnDelay, octets) (kind, rest) e); good = tt }
-took_timer Two octets kind rest fits e =
-    let a = bind_ok (octet_at octets)
-    (λ (x : ℕ × List ℕ). known (kind_of_octet x.0) >>= (λ (y : TimerKind). Ok (y, x.1)))
+took-timer One octets kind rest fits e =
+    record { parts = ap (λ q. q.1) (ok-same (OnDelay, octets) (kind, rest) e); good = tt }
+took-timer Two octets kind rest fits e =
+    let a = bind-ok (octet_at octets)
+    (λ (x : ℕ × List ℕ). known_value (kind_of_octet x.0) >>= (λ (y : TimerKind). Ok (y, x.1)))
     (kind, rest) e in
-    let b = bind_ok (known (kind_of_octet a.0.0)) (λ (y : TimerKind). Ok (y, a.0.1)) (kind, rest)
+    let b = bind-ok (known_value (kind_of_octet a.0.0)) (λ (y : TimerKind). Ok (y, a.0.1))
+    (kind, rest)
     a.2 in
-    let same = ok_same (b.0, a.0.1) (kind, rest) b.2 in
+    let same = ok-same (b.0, a.0.1) (kind, rest) b.2 in
     let is =
-    kind_is a.0.0 kind (known_ok (kind_of_octet a.0.0) b.0 b.1 ∙ ap Some (ap (λ q. q.0) same))
+    kind_is a.0.0 kind (known-ok (kind_of_octet a.0.0) b.0 b.1 ∙ ap Some (ap (λ q. q.0) same))
     in
-    let first = took_octet octets a.0.0 a.0.1 a.1 in
+    let first = took-octet octets a.0.0 a.0.1 a.1 in
     record {
       parts = first.parts ∙ ap (λ (ys : List ℕ). ys ++ a.0.1) (first.is fits ∙ is)
           ∙ ap (λ (ys : List ℕ). timer_octets Two kind ++ ys) (ap (λ q. q.1) same);
@@ -363,9 +367,9 @@ pub record TookCode (octets code : List ℕ) : Type 0 where
   pub size : length code ≤ 65_535
   pub good : IsCode code
 
-sized_code : (version : Version) (n : ℕ) (octets code : List ℕ) → AreOctets octets
+sized-code : (version : Version) (n : ℕ) (octets code : List ℕ) → AreOctets octets
     → code_of_length version n octets ≡ Ok code → (octets ≡ code) × (length code ≡ n) × IsCode code
-sized_code version n octets code fits e =
+sized-code version n octets code fits e =
     go (code_fault version (length (take n octets)) (take n octets)) (eqb (length octets) n) refl
     refl e
   where
@@ -376,7 +380,7 @@ sized_code version n octets code fits e =
     go (Some fault) b h g e = absurd cc
     go None false h g e = absurd cc
     go None true h g e =
-        let same : octets ≡ code = ok_same octets code e in
+        let same : octets ≡ code = ok-same octets code e in
         let size : length octets ≡ n = eqb-true (length octets) n g in
         let all : take n octets ≡ octets =
         ap (λ (m : ℕ). take m octets) (sym size) ∙ take-length octets in
@@ -385,18 +389,18 @@ sized_code version n octets code fits e =
         (ap (λ (xs : List ℕ). code_fault version (length xs) xs) (sym all) ∙ h) in
         (same, ap length (sym same) ∙ size, subst IsCode same good)
 
-pub took_code : (version : Version) (octets code : List ℕ) → AreOctets octets
+pub took-code : (version : Version) (octets code : List ℕ) → AreOctets octets
     → code_at version octets ≡ Ok code → TookCode octets code
 unfolding code_at
-took_code version octets code fits e =
-    let a = bind_ok (number_at octets) (λ (n : ℕ × List ℕ). code_of_length version n.0 n.1) code e
+took-code version octets code fits e =
+    let a = bind-ok (number_at octets) (λ (n : ℕ × List ℕ). code_of_length version n.0 n.1) code e
     in
-    let number = took_number octets a.0.0 a.0.1 a.1 in
+    let number = took-number octets a.0.0 a.0.1 a.1 in
     let first : octets ≡ number_octets a.0.0 ++ a.0.1 =
     number.0.parts ∙ ap (λ (ys : List ℕ). ys ++ a.0.1) (number.0.is fits) in
     let is =
-    sized_code version a.0.0 a.0.1 code
-    (behind_octets (number_octets a.0.0) a.0.1 (subst AreOctets first fits)) a.2 in
+    sized-code version a.0.0 a.0.1 code
+    (behind-octets (number_octets a.0.0) a.0.1 (subst AreOctets first fits)) a.2 in
     let small : a.0.0 < 2 ^ 16 = number.1 fits in
     let size : length code ≡ a.0.0 = is.1 in
     record {
@@ -408,11 +412,11 @@ took_code version octets code fits e =
 
 -- ---- images
 
-pub took_mark : (octets rest : List ℕ) → behind mark octets ≡ Ok rest → octets ≡ mark ++ rest
-took_mark octets rest e = go mark octets rest e
+pub took-mark : (octets rest : List ℕ) → behind mark octets ≡ Ok rest → octets ≡ mark ++ rest
+took-mark octets rest e = go mark octets rest e
   where
     go : (marks octets rest : List ℕ) → behind marks octets ≡ Ok rest → octets ≡ marks ++ rest
-    go [] octets rest e = ok_same octets rest e
+    go [] octets rest e = ok-same octets rest e
     go (m ∷ marks) [] rest e = absurd cc
     go (m ∷ marks) (x ∷ octets) rest e =
         one (eqb x m) m marks x octets rest refl (go marks octets rest) e
@@ -425,21 +429,21 @@ took_mark octets rest e = go mark octets rest e
             ap (λ (y : ℕ). y ∷ octets) (eqb-true x m h) ∙ ap (λ (ys : List ℕ). m ∷ ys) (more e)
         one false m marks x octets rest h more e = absurd cc
 
-pub took_version : (octets : List ℕ) (version : Version) (rest : List ℕ)
+pub took-version : (octets : List ℕ) (version : Version) (rest : List ℕ)
     → version_at octets ≡ Ok (version, rest) → octets ≡ version_octet version ∷ rest
-took_version [] version rest e = absurd cc
-took_version (x ∷ octets) version rest e = go (eqb x 1) (eqb x 2) x octets version rest refl refl e
+took-version [] version rest e = absurd cc
+took-version (x ∷ octets) version rest e = go (eqb x 1) (eqb x 2) x octets version rest refl refl e
   where
     go : (a b : Bool) (x : ℕ) (octets : List ℕ) (version : Version) (rest : List ℕ) → eqb x 1 ≡ a
         → eqb x 2 ≡ b → (◌≡◌ {A = Read Version}
         (cond a (Ok (One, octets)) (cond b (Ok (Two, octets)) (Err BadVersion)))
         (Ok (version, rest))) → x ∷ octets ≡ version_octet version ∷ rest
     go true b x octets version rest h g e =
-        let same = ok_same (One, octets) (version, rest) e in
+        let same = ok-same (One, octets) (version, rest) e in
         ap (λ (y : ℕ). y ∷ octets) (eqb-true x 1 h ∙ ap version_octet (ap (λ q. q.0) same))
         ∙ ap (λ (ys : List ℕ). version_octet version ∷ ys) (ap (λ q. q.1) same)
     go false true x octets version rest h g e =
-        let same = ok_same (Two, octets) (version, rest) e in
+        let same = ok-same (Two, octets) (version, rest) e in
         ap (λ (y : ℕ). y ∷ octets) (eqb-true x 2 g ∙ ap version_octet (ap (λ q. q.0) same))
         ∙ ap (λ (ys : List ℕ). version_octet version ∷ ys) (ap (λ q. q.1) same)
     go false false x octets version rest h g e = absurd cc

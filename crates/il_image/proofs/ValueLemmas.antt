@@ -13,13 +13,13 @@ use Rattle.il_image.specs.Octets.{bits_of_size, size_of}
 use Rattle.il_image.specs.Values.{type_of, number_of, value_of, default_value, span_of, is_between}
 
 -- what a chosen value shows of the choice
-some_if : {A : Type 0} (b : Bool) (x : A) → IsSome (cond b (Some x) None) → b ≡ true
-some_if true x h = refl
-some_if false x h = h
+some-if : {A : Type 0} (b : Bool) (x : A) → IsSome (cond b (Some x) None) → b ≡ true
+some-if true x h = refl
+some-if false x h = h
 
-same_if : {A : Type 0} (b : Bool) (x y : A) → cond b (Some x) None ≡ Some y → (b ≡ true) × (x ≡ y)
-same_if true x y h = (refl, cc)
-same_if false x y h = absurd cc
+same-if : {A : Type 0} (b : Bool) (x y : A) → cond b (Some x) None ≡ Some y → (b ≡ true) × (x ≡ y)
+same-if true x y h = (refl, cc)
+same-if false x y h = absurd cc
 
 fits_between : (w : Bits) (m : ℕ) (z : ℤ) → m < 2 ^ hbits w → is_between (negsuc m) (pos m) z ≡ true
     → FitsSigned w z
@@ -35,38 +35,38 @@ pub record IsOf (t : ElementaryType) (z : ℤ) (v : Value) : Type 0 where
   pub number : number_of v ≡ z
   pub fits : FitsSigned (bits_of_size (size_of t)) z
 
-truth_is : (n : ℕ) (a b : Bool) (v : Value) → eqb n 0 ≡ a → eqb n 1 ≡ b
+truth-is : (n : ℕ) (a b : Bool) (v : Value) → eqb n 0 ≡ a → eqb n 1 ≡ b
     → cond a (Some (Truth false)) (cond b (Some (Truth true)) None) ≡ Some v
     → IsOf elementary.Bool (pos n) v
-truth_is n true b v e f h =
+truth-is n true b v e f h =
     let zero : n ≡ 0 = eqb-true n 0 e in
     let same : Truth false ≡ v = cc in
     subst (IsOf elementary.Bool (pos n)) same
     (record { type = refl; number = ap pos (sym zero); fits = record { sfits = omega arith } })
-truth_is n false true v e f h =
+truth-is n false true v e f h =
     let one : n ≡ 1 = eqb-true n 1 f in
     let same : Truth true ≡ v = cc in
     subst (IsOf elementary.Bool (pos n)) same
     (record { type = refl; number = ap pos (sym one); fits = record { sfits = omega arith } })
-truth_is n false false v e f h = absurd cc
+truth-is n false false v e f h = absurd cc
 
-span_is : (n : ℕ) (v : Value) → span_of (pos n) ≡ Some v → IsOf elementary.Time (pos n) v
-span_is n v h =
-    let e = same_if (is_between (pos 0) (pos 0x7FFF_FFFF) (pos n)) (Span n) v h in
+span-is : (n : ℕ) (v : Value) → span_of (pos n) ≡ Some v → IsOf elementary.Time (pos n) v
+span-is n v h =
+    let e = same-if (is_between (pos 0) (pos 0x7FFF_FFFF) (pos n)) (Span n) v h in
     let small : n ≤ 0x7FFF_FFFF =
     leb-true n 0x7FFF_FFFF (and_parts (leb 0 n) (leb n 0x7FFF_FFFF) e.0).1 in
     subst (IsOf elementary.Time (pos n)) e.1
     (record { type = refl; number = refl; fits = record { sfits = omega arith } })
 
 pub value_is : (t : ElementaryType) (z : ℤ) (v : Value) → value_of t z ≡ Some v → IsOf t z v
-value_is elementary.Bool (pos n) v h = truth_is n (eqb n 0) (eqb n 1) v refl refl h
+value_is elementary.Bool (pos n) v h = truth-is n (eqb n 0) (eqb n 1) v refl refl h
 value_is elementary.Bool (negsuc n) v h = absurd cc
 value_is elementary.Int z v h =
-    let e = same_if (is_between (negsuc 0x7FFF) (pos 0x7FFF) z) (Short z) v h in
+    let e = same-if (is_between (negsuc 0x7FFF) (pos 0x7FFF) z) (Short z) v h in
     subst (IsOf elementary.Int z) e.1
     (record { type = refl; number = refl; fits = fits_between w16 0x7FFF z (omega arith) e.0 })
 value_is elementary.Dint z v h =
-    let e = same_if (is_between (negsuc 0x7FFF_FFFF) (pos 0x7FFF_FFFF) z) (Long z) v h in
+    let e = same-if (is_between (negsuc 0x7FFF_FFFF) (pos 0x7FFF_FFFF) z) (Long z) v h in
     subst (IsOf elementary.Dint z) e.1
     (record {
       type = refl;
@@ -74,7 +74,7 @@ value_is elementary.Dint z v h =
       fits = fits_between w32 0x7FFF_FFFF z (omega arith) e.0;
     })
 value_is elementary.Lint z v h =
-    let e = same_if (is_between (negsuc 0x7FFF_FFFF_FFFF_FFFF) (pos 0x7FFF_FFFF_FFFF_FFFF) z)
+    let e = same-if (is_between (negsuc 0x7FFF_FFFF_FFFF_FFFF) (pos 0x7FFF_FFFF_FFFF_FFFF) z)
     (Wide z) v h in
     subst (IsOf elementary.Lint z) e.1
     (record {
@@ -82,27 +82,27 @@ value_is elementary.Lint z v h =
       number = refl;
       fits = fits_between w64 0x7FFF_FFFF_FFFF_FFFF z (omega arith) e.0;
     })
-value_is elementary.Time (pos n) v h = span_is n v h
+value_is elementary.Time (pos n) v h = span-is n v h
 value_is elementary.Time (negsuc n) v h = absurd cc
 
 -- A value of its type is the one that its number gives.
-pub value_back : (v : Value) → IsSome (value_of (type_of v) (number_of v))
+pub value-back : (v : Value) → IsSome (value_of (type_of v) (number_of v))
     → value_of (type_of v) (number_of v) ≡ Some v
-value_back (Truth true) h = refl
-value_back (Truth false) h = refl
-value_back (Short z) h = rw (some_if (is_between (negsuc 0x7FFF) (pos 0x7FFF) z) (Short z) h) refl
-value_back (Long z) h =
-    rw (some_if (is_between (negsuc 0x7FFF_FFFF) (pos 0x7FFF_FFFF) z) (Long z) h) refl
-value_back (Wide z) h =
-    rw (some_if (is_between (negsuc 0x7FFF_FFFF_FFFF_FFFF) (pos 0x7FFF_FFFF_FFFF_FFFF) z) (Wide z)
+value-back (Truth true) h = refl
+value-back (Truth false) h = refl
+value-back (Short z) h = rw (some-if (is_between (negsuc 0x7FFF) (pos 0x7FFF) z) (Short z) h) refl
+value-back (Long z) h =
+    rw (some-if (is_between (negsuc 0x7FFF_FFFF) (pos 0x7FFF_FFFF) z) (Long z) h) refl
+value-back (Wide z) h =
+    rw (some-if (is_between (negsuc 0x7FFF_FFFF_FFFF_FFFF) (pos 0x7FFF_FFFF_FFFF_FFFF) z) (Wide z)
     h) refl
-value_back (Span n) h = rw (some_if (is_between (pos 0) (pos 0x7FFF_FFFF) (pos n)) (Span n) h) refl
+value-back (Span n) h = rw (some-if (is_between (pos 0) (pos 0x7FFF_FFFF) (pos n)) (Span n) h) refl
 
 -- the default of a type is a value of it
-pub default_typed : (t : ElementaryType)
+pub default-typed : (t : ElementaryType)
     → (type_of (default_value t) ≡ t) × IsValue (default_value t)
-default_typed elementary.Bool = (refl, refl)
-default_typed elementary.Int = (refl, refl)
-default_typed elementary.Dint = (refl, refl)
-default_typed elementary.Lint = (refl, refl)
-default_typed elementary.Time = (refl, refl)
+default-typed elementary.Bool = (refl, refl)
+default-typed elementary.Int = (refl, refl)
+default-typed elementary.Dint = (refl, refl)
+default-typed elementary.Lint = (refl, refl)
+default-typed elementary.Time = (refl, refl)

@@ -31,8 +31,8 @@ bits_of width.Dint = w32
 bits_of width.Lint = w64
 
 -- the number that two's complement of the width makes of an integer
-abbrev pub wrapped : Width → ℤ → ℤ
-wrapped width z = int_wrap (bits_of width) z
+abbrev pub wrap_to : Width → ℤ → ℤ
+wrap_to width z = int_wrap (bits_of width) z
 
 -- the integer result: DIV rounds toward zero, and a MOD b is a - (a DIV b) * b
 abbrev pub exact : Operation → ℤ → ℤ → ℤ
@@ -43,8 +43,8 @@ exact Div a b = int_div a b
 exact Mod a b = a -ℤ (int_div a b *ℤ b)
 
 -- the result of an operation: the exact integer, reduced into the width
-abbrev pub computed : Operation → Width → ℤ → ℤ → ℤ
-computed operation width a b = wrapped width (exact operation a b)
+abbrev pub computation_of : Operation → Width → ℤ → ℤ → ℤ
+computation_of operation width a b = wrap_to width (exact operation a b)
 
 -- The operation may be done with this second operand: a divisor is not 0.
 abbrev pub DividesBy : Operation → ℤ → Type 0
@@ -55,22 +55,22 @@ DividesBy Div b = b ≡ pos 0 → ⊥
 DividesBy Mod b = b ≡ pos 0 → ⊥
 
 -- the comparison of the numbers holds
-abbrev pub compared : Comparison → ℤ → ℤ → Bool
-compared Gt a b = int_lt b a
-compared Ge a b = int_le b a
-compared Eq a b = int_eq a b
-compared Ne a b = not (int_eq a b)
-compared Le a b = int_le a b
-compared Lt a b = int_lt a b
+abbrev pub comparison_holds : Comparison → ℤ → ℤ → Bool
+comparison_holds Gt a b = int_lt b a
+comparison_holds Ge a b = int_le b a
+comparison_holds Eq a b = int_eq a b
+comparison_holds Ne a b = not (int_eq a b)
+comparison_holds Le a b = int_le a b
+comparison_holds Lt a b = int_lt a b
 
 -- AND, OR and XOR of two BOOLs
-abbrev pub connected : Connective → Bool → Bool → Bool
-connected And a b = a && b
-connected Or a b = a || b
-connected Xor a b = if a then not b else b
+abbrev pub logic_of : Connective → Bool → Bool → Bool
+logic_of And a b = a && b
+logic_of Or a b = a || b
+logic_of Xor a b = if a then not b else b
 
 -- the value of the next wider type that has the same number
-abbrev pub widened : Widening → Value → Option Value
-widened IntToDint (Short z) = Some (Long z)
-widened DintToLint (Long z) = Some (Wide z)
-widened widening v = None
+abbrev pub wider_value : Widening → Value → Option Value
+wider_value IntToDint (Short z) = Some (Long z)
+wider_value DintToLint (Long z) = Some (Wide z)
+wider_value widening v = None

@@ -3,15 +3,15 @@ use Rattle.std.specs.Prelude.{ℕ, ◌≡◌, ◌<◌, ◌≤◌, ◌-◌, ◌++
 use Rattle.il_image.specs.declared.instr.Instr.{Instr}
 use Rattle.il_image.specs.declared.opcode.Version.{Version}
 use Rattle.il_image.specs.declared.value.Value.{Value}
-use Rattle.il_image.specs.Decoding.{decoded, variable_at}
-use Rattle.il_image.specs.Images.{Image, counted, each_spelled, encoded, mark, point_octets, timer_octets, variable_octets, version_octet}
+use Rattle.il_image.specs.Decoding.{image_spelled, variable_at}
+use Rattle.il_image.specs.Images.{Image, count_and_items, each_spelled, image_octets, mark, point_octets, timer_octets, variable_octets, version_octet}
 use Rattle.il_image.specs.Octets.{AreOctets, number_octets}
 use Rattle.il_image.specs.Reading.{instr_from}
 use Rattle.il_image.specs.Spelling.{spelling}
 
 -- The version has the image, the initial value, the instruction: its spelling is read back.
 abbrev pub IsImageOf : Version → Image → Type 0
-IsImageOf version image = decoded (encoded version image) ≡ Ok image
+IsImageOf version image = image_spelled (image_octets version image) ≡ Ok image
 
 abbrev pub IsValueOf : Version → Value → Type 0
 IsValueOf version v = variable_at version (variable_octets version v) ≡ Ok (v, [])
@@ -29,14 +29,14 @@ pub record CanEnd (octets : List ℕ) : Type 0 where
   pub more : List ℕ
   pub image : Image
   pub fits : AreOctets more
-  pub ends : decoded (octets ++ more) ≡ Ok image
+  pub ends : image_spelled (octets ++ more) ≡ Ok image
 
 -- They are those of an image, and others behind it.
 pub record HasOthers (octets : List ℕ) : Type 0 where
   pub front : List ℕ
   pub others : List ℕ
   pub image : Image
-  pub reads : decoded front ≡ Ok image
+  pub reads : image_spelled front ≡ Ok image
   pub some : 0 < length others
   pub parts : octets ≡ front ++ others
 
@@ -54,7 +54,8 @@ pub record EndsInValue (octets : List ℕ) : Type 0 where
   pub begins : (v : Value) × IsValueOf version v × IsShortOf part (variable_octets version v)
   pub none : (v : Value) (rest : List ℕ) → AreOctets rest → IsValueOf version v
       → part ++ rest ≡ variable_octets version v → ⊥
-  pub parts : octets ≡ mark ++ (version_octet version ∷ (counted point_octets image.points ++
+  pub parts : octets ≡ mark
+      ++ (version_octet version ∷ (count_and_items point_octets image.points ++
       (number_octets count ++ (each_spelled (variable_octets version) image.variables ++ part))))
 
 -- The length of their code ends in a part of an instruction, or they do, where no instruction of
@@ -73,9 +74,10 @@ pub record EndsInInstr (octets : List ℕ) : Type 0 where
   pub none : (i : Instr) (rest : List ℕ) → AreOctets rest → IsInstrOf version i
       → take (size - length image.code) part ++ rest ≡ spelling i
       → size - length image.code < length (spelling i)
-  pub parts : octets ≡ mark ++ (version_octet version ∷ (counted point_octets image.points ++
-      (counted (variable_octets version) image.variables ++
-      (counted (timer_octets version) image.timers ++ (number_octets size ++
+  pub parts : octets ≡ mark
+      ++ (version_octet version ∷ (count_and_items point_octets image.points ++
+      (count_and_items (variable_octets version) image.variables ++
+      (count_and_items (timer_octets version) image.timers ++ (number_octets size ++
       (image.code ++ part))))))
 
 -- The octets are right so far: others complete them; or an image ends before them; or the last

@@ -14,7 +14,7 @@ use Rattle.bay_base.specs.declared.types.TimerKind.{TimerKind}
 use Rattle.bay_base.specs.declared.types.TimerKind.TheVariants.{OnDelay, OffDelay}
 use Rattle.il_image.specs.declared.value.Value.{Value}
 use Rattle.il_image.specs.Images.{Image, is_name_octet, mark, value_size}
-use Rattle.il_image.specs.Reading.{Read, instr_from, known, number_at, octet_at, value_at}
+use Rattle.il_image.specs.Reading.{Read, instr_from, known_value, number_at, octet_at, value_at}
 
 -- the octets behind these, each of which has to be there
 abbrev pub behind : List ℕ → List ℕ → Result (List ℕ) ImageFault
@@ -47,7 +47,7 @@ type_of_octet version octet =
 abbrev pub type_at : Version → List ℕ → Read ElementaryType
 type_at version octets = do
   octet ← octet_at octets
-  t ← known (type_of_octet version octet.0)
+  t ← known_value (type_of_octet version octet.0)
   Ok (t, octet.1)
 
 -- whether the point may be written
@@ -58,7 +58,7 @@ access_of octet = if octet == 0x00 then Some false else (if octet == 0x01 then S
 abbrev pub access_at : List ℕ → Read Bool
 access_at octets = do
   octet ← octet_at octets
-  writable ← known (access_of octet.0)
+  writable ← known_value (access_of octet.0)
   Ok (writable, octet.1)
 
 -- a name of this length: its first octet that is none of a name comes before its missing end
@@ -98,7 +98,7 @@ unfoldable pub timer_at : Version → List ℕ → Read TimerKind
 timer_at One octets = Ok (OnDelay, octets)
 timer_at Two octets = do
   octet ← octet_at octets
-  kind ← known (kind_of_octet octet.0)
+  kind ← known_value (kind_of_octet octet.0)
   Ok (kind, octet.1)
 
 -- so many items
@@ -146,8 +146,8 @@ code_at version octets = do
   code_of_length version n.0 n.1
 
 -- the image that octets spell, or their first fault from the left
-unfoldable pub decoded : List ℕ → Result Image ImageFault
-decoded octets = do
+unfoldable pub image_spelled : List ℕ → Result Image ImageFault
+image_spelled octets = do
   rest ← behind mark octets
   version ← version_at rest
   points ← counted_at (point_at version.0) version.1
@@ -170,5 +170,5 @@ pub record TakesMemory (octets : List ℕ) : Type 0 where
 pub record IsFirstBad (octets : List ℕ) : Type 0 where
   pub bad : ℕ
   pub within : bad < length octets
-  pub before : decoded (take bad octets) ≡ Err Truncated
-  pub here : (more : List ℕ) → decoded (take (suc bad) octets ++ more) ≡ Err BadOpcode
+  pub before : image_spelled (take bad octets) ≡ Err Truncated
+  pub here : (more : List ℕ) → image_spelled (take (suc bad) octets ++ more) ≡ Err BadOpcode

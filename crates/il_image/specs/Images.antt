@@ -110,8 +110,8 @@ each_spelled spell [] = []
 each_spelled spell (x ∷ xs) = spell x ++ each_spelled spell xs
 
 -- the number of items, and then the items
-abbrev pub counted : {A : Type 0} → (A → List ℕ) → List A → List ℕ
-counted spell xs = number_octets (length xs) ++ each_spelled spell xs
+abbrev pub count_and_items : {A : Type 0} → (A → List ℕ) → List A → List ℕ
+count_and_items spell xs = number_octets (length xs) ++ each_spelled spell xs
 
 -- ILBC in ASCII
 abbrev pub mark : List ℕ
@@ -123,8 +123,10 @@ version_octet One = 0x01
 version_octet Two = 0x02
 
 -- the octets of an image in a version of the format
-unfoldable pub encoded : Version → Image → List ℕ
-encoded version i =
+unfoldable pub image_octets : Version → Image → List ℕ
+image_octets version i =
     mark ++ (version_octet version
-    ∷ (counted point_octets i.points ++ (counted (variable_octets version) i.variables ++
-    (counted (timer_octets version) i.timers ++ (number_octets (length i.code) ++ i.code)))))
+    ∷ (count_and_items point_octets i.points
+    ++ (count_and_items (variable_octets version) i.variables ++
+    (count_and_items (timer_octets version) i.timers
+    ++ (number_octets (length i.code) ++ i.code)))))

@@ -19,9 +19,9 @@ use Rattle.il_image.specs.declared.value.Value.{Value}
 use Rattle.il_image.specs.declared.value.Value.TheVariants.{Truth, Short, Long, Wide, Span}
 use Rattle.bay_base.specs.declared.types.ElementaryType.TheVariants as elementary
 use Rattle.bay_base.specs.Types.{same_type}
-use Rattle.il_image.specs.Arithmetic.{compared, computed, connected, widened}
+use Rattle.il_image.specs.Arithmetic.{comparison_holds, computation_of, logic_of, wider_value}
 use Rattle.il_image.specs.Places.{begun_at}
-use Rattle.il_image.specs.Timers.{called}
+use Rattle.il_image.specs.Timers.{after_call}
 use Rattle.il_image.specs.Values.{number_of, type_of}
 
 -- the place of the next instruction, the cells of the operand stack with the top first, the slots,
@@ -179,26 +179,26 @@ inverts next s =
 abbrev pub connects : Connective → ℕ → State → Turn
 connects c next s =
     with_two s.cells (λ first second below. as_truth second
-    (λ b. as_truth first (λ a. goes next (Truth (connected c a b) ∷ below) s)))
+    (λ b. as_truth first (λ a. goes next (Truth (logic_of c a b) ∷ below) s)))
 
 -- Two numbers become their result; the divisor is not 0.
 abbrev pub computes : Operation → Width → ℕ → State → Turn
 computes o w next s =
     with_numbers w s (λ a b below. if divides o && int_eq b (pos 0) then Traps ZeroDivisor
-    else goes next (value_of_width w (computed o w a b) ∷ below) s)
+    else goes next (value_of_width w (computation_of o w a b) ∷ below) s)
 
 -- Two values become a BOOL.
 abbrev pub compares : Comparison → ℕ → State → Turn
 compares c next s =
     with_two s.cells (λ a b below. if is_comparable c a b
-    then goes next (Truth (compared c (number_of a) (number_of b)) ∷ below) s
+    then goes next (Truth (comparison_holds c (number_of a) (number_of b)) ∷ below) s
     else Traps WrongKind)
 
 -- The top becomes a value of the wider type.
 abbrev pub widens : Widening → ℕ → State → Turn
 widens w next s =
     with_top s.cells (λ top below.
-    elim (widened w top) [ None ↦ Traps WrongKind | Some v ↦ goes next (v ∷ below) s ])
+    elim (wider_value w top) [ None ↦ Traps WrongKind | Some v ↦ goes next (v ∷ below) s ])
 
 -- A jump looks at the top, and leaves it.
 abbrev pub jumps_where : (Bool → ℕ) → State → Turn
@@ -218,7 +218,7 @@ takes_preset n next s =
 
 -- The timer is called at the moment.
 abbrev pub runs_timer : ℕ → ℕ → ℕ → State → Turn
-runs_timer now n next s = with_timer n s (λ t. changes n (called t now) next s.cells s)
+runs_timer now n next s = with_timer n s (λ t. changes n (after_call t now) next s.cells s)
 
 -- Q is put on the stack.
 abbrev pub loads_output : ℕ → ℕ → State → Turn
@@ -276,10 +276,10 @@ ending_of Halts s steps rest = Halted s.slots s.timers steps
 ending_of (Traps trap) s steps rest = Trapped trap
 
 -- a run of at most so many steps from a state, after this many
-unfoldable pub run : List ℕ → ℕ → ℕ → State → ℕ → Ending
-run code now zero s steps = Unfinished
-run code now (suc most) s steps =
-    ending_of (turn code now s) s (steps + 1) (λ after. run code now most after (steps + 1))
+unfoldable pub run_from : List ℕ → ℕ → ℕ → State → ℕ → Ending
+run_from code now zero s steps = Unfinished
+run_from code now (suc most) s steps =
+    ending_of (turn code now s) s (steps + 1) (λ after. run_from code now most after (steps + 1))
 
 -- A run begins at place 0 without cells.
 abbrev pub initial_state : List Value → List TimerState → State

@@ -25,9 +25,9 @@ abbrev pub Read : Type 0 → Type 0
 Read A = Result (A × List ℕ) ImageFault
 
 -- what an octet or a number stands for, where it stands for something
-abbrev pub known : {A : Type 0} → Option A → Result A ImageFault
-known (Some x) = Ok x
-known None = Err BadOpcode
+abbrev pub known_value : {A : Type 0} → Option A → Result A ImageFault
+known_value (Some x) = Ok x
+known_value None = Err BadOpcode
 
 -- one octet
 abbrev pub octet_at : List ℕ → Read ℕ
@@ -52,14 +52,14 @@ signed_at size octets =
 abbrev pub value_at : Size → ElementaryType → List ℕ → Read Value
 value_at size t octets = do
   z ← signed_at size octets
-  v ← known (value_of t z.0)
+  v ← known_value (value_of t z.0)
   Ok (v, z.1)
 
 -- a width of the version
 abbrev pub width_at : Version → List ℕ → Read Width
 width_at version octets = do
   octet ← octet_at octets
-  width ← known (width_of version octet.0)
+  width ← known_value (width_of version octet.0)
   Ok (width, octet.1)
 
 -- an instruction with a number of 16 bits
@@ -99,13 +99,13 @@ instr_from version octets = do
   operand_from version opcode octet.1
 
 -- the instruction that was read, and the place behind it in code of this length
-abbrev pub placed : ℕ → Read Instr → Option (Instr × ℕ)
-placed size (Ok r) = Some (r.0, size - length r.1)
-placed size (Err e) = None
+abbrev pub with_next_place : ℕ → Read Instr → Option (Instr × ℕ)
+with_next_place size (Ok r) = Some (r.0, size - length r.1)
+with_next_place size (Err e) = None
 
 -- the instruction at a place of the code, and the place behind it
 unfoldable pub instr_at : List ℕ → ℕ → Option (Instr × ℕ)
-instr_at code place = placed (length code) (instr_from Two (drop place code))
+instr_at code place = with_next_place (length code) (instr_from Two (drop place code))
 
 -- The instruction stands at a place of the code, and the next place is behind it.
 pub record StandsAt (code : List ℕ) (place : ℕ) (i : Instr) (next : ℕ) : Type 0 where

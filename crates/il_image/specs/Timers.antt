@@ -36,8 +36,8 @@ elapsed_of preset Held m = 0
 elapsed_of preset (Since start) m = min (m - start) preset
 
 -- one call at the moment m, with the IN and PT that the timer holds
-abbrev pub called : TimerState → ℕ → TimerState
-called t m =
+abbrev pub after_call : TimerState → ℕ → TimerState
+after_call t m =
     let phase = phase_after t.kind t.input t.phase m in
     record t {
       phase = phase;
@@ -57,7 +57,7 @@ pub record Call : Type 0 where
 abbrev pub after : TimerKind → List Call → TimerState
 after kind [] = first_state kind
 after kind (c ∷ earlier) =
-    called (record (after kind earlier) { input = c.input; preset = c.preset }) c.moment
+    after_call (record (after kind earlier) { input = c.input; preset = c.preset }) c.moment
 
 -- Each of the calls has this IN.
 abbrev pub AllHave : Bool → List Call → Type 0

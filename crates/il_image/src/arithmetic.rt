@@ -2,7 +2,7 @@
 // and 28).
 ghost use Rattle.std.specs.Prelude.{◌≡◌};
 ghost use Rattle.il_image.specs.declared.arithmetic.Width.{Width};
-ghost use Rattle.il_image.specs.Arithmetic.{DividesBy, compared, computed, connected, type_of_width, widened, wrapped};
+ghost use Rattle.il_image.specs.Arithmetic.{DividesBy, comparison_holds, computation_of, logic_of, type_of_width, wider_value, wrap_to};
 
 use crate::opcode::{Connective, Widening};
 use crate::value::Value;
@@ -57,7 +57,7 @@ impl Width {
 
 /// The number that a width's lowest bits of a number stand for, in two's complement.
 pub fn wrap(width: Width, number: i64) -> i64
-    ensures { result ≡ wrapped width number }
+    ensures { result ≡ wrap_to width number }
 {
     let bits = number.cast_unsigned();
     match width {
@@ -70,7 +70,7 @@ pub fn wrap(width: Width, number: i64) -> i64
 // The result of an operation in 64 bits, of which each width takes its own.
 fn compute_wide(operation: Operation, first: i64, second: i64) -> i64
     requires { DividesBy operation second }
-    ensures { (width : Width) → wrapped width result ≡ computed operation width first second }
+    ensures { (width : Width) → wrap_to width result ≡ computation_of operation width first second }
 {
     match operation {
         Operation::Add => first.wrapping_add(second),
@@ -85,14 +85,14 @@ fn compute_wide(operation: Operation, first: i64, second: i64) -> i64
 /// is not 0.
 pub fn compute(operation: Operation, width: Width, first: i64, second: i64) -> i64
     requires { DividesBy operation second }
-    ensures { result ≡ computed operation width first second }
+    ensures { result ≡ computation_of operation width first second }
 {
     wrap(width, compute_wide(operation, first, second))
 }
 
 /// Whether a comparison of two numbers holds.
 pub fn compare(comparison: Comparison, first: i64, second: i64) -> bool
-    ensures { result ≡ compared comparison first second }
+    ensures { result ≡ comparison_holds comparison first second }
 {
     match comparison {
         Comparison::Gt => first > second,
@@ -106,7 +106,7 @@ pub fn compare(comparison: Comparison, first: i64, second: i64) -> bool
 
 /// The connection of two BOOLs.
 pub fn connect(connective: Connective, first: bool, second: bool) -> bool
-    ensures { result ≡ connected connective first second }
+    ensures { result ≡ logic_of connective first second }
 {
     match connective {
         Connective::And => first && second,
@@ -117,7 +117,7 @@ pub fn connect(connective: Connective, first: bool, second: bool) -> bool
 
 /// The value of the next wider type that has the same number, for a value of the narrower type.
 pub fn widen(widening: Widening, value: Value) -> Option<Value>
-    ensures { result ≡ widened widening value }
+    ensures { result ≡ wider_value widening value }
 {
     match (widening, value) {
         (Widening::IntToDint, Value::Short(number)) => Some(Value::Long(i32::from(number))),

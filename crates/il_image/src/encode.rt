@@ -1,6 +1,6 @@
 // Images written as octets.
 ghost use Rattle.std.specs.Prelude.{◌≡◌, ◌++◌, ◌≤◌, IfOk, OnOk, length};
-ghost use Rattle.il_image.specs.Images.{Each, HasName, counted, encoded, point_octets, timer_octets, variable_octets};
+ghost use Rattle.il_image.specs.Images.{Each, HasName, count_and_items, image_octets, point_octets, timer_octets, variable_octets};
 ghost use Rattle.il_image.specs.Images as spec;
 
 use crate::image::{Image, ImagePoint};
@@ -40,7 +40,8 @@ fn push_point(octets: &mut Vec<u8>, point: &ImagePoint) -> Result<(), AllocError
 fn push_points(octets: &mut Vec<u8>, points: &[ImagePoint]) -> Result<(), AllocError>
     requires few { length points.now ≤ 65_535 }
     requires names { Each HasName points.now }
-    ensures { OnOk result (octets.new.items ≡ octets.old.items ++ counted point_octets points.now) }
+    ensures { OnOk result (octets.new.items
+        ≡ octets.old.items ++ count_and_items point_octets points.now) }
 {
     push_number(octets, points.len() as u16)?;
     for point in points {
@@ -61,7 +62,7 @@ fn push_variable(octets: &mut Vec<u8>, value: Value) -> Result<(), AllocError>
 fn push_variables(octets: &mut Vec<u8>, values: &[Value]) -> Result<(), AllocError>
     requires { length values.now ≤ 65_535 }
     ensures { OnOk result (octets.new.items
-        ≡ octets.old.items ++ counted (variable_octets Version.Two) values.now) }
+        ≡ octets.old.items ++ count_and_items (variable_octets Version.Two) values.now) }
 {
     push_number(octets, values.len() as u16)?;
     for value in values {
@@ -84,7 +85,7 @@ fn push_timer(octets: &mut Vec<u8>, kind: TimerKind) -> Result<(), AllocError>
 fn push_timers(octets: &mut Vec<u8>, kinds: &[TimerKind]) -> Result<(), AllocError>
     requires { length kinds.now ≤ 65_535 }
     ensures { OnOk result (octets.new.items
-        ≡ octets.old.items ++ counted (timer_octets Version.Two) kinds.now) }
+        ≡ octets.old.items ++ count_and_items (timer_octets Version.Two) kinds.now) }
 {
     push_number(octets, kinds.len() as u16)?;
     for kind in kinds {
@@ -94,9 +95,9 @@ fn push_timers(octets: &mut Vec<u8>, kinds: &[TimerKind]) -> Result<(), AllocErr
 }
 
 /// The octets of an image, in version 2 of the format.
-#[tactic(auto, unfolding(crate::specs::Images::encoded))]
+#[tactic(auto, unfolding(crate::specs::Images::image_octets))]
 pub fn encode(alloc: Global, image: &Image) -> Result<Vec<u8>, AllocError>
-    ensures { IfOk result (λ octets. octets.items ≡ encoded Version.Two image.now) }
+    ensures { IfOk result (λ octets. octets.items ≡ image_octets Version.Two image.now) }
 {
     let mut octets = Vec::from_slice(alloc, &[0x49, 0x4C, 0x42, 0x43, 0x02])?;
     push_points(&mut octets, image.points())?;

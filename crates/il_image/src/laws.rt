@@ -1,8 +1,8 @@
 // Laws of the definitions. Each function does nothing, and its contract is the law.
 ghost use Rattle.std.specs.Prelude.{◌≡◌, ◌∷◌, ◌++◌, ◌⊎◌, ◌↔◌, ◌<◌, Err, IsTrue, length, List, Ok, Some, slice_index, take, true, ℕ};
 ghost use Rattle.il_image.specs.Cuts.{IsRightSoFar};
-ghost use Rattle.il_image.specs.Decoding.{IsFirstBad, decoded};
-ghost use Rattle.il_image.specs.Images.{Image, IsImage, encoded, mark};
+ghost use Rattle.il_image.specs.Decoding.{IsFirstBad, image_spelled};
+ghost use Rattle.il_image.specs.Images.{Image, IsImage, image_octets, mark};
 ghost use Rattle.il_image.specs.Kinds.{HasKind, is_within, join};
 ghost use Rattle.il_image.specs.Octets.{AreOctets};
 ghost use Rattle.il_image.specs.Places.{IsPlace, is_place};
@@ -58,11 +58,12 @@ pub fn a_place_is_told()
 /// image, and the format spells it so in one of its versions; octets with the same fifth octet, the
 /// version, that are read as the same image are the same.
 pub fn one_spelling_of_images()
-    ensures written { (i : Image) → IsImage i → decoded (encoded Two i) ≡ Ok i }
-    ensures read { (octets : List ℕ) (i : Image) → AreOctets octets → decoded octets ≡ Ok i
-        → IsImage i × ((version : Version) × (octets ≡ encoded version i)) }
+    ensures written { (i : Image) → IsImage i → image_spelled (image_octets Two i) ≡ Ok i }
+    ensures read { (octets : List ℕ) (i : Image) → AreOctets octets → image_spelled octets ≡ Ok i
+        → IsImage i × ((version : Version) × (octets ≡ image_octets version i)) }
     ensures one { (octets others : List ℕ) (i : Image) → AreOctets octets → AreOctets others →
-        decoded octets ≡ Ok i → decoded others ≡ Ok i → slice_index octets 4 ≡ slice_index others 4
+        image_spelled octets ≡ Ok i → image_spelled others ≡ Ok i
+        → slice_index octets 4 ≡ slice_index others 4
         → octets ≡ others }
 {}
 
@@ -84,9 +85,9 @@ pub fn join_is_least()
 /// another version behind the mark.
 pub fn first_octets_decide()
     ensures mark { (octets : List ℕ) (k : ℕ) → k < 4 → k < length octets
-        → (slice_index octets k ≡ slice_index mark k → ⊥) → decoded octets ≡ Err BadMagic }
+        → (slice_index octets k ≡ slice_index mark k → ⊥) → image_spelled octets ≡ Err BadMagic }
     ensures version { (octet : ℕ) (rest : List ℕ) → (octet ≡ 1 → ⊥) → (octet ≡ 2 → ⊥)
-        → decoded (mark ++ octet ∷ rest) ≡ Err BadVersion }
+        → image_spelled (mark ++ octet ∷ rest) ≡ Err BadVersion }
 {}
 
 /// An image ends where its octets end: with octets behind them, and with some of the last ones
@@ -94,17 +95,18 @@ pub fn first_octets_decide()
 /// type, is the first that is wrong: the octets before it are only cut short, and with it they are
 /// wrong whatever follows.
 pub fn images_end()
-    ensures behind { (octets more : List ℕ) (i : Image) → decoded octets ≡ Ok i → 0 < length more
-        → decoded (octets ++ more) ≡ Err Truncated }
-    ensures front { (octets : List ℕ) (i : Image) (n : ℕ) → decoded octets ≡ Ok i
-        → n < length octets → decoded (take n octets) ≡ Err Truncated }
-    ensures first { (octets : List ℕ) → decoded octets ≡ Err BadOpcode → IsFirstBad octets }
+    ensures behind { (octets more : List ℕ) (i : Image) → image_spelled octets ≡ Ok i
+        → 0 < length more
+        → image_spelled (octets ++ more) ≡ Err Truncated }
+    ensures front { (octets : List ℕ) (i : Image) (n : ℕ) → image_spelled octets ≡ Ok i
+        → n < length octets → image_spelled (take n octets) ≡ Err Truncated }
+    ensures first { (octets : List ℕ) → image_spelled octets ≡ Err BadOpcode → IsFirstBad octets }
 {}
 
 /// Octets that are cut short are right so far: others complete them to an image; or they are an
 /// image and have others behind it; or they end in an initial value, or its code in an instruction,
 /// of which no value or instruction with that much room begins so.
 pub fn cut_short_is_right_so_far()
-    ensures { (octets : List ℕ) → AreOctets octets → decoded octets ≡ Err Truncated
+    ensures { (octets : List ℕ) → AreOctets octets → image_spelled octets ≡ Err Truncated
         → IsRightSoFar octets }
 {}

@@ -1,7 +1,7 @@
 // Timers (IEC 61131-3:2003, table 38): one call as a function of the timer, its inputs and the
 // moment.
 ghost use Rattle.std.specs.Prelude.{◌≡◌};
-ghost use Rattle.il_image.specs.Timers.{called, first_state, phase_after};
+ghost use Rattle.il_image.specs.Timers.{after_call, first_state, phase_after};
 ghost use Rattle.il_image.specs.Timers as spec;
 
 use bay_base::types::TimerKind;
@@ -103,7 +103,7 @@ impl TimerState {
 
     /// One call of the timer at a moment in milliseconds, with the IN and PT that it holds.
     pub fn call(&mut self, now: u64)
-        ensures { self.new ≡ called self.old now }
+        ensures { self.new ≡ after_call self.old now }
     {
         self.phase = match self.kind {
             TimerKind::OnDelay => on_delay_phase(self.input, self.phase, now),

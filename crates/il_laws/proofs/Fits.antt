@@ -8,7 +8,7 @@ use Rattle.std.specs.Str.{bytes_eq}
 use Rattle.std.proofs.lemmas.Bool.{leb-true, le-leb}
 use Rattle.std.proofs.lemmas.List.{length-map}
 use Rattle.std.proofs.lemmas.Slice.Eq.{bytes_eq-Decides}
-use Rattle.bay_base.specs.Exact.{judged}
+use Rattle.bay_base.specs.Exact.{unless_refused}
 use Rattle.bay_base.specs.Names.{same_name, upper}
 use Rattle.bay_base.specs.Types.{same_type}
 use Rattle.bay_base.specs.declared.types.ElementaryType.{ElementaryType}
@@ -25,7 +25,7 @@ use Rattle.il_image.specs.Spelling.{IsInstr}
 use Rattle.il_image.specs.declared.instr.Instr.{Instr}
 use Rattle.il_image.specs.declared.instr.Instr.TheVariants.{Halt, Push, Drop, Slot, Not, Combine, Compute, Compare, Widen, Jump, Timer}
 use Rattle.il_image.specs.declared.opcode.SlotUse.TheVariants.{Load, Store, SetIf, ResetIf}
-use Rattle.il_image.proofs.KindLemmas.{same_is, same_self}
+use Rattle.il_image.proofs.KindLemmas.{same-is, same-self}
 use Rattle.il_check.specs.Checking.{checked_of, checked_program, faults_of, initial_standing}
 use Rattle.il_check.specs.Declaring.{declaration_faults, declarations_faults, external_at, external_in, externals_of, is_typed, names_in, point_of as declared_point, is_name}
 use Rattle.il_check.specs.Faults.{fault_if, least_fault}
@@ -36,7 +36,7 @@ use Rattle.il_check.specs.WellTyped.{items_faults}
 use Rattle.il_check.specs.declared.fault.CheckFault.{CheckFault}
 use Rattle.il_check.specs.declared.typed.External.{External}
 use Rattle.il_check.specs.declared.typed.Variable.{Variable}
-use Rattle.il_check.proofs.ApartLemmas.{all_apart}
+use Rattle.il_check.proofs.ApartLemmas.{all-apart}
 use Rattle.il_check.proofs.NotedLemmas.{append-none, least_fault-none}
 use Rattle.il_verify.specs.Binding.{are_points, fits, is_point}
 use Rattle.il_verify.specs.Judging.{is_read_only, writes_read_only}
@@ -45,14 +45,14 @@ use Rattle.il_verify.specs.Verdicts.{IsVerified, KeepsReadOnly}
 use Rattle.il_compile.specs.Code.{program_code}
 use Rattle.il_compile.specs.Compiled.{compiled_of, image_of, image_size, point_of}
 use Rattle.il_compile.specs.declared.fault.CompileFault.TheVariants.{CodeTooLong}
-use Rattle.il_compile.proofs.SizeLemmas.{size_is}
-use Rattle.il_compile.proofs.Spellable.{program_are}
-use Rattle.il_compile.proofs.Tabled.{has_table, keeps_at}
+use Rattle.il_compile.proofs.SizeLemmas.{size-is}
+use Rattle.il_compile.proofs.Spellable.{program-are}
+use Rattle.il_compile.proofs.Tabled.{has-table, keeps-at}
 use Rattle.il_compile.proofs.TabledSteps.{Keeps, writable}
 
-not_true : (b : Bool) → (b ≡ true → ⊥) → b ≡ false
-not_true true h = absurd (h refl)
-not_true false h = refl
+not-true : (b : Bool) → (b ≡ true → ⊥) → b ≡ false
+not-true true h = absurd (h refl)
+not-true false h = refl
 
 both : (a b : Bool) → a ≡ true → b ≡ true → a && b ≡ true
 both true b e f = f
@@ -75,153 +75,153 @@ clash b e f = absurd cc
 abbrev IsBound : List Point → External → Type 0
 IsBound points e = list_any (λ b. is_point (point_of e) b) points ≡ true
 
-some_same : {A : Type 0} (x y : A) → Some x ≡ Some y → x ≡ y
-some_same x y e = cc
+some-same : {A : Type 0} (x y : A) → Some x ≡ Some y → x ≡ y
+some-same x y e = cc
 
-found_holds : (test : Point → Bool) (points : List Point) (p : Point) → find test points ≡ Some p
+found-holds : (test : Point → Bool) (points : List Point) (p : Point) → find test points ≡ Some p
     → test p ≡ true
-found_holds test [] p e = absurd cc
-found_holds test (q ∷ points) p e =
+found-holds test [] p e = absurd cc
+found-holds test (q ∷ points) p e =
     elim (test q) as (λ b. test q ≡ b → cond b (Some q) (find test points) ≡ Some p → test p ≡ true) [
-      | true ↦ (λ t g. (let same : q ≡ p = some_same q p g in subst (λ x. test x ≡ true) same t))
-      | false ↦ (λ t g. found_holds test points p g)
+      | true ↦ (λ t g. (let same : q ≡ p = some-same q p g in subst (λ x. test x ≡ true) same t))
+      | false ↦ (λ t g. found-holds test points p g)
     ] refl e
 
-found_any : (test other : Point → Bool) (points : List Point) (p : Point)
+found-any : (test other : Point → Bool) (points : List Point) (p : Point)
     → find test points ≡ Some p → other p ≡ true → list_any other points ≡ true
-found_any test other [] p e h = absurd cc
-found_any test other (q ∷ points) p e h =
+found-any test other [] p e h = absurd cc
+found-any test other (q ∷ points) p e h =
     elim (test q) as (λ b. cond b (Some q) (find test points) ≡ Some p
     → other q || list_any other points ≡ true) [
       | true ↦
-          (λ g. (let same : q ≡ p = some_same q p g in
+          (λ g. (let same : q ≡ p = some-same q p g in
           ap (λ b. b || list_any other points) (ap other same ∙ h)))
-      | false ↦ (λ g. either (other q) (list_any other points) (found_any test other points p g h))
+      | false ↦ (λ g. either (other q) (list_any other points) (found-any test other points p g h))
     ] e
 
-equal_self : (b : Bool) → beq b b ≡ true
-equal_self true = refl
-equal_self false = refl
+equal-self : (b : Bool) → beq b b ≡ true
+equal-self true = refl
+equal-self false = refl
 
-same_upper : (a b : List ℕ) → same_name a b ≡ true → upper a ≡ upper b
+same-upper : (a b : List ℕ) → same_name a b ≡ true → upper a ≡ upper b
 unfolding same_name
-same_upper a b h = (bytes_eq-Decides (upper a) (upper b)).0 h
+same-upper a b h = (bytes_eq-Decides (upper a) (upper b)).0 h
 
-same_self_name : (a : List ℕ) → same_name a a ≡ true
+same-self-name : (a : List ℕ) → same_name a a ≡ true
 unfolding same_name
-same_self_name a = (bytes_eq-Decides (upper a) (upper a)).1 refl
+same-self-name a = (bytes_eq-Decides (upper a) (upper a)).1 refl
 
 -- what is found for a name alone
-of_a_name : (b : Bool) (o : Option Point) (p : Point) → (if b then o else None) ≡ Some p
+of-a-name : (b : Bool) (o : Option Point) (p : Point) → (if b then o else None) ≡ Some p
     → o ≡ Some p
-of_a_name true o p e = e
-of_a_name false o p e = absurd cc
+of-a-name true o p e = e
+of-a-name false o p e = absurd cc
 
 -- the name of an external is its point's, in upper case
-named_so : (name other : List ℕ) → same_name other name ≡ true → same_name (upper name) other ≡ true
+named-so : (name other : List ℕ) → same_name other name ≡ true → same_name (upper name) other ≡ true
 unfolding same_name
-named_so name other h =
+named-so name other h =
     (bytes_eq-Decides (upper (upper name)) (upper other)).1
-    (upper-upper name ∙ sym (same_upper other name h))
+    (upper-upper name ∙ sym (same-upper other name h))
 
-bound_at : (points : List Point) (name : List ℕ) (kind : ElementaryType) (o : Option Point)
+bound-at : (points : List Point) (name : List ℕ) (kind : ElementaryType) (o : Option Point)
     (es : List External) → declared_point points name ≡ o
     → is_typed scope.External (type.Elementary kind) o None ≡ true → Each (IsBound points) es
     → Each (IsBound points) (cons_option (external_at name kind o) es)
-bound_at points name kind None es e t rest = rest
-bound_at points name kind (Some p) es e t rest =
+bound-at points name kind None es e t rest = rest
+bound-at points name kind (Some p) es e t rest =
     let e : find (λ q. same_name q.name name) points ≡ Some p =
-    of_a_name (is_name name) (find (λ q. same_name q.name name) points) p e in
+    of-a-name (is_name name) (find (λ q. same_name q.name name) points) p e in
     let named : same_name (upper name) p.name ≡ true =
-    named_so name p.name (found_holds (λ q. same_name q.name name) points p e) in
+    named-so name p.name (found-holds (λ q. same_name q.name name) points p e) in
     let typed : same_type kind p.kind ≡ true =
-    subst (λ k. same_type kind k ≡ true) (sym (same_is p.kind kind t)) (same_self kind) in (
-      found_any (λ q. same_name q.name name)
+    subst (λ k. same_type kind k ≡ true) (sym (same-is p.kind kind t)) (same-self kind) in (
+      found-any (λ q. same_name q.name name)
           (λ b. is_point (point_of
           (record { name = upper name; kind = kind; writable = p.writable; source = p.source })) b)
           points p e
           (both (same_name (upper name) p.name) (same_type kind p.kind && beq p.writable p.writable)
           named
-          (both (same_type kind p.kind) (beq p.writable p.writable) typed (equal_self p.writable))),
+          (both (same_type kind p.kind) (beq p.writable p.writable) typed (equal-self p.writable))),
       rest,
     )
 
-bound_in : (points : List Point) (d : text.Declared) (s : Scope) (k : DeclaredType)
+bound-in : (points : List Point) (d : text.Declared) (s : Scope) (k : DeclaredType)
     (given : Option Literal) (es : List External)
     → is_typed s k (declared_point points d.name) given ≡ true → Each (IsBound points) es
     → Each (IsBound points) (cons_option (external_in points d s k) es)
-bound_in points d scope.External (type.Elementary kind) given es t rest =
-    bound_at points d.name kind (declared_point points d.name) es refl t rest
-bound_in points d scope.External (type.Timer kind) given es t rest = rest
-bound_in points d scope.Local (type.Elementary kind) given es t rest = rest
-bound_in points d scope.Local (type.Timer kind) given es t rest = rest
+bound-in points d scope.External (type.Elementary kind) given es t rest =
+    bound-at points d.name kind (declared_point points d.name) es refl t rest
+bound-in points d scope.External (type.Timer kind) given es t rest = rest
+bound-in points d scope.Local (type.Elementary kind) given es t rest = rest
+bound-in points d scope.Local (type.Timer kind) given es t rest = rest
 
 no_fault : (test : Bool) (f : CheckFault) → fault_if test f ≡ [] → test ≡ false
 no_fault true f none = absurd cc
 no_fault false f none = refl
 
-not_not : (b : Bool) → not b ≡ false → b ≡ true
-not_not true e = refl
-not_not false e = absurd cc
+not-not : (b : Bool) → not b ≡ false → b ≡ true
+not-not true e = refl
+not-not false e = absurd cc
 
-all_bound : (points : List Point) (before ds : List text.Declared)
+all-bound : (points : List Point) (before ds : List text.Declared)
     → declarations_faults points before ds ≡ [] → Each (IsBound points) (externals_of points ds)
-all_bound points before [] none = tt
-all_bound points before (d ∷ ds) none =
+all-bound points before [] none = tt
+all-bound points before (d ∷ ds) none =
     let two =
     append-none (declaration_faults points before d)
     (declarations_faults points (before ++ d ∷ []) ds) none in
     let typed : is_typed d.scope d.kind (declared_point points d.name) d.initial ≡ true =
-    not_not _ (no_fault _ _ (append-none _ _ (append-none _ _ (append-none _ _ two.0).1).1).0) in
-    bound_in points d d.scope d.kind d.initial (externals_of points ds) typed
-    (all_bound points (before ++ d ∷ []) ds two.1)
+    not-not _ (no_fault _ _ (append-none _ _ (append-none _ _ (append-none _ _ two.0).1).1).0) in
+    bound-in points d d.scope d.kind d.initial (externals_of points ds) typed
+    (all-bound points (before ++ d ∷ []) ds two.1)
 
 -- ---- no name stands twice
 
-none_alike : (name : List ℕ) (es : List External) (ns : List (List ℕ))
+none-alike : (name : List ℕ) (es : List External) (ns : List (List ℕ))
     → ((j : ℕ) → j < length (map (λ e. e.name) es ++ ns)
     → same_name name (name_at (map (λ e. e.name) es ++ ns) j) ≡ false)
     → list_any (λ q. bytes_eq q.name name) (map point_of es) ≡ false
-none_alike name [] ns h = refl
-none_alike name (e ∷ es) ns h =
+none-alike name [] ns h = refl
+none-alike name (e ∷ es) ns h =
     neither (bytes_eq e.name name) (list_any (λ q. bytes_eq q.name name) (map point_of es))
-    (not_true (bytes_eq e.name name) (λ t.
+    (not-true (bytes_eq e.name name) (λ t.
     (let same : e.name ≡ name = (bytes_eq-Decides e.name name).0 t in
     let first : same_name name e.name ≡ false = h 0 (omega arith) in
-    clash (same_name name name) (same_self_name name)
+    clash (same_name name name) (same-self-name name)
     (subst (λ x. same_name name x ≡ false) same first))))
-    (none_alike name es ns (λ j lt. h (suc j) (omega arith)))
+    (none-alike name es ns (λ j lt. h (suc j) (omega arith)))
 
-apart_rest : (x : List ℕ) (xs : List (List ℕ)) → AreApart (x ∷ xs) → AreApart xs
-apart_rest x xs h i j lt within = h (suc i) (suc j) (omega arith) (omega arith)
+apart-rest : (x : List ℕ) (xs : List (List ℕ)) → AreApart (x ∷ xs) → AreApart xs
+apart-rest x xs h i j lt within = h (suc i) (suc j) (omega arith) (omega arith)
 
-points_fit : (points : List Point) (es : List External) (ns : List (List ℕ))
+points-fit : (points : List Point) (es : List External) (ns : List (List ℕ))
     → Each (IsBound points) es → AreApart (map (λ e. e.name) es ++ ns)
     → are_points points (map point_of es) ≡ true
-points_fit points [] ns h apart = refl
-points_fit points (e ∷ es) ns h apart =
+points-fit points [] ns h apart = refl
+points-fit points (e ∷ es) ns h apart =
     let alone : list_any (λ q. bytes_eq q.name e.name) (map point_of es) ≡ false =
-    none_alike e.name es ns (λ j lt. apart 0 (suc j) (omega arith) (omega arith)) in
+    none-alike e.name es ns (λ j lt. apart 0 (suc j) (omega arith) (omega arith)) in
     both (list_any (λ b. is_point (point_of e) b) points
     && not (list_any (λ q. bytes_eq q.name e.name) (map point_of es)))
     (are_points points (map point_of es))
     (both (list_any (λ b. is_point (point_of e) b) points)
     (not (list_any (λ q. bytes_eq q.name e.name) (map point_of es))) h.0 (ap not alone))
-    (points_fit points es ns h.1 (apart_rest e.name (map (λ x. x.name) es ++ ns) apart))
+    (points-fit points es ns h.1 (apart-rest e.name (map (λ x. x.name) es ++ ns) apart))
 
 -- ---- what is known of a checked program
 
-ok_same : {A E : Type 0} (x y : A) → ◌≡◌ {A = Result A E} (Ok x) (Ok y) → x ≡ y
-ok_same x y e = cc
+ok-same : {A E : Type 0} (x y : A) → ◌≡◌ {A = Result A E} (Ok x) (Ok y) → x ≡ y
+ok-same x y e = cc
 
-passed : (o : Option CheckFault) (x c : Checked) → judged o x ≡ Ok c → (o ≡ None) × (x ≡ c)
-passed None x c e = (refl, ok_same x c e)
+passed : (o : Option CheckFault) (x c : Checked) → unless_refused o x ≡ Ok c → (o ≡ None) × (x ≡ c)
+passed None x c e = (refl, ok-same x c e)
 passed (Some f) x c e = absurd cc
 
-image_fits : (points : List Point) (c : Checked) → IsTyped c
+image-fits : (points : List Point) (c : Checked) → IsTyped c
     → are_points points (map point_of c.externals) ≡ true → fits points (image_of c) ≡ true
 unfolding fits
-image_fits points c ok h =
+image-fits points c ok h =
     let s = ok.slots in
     let t = ok.timers in
     let a = length-map c.externals point_of in
@@ -235,61 +235,61 @@ image_fits points c ok h =
     (le-leb (length (map point_of c.externals) + length (map (λ v. v.initial) c.variables)) 512
     (omega arith)) (le-leb (length (map (λ x. x.kind) c.timers)) 64 (omega arith))) h
 
-checked_fits : (points : List Point) (program : text.PlainProgram) (c : Checked)
+checked-fits : (points : List Point) (program : text.PlainProgram) (c : Checked)
     → checked_of points program ≡ Ok c → IsTyped c → fits points (image_of c) ≡ true
-checked_fits points program c e ok =
+checked-fits points program c e ok =
     let p = passed (least_fault (faults_of points program)) (checked_program points program) c e in
     let none =
     (append-none (declarations_faults points [] program.declarations)
     (items_faults (names_in points program) program.items (initial_standing program))
     (least_fault-none (faults_of points program) p.0)).0 in
-    image_fits points c ok
+    image-fits points c ok
     (subst (λ x. are_points points (map point_of x.externals) ≡ true) p.1
-    (points_fit points (externals_of points program.declarations) _
-    (all_bound points [] program.declarations none)
-    (all_apart points program.declarations none)))
+    (points-fit points (externals_of points program.declarations) _
+    (all-bound points [] program.declarations none)
+    (all-apart points program.declarations none)))
 
 -- ---- what the code writes
 
-map_both : {A B : Type 0} (f : A → B) (xs ys : List A) → map f (xs ++ ys) ≡ map f xs ++ map f ys
-map_both f [] ys = refl
-map_both f (x ∷ xs) ys = ap (λ l. f x ∷ l) (map_both f xs ys)
+map-both : {A B : Type 0} (f : A → B) (xs ys : List A) → map f (xs ++ ys) ≡ map f xs ++ map f ys
+map-both f [] ys = refl
+map-both f (x ∷ xs) ys = ap (λ l. f x ∷ l) (map-both f xs ys)
 
 -- a slot that may be written is none that may only be read
-not_fixed : (es : List External) (vs : List Variable) (n : ℕ)
+not-fixed : (es : List External) (vs : List Variable) (n : ℕ)
     → slice_get (map (λ e. e.writable) es ++ map (λ v. true) vs) n ≡ Some true
     → is_read_only (map point_slot (map point_of es) ++ map variable_slot (map (λ v. v.initial) vs))
     n ≡ false
-not_fixed [] [] n h = refl
-not_fixed [] (v ∷ vs) zero h = refl
-not_fixed [] (v ∷ vs) (suc n) h = not_fixed [] vs n h
-not_fixed (e ∷ es) vs zero h = (let w : e.writable ≡ true = some_same e.writable true h in ap not w)
-not_fixed (e ∷ es) vs (suc n) h = not_fixed es vs n h
+not-fixed [] [] n h = refl
+not-fixed [] (v ∷ vs) zero h = refl
+not-fixed [] (v ∷ vs) (suc n) h = not-fixed [] vs n h
+not-fixed (e ∷ es) vs zero h = (let w : e.writable ≡ true = some-same e.writable true h in ap not w)
+not-fixed (e ∷ es) vs (suc n) h = not-fixed es vs n h
 
 module _ (c : Checked) where
-  may_be_written : (n : ℕ) → slice_get (writable c) n ≡ Some true
+  may-be-written : (n : ℕ) → slice_get (writable c) n ≡ Some true
       → is_read_only (slots_of (image_of c)) n ≡ false
   unfolding slots_of
-  may_be_written n h = not_fixed c.externals c.variables n h
+  may-be-written n h = not-fixed c.externals c.variables n h
 
-  keeps_read_only : (i : Instr) → Keeps c i → writes_read_only (slots_of (image_of c)) i ≡ false
-  keeps_read_only (Slot Load n) h = refl
-  keeps_read_only (Slot Store n) h = may_be_written n h
-  keeps_read_only (Slot SetIf n) h = may_be_written n h
-  keeps_read_only (Slot ResetIf n) h = may_be_written n h
-  keeps_read_only Halt h = refl
-  keeps_read_only (Push v) h = refl
-  keeps_read_only Drop h = refl
-  keeps_read_only Not h = refl
-  keeps_read_only (Combine x) h = refl
-  keeps_read_only (Compute o w) h = refl
-  keeps_read_only (Compare x) h = refl
-  keeps_read_only (Widen w) h = refl
-  keeps_read_only (Jump when distance) h = refl
-  keeps_read_only (Timer timer_use n) h = refl
+  keeps-read-only : (i : Instr) → Keeps c i → writes_read_only (slots_of (image_of c)) i ≡ false
+  keeps-read-only (Slot Load n) h = refl
+  keeps-read-only (Slot Store n) h = may-be-written n h
+  keeps-read-only (Slot SetIf n) h = may-be-written n h
+  keeps-read-only (Slot ResetIf n) h = may-be-written n h
+  keeps-read-only Halt h = refl
+  keeps-read-only (Push v) h = refl
+  keeps-read-only Drop h = refl
+  keeps-read-only Not h = refl
+  keeps-read-only (Combine x) h = refl
+  keeps-read-only (Compute o w) h = refl
+  keeps-read-only (Compare x) h = refl
+  keeps-read-only (Widen w) h = refl
+  keeps-read-only (Jump when distance) h = refl
+  keeps-read-only (Timer timer_use n) h = refl
 
   pub writes : IsTyped c → Each IsInstr (program_code c) → KeepsReadOnly (image_of c)
-  writes ok are place i next p e = keeps_read_only i (keeps_at c ok are place i next p e)
+  writes ok are place i next p e = keeps-read-only i (keeps-at c ok are place i next p e)
 
 -- ---- all of it
 
@@ -300,7 +300,7 @@ short c image e =
     (λ b. nat_le (image_size c) 65_535 ≡ b
     → (if b then Ok (image_of c) else Err CodeTooLong) ≡ Ok image
     → (image_size c ≤ 65_535) × (image_of c ≡ image)) [
-      | true ↦ (λ t g. (leb-true (image_size c) 65_535 t, ok_same (image_of c) image g))
+      | true ↦ (λ t g. (leb-true (image_size c) 65_535 t, ok-same (image_of c) image g))
       | false ↦ (λ t g. absurd cc)
     ] refl e
 
@@ -310,8 +310,8 @@ pub verified : (points : List Point) (program : text.PlainProgram) (c : Checked)
 verified points program c e ok image compiled =
     let s = short c image compiled in
     let le = s.0 in
-    let are = program_are c ok (omega (arith, size_is c)) in
+    let are = program-are c ok (omega (arith, size-is c)) in
     subst (IsVerified points) s.1 (record {
-      fits = checked_fits points program c e ok;
-      safe = record { table = has_table c ok are; writes = writes c ok are };
+      fits = checked-fits points program c e ok;
+      safe = record { table = has-table c ok are; writes = writes c ok are };
     })

@@ -14,26 +14,26 @@ use Rattle.il_image.specs.Effects.{below}
 use Rattle.il_image.specs.Images.{Each, IsValue}
 use Rattle.il_image.specs.Kinds.{HasKind, is_within}
 use Rattle.il_image.specs.Machine.{Turn, Traps, MissingSlot, MissingTimer}
-use Rattle.il_image.specs.Timers.{called, elapsed_of, first_state, phase_after}
+use Rattle.il_image.specs.Timers.{after_call, elapsed_of, first_state, phase_after}
 use Rattle.il_image.specs.Values.{number_of, type_of}
-use Rattle.il_image.proofs.KindLemmas.{kind_above}
-use Rattle.il_verify.proofs.EffectLemmas.{some_same}
+use Rattle.il_image.proofs.KindLemmas.{kind-above}
+use Rattle.il_verify.proofs.EffectLemmas.{some-same}
 use Rattle.il_scan.specs.Standing.{Fit, IsTimer}
 use Rattle.il_scan.specs.Words.{AreTyped, slot_at, words_of}
 use Rattle.il_scan.specs.Working.{timer_at}
 
 -- ---- values on the stack
 
-pub fit_length : (values : List Value) (kinds : List CellKind) → Fit values kinds
+pub fit-length : (values : List Value) (kinds : List CellKind) → Fit values kinds
     → length values ≡ length kinds
-fit_length [] [] h = refl
-fit_length [] (k ∷ kinds) h = absurd h
-fit_length (v ∷ values) [] h = absurd h
-fit_length (v ∷ values) (k ∷ kinds) h = ap suc (fit_length values kinds h.1)
+fit-length [] [] h = refl
+fit-length [] (k ∷ kinds) h = absurd h
+fit-length (v ∷ values) [] h = absurd h
+fit-length (v ∷ values) (k ∷ kinds) h = ap suc (fit-length values kinds h.1)
 
 pub depth_of : (values : List Value) (kinds : List CellKind) → Fit values kinds
     → length (words_of values) ≡ length kinds
-depth_of values kinds h = length-map values number_of ∙ fit_length values kinds h
+depth_of values kinds h = length-map values number_of ∙ fit-length values kinds h
 
 -- a value of the wanted kind on top, and the values below it
 pub record Tops (wanted : CellKind) (values : List Value) (rest : List CellKind) : Type 0 where
@@ -44,26 +44,26 @@ pub record Tops (wanted : CellKind) (values : List Value) (rest : List CellKind)
   pub is_value : IsValue value
   pub fit : Fit others rest
 
-tops_case : (wanted k : CellKind) (kinds rest : List CellKind) (v : Value) (values : List Value)
+tops-case : (wanted k : CellKind) (kinds rest : List CellKind) (v : Value) (values : List Value)
     (b : Bool) → is_within k wanted ≡ b → HasKind v k × IsValue v → Fit values kinds
     → cond b (Some kinds) None ≡ Some rest → Tops wanted (v ∷ values) rest
-tops_case wanted k kinds rest v values true e is fit same =
+tops-case wanted k kinds rest v values true e is fit same =
     record {
       value = v;
       others = values;
       are = refl;
-      kind = kind_above v k wanted e is.0;
+      kind = kind-above v k wanted e is.0;
       is_value = is.1;
-      fit = subst (Fit values) (some_same kinds rest same) fit;
+      fit = subst (Fit values) (some-same kinds rest same) fit;
     }
-tops_case wanted k kinds rest v values false e is fit same = absurd cc
+tops-case wanted k kinds rest v values false e is fit same = absurd cc
 
 pub tops : (wanted : CellKind) (kinds rest : List CellKind) (values : List Value)
     → below wanted kinds ≡ Some rest → Fit values kinds → Tops wanted values rest
 tops wanted [] rest values e fit = absurd cc
 tops wanted (k ∷ kinds) rest [] e fit = absurd fit
 tops wanted (k ∷ kinds) rest (v ∷ values) e fit =
-    tops_case wanted k kinds rest v values (is_within k wanted) refl fit.0 fit.1 e
+    tops-case wanted k kinds rest v values (is_within k wanted) refl fit.0 fit.1 e
 
 -- ---- slots
 
@@ -76,21 +76,21 @@ pub record SlotThere (types : List ElementaryType) (slots : List Value) (n : ℕ
   pub word : slot_at (words_of slots) n ≡ number_of value
   pub below : n < length (words_of slots)
 
-pub slot_there : (types : List ElementaryType) (slots : List Value) (n : ℕ) (t : ElementaryType)
+pub slot-there : (types : List ElementaryType) (slots : List Value) (n : ℕ) (t : ElementaryType)
     → slice_get types n ≡ Some t → AreTyped types slots → SlotThere types slots n t
-slot_there [] slots n t e typed = absurd cc
-slot_there (s ∷ types) [] n t e typed = absurd typed
-slot_there (s ∷ types) (v ∷ slots) zero t e typed =
+slot-there [] slots n t e typed = absurd cc
+slot-there (s ∷ types) [] n t e typed = absurd typed
+slot-there (s ∷ types) (v ∷ slots) zero t e typed =
     record {
       value = v;
       get = refl;
-      type = typed.0.0 ∙ some_same s t e;
+      type = typed.0.0 ∙ some-same s t e;
       is_value = typed.0.1;
       word = refl;
       below = omega arith;
     }
-slot_there (s ∷ types) (v ∷ slots) (suc n) t e typed =
-    let more = slot_there types slots n t e typed.1 in
+slot-there (s ∷ types) (v ∷ slots) (suc n) t e typed =
+    let more = slot-there types slots n t e typed.1 in
     let b : n < length (words_of slots) = more.below in
     record {
       value = more.value;
@@ -101,52 +101,52 @@ slot_there (s ∷ types) (v ∷ slots) (suc n) t e typed =
       below = omega arith;
     }
 
-pub slot_set : (types : List ElementaryType) (slots : List Value) (n : ℕ) (t : ElementaryType)
+pub slot-set : (types : List ElementaryType) (slots : List Value) (n : ℕ) (t : ElementaryType)
     (v : Value) → slice_get types n ≡ Some t → AreTyped types slots → type_of v ≡ t → IsValue v
     → AreTyped types (slice_set slots n v)
-slot_set [] slots n t v e typed is value = absurd cc
-slot_set (s ∷ types) [] n t v e typed is value = absurd typed
-slot_set (s ∷ types) (u ∷ slots) zero t v e typed is value =
-    ((is ∙ sym (some_same s t e), value), typed.1)
-slot_set (s ∷ types) (u ∷ slots) (suc n) t v e typed is value =
-    (typed.0, slot_set types slots n t v e typed.1 is value)
+slot-set [] slots n t v e typed is value = absurd cc
+slot-set (s ∷ types) [] n t v e typed is value = absurd typed
+slot-set (s ∷ types) (u ∷ slots) zero t v e typed is value =
+    ((is ∙ sym (some-same s t e), value), typed.1)
+slot-set (s ∷ types) (u ∷ slots) (suc n) t v e typed is value =
+    (typed.0, slot-set types slots n t v e typed.1 is value)
 
-pub with_slot_is : (slots : List Value) (n : ℕ) (v : Value) (act_on : Value → Turn)
+pub with-slot-is : (slots : List Value) (n : ℕ) (v : Value) (act_on : Value → Turn)
     → slice_get slots n ≡ Some v
     → elim (slice_get slots n) [ None ↦ Traps MissingSlot | Some u ↦ act_on u ] ≡ act_on v
-with_slot_is slots n v act_on e =
+with-slot-is slots n v act_on e =
     ap (λ (o : Option Value). elim o [ None ↦ Traps MissingSlot | Some u ↦ act_on u ]) e
 
-pub with_timer_is : (timers : List TimerState) (n : ℕ) (t : TimerState) (act_on : TimerState → Turn)
+pub with-timer-is : (timers : List TimerState) (n : ℕ) (t : TimerState) (act_on : TimerState → Turn)
     → slice_get timers n ≡ Some t
     → elim (slice_get timers n) [ None ↦ Traps MissingTimer | Some u ↦ act_on u ] ≡ act_on t
-with_timer_is timers n t act_on e =
+with-timer-is timers n t act_on e =
     ap (λ (o : Option TimerState). elim o [ None ↦ Traps MissingTimer | Some u ↦ act_on u ]) e
 
 -- ---- timers
 
-pub timer_is : (timers : List TimerState) (n : ℕ) → n < length timers
+pub timer-is : (timers : List TimerState) (n : ℕ) → n < length timers
     → slice_get timers n ≡ Some (timer_at timers n)
-timer_is timers n h = slice_get-get_or timers n (first_state OnDelay) h
+timer-is timers n h = slice_get-get_or timers n (first_state OnDelay) h
 
-pub timer_good : (timers : List TimerState) (n : ℕ) → Each IsTimer timers
+pub timer-good : (timers : List TimerState) (n : ℕ) → Each IsTimer timers
     → IsTimer (timer_at timers n)
-timer_good [] n h = (omega arith, omega arith)
-timer_good (t ∷ timers) zero h = h.0
-timer_good (t ∷ timers) (suc n) h = timer_good timers n h.1
+timer-good [] n h = (omega arith, omega arith)
+timer-good (t ∷ timers) zero h = h.0
+timer-good (t ∷ timers) (suc n) h = timer-good timers n h.1
 
-pub timers_set : (timers : List TimerState) (n : ℕ) (t : TimerState) → Each IsTimer timers
+pub timers-set : (timers : List TimerState) (n : ℕ) (t : TimerState) → Each IsTimer timers
     → IsTimer t
     → Each IsTimer (slice_set timers n t)
-timers_set [] n t h g = tt
-timers_set (u ∷ timers) zero t h g = (g, h.1)
-timers_set (u ∷ timers) (suc n) t h g = (h.0, timers_set timers n t h.1 g)
+timers-set [] n t h g = tt
+timers-set (u ∷ timers) zero t h g = (g, h.1)
+timers-set (u ∷ timers) (suc n) t h g = (h.0, timers-set timers n t h.1 g)
 
-elapsed_within : (preset : ℕ) (phase : TimerPhase) (m : ℕ) → preset ≤ 0x7FFF_FFFF
+elapsed-within : (preset : ℕ) (phase : TimerPhase) (m : ℕ) → preset ≤ 0x7FFF_FFFF
     → elapsed_of preset phase m ≤ 0x7FFF_FFFF
-elapsed_within preset Idle m h = omega arith
-elapsed_within preset Held m h = omega arith
-elapsed_within preset (Since start) m h = omega arith
+elapsed-within preset Idle m h = omega arith
+elapsed-within preset Held m h = omega arith
+elapsed-within preset (Since start) m h = omega arith
 
-pub call_good : (t : TimerState) (m : ℕ) → IsTimer t → IsTimer (called t m)
-call_good t m h = (h.0, elapsed_within t.preset (phase_after t.kind t.input t.phase m) m h.0)
+pub call-good : (t : TimerState) (m : ℕ) → IsTimer t → IsTimer (after_call t m)
+call-good t m h = (h.0, elapsed-within t.preset (phase_after t.kind t.input t.phase m) m h.0)

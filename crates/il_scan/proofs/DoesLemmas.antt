@@ -23,20 +23,20 @@ use Rattle.il_image.specs.declared.opcode.TimerUse.TheVariants.{SetInput, SetPre
 use Rattle.il_image.specs.declared.timer.TimerState.{TimerState}
 use Rattle.il_image.specs.declared.value.Value.{Value}
 use Rattle.il_image.specs.declared.value.Value.TheVariants.{Truth, Short, Long, Wide, Span}
-use Rattle.il_image.specs.Arithmetic.{DividesBy, compared, computed, connected, exact, type_of_width}
+use Rattle.il_image.specs.Arithmetic.{DividesBy, comparison_holds, computation_of, logic_of, exact, type_of_width}
 use Rattle.il_image.specs.Effects.{below, kind_of}
 use Rattle.il_image.specs.Images.{IsValue}
 use Rattle.il_image.specs.Kinds.{HasKind}
 use Rattle.il_image.specs.Machine.{State, Turn, Goes, Traps, WrongKind, ZeroDivisor, act, divides, goes, is_comparable, pushes, stores, value_of_width}
 use Rattle.il_image.specs.Machine as machine
-use Rattle.il_image.specs.Timers.{called}
+use Rattle.il_image.specs.Timers.{after_call}
 use Rattle.il_image.specs.Values.{number_of, type_of}
-use Rattle.il_image.proofs.KindLemmas.{same_self}
+use Rattle.il_image.proofs.KindLemmas.{same-self}
 use Rattle.il_scan.specs.Standing.{Fit, IsTimer, Typed}
 use Rattle.il_scan.specs.Words.{slot_at, words_of}
-use Rattle.il_scan.specs.Working.{IsReady, Words, leads, timer_at, words, worked}
-use Rattle.il_scan.proofs.ValueLemmas.{combined_is, kind_there, number_in, span_value, span_within, truth_there, truth_value, truth_word, type_in, widened_long, widened_short, wrapped_value}
-use Rattle.il_scan.proofs.CellLemmas.{call_good, depth_of, fit_length, slot_set, slot_there, timer_good, timer_is, timers_set, with_slot_is, with_timer_is}
+use Rattle.il_scan.specs.Working.{IsReady, Words, leads, timer_at, words, words_after}
+use Rattle.il_scan.proofs.ValueLemmas.{combined-is, kind-there, number_in, span-value, span-within, truth-there, truth-value, truth-word, type-in, widened-long, widened-short, wrapped-value}
+use Rattle.il_scan.proofs.CellLemmas.{call-good, depth_of, fit-length, slot-set, slot-there, timer-good, timer-is, timers-set, with-slot-is, with-timer-is}
 
 -- ---- what an instruction does
 
@@ -59,7 +59,7 @@ pub record Does (types : List ElementaryType) (count now : ℕ) (i : Instr) (nex
   pub goes_on : act now i next (state place cells slots timers)
       ≡ Goes (state to new_cells new_slots new_timers)
   pub leads_to : leads i next (words_of cells) ≡ Some to
-  pub words_are : worked now i (words_for cells slots timers)
+  pub words_are : words_after now i (words_for cells slots timers)
       ≡ words_for new_cells new_slots new_timers
   pub fit : Fit new_cells kinds
   pub typed : Typed types count new_slots new_timers
@@ -71,17 +71,17 @@ module _ (types : List ElementaryType) (count now next p : ℕ) (cells slots : L
   small : length (words_of cells) ≡ length kinds
   small = depth_of cells kinds fit
 
-  pushes_is : (v : Value) → length kinds < 32
+  pushes-is : (v : Value) → length kinds < 32
       → pushes v next (state p cells slots timers) ≡ Goes (state next (v ∷ cells) slots timers)
-  pushes_is v h =
-      let size : length cells ≡ length kinds = fit_length cells kinds fit in
+  pushes-is v h =
+      let size : length cells ≡ length kinds = fit-length cells kinds fit in
       let e : nat_lt (length cells) 32 ≡ true = lt-ltb (length cells) 32 (omega arith) in
       rw e refl
 
-  pub does_push : (v : Value) → IsValue v → length (kind_of v ∷ kinds) ≤ 32
+  pub does-push : (v : Value) → IsValue v → length (kind_of v ∷ kinds) ≤ 32
       → Does types count now (Push v) next p cells slots timers (kind_of v ∷ kinds)
   unfolding act
-  does_push v good room =
+  does-push v good room =
       let d = small in
       record {
         ready = omega arith;
@@ -89,20 +89,20 @@ module _ (types : List ElementaryType) (count now next p : ℕ) (cells slots : L
         new_cells = v ∷ cells;
         new_slots = slots;
         new_timers = timers;
-        goes_on = pushes_is v (omega arith);
+        goes_on = pushes-is v (omega arith);
         leads_to = refl;
         words_are = refl;
-        fit = ((kind_there v, good), fit);
+        fit = ((kind-there v, good), fit);
         typed = typed;
       }
 
-  pub does_load : (n : ℕ) (t : ElementaryType) → slice_get types n ≡ Some t
+  pub does-load : (n : ℕ) (t : ElementaryType) → slice_get types n ≡ Some t
       → length (Plain t ∷ kinds) ≤ 32
       → Does types count now (Slot Load n) next p cells slots timers (Plain t ∷ kinds)
   unfolding act
-  does_load n t e room =
+  does-load n t e room =
       let d = small in
-      let s = slot_there types slots n t e typed.of_types in
+      let s = slot-there types slots n t e typed.of_types in
       record {
         ready = (omega arith, s.below);
         to = next;
@@ -110,18 +110,18 @@ module _ (types : List ElementaryType) (count now next p : ℕ) (cells slots : L
         new_slots = slots;
         new_timers = timers;
         goes_on =
-            with_slot_is slots n s.value (λ v. pushes v next (state p cells slots timers)) s.get
-            ∙ pushes_is s.value (omega arith);
+            with-slot-is slots n s.value (λ v. pushes v next (state p cells slots timers)) s.get
+            ∙ pushes-is s.value (omega arith);
         leads_to = refl;
         words_are = ap (λ (w : ℤ). words (w ∷ words_of cells) (words_of slots) timers) s.word;
         fit = ((s.type, s.is_value), fit);
         typed = typed;
       }
 
-  pub does_jump : (distance : ℕ)
+  pub does-jump : (distance : ℕ)
       → Does types count now (Jump Always distance) next p cells slots timers kinds
   unfolding act
-  does_jump distance =
+  does-jump distance =
       record {
         ready = tt;
         to = next + distance;
@@ -135,13 +135,13 @@ module _ (types : List ElementaryType) (count now next p : ℕ) (cells slots : L
         typed = typed;
       }
 
-  pub does_run : (n : ℕ) → n < count
+  pub does-run : (n : ℕ) → n < count
       → Does types count now (Timer Run n) next p cells slots timers kinds
   unfolding act
-  does_run n below =
+  does-run n below =
       let size : length timers ≡ count = typed.so_many in
       let there : n < length timers = omega arith in
-      let t : TimerState = called (timer_at timers n) now in
+      let t : TimerState = after_call (timer_at timers n) now in
       record {
         ready = there;
         to = next;
@@ -149,25 +149,25 @@ module _ (types : List ElementaryType) (count now next p : ℕ) (cells slots : L
         new_slots = slots;
         new_timers = slice_set timers n t;
         goes_on =
-            with_timer_is timers n (timer_at timers n)
-            (λ u. machine.changes n (called u now) next cells (state p cells slots timers))
-            (timer_is timers n there);
+            with-timer-is timers n (timer_at timers n)
+            (λ u. machine.changes n (after_call u now) next cells (state p cells slots timers))
+            (timer-is timers n there);
         leads_to = refl;
         words_are = refl;
         fit = fit;
         typed = record {
           of_types = typed.of_types;
           so_many = length-set timers n t ∙ size;
-          times = timers_set timers n t typed.times
-              (call_good (timer_at timers n) now (timer_good timers n typed.times));
+          times = timers-set timers n t typed.times
+              (call-good (timer_at timers n) now (timer-good timers n typed.times));
         };
       }
 
-  pub does_load_output : (n : ℕ) → n < count → length (Plain elementary.Bool ∷ kinds) ≤ 32
+  pub does-load-output : (n : ℕ) → n < count → length (Plain elementary.Bool ∷ kinds) ≤ 32
       → Does types count now (Timer LoadOutput n) next p cells slots timers
       (Plain elementary.Bool ∷ kinds)
   unfolding act
-  does_load_output n below room =
+  does-load-output n below room =
       let d = small in
       let size : length timers ≡ count = typed.so_many in
       let there : n < length timers = omega arith in
@@ -179,22 +179,22 @@ module _ (types : List ElementaryType) (count now next p : ℕ) (cells slots : L
         new_slots = slots;
         new_timers = timers;
         goes_on =
-            with_timer_is timers n (timer_at timers n)
+            with-timer-is timers n (timer_at timers n)
             (λ u. pushes (Truth u.output) next (state p cells slots timers))
-            (timer_is timers n there) ∙ pushes_is v (omega arith);
+            (timer-is timers n there) ∙ pushes-is v (omega arith);
         leads_to = refl;
         words_are =
             ap (λ (w : ℤ). words (w ∷ words_of cells) (words_of slots) timers)
-            (sym (truth_word (timer_at timers n).output));
-        fit = ((refl, truth_value (timer_at timers n).output), fit);
+            (sym (truth-word (timer_at timers n).output));
+        fit = ((refl, truth-value (timer_at timers n).output), fit);
         typed = typed;
       }
 
-  pub does_load_elapsed : (n : ℕ) → n < count → length (Plain elementary.Time ∷ kinds) ≤ 32
+  pub does-load-elapsed : (n : ℕ) → n < count → length (Plain elementary.Time ∷ kinds) ≤ 32
       → Does types count now (Timer LoadElapsed n) next p cells slots timers
       (Plain elementary.Time ∷ kinds)
   unfolding act
-  does_load_elapsed n below room =
+  does-load-elapsed n below room =
       let d = small in
       let size : length timers ≡ count = typed.so_many in
       let there : n < length timers = omega arith in
@@ -206,13 +206,13 @@ module _ (types : List ElementaryType) (count now next p : ℕ) (cells slots : L
         new_slots = slots;
         new_timers = timers;
         goes_on =
-            with_timer_is timers n (timer_at timers n)
+            with-timer-is timers n (timer_at timers n)
             (λ u. pushes (Span u.elapsed) next (state p cells slots timers))
-            (timer_is timers n there) ∙ pushes_is v (omega arith);
+            (timer-is timers n there) ∙ pushes-is v (omega arith);
         leads_to = refl;
         words_are = refl;
         fit = (
-          (refl, span_value (timer_at timers n).elapsed (timer_good timers n typed.times).1),
+          (refl, span-value (timer_at timers n).elapsed (timer-good timers n typed.times).1),
           fit,
         );
         typed = typed;
@@ -222,9 +222,9 @@ module _ (types : List ElementaryType) (count now next p : ℕ) (cells slots : L
 module _ (types : List ElementaryType) (count now next p : ℕ) (top : Value)
     (others slots : List Value) (timers : List TimerState) (rest : List CellKind)
     (fit : Fit others rest) (typed : Typed types count slots timers) where
-  pub does_drop : Does types count now Drop next p (top ∷ others) slots timers rest
+  pub does-drop : Does types count now Drop next p (top ∷ others) slots timers rest
   unfolding act
-  does_drop =
+  does-drop =
       record {
         ready = omega arith;
         to = next;
@@ -238,15 +238,15 @@ module _ (types : List ElementaryType) (count now next p : ℕ) (top : Value)
         typed = typed;
       }
 
-  pub does_store : (n : ℕ) (t : ElementaryType) (kinds : List CellKind) → slice_get types n ≡ Some t
+  pub does-store : (n : ℕ) (t : ElementaryType) (kinds : List CellKind) → slice_get types n ≡ Some t
       → type_of top ≡ t → IsValue top → Fit (top ∷ others) kinds
       → Does types count now (Slot Store n) next p (top ∷ others) slots timers kinds
   unfolding act
-  does_store n t kinds e is good all =
-      let s = slot_there types slots n t e typed.of_types in
+  does-store n t kinds e is good all =
+      let s = slot-there types slots n t e typed.of_types in
       let test : same_type (type_of top) (type_of s.value) ≡ true =
       subst (λ (u : ElementaryType). same_type (type_of top) u ≡ true) (is ∙ sym s.type)
-      (same_self (type_of top)) in
+      (same-self (type_of top)) in
       let here : State = state p (top ∷ others) slots timers in
       let chosen : cond (same_type (type_of top) (type_of s.value)) (stores n top next here)
       (Traps WrongKind) ≡ stores n top next here = rw test refl in
@@ -257,7 +257,7 @@ module _ (types : List ElementaryType) (count now next p : ℕ) (top : Value)
         new_slots = slice_set slots n top;
         new_timers = timers;
         goes_on =
-            with_slot_is slots n s.value
+            with-slot-is slots n s.value
             (λ v. cond (same_type (type_of top) (type_of v)) (stores n top next here)
             (Traps WrongKind)) s.get ∙ chosen;
         leads_to = refl;
@@ -266,7 +266,7 @@ module _ (types : List ElementaryType) (count now next p : ℕ) (top : Value)
             (sym (map-set number_of slots n top));
         fit = all;
         typed = record {
-          of_types = slot_set types slots n t top e typed.of_types is good;
+          of_types = slot-set types slots n t top e typed.of_types is good;
           so_many = typed.so_many;
           times = typed.times;
         };
@@ -277,12 +277,12 @@ module _ (types : List ElementaryType) (count now next p : ℕ) (others slots : 
     (timers : List TimerState) (rest : List CellKind) (fit : Fit others rest)
     (typed : Typed types count slots timers) where
   bools : Fit (Truth true ∷ others) (Plain elementary.Bool ∷ rest)
-  bools = ((refl, truth_value true), fit)
+  bools = ((refl, truth-value true), fit)
 
-  pub does_not : (b : Bool) → Does types count now Not next p (Truth b ∷ others) slots timers
+  pub does-not : (b : Bool) → Does types count now Not next p (Truth b ∷ others) slots timers
       (Plain elementary.Bool ∷ rest)
   unfolding act
-  does_not true =
+  does-not true =
       record {
         ready = omega arith;
         to = next;
@@ -292,10 +292,10 @@ module _ (types : List ElementaryType) (count now next p : ℕ) (others slots : 
         goes_on = refl;
         leads_to = refl;
         words_are = refl;
-        fit = ((refl, truth_value false), fit);
+        fit = ((refl, truth-value false), fit);
         typed = typed;
       }
-  does_not false =
+  does-not false =
       record {
         ready = omega arith;
         to = next;
@@ -305,15 +305,15 @@ module _ (types : List ElementaryType) (count now next p : ℕ) (others slots : 
         goes_on = refl;
         leads_to = refl;
         words_are = refl;
-        fit = ((refl, truth_value true), fit);
+        fit = ((refl, truth-value true), fit);
         typed = typed;
       }
 
-  pub does_jump_if : (b : Bool) (distance : ℕ) (kinds : List CellKind)
+  pub does-jump-if : (b : Bool) (distance : ℕ) (kinds : List CellKind)
       → Fit (Truth b ∷ others) kinds
       → Does types count now (Jump IfTrue distance) next p (Truth b ∷ others) slots timers kinds
   unfolding act
-  does_jump_if true distance kinds all =
+  does-jump-if true distance kinds all =
       record {
         ready = omega arith;
         to = next + distance;
@@ -326,7 +326,7 @@ module _ (types : List ElementaryType) (count now next p : ℕ) (others slots : 
         fit = all;
         typed = typed;
       }
-  does_jump_if false distance kinds all =
+  does-jump-if false distance kinds all =
       record {
         ready = omega arith;
         to = next;
@@ -340,11 +340,11 @@ module _ (types : List ElementaryType) (count now next p : ℕ) (others slots : 
         typed = typed;
       }
 
-  pub does_jump_if_not : (b : Bool) (distance : ℕ) (kinds : List CellKind)
+  pub does-jump-if-not : (b : Bool) (distance : ℕ) (kinds : List CellKind)
       → Fit (Truth b ∷ others) kinds
       → Does types count now (Jump IfFalse distance) next p (Truth b ∷ others) slots timers kinds
   unfolding act
-  does_jump_if_not true distance kinds all =
+  does-jump-if-not true distance kinds all =
       record {
         ready = omega arith;
         to = next;
@@ -357,7 +357,7 @@ module _ (types : List ElementaryType) (count now next p : ℕ) (others slots : 
         fit = all;
         typed = typed;
       }
-  does_jump_if_not false distance kinds all =
+  does-jump-if-not false distance kinds all =
       record {
         ready = omega arith;
         to = next + distance;
@@ -371,21 +371,21 @@ module _ (types : List ElementaryType) (count now next p : ℕ) (others slots : 
         typed = typed;
       }
 
-  pub does_combine : (c : Connective) (a b : Bool)
+  pub does-combine : (c : Connective) (a b : Bool)
       → Does types count now (Combine c) next p (Truth b ∷ Truth a ∷ others) slots timers
       (Plain elementary.Bool ∷ rest)
   unfolding act
-  does_combine c a b = record {
+  does-combine c a b = record {
     ready = omega arith;
     to = next;
-    new_cells = Truth (connected c a b) ∷ others;
+    new_cells = Truth (logic_of c a b) ∷ others;
     new_slots = slots;
     new_timers = timers;
     goes_on = refl;
     leads_to = refl;
     words_are =
-        ap (λ (w : ℤ). words (w ∷ words_of others) (words_of slots) timers) (combined_is c a b);
-    fit = ((refl, truth_value (connected c a b)), fit);
+        ap (λ (w : ℤ). words (w ∷ words_of others) (words_of slots) timers) (combined-is c a b);
+    fit = ((refl, truth-value (logic_of c a b)), fit);
     typed = typed;
   }
 
@@ -398,13 +398,13 @@ module _ (types : List ElementaryType) (count now next p : ℕ) (others slots : 
       ≡ stores n (Truth (made old)) next (state p (Truth b ∷ others) slots timers))
       → leads i next (words_of (Truth b ∷ others)) ≡ Some next
       → ((old : Bool) → slot_at (words_of slots) n ≡ number_of (Truth old)
-      → worked now i (words_for (Truth b ∷ others) slots timers)
+      → words_after now i (words_for (Truth b ∷ others) slots timers)
       ≡ words (words_of (Truth b ∷ others))
       (slice_set (words_of slots) n (number_of (Truth (made old)))) timers)
       → Does types count now i next p (Truth b ∷ others) slots timers kinds
   sets i n b kinds made e all ready goes leads done =
-      let s = slot_there types slots n elementary.Bool e typed.of_types in
-      let t = truth_there s.value s.type in
+      let s = slot-there types slots n elementary.Bool e typed.of_types in
+      let t = truth-there s.value s.type in
       let v : Value = Truth (made t.0) in
       record {
         ready = ready s.below;
@@ -421,48 +421,48 @@ module _ (types : List ElementaryType) (count now next p : ℕ) (others slots : 
         fit = all;
         typed = record {
           of_types =
-              slot_set types slots n elementary.Bool v e typed.of_types refl
-              (truth_value (made t.0));
+              slot-set types slots n elementary.Bool v e typed.of_types refl
+              (truth-value (made t.0));
           so_many = typed.so_many;
           times = typed.times;
         };
       }
 
-  with_truths_is : (n : ℕ) (b old : Bool) (f : Bool → Bool → Turn)
+  with-truths-is : (n : ℕ) (b old : Bool) (f : Bool → Bool → Turn)
       → slice_get slots n ≡ Some (Truth old)
       → machine.with_truths n (state p (Truth b ∷ others) slots timers) f ≡ f b old
-  with_truths_is n b old f e =
-      with_slot_is slots n (Truth old) (λ slot. machine.as_truth slot (λ o. f b o)) e
+  with-truths-is n b old f e =
+      with-slot-is slots n (Truth old) (λ slot. machine.as_truth slot (λ o. f b o)) e
 
-  pub does_set_if : (n : ℕ) (b : Bool) (kinds : List CellKind)
+  pub does-set-if : (n : ℕ) (b : Bool) (kinds : List CellKind)
       → slice_get types n ≡ Some elementary.Bool → Fit (Truth b ∷ others) kinds
       → Does types count now (Slot SetIf n) next p (Truth b ∷ others) slots timers kinds
   unfolding act
-  does_set_if n true kinds e all =
+  does-set-if n true kinds e all =
       sets (Slot SetIf n) n true kinds (λ old. true) e all (λ below. (omega arith, below))
-      (λ old get. with_truths_is n true old
+      (λ old get. with-truths-is n true old
       (λ t o. stores n (Truth (t || o)) next (state p (Truth true ∷ others) slots timers)) get)
       refl (λ old word. refl)
-  does_set_if n false kinds e all =
+  does-set-if n false kinds e all =
       sets (Slot SetIf n) n false kinds (λ old. old) e all (λ below. (omega arith, below))
-      (λ old get. with_truths_is n false old
+      (λ old get. with-truths-is n false old
       (λ t o. stores n (Truth (t || o)) next (state p (Truth false ∷ others) slots timers)) get)
       refl
       (λ old word. ap (λ (w : ℤ). words (words_of (Truth false ∷ others))
       (slice_set (words_of slots) n w) timers) word)
 
-  pub does_reset_if : (n : ℕ) (b : Bool) (kinds : List CellKind)
+  pub does-reset-if : (n : ℕ) (b : Bool) (kinds : List CellKind)
       → slice_get types n ≡ Some elementary.Bool → Fit (Truth b ∷ others) kinds
       → Does types count now (Slot ResetIf n) next p (Truth b ∷ others) slots timers kinds
   unfolding act
-  does_reset_if n true kinds e all =
+  does-reset-if n true kinds e all =
       sets (Slot ResetIf n) n true kinds (λ old. false) e all (λ below. (omega arith, below))
-      (λ old get. with_truths_is n true old
+      (λ old get. with-truths-is n true old
       (λ t o. stores n (Truth (not t && o)) next (state p (Truth true ∷ others) slots timers))
       get) refl (λ old word. refl)
-  does_reset_if n false kinds e all =
+  does-reset-if n false kinds e all =
       sets (Slot ResetIf n) n false kinds (λ old. old) e all (λ below. (omega arith, below))
-      (λ old get. with_truths_is n false old
+      (λ old get. with-truths-is n false old
       (λ t o. stores n (Truth (not t && o)) next (state p (Truth false ∷ others) slots timers))
       get) refl
       (λ old word. ap (λ (w : ℤ). words (words_of (Truth false ∷ others))
@@ -473,13 +473,13 @@ module _ (types : List ElementaryType) (count now next p : ℕ) (others slots : 
       record {
         of_types = typed.of_types;
         so_many = length-set timers n t ∙ typed.so_many;
-        times = timers_set timers n t typed.times good;
+        times = timers-set timers n t typed.times good;
       }
 
-  pub does_set_input : (n : ℕ) (b : Bool) → n < count
+  pub does-set-input : (n : ℕ) (b : Bool) → n < count
       → Does types count now (Timer SetInput n) next p (Truth b ∷ others) slots timers rest
   unfolding act
-  does_set_input n true below =
+  does-set-input n true below =
       let size : length timers ≡ count = typed.so_many in
       let there : n < length timers = omega arith in
       let t : TimerState = record (timer_at timers n) { input = true } in
@@ -490,15 +490,15 @@ module _ (types : List ElementaryType) (count now next p : ℕ) (others slots : 
         new_slots = slots;
         new_timers = slice_set timers n t;
         goes_on =
-            with_timer_is timers n (timer_at timers n)
+            with-timer-is timers n (timer_at timers n)
             (λ u. machine.changes n (record u { input = true }) next others
-            (state p (Truth true ∷ others) slots timers)) (timer_is timers n there);
+            (state p (Truth true ∷ others) slots timers)) (timer-is timers n there);
         leads_to = refl;
         words_are = refl;
         fit = fit;
-        typed = changed n t (timer_good timers n typed.times);
+        typed = changed n t (timer-good timers n typed.times);
       }
-  does_set_input n false below =
+  does-set-input n false below =
       let size : length timers ≡ count = typed.so_many in
       let there : n < length timers = omega arith in
       let t : TimerState = record (timer_at timers n) { input = false } in
@@ -509,22 +509,22 @@ module _ (types : List ElementaryType) (count now next p : ℕ) (others slots : 
         new_slots = slots;
         new_timers = slice_set timers n t;
         goes_on =
-            with_timer_is timers n (timer_at timers n)
+            with-timer-is timers n (timer_at timers n)
             (λ u. machine.changes n (record u { input = false }) next others
-            (state p (Truth false ∷ others) slots timers)) (timer_is timers n there);
+            (state p (Truth false ∷ others) slots timers)) (timer-is timers n there);
         leads_to = refl;
         words_are = refl;
         fit = fit;
-        typed = changed n t (timer_good timers n typed.times);
+        typed = changed n t (timer-good timers n typed.times);
       }
 
-  pub does_set_preset : (n m : ℕ) → IsValue (Span m) → n < count
+  pub does-set-preset : (n m : ℕ) → IsValue (Span m) → n < count
       → Does types count now (Timer SetPreset n) next p (Span m ∷ others) slots timers rest
   unfolding act
-  does_set_preset n m good below =
+  does-set-preset n m good below =
       let size : length timers ≡ count = typed.so_many in
       let there : n < length timers = omega arith in
-      let small = span_within m good in
+      let small = span-within m good in
       let t : TimerState = record (timer_at timers n) { preset = m } in
       record {
         ready = (omega arith, there, (m, refl, small));
@@ -533,32 +533,32 @@ module _ (types : List ElementaryType) (count now next p : ℕ) (others slots : 
         new_slots = slots;
         new_timers = slice_set timers n t;
         goes_on =
-            with_timer_is timers n (timer_at timers n)
+            with-timer-is timers n (timer_at timers n)
             (λ u. machine.changes n (record u { preset = m }) next others
-            (state p (Span m ∷ others) slots timers)) (timer_is timers n there);
+            (state p (Span m ∷ others) slots timers)) (timer-is timers n there);
         leads_to = refl;
         words_are = refl;
         fit = fit;
-        typed = changed n t (small, (timer_good timers n typed.times).1);
+        typed = changed n t (small, (timer-good timers n typed.times).1);
       }
 
   -- ---- two values
 
-  with_numbers_is : (w : Width) (a b : ℤ) (f : ℤ → ℤ → List Value → Turn)
+  with-numbers-is : (w : Width) (a b : ℤ) (f : ℤ → ℤ → List Value → Turn)
       → machine.with_numbers w
       (state p (value_of_width w b ∷ value_of_width w a ∷ others) slots timers) f ≡ f a b others
-  with_numbers_is width.Int a b f = refl
-  with_numbers_is width.Dint a b f = refl
-  with_numbers_is width.Lint a b f = refl
+  with-numbers-is width.Int a b f = refl
+  with-numbers-is width.Dint a b f = refl
+  with-numbers-is width.Lint a b f = refl
 
-  pub does_compute : (o : Operation) (w : Width) (a b : ℤ) → (divides o && int_eq b (pos 0)) ≡ false
+  pub does-compute : (o : Operation) (w : Width) (a b : ℤ) → (divides o && int_eq b (pos 0)) ≡ false
       → DividesBy o b → Does types count now (Compute o w) next p
       (value_of_width w b ∷ value_of_width w a ∷ others) slots timers
       (Plain (type_of_width w) ∷ rest)
   unfolding act
-  does_compute o w a b test divisor =
+  does-compute o w a b test divisor =
       let here : State = state p (value_of_width w b ∷ value_of_width w a ∷ others) slots timers in
-      let v : Value = value_of_width w (computed o w a b) in
+      let v : Value = value_of_width w (computation_of o w a b) in
       let nb : number_of (value_of_width w b) ≡ b = number_in w b in
       let na : number_of (value_of_width w a) ≡ a = number_in w a in
       let chosen : cond (divides o && int_eq b (pos 0)) (Traps ZeroDivisor)
@@ -570,26 +570,29 @@ module _ (types : List ElementaryType) (count now next p : ℕ) (others slots : 
         new_slots = slots;
         new_timers = timers;
         goes_on =
-            with_numbers_is w a b (λ x y below. cond (divides o && int_eq y (pos 0))
-            (Traps ZeroDivisor) (goes next (value_of_width w (computed o w x y) ∷ below) here))
+            with-numbers-is w a b (λ x y below. cond (divides o && int_eq y (pos 0))
+            (Traps ZeroDivisor) (goes next (value_of_width w (computation_of o w x y) ∷ below)
+            here))
             ∙ chosen;
         leads_to = refl;
         words_are =
-            ap (λ (x : ℤ). words (computed o w x (number_of (value_of_width w b)) ∷ words_of others)
+            ap (λ (x : ℤ). words (computation_of o w x (number_of (value_of_width w b))
+            ∷ words_of others)
             (words_of slots) timers) na
-            ∙ ap (λ (y : ℤ). words (computed o w a y ∷ words_of others) (words_of slots) timers) nb
+            ∙ ap (λ (y : ℤ). words (computation_of o w a y ∷ words_of others) (words_of slots)
+            timers) nb
             ∙ ap (λ (x : ℤ). words (x ∷ words_of others) (words_of slots) timers)
-            (sym (number_in w (computed o w a b)));
-        fit = ((type_in w (computed o w a b), wrapped_value w (exact o a b)), fit);
+            (sym (number_in w (computation_of o w a b)));
+        fit = ((type-in w (computation_of o w a b), wrapped-value w (exact o a b)), fit);
         typed = typed;
       }
 
-  pub does_compare : (c : Comparison) (first second : Value) → is_comparable c first second ≡ true
+  pub does-compare : (c : Comparison) (first second : Value) → is_comparable c first second ≡ true
       → Does types count now (Compare c) next p (second ∷ first ∷ others) slots timers
       (Plain elementary.Bool ∷ rest)
   unfolding act
-  does_compare c first second test =
-      let b : Bool = compared c (number_of first) (number_of second) in
+  does-compare c first second test =
+      let b : Bool = comparison_holds c (number_of first) (number_of second) in
       let here : State = state p (second ∷ first ∷ others) slots timers in
       let chosen : cond (is_comparable c first second) (goes next (Truth b ∷ others) here)
       (Traps WrongKind) ≡ goes next (Truth b ∷ others) here = rw test refl in
@@ -603,15 +606,15 @@ module _ (types : List ElementaryType) (count now next p : ℕ) (others slots : 
         leads_to = refl;
         words_are =
             ap (λ (x : ℤ). words (x ∷ words_of others) (words_of slots) timers)
-            (sym (truth_word b));
-        fit = ((refl, truth_value b), fit);
+            (sym (truth-word b));
+        fit = ((refl, truth-value b), fit);
         typed = typed;
       }
 
-  pub does_widen : (z : ℤ) (k : CellKind) → HasKind (Long z) k → IsValue (Short z)
+  pub does-widen : (z : ℤ) (k : CellKind) → HasKind (Long z) k → IsValue (Short z)
       → Does types count now (Widen IntToDint) next p (Short z ∷ others) slots timers (k ∷ rest)
   unfolding act
-  does_widen z k is good =
+  does-widen z k is good =
       record {
         ready = omega arith;
         to = next;
@@ -621,14 +624,14 @@ module _ (types : List ElementaryType) (count now next p : ℕ) (others slots : 
         goes_on = refl;
         leads_to = refl;
         words_are = refl;
-        fit = ((is, widened_short z good), fit);
+        fit = ((is, widened-short z good), fit);
         typed = typed;
       }
 
-  pub does_widen_long : (z : ℤ) (k : CellKind) → HasKind (Wide z) k → IsValue (Long z)
+  pub does-widen-long : (z : ℤ) (k : CellKind) → HasKind (Wide z) k → IsValue (Long z)
       → Does types count now (Widen DintToLint) next p (Long z ∷ others) slots timers (k ∷ rest)
   unfolding act
-  does_widen_long z k is good =
+  does-widen-long z k is good =
       record {
         ready = omega arith;
         to = next;
@@ -638,6 +641,6 @@ module _ (types : List ElementaryType) (count now next p : ℕ) (others slots : 
         goes_on = refl;
         leads_to = refl;
         words_are = refl;
-        fit = ((is, widened_long z good), fit);
+        fit = ((is, widened-long z good), fit);
         typed = typed;
       }

@@ -14,19 +14,19 @@ use Rattle.il_image.specs.Octets.{AreOctets, bits_of_size, octet_count, size_of}
 use Rattle.il_image.specs.Opcodes.{octet_of, opcode_of}
 use Rattle.il_image.specs.Reading.{instr_at, instr_from, operand_from, signed_at, with_number}
 use Rattle.il_image.specs.Spelling.{opcode_of_instr, operand_of}
-use Rattle.il_image.proofs.InstrLemmas.{back_instr, opcode_back}
+use Rattle.il_image.proofs.InstrLemmas.{back-instr, opcode-back}
 use Rattle.il_image.proofs.PlaceLemmas.{stands}
-use Rattle.il_image.proofs.ReadLemmas.{ok_same}
-use Rattle.il_verify.proofs.EffectLemmas.{not_both, some_same}
-use Rattle.il_verify.proofs.SizeLemmas.{opcode_there}
+use Rattle.il_image.proofs.ReadLemmas.{ok-same}
+use Rattle.il_verify.proofs.EffectLemmas.{not-both, some-same}
+use Rattle.il_verify.proofs.SizeLemmas.{opcode-there}
 
 there : {A : Type 0} (o : Option A) → IsSome o → (x : A) × (o ≡ Some x)
 there None h = absurd cc
 there (Some x) h = (x, refl)
 
-is_ok_of : {A : Type 0} (r : Result A ImageFault) (x : A) → r ≡ Ok x → IsOk r
-is_ok_of (Ok y) x e = refl
-is_ok_of (Err f) x e = absurd cc
+is-ok-of : {A : Type 0} (r : Result A ImageFault) (x : A) → r ≡ Ok x → IsOk r
+is-ok-of (Ok y) x e = refl
+is-ok-of (Err f) x e = absurd cc
 
 -- ---- numbers that are whole
 
@@ -59,12 +59,12 @@ numbered make code at n below h is =
       within = fits;
     }
 
-pub signed_there : (t : ElementaryType) (code : List ℕ) (at : ℕ) (z : ℤ)
+pub signed-there : (t : ElementaryType) (code : List ℕ) (at : ℕ) (z : ℤ)
     → at + octet_count (size_of t) ≤ length code
     → z ≡ cast_signed (bits_of_size (size_of t))
     (from_be_bytes (bits_of_size (size_of t)) (drop at code))
     → signed_at (size_of t) (drop at code) ≡ Ok (z, drop (at + octet_count (size_of t)) code)
-signed_there t code at z h is =
+signed-there t code at z h is =
     let n = octet_count (size_of t) in
     let w = bits_of_size (size_of t) in
     rw (whole n at code h)
@@ -73,14 +73,14 @@ signed_there t code at z h is =
 
 -- ---- the instruction
 
-operand_is : (o : Opcode) (rest : List ℕ)
+operand-is : (o : Opcode) (rest : List ℕ)
     → instr_from Two (octet_of o ∷ rest) ≡ operand_from Two o rest
 unfolding instr_from
-operand_is o rest = rw (opcode_back o) refl
+operand-is o rest = rw (opcode-back o) refl
 
-behind_first : (code : List ℕ) (place x : ℕ) (xs : List ℕ) → drop place code ≡ x ∷ xs
+behind-first : (code : List ℕ) (place x : ℕ) (xs : List ℕ) → drop place code ≡ x ∷ xs
     → drop (place + 1) code ≡ xs
-behind_first code place x xs e = sym (drop-drop 1 place code) ∙ ap (drop 1) e
+behind-first code place x xs e = sym (drop-drop 1 place code) ∙ ap (drop 1) e
 
 -- What stands at the place: its opcode's operand, read behind the first octet.
 pub record Found (code : List ℕ) (place : ℕ) (i : Instr) (next : ℕ) : Type 0 where
@@ -91,20 +91,20 @@ pub record Found (code : List ℕ) (place : ℕ) (i : Instr) (next : ℕ) : Type
   pub forward : place < next
   pub within : next ≤ length code
 
-pub found_at : (code : List ℕ) (place : ℕ) (i : Instr) (next : ℕ) → AreOctets code
+pub found-at : (code : List ℕ) (place : ℕ) (i : Instr) (next : ℕ) → AreOctets code
     → instr_at code place ≡ Some (i, next) → Found code place i next
-found_at code place i next fits e =
+found-at code place i next fits e =
     let s = stands code place i next fits e in
     let size : next ≡ place + suc (length (operand_of i)) = s.size in
     record {
       here = e;
-      opcode = opcode_there code place 0 i next fits e;
+      opcode = opcode-there code place 0 i next fits e;
       operand =
           ap (operand_from Two (opcode_of_instr i))
-          (behind_first code place (octet_of (opcode_of_instr i)) (operand_of i ++ drop next code)
+          (behind-first code place (octet_of (opcode_of_instr i)) (operand_of i ++ drop next code)
           s.spelled)
-          ∙ sym (operand_is (opcode_of_instr i) (operand_of i ++ drop next code))
-          ∙ back_instr i (drop next code) s.is_instr;
+          ∙ sym (operand-is (opcode_of_instr i) (operand_of i ++ drop next code))
+          ∙ back-instr i (drop next code) s.is_instr;
       forward = omega arith;
       within = s.within;
     }
@@ -112,39 +112,39 @@ found_at code place i next fits e =
 pub found : (code : List ℕ) (place : ℕ) → AreOctets code → IsSome (instr_at code place)
     → (i : Instr) × (next : ℕ) × Found code place i next
 found code place fits h = let t =
-    there (instr_at code place) h in (t.0.0, t.0.1, found_at code place t.0.0 t.0.1 fits t.1)
+    there (instr_at code place) h in (t.0.0, t.0.1, found-at code place t.0.0 t.0.1 fits t.1)
 
 module _ (code : List ℕ) (place : ℕ) (fits : AreOctets code) (h : IsSome (instr_at code place))
   where
-    pub place_within : place < length code
-    place_within = let f = found code place fits h in let a : place < f.1 =
+    pub place-within : place < length code
+    place-within = let f = found code place fits h in let a : place < f.1 =
         f.2.forward in let b : f.1 ≤ length code = f.2.within in omega arith
 
-    pub no_opcode : opcode_of (get_or code place 0) ≡ None → ⊥
-    no_opcode e = let f = found code place fits h in
-        not_both (opcode_of (get_or code place 0)) (opcode_of_instr f.0) e f.2.opcode
+    pub no-opcode : opcode_of (get_or code place 0) ≡ None → ⊥
+    no-opcode e = let f = found code place fits h in
+        not-both (opcode_of (get_or code place 0)) (opcode_of_instr f.0) e f.2.opcode
 
     module _ (o : Opcode) (is : opcode_of (get_or code place 0) ≡ Some o) where
-      same_opcode : opcode_of_instr (found code place fits h).0 ≡ o
-      same_opcode = let f =
-          found code place fits h in some_same (opcode_of_instr f.0) o (sym f.2.opcode ∙ is)
+      same-opcode : opcode_of_instr (found code place fits h).0 ≡ o
+      same-opcode = let f =
+          found code place fits h in some-same (opcode_of_instr f.0) o (sym f.2.opcode ∙ is)
 
-      operand_there : operand_from Two o (drop (place + 1) code)
+      operand-there : operand_from Two o (drop (place + 1) code)
           ≡ Ok ((found code place fits h).0, drop (found code place fits h).1 code)
-      operand_there = let f = found code place fits h in
-          ap (λ (p : Opcode). operand_from Two p (drop (place + 1) code)) (sym same_opcode)
+      operand-there = let f = found code place fits h in
+          ap (λ (p : Opcode). operand_from Two p (drop (place + 1) code)) (sym same-opcode)
           ∙ f.2.operand
 
-      pub whole_operand : IsOk (operand_from Two o (drop (place + 1) code))
-      whole_operand = let f = found code place fits h in
-          is_ok_of (operand_from Two o (drop (place + 1) code)) (f.0, drop f.1 code) operand_there
+      pub whole-operand : IsOk (operand_from Two o (drop (place + 1) code))
+      whole-operand = let f = found code place fits h in
+          is-ok-of (operand_from Two o (drop (place + 1) code)) (f.0, drop f.1 code) operand-there
 
       pub fetched : (r : Instr × ℕ)
           → operand_from Two o (drop (place + 1) code) ≡ Ok (r.0, drop r.1 code) → r.1 ≤ length code
           → instr_at code place ≡ Some r
       fetched r e within =
           let f = found code place fits h in
-          let same = ok_same (f.0, drop f.1 code) (r.0, drop r.1 code) (sym operand_there ∙ e) in
+          let same = ok-same (f.0, drop f.1 code) (r.0, drop r.1 code) (sym operand-there ∙ e) in
           let i : f.0 ≡ r.0 = ap (λ (q : Instr × List ℕ). q.0) same in
           let left : length (drop f.1 code) ≡ length (drop r.1 code) =
           ap (λ (q : Instr × List ℕ). length q.1) same in

@@ -10,14 +10,14 @@ use Rattle.il_verify.specs.Verdicts.{IsSafe}
 use Rattle.il_scan.specs.Laws.{Ends, NeverGoesWrong}
 use Rattle.il_scan.specs.Scans.{AreInputs, with_inputs}
 use Rattle.il_scan.specs.Standing.{IsHeld, RunsTo, Turns, first_state, words_at}
-use Rattle.il_scan.specs.Scans.{held}
+use Rattle.il_scan.specs.Scans.{held_of}
 use Rattle.il_scan.specs.Words.{values_of, words_of}
-use Rattle.il_scan.specs.Working.{Words, leads, worked}
-use Rattle.il_scan.proofs.RunLemmas.{Comes, comes_next, forward, run_ends, starts}
-use Rattle.il_scan.proofs.ScanLemmas.{held_taken, scanned}
+use Rattle.il_scan.specs.Working.{Words, leads, words_after}
+use Rattle.il_scan.proofs.RunLemmas.{Comes, comes-next, forward, run-ends, starts}
+use Rattle.il_scan.proofs.ScanLemmas.{held-taken, scanned}
 use Rattle.il_scan.proofs.SlotLemmas.{outputs_are}
-use Rattle.il_scan.proofs.StandLemmas.{held_by, stand_again}
-use Rattle.il_scan.proofs.TurnLemmas.{place_within, turned}
+use Rattle.il_scan.proofs.StandLemmas.{held-by, stand-again}
+use Rattle.il_scan.proofs.TurnLemmas.{place-within, turned}
 
 -- the run from these slots and timers ends somewhere
 record RunEnds (image : Image) (now : ℕ) (slots : List ℤ) (timers : List TimerState) : Type 0 where
@@ -27,77 +27,77 @@ record RunEnds (image : Image) (now : ℕ) (slots : List ℤ) (timers : List Tim
   runs : RunsTo image now slots timers new_slots new_timers steps
 
 module _ (image : Image) (now : ℕ) (slots : List ℤ) (timers : List TimerState) (safe : IsSafe image)
-    (is_held : IsHeld image slots timers) where
+    (is-held : IsHeld image slots timers) where
   -- a run that has come to a place goes on to its end
   goes_on : (left place steps : ℕ) (w : Words)
       (c : Comes image now (first_state image slots timers) place steps w)
       → length image.code ≤ place + left → RunEnds image now slots timers
   goes_on zero place steps w c past =
-      let within = place_within image now c.state c.stands.standing in
+      let within = place-within image now c.state c.stands.standing in
       let there : c.state.place ≡ place = c.stands.there in
       absurd (omega arith)
   goes_on (suc left) place steps w c past =
       let h = c.stands.standing in
       let a = h.agrees.allowed c.state.place h.kinds h.here in
-      let within = place_within image now c.state h in
+      let within = place-within image now c.state h in
       let there : c.state.place ≡ place = c.stands.there in
       let less : place < length image.code = omega arith in
-      let after : Words = worked now a.instr (words_at c.state) in
+      let after : Words = words_after now a.instr (words_at c.state) in
       let turn =
       turned image now c.state h a.instr a.next a.here c.octets
       (leads a.instr a.next (words_at c.state).stack) after refl refl in
-      next_turn left place steps w c past less after (leads a.instr a.next (words_at c.state).stack)
+      next-turn left place steps w c past less after (leads a.instr a.next (words_at c.state).stack)
       turn (λ to later. goes_on left to (steps + 1) after later)
     where
-      next_turn : (left place steps : ℕ) (w : Words)
+      next-turn : (left place steps : ℕ) (w : Words)
           (c : Comes image now (first_state image slots timers) place steps w)
           → length image.code ≤ place + suc left → place < length image.code
           → (after : Words) (to : Option ℕ) → Turns image now c.state to after
           → ((q : ℕ) → Comes image now (first_state image slots timers) q (steps + 1) after
           → length image.code ≤ q + left → RunEnds image now slots timers)
           → RunEnds image now slots timers
-      next_turn left place steps w c past less after None turn more = record {
+      next-turn left place steps w c past less after None turn more = record {
         new_slots = after.slots;
         new_timers = after.timers;
         steps = steps + 1;
-        runs = run_ends image now slots timers place steps w c less safe is_held after turn;
+        runs = run-ends image now slots timers place steps w c less safe is-held after turn;
       }
-      next_turn left place steps w c past less after (Some to) turn more =
+      next-turn left place steps w c past less after (Some to) turn more =
           let on : place < to =
           forward image now (first_state image slots timers) place steps w c less to after turn
           in
-          more to (comes_next image now (first_state image slots timers) place steps w c less to
+          more to (comes-next image now (first_state image slots timers) place steps w c less to
           after turn) (omega arith)
 
-  run_ends_somewhere : AreOctets image.code → RunEnds image now slots timers
-  run_ends_somewhere octets =
-      goes_on (length image.code) 0 0 _ (starts image now slots timers octets safe is_held)
+  run-ends-somewhere : AreOctets image.code → RunEnds image now slots timers
+  run-ends-somewhere octets =
+      goes_on (length image.code) 0 0 _ (starts image now slots timers octets safe is-held)
       (omega arith)
 
 -- a scan of words, from words that are held
-scan_ends : (image : Image) (inputs : List Value) (now : ℕ) (slots : List ℤ)
+scan-ends : (image : Image) (inputs : List Value) (now : ℕ) (slots : List ℤ)
     (timers : List TimerState) → AreOctets image.code → IsSafe image → IsHeld image slots timers
-    → AreInputs image.points inputs → Ends (held image slots timers) inputs now
-scan_ends image inputs now slots timers octets safe is_held are =
+    → AreInputs image.points inputs → Ends (held_of image slots timers) inputs now
+scan-ends image inputs now slots timers octets safe is-held are =
     let taken : List ℤ = with_inputs image.points (words_of inputs) slots in
     let before : IsHeld image taken timers =
-    held_taken image image.points refl inputs now slots timers is_held are taken refl in
-    let e = run_ends_somewhere image now taken timers safe before octets in
+    held-taken image image.points refl inputs now slots timers is-held are taken refl in
+    let e = run-ends-somewhere image now taken timers safe before octets in
     record {
-      new = held image e.new_slots e.new_timers;
+      new = held_of image e.new_slots e.new_timers;
       steps = e.steps;
-      scans = scanned image image.points refl inputs now slots timers is_held are taken refl
+      scans = scanned image image.points refl inputs now slots timers is-held are taken refl
           e.new_slots e.new_timers e.steps _ e.runs
           (sym (outputs_are image.points (map type_of image.variables) e.new_slots));
     }
 
 pub never_goes_wrong : NeverGoesWrong
 never_goes_wrong image slots timers inputs now octets safe typed are =
-    let is_held : IsHeld image (words_of slots) timers =
-    held_by image (words_of slots) slots timers refl typed in
+    let is-held : IsHeld image (words_of slots) timers =
+    held-by image (words_of slots) slots timers refl typed in
     let same : values_of (slot_types image) (words_of slots) ≡ slots =
-    stand_again (slot_types image) (words_of slots) slots
+    stand-again (slot_types image) (words_of slots) slots
     (record { are = refl; typed = typed.of_types }) in
     subst (λ (values : List Value). Ends (record { image = image; slots = values; timers = timers })
-    inputs now) same (scan_ends image inputs now (words_of slots) timers octets safe is_held
+    inputs now) same (scan-ends image inputs now (words_of slots) timers octets safe is-held
     are)

@@ -4,103 +4,103 @@ use Rattle.std.specs.Prelude.{slice_get}
 use Rattle.il_image.specs.declared.timer.TimerState.{TimerState}
 use Rattle.il_image.specs.declared.value.Value.{Value}
 use Rattle.il_image.specs.Images.{Image}
-use Rattle.il_image.specs.Machine.{Goes, Halted, Halts, State, Traps, Turn, ending_of, run, turn}
+use Rattle.il_image.specs.Machine.{Goes, Halted, Halts, State, Traps, Turn, ending_of, run_from, turn}
 use Rattle.il_image.specs.Octets.{AreOctets}
 use Rattle.il_image.specs.Tables.{IsHalt, IsSuccessor, Path, slot_types}
 use Rattle.il_verify.specs.Verdicts.{IsBudget, IsDepth, IsSafe}
-use Rattle.il_verify.proofs.TableLemmas.{leads_on}
+use Rattle.il_verify.proofs.TableLemmas.{leads-on}
 use Rattle.il_scan.specs.Scans.{IsWithin}
-use Rattle.il_scan.specs.Standing.{IsHeld, KeepsSlots, RunsTo, Standing, StandsAt, Turns, first_state, words_at}
+use Rattle.il_scan.specs.Standing.{IsHeld, KeepsSlots, RunsTo, StandsAs, StandsAt, Turns, first_state, words_at}
 use Rattle.il_scan.specs.Words.{values_of, words_of}
-use Rattle.il_scan.specs.Working.{Words, words, worked, leads}
-use Rattle.il_scan.proofs.StandLemmas.{held_by, held_typed, stand_again}
-use Rattle.il_scan.proofs.TurnLemmas.{cells_room, turned}
+use Rattle.il_scan.specs.Working.{Words, words, words_after, leads}
+use Rattle.il_scan.proofs.StandLemmas.{held-by, held-typed, stand-again}
+use Rattle.il_scan.proofs.TurnLemmas.{cells-room, turned}
 
-run_goes : (code : List ℕ) (now most : ℕ) (s after : State) (steps : ℕ)
+run-goes : (code : List ℕ) (now most : ℕ) (s after : State) (steps : ℕ)
     → turn code now s ≡ Goes after
-    → run code now (suc most) s steps ≡ run code now most after (steps + 1)
-unfolding run
-run_goes code now most s after steps e =
-    ap (λ (t : Turn). ending_of t s (steps + 1) (λ a. run code now most a (steps + 1))) e
+    → run_from code now (suc most) s steps ≡ run_from code now most after (steps + 1)
+unfolding run_from
+run-goes code now most s after steps e =
+    ap (λ (t : Turn). ending_of t s (steps + 1) (λ a. run_from code now most a (steps + 1))) e
 
-run_halts : (code : List ℕ) (now most : ℕ) (s : State) (steps : ℕ) → turn code now s ≡ Halts
-    → run code now (suc most) s steps ≡ Halted s.slots s.timers (steps + 1)
-unfolding run
-run_halts code now most s steps e =
-    ap (λ (t : Turn). ending_of t s (steps + 1) (λ a. run code now most a (steps + 1))) e
+run-halts : (code : List ℕ) (now most : ℕ) (s : State) (steps : ℕ) → turn code now s ≡ Halts
+    → run_from code now (suc most) s steps ≡ Halted s.slots s.timers (steps + 1)
+unfolding run_from
+run-halts code now most s steps e =
+    ap (λ (t : Turn). ending_of t s (steps + 1) (λ a. run_from code now most a (steps + 1))) e
 
 counts_of : (code : List ℕ) (now most : ℕ) (t : Turn) (s : State) (slots : List Value)
     (timers : List TimerState) (k n : ℕ)
-    → ((a : State) → run code now most a (k + 1) ≡ Halted slots timers n → k + 1 < n)
-    → ending_of t s (k + 1) (λ a. run code now most a (k + 1)) ≡ Halted slots timers n → k < n
+    → ((a : State) → run_from code now most a (k + 1) ≡ Halted slots timers n → k + 1 < n)
+    → ending_of t s (k + 1) (λ a. run_from code now most a (k + 1)) ≡ Halted slots timers n → k < n
 counts_of code now most (Goes a) s slots timers k n more e = let h : k + 1 < n =
     more a e in omega arith
 counts_of code now most Halts s slots timers k n more e = let same : k + 1 ≡ n = cc in omega arith
 counts_of code now most (Traps trap) s slots timers k n more e = absurd cc
 
-run_counts : (code : List ℕ) (now most : ℕ) (s : State) (k : ℕ) (slots : List Value)
-    (timers : List TimerState) (n : ℕ) → run code now most s k ≡ Halted slots timers n → k < n
-unfolding run
-run_counts code now zero s k slots timers n e = absurd cc
-run_counts code now (suc most) s k slots timers n e =
+run-counts : (code : List ℕ) (now most : ℕ) (s : State) (k : ℕ) (slots : List Value)
+    (timers : List TimerState) (n : ℕ) → run_from code now most s k ≡ Halted slots timers n → k < n
+unfolding run_from
+run-counts code now zero s k slots timers n e = absurd cc
+run-counts code now (suc most) s k slots timers n e =
     counts_of code now most (turn code now s) s slots timers k n
-    (λ after. run_counts code now most after (k + 1) slots timers n) e
+    (λ after. run-counts code now most after (k + 1) slots timers n) e
 
-enough_of : (code : List ℕ) (now most other : ℕ) (t : Turn) (s : State) (slots : List Value)
+enough-of : (code : List ℕ) (now most other : ℕ) (t : Turn) (s : State) (slots : List Value)
     (timers : List TimerState) (k n : ℕ)
-    → ((a : State) → run code now most a (k + 1) ≡ Halted slots timers n
-    → run code now other a (k + 1) ≡ Halted slots timers n)
-    → ending_of t s (k + 1) (λ a. run code now most a (k + 1)) ≡ Halted slots timers n
-    → ending_of t s (k + 1) (λ a. run code now other a (k + 1)) ≡ Halted slots timers n
-enough_of code now most other (Goes a) s slots timers k n more e = more a e
-enough_of code now most other Halts s slots timers k n more e = e
-enough_of code now most other (Traps trap) s slots timers k n more e = e
+    → ((a : State) → run_from code now most a (k + 1) ≡ Halted slots timers n
+    → run_from code now other a (k + 1) ≡ Halted slots timers n)
+    → ending_of t s (k + 1) (λ a. run_from code now most a (k + 1)) ≡ Halted slots timers n
+    → ending_of t s (k + 1) (λ a. run_from code now other a (k + 1)) ≡ Halted slots timers n
+enough-of code now most other (Goes a) s slots timers k n more e = more a e
+enough-of code now most other Halts s slots timers k n more e = e
+enough-of code now most other (Traps trap) s slots timers k n more e = e
 
 -- a run that halts does so with any number of steps that lasts
-run_enough : (code : List ℕ) (now most other : ℕ) (s : State) (k : ℕ) (slots : List Value)
-    (timers : List TimerState) (n : ℕ) → run code now most s k ≡ Halted slots timers n
-    → n ≤ k + other → run code now other s k ≡ Halted slots timers n
-unfolding run
-run_enough code now zero other s k slots timers n e least = absurd cc
-run_enough code now (suc most) zero s k slots timers n e least =
-    absurd (let h : k < n = run_counts code now (suc most) s k slots timers n e in omega arith)
-run_enough code now (suc most) (suc other) s k slots timers n e least =
-    enough_of code now most other (turn code now s) s slots timers k n
-    (λ after f. run_enough code now most other after (k + 1) slots timers n f (omega arith)) e
+run-enough : (code : List ℕ) (now most other : ℕ) (s : State) (k : ℕ) (slots : List Value)
+    (timers : List TimerState) (n : ℕ) → run_from code now most s k ≡ Halted slots timers n
+    → n ≤ k + other → run_from code now other s k ≡ Halted slots timers n
+unfolding run_from
+run-enough code now zero other s k slots timers n e least = absurd cc
+run-enough code now (suc most) zero s k slots timers n e least =
+    absurd (let h : k < n = run-counts code now (suc most) s k slots timers n e in omega arith)
+run-enough code now (suc most) (suc other) s k slots timers n e least =
+    enough-of code now most other (turn code now s) s slots timers k n
+    (λ after f. run-enough code now most other after (k + 1) slots timers n f (omega arith)) e
 
 -- ---- the stack is never deeper
 
-goes_same : (a b : State) → Goes a ≡ Goes b → a ≡ b
-goes_same a b e = cc
+goes-same : (a b : State) → Goes a ≡ Goes b → a ≡ b
+goes-same a b e = cc
 
 standing_of : (image : Image) (now : ℕ) (s next : State) → turn image.code now s ≡ Goes next
-    → (to : Option ℕ) (w : Words) → Turns image now s to w → Standing image next
+    → (to : Option ℕ) (w : Words) → Turns image now s to w → StandsAs image next
 standing_of image now s next e None w t = absurd (let no : Halts ≡ Goes next = sym t.0 ∙ e in cc)
 standing_of image now s next e (Some to) w t =
-    subst (Standing image) (goes_same t.1.0 next (sym t.1.1 ∙ e)) t.1.2.standing
+    subst (StandsAs image) (goes-same t.1.0 next (sym t.1.1 ∙ e)) t.1.2.standing
 
-next_standing : (image : Image) (now : ℕ) → AreOctets image.code → (s next : State)
-    → Standing image s → turn image.code now s ≡ Goes next → Standing image next
-next_standing image now octets s next h e =
+next-standing : (image : Image) (now : ℕ) → AreOctets image.code → (s next : State)
+    → StandsAs image s → turn image.code now s ≡ Goes next → StandsAs image next
+next-standing image now octets s next h e =
     let a = h.agrees.allowed s.place h.kinds h.here in
     standing_of image now s next e (leads a.instr a.next (words_at s).stack)
-    (worked now a.instr (words_at s))
+    (words_after now a.instr (words_at s))
     (turned image now s h a.instr a.next a.here octets (leads a.instr a.next (words_at s).stack)
-    (worked now a.instr (words_at s)) refl refl)
+    (words_after now a.instr (words_at s)) refl refl)
 
-pub never_deeper : (image : Image) (now : ℕ) → AreOctets image.code → (most : ℕ)
-    → IsDepth image most → (count : ℕ) (s : State) → Standing image s
+pub never-deeper : (image : Image) (now : ℕ) → AreOctets image.code → (most : ℕ)
+    → IsDepth image most → (count : ℕ) (s : State) → StandsAs image s
     → IsWithin image.code now most count s
-never_deeper image now octets most d zero s h =
+never-deeper image now octets most d zero s h =
     let deep : length h.kinds ≤ most = (d.each h.table h.agrees).most s.place h.kinds h.here in
-    let size : length s.cells ≡ length h.kinds = cells_room image now s h in
+    let size : length s.cells ≡ length h.kinds = cells-room image now s h in
     omega arith
-never_deeper image now octets most d (suc count) s h =
+never-deeper image now octets most d (suc count) s h =
     let deep : length h.kinds ≤ most = (d.each h.table h.agrees).most s.place h.kinds h.here in
-    let size : length s.cells ≡ length h.kinds = cells_room image now s h in (
+    let size : length s.cells ≡ length h.kinds = cells-room image now s h in (
       omega arith,
-      λ next e. never_deeper image now octets most d count next
-          (next_standing image now octets s next h e),
+      λ next e. never-deeper image now octets most d count next
+          (next-standing image now octets s next h e),
     )
 
 -- ---- a run so far
@@ -110,16 +110,16 @@ pub record Comes (image : Image) (now : ℕ) (first : State) (place steps : ℕ)
     : Type 0 where
   pub state : State
   pub stands : StandsAt image place w state
-  pub same : run image.code now (length image.code) first 0
-      ≡ run image.code now (length image.code - steps) state steps
+  pub same : run_from image.code now (length image.code) first 0
+      ≡ run_from image.code now (length image.code - steps) state steps
   pub few : steps ≤ place
   pub path : Path image.code (steps + 1) place
   pub kept : KeepsSlots image (words_at first) w
   pub octets : AreOctets image.code
 
-start_standing : (image : Image) (slots : List ℤ) (timers : List TimerState) → IsSafe image
-    → IsHeld image slots timers → Standing image (first_state image slots timers)
-start_standing image slots timers safe held =
+start-standing : (image : Image) (slots : List ℤ) (timers : List TimerState) → IsSafe image
+    → IsHeld image slots timers → StandsAs image (first_state image slots timers)
+start-standing image slots timers safe held =
     record {
       table = safe.table.0;
       agrees = safe.table.1;
@@ -127,7 +127,7 @@ start_standing image slots timers safe held =
       kinds = [];
       here = safe.table.1.starts;
       fit = tt;
-      typed = held_typed image slots timers held;
+      typed = held-typed image slots timers held;
     }
 
 pub starts : (image : Image) (now : ℕ) (slots : List ℤ) (timers : List TimerState)
@@ -136,55 +136,55 @@ pub starts : (image : Image) (now : ℕ) (slots : List ℤ) (timers : List Timer
 starts image now slots timers octets safe held = record {
   state = first_state image slots timers;
   stands = record {
-    standing = start_standing image slots timers safe held;
+    standing = start-standing image slots timers safe held;
     there = refl;
     are = ap (λ (w : List ℤ). words [] w timers) (sym held.stand.are);
   };
   same = (let e : length image.code ≡ length image.code - 0 = omega arith in
-      ap (λ (n : ℕ). run image.code now n (first_state image slots timers) 0) e);
+      ap (λ (n : ℕ). run_from image.code now n (first_state image slots timers) 0) e);
   few = omega arith;
   path = refl;
   kept = λ n only. ap (λ (w : List ℤ). slice_get w n) held.stand.are;
   octets = octets;
 }
 
-one_more : (n k : ℕ) → k < n → n - k ≡ suc (n - (k + 1))
-one_more n k h = omega arith
+one-more : (n k : ℕ) → k < n → n - k ≡ suc (n - (k + 1))
+one-more n k h = omega arith
 
-path_on : (code : List ℕ) (n from to : ℕ) → Path code n from → IsSuccessor code from to
+path-on : (code : List ℕ) (n from to : ℕ) → Path code n from → IsSuccessor code from to
     → Path code (n + 1) to
-path_on code zero from to p s = absurd p
-path_on code (suc n) from to p s = let e : suc n + 1 ≡ suc (suc n) =
+path-on code zero from to p s = absurd p
+path-on code (suc n) from to p s = let e : suc n + 1 ≡ suc (suc n) =
     omega arith in rw e (from, p, s)
 
 module _ (image : Image) (now : ℕ) (first : State) (place steps : ℕ) (w : Words)
     (c : Comes image now first place steps w) (within : place < length image.code) where
   fuel : length image.code - steps ≡ suc (length image.code - (steps + 1))
-  fuel = let few : steps ≤ place = c.few in one_more (length image.code) steps (omega arith)
+  fuel = let few : steps ≤ place = c.few in one-more (length image.code) steps (omega arith)
 
-  so_far : run image.code now (length image.code) first 0
-      ≡ run image.code now (suc (length image.code - (steps + 1))) c.state steps
-  so_far = c.same ∙ ap (λ (n : ℕ). run image.code now n c.state steps) fuel
+  so_far : run_from image.code now (length image.code) first 0
+      ≡ run_from image.code now (suc (length image.code - (steps + 1))) c.state steps
+  so_far = c.same ∙ ap (λ (n : ℕ). run_from image.code now n c.state steps) fuel
 
   pub forward : (to : ℕ) (after : Words) → Turns image now c.state (Some to) after → place < to
   forward to after t =
       let on : c.state.place < to =
-      leads_on image.code c.state.place to t.0.instr t.0.next t.0.here t.0.leads in
+      leads-on image.code c.state.place to t.0.instr t.0.next t.0.here t.0.leads in
       let there : c.state.place ≡ place = c.stands.there in
       omega arith
 
-  pub comes_next : (to : ℕ) (after : Words) → Turns image now c.state (Some to) after
+  pub comes-next : (to : ℕ) (after : Words) → Turns image now c.state (Some to) after
       → Comes image now first to (steps + 1) after
-  comes_next to after t =
+  comes-next to after t =
       let few : steps ≤ place = c.few in
       let on : place < to = forward to after t in
       record {
         state = t.1.0;
         stands = t.1.2;
-        same = so_far ∙ run_goes image.code now (length image.code - (steps + 1)) c.state t.1.0
+        same = so_far ∙ run-goes image.code now (length image.code - (steps + 1)) c.state t.1.0
             steps t.1.1;
         few = omega arith;
-        path = path_on image.code (steps + 1) place to c.path
+        path = path-on image.code (steps + 1) place to c.path
             (subst (λ (q : ℕ). IsSuccessor image.code q to) c.stands.there t.0);
         kept = λ n only. t.2 n only ∙ ap (λ (m : Words). slice_get m.slots n) c.stands.are
             ∙ c.kept n only;
@@ -195,50 +195,50 @@ module _ (image : Image) (now : ℕ) (first : State) (place steps : ℕ) (w : Wo
     ends : Path image.code (steps + 1) place × IsHalt image.code place
     ends = (c.path, subst (IsHalt image.code) c.stands.there t.2)
 
-    pub few_steps : (budget : ℕ) → IsBudget image.code budget → steps + 1 ≤ budget
-    few_steps budget b = b.most (steps + 1) (place, ends.0, ends.1)
+    pub few-steps : (budget : ℕ) → IsBudget image.code budget → steps + 1 ≤ budget
+    few-steps budget b = b.most (steps + 1) (place, ends.0, ends.1)
 
-    pub halts_so : (most : ℕ) → steps + 1 ≤ most
-        → run image.code now most first 0 ≡ Halted c.state.slots c.state.timers (steps + 1)
-    halts_so most least =
-        run_enough image.code now (length image.code) most first 0 c.state.slots c.state.timers
-        (steps + 1) (so_far ∙ run_halts image.code now (length image.code - (steps + 1)) c.state
+    pub halts-so : (most : ℕ) → steps + 1 ≤ most
+        → run_from image.code now most first 0 ≡ Halted c.state.slots c.state.timers (steps + 1)
+    halts-so most least =
+        run-enough image.code now (length image.code) most first 0 c.state.slots c.state.timers
+        (steps + 1) (so_far ∙ run-halts image.code now (length image.code - (steps + 1)) c.state
         steps t.0) (omega arith)
 
-    slots_are : after.slots ≡ words_of c.state.slots
-    slots_are = ap (λ (m : Words). m.slots) t.1
+    slots-are : after.slots ≡ words_of c.state.slots
+    slots-are = ap (λ (m : Words). m.slots) t.1
 
-    timers_are : after.timers ≡ c.state.timers
-    timers_are = ap (λ (m : Words). m.timers) t.1
+    timers-are : after.timers ≡ c.state.timers
+    timers-are = ap (λ (m : Words). m.timers) t.1
 
     typed : IsHeld image after.slots after.timers
-    typed = subst (λ (x : List TimerState). IsHeld image after.slots x) (sym timers_are)
-        (held_by image after.slots c.state.slots c.state.timers slots_are c.stands.standing.typed)
+    typed = subst (λ (x : List TimerState). IsHeld image after.slots x) (sym timers-are)
+        (held-by image after.slots c.state.slots c.state.timers slots-are c.stands.standing.typed)
 
-    values_are : values_of (slot_types image) after.slots ≡ c.state.slots
-    values_are =
-        stand_again (slot_types image) after.slots c.state.slots
-        (record { are = slots_are; typed = c.stands.standing.typed.of_types })
+    values-are : values_of (slot_types image) after.slots ≡ c.state.slots
+    values-are =
+        stand-again (slot_types image) after.slots c.state.slots
+        (record { are = slots-are; typed = c.stands.standing.typed.of_types })
 
-pub run_ends : (image : Image) (now : ℕ) (slots : List ℤ) (timers : List TimerState)
+pub run-ends : (image : Image) (now : ℕ) (slots : List ℤ) (timers : List TimerState)
     (place steps : ℕ) (w : Words)
     (c : Comes image now (first_state image slots timers) place steps w) → place < length image.code
     → IsSafe image → IsHeld image slots timers → (after : Words)
     → Turns image now c.state None after
     → RunsTo image now slots timers after.slots after.timers (steps + 1)
-run_ends image now slots timers place steps w c within safe held after t =
+run-ends image now slots timers place steps w c within safe held after t =
     let first = first_state image slots timers in
-    let values = values_are image now first place steps w c within after t in
-    let times = timers_are image now first place steps w c within after t in
+    let values = values-are image now first place steps w c within after t in
+    let times = timers-are image now first place steps w c within after t in
     record {
-      halts = λ most least. halts_so image now first place steps w c within after t most least
+      halts = λ most least. halts-so image now first place steps w c within after t most least
           ∙ ap (λ (v : List Value). Halted v c.state.timers (steps + 1)) (sym values)
           ∙ ap (λ (x : List TimerState). Halted (values_of (slot_types image) after.slots) x
           (steps + 1)) (sym times);
-      within = λ budget b. few_steps image now first place steps w c within after t budget b;
+      within = λ budget b. few-steps image now first place steps w c within after t budget b;
       few = (let few : steps ≤ place = c.few in omega arith);
-      depth = λ most count d. never_deeper image now c.octets most d count first
-          (start_standing image slots timers safe held);
+      depth = λ most count d. never-deeper image now c.octets most d count first
+          (start-standing image slots timers safe held);
       keeps = λ n only. ap (λ (m : Words). slice_get m.slots n) t.1
           ∙ ap (λ (m : Words). slice_get m.slots n) c.stands.are ∙ c.kept n only
           ∙ ap (λ (v : List ℤ). slice_get v n) (sym held.stand.are);

@@ -6,26 +6,26 @@ use Rattle.il_image.specs.declared.image.ImagePoint.{ImagePoint}
 use Rattle.il_image.specs.declared.timer.TimerState.{TimerState}
 use Rattle.il_image.specs.declared.value.Value.{Value}
 use Rattle.il_image.specs.Images.{Image, IsImage}
-use Rattle.il_image.specs.Machine.{State, run, initial_state}
+use Rattle.il_image.specs.Machine.{State, run_from, initial_state}
 use Rattle.il_image.specs.Timers as time
 use Rattle.il_image.specs.Tables.{slot_types}
 use Rattle.il_image.specs.Values.{type_of}
-use Rattle.il_scan.specs.Scans.{AreInputs, Held, IsWithin, Scans, first_slots, held_first, started, with_inputs}
+use Rattle.il_scan.specs.Scans.{AreInputs, Held, IsWithin, Scans, first_slots, held_first, scan_start, with_inputs}
 use Rattle.il_scan.specs.Standing.{AreWords, IsHeld, RunsTo, first_state, given_by}
-use Rattle.il_scan.specs.Scans.{held}
+use Rattle.il_scan.specs.Scans.{held_of}
 use Rattle.il_scan.specs.Words.{StandFor, values_of, words_of}
-use Rattle.il_scan.proofs.SlotLemmas.{first_stand, held_words, only_read, outputs_are, same_slot, taken_stand, times_first}
-use Rattle.il_scan.proofs.StandLemmas.{stand_again, stand_itself}
+use Rattle.il_scan.proofs.SlotLemmas.{first-stand, held-words, only-read, outputs_are, same-slot, taken-stand, times-first}
+use Rattle.il_scan.proofs.StandLemmas.{stand-again, stand-itself}
 
 module _ (image : Image) (points : List ImagePoint) (is : points ≡ image.points) where
-  pub points_below : (slots : List ℤ) (timers : List TimerState) → IsHeld image slots timers
+  pub points-below : (slots : List ℤ) (timers : List TimerState) → IsHeld image slots timers
       → length points ≡ length image.points
-  points_below slots timers h = ap (λ (ps : List ImagePoint). length ps) is
+  points-below slots timers h = ap (λ (ps : List ImagePoint). length ps) is
 
-  pub points_words : (slots : List ℤ) (timers : List TimerState) → IsHeld image slots timers
+  pub points-words : (slots : List ℤ) (timers : List TimerState) → IsHeld image slots timers
       → AreWords points slots
-  points_words slots timers h =
-      subst (λ (ps : List ImagePoint). AreWords ps slots) (sym is) (held_words image slots timers h)
+  points-words slots timers h =
+      subst (λ (ps : List ImagePoint). AreWords ps slots) (sym is) (held-words image slots timers h)
 
   module _ (inputs : List Value) (now : ℕ) (slots : List ℤ) (timers : List TimerState)
       (h : IsHeld image slots timers) (are : AreInputs image.points inputs) (taken : List ℤ)
@@ -35,41 +35,42 @@ module _ (image : Image) (points : List ImagePoint) (is : points ≡ image.point
     stand = subst (λ (w : List ℤ). StandFor (slot_types image) w
         (with_inputs image.points inputs (values_of (slot_types image) slots)))
         (sym (e ∙ ap (λ (ps : List ImagePoint). with_inputs ps (words_of inputs) slots) is))
-        (taken_stand image slots timers inputs h are)
+        (taken-stand image slots timers inputs h are)
 
-    pub held_taken : IsHeld image taken timers
-    held_taken =
+    pub held-taken : IsHeld image taken timers
+    held-taken =
         record {
-          stand = stand_itself (slot_types image) taken
+          stand = stand-itself (slot_types image) taken
               (with_inputs image.points inputs (values_of (slot_types image) slots)) stand;
           so_many = h.so_many;
           times = h.times;
         }
 
-    values_taken : values_of (slot_types image) taken
+    values-taken : values_of (slot_types image) taken
         ≡ with_inputs image.points inputs (values_of (slot_types image) slots)
-    values_taken =
-        stand_again (slot_types image) taken
+    values-taken =
+        stand-again (slot_types image) taken
         (with_inputs image.points inputs (values_of (slot_types image) slots)) stand
 
-    first_is : first_state image taken timers ≡ started (held image slots timers) inputs
-    first_is = ap (λ (v : List Value). initial_state v timers) values_taken
+    first-is : first_state image taken timers ≡ scan_start (held_of image slots timers) inputs
+    first-is = ap (λ (v : List Value). initial_state v timers) values-taken
 
     pub scanned : (new_slots : List ℤ) (new_timers : List TimerState) (steps : ℕ)
         (outputs : List Value) → RunsTo image now taken timers new_slots new_timers steps
         → outputs ≡ given_by points new_slots
-        → Scans (held image slots timers) inputs now (held image new_slots new_timers) steps outputs
+        → Scans (held_of image slots timers) inputs now (held_of image new_slots new_timers) steps
+        outputs
     scanned new_slots new_timers steps outputs r given = record {
       image = refl;
-      halts = λ most least. ap (λ (s : State). run image.code now most s 0) (sym first_is)
+      halts = λ most least. ap (λ (s : State). run_from image.code now most s 0) (sym first-is)
           ∙ r.halts most least;
       within = r.within;
       few = r.few;
-      depth = λ most count d. subst (IsWithin image.code now most count) first_is
+      depth = λ most count d. subst (IsWithin image.code now most count) first-is
           (r.depth most count d);
-      keeps = λ n p get only. same_slot (slot_types image) new_slots taken n
-          (r.keeps n (only_read image n p get only))
-          ∙ ap (λ (v : List Value). slice_get v n) values_taken;
+      keeps = λ n p get only. same-slot (slot_types image) new_slots taken n
+          (r.keeps n (only-read image n p get only))
+          ∙ ap (λ (v : List Value). slice_get v n) values-taken;
       given = given ∙ ap (λ (ps : List ImagePoint). given_by ps new_slots) is
           ∙ outputs_are image.points (map type_of image.variables) new_slots;
     }
@@ -77,19 +78,19 @@ module _ (image : Image) (points : List ImagePoint) (is : points ≡ image.point
 module _ (image : Image) (kept : IsImage image) (slots : List ℤ) (timers : List TimerState)
     (e : slots ≡ map (λ (p : ImagePoint). pos 0) image.points ++ words_of image.variables)
     (f : timers ≡ map time.first_state image.timers) where
-  pub held_at_first : IsHeld image slots timers
-  held_at_first = record {
-    stand = stand_itself (slot_types image) slots (first_slots image.points image.variables)
-        (first_stand image slots kept.values e);
+  pub held-at-first : IsHeld image slots timers
+  held-at-first = record {
+    stand = stand-itself (slot_types image) slots (first_slots image.points image.variables)
+        (first-stand image slots kept.values e);
     so_many = ap (λ (ts : List TimerState). length ts) f ∙ length-map image.timers time.first_state;
-    times = times_first timers image.timers f;
+    times = times-first timers image.timers f;
   }
 
-  pub first_held : held image slots timers ≡ held_first image
-  first_held =
+  pub first-held : held_of image slots timers ≡ held_first image
+  first-held =
       let values =
-      stand_again (slot_types image) slots (first_slots image.points image.variables)
-      (first_stand image slots kept.values e) in
+      stand-again (slot_types image) slots (first_slots image.points image.variables)
+      (first-stand image slots kept.values e) in
       ap (λ (v : List Value). let h : Held = record { image = image; slots = v; timers = timers } in
       h) values
       ∙ ap (λ (ts : List TimerState). let h : Held =

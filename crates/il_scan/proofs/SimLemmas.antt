@@ -33,22 +33,22 @@ use Rattle.il_image.specs.Kinds.{HasKind, is_within}
 use Rattle.il_image.specs.Machine.{divides, is_comparable, value_of_width}
 use Rattle.il_image.specs.Spelling.{IsInstr}
 use Rattle.il_image.specs.Values.{number_of, type_of}
-use Rattle.il_image.proofs.KindLemmas.{kind_above, same_is}
-use Rattle.il_verify.proofs.EffectLemmas.{some_same, bind_some}
+use Rattle.il_image.proofs.KindLemmas.{kind-above, same-is}
+use Rattle.il_verify.proofs.EffectLemmas.{some-same, bind-some}
 use Rattle.il_scan.specs.Standing.{Fit, Typed}
-use Rattle.il_scan.proofs.ValueLemmas.{number_there, span_there, truth_there}
+use Rattle.il_scan.proofs.ValueLemmas.{number-there, span-there, truth-there}
 use Rattle.il_scan.proofs.CellLemmas.{tops}
-use Rattle.il_scan.proofs.DoesLemmas.{Does, does_combine, does_compare, does_compute, does_drop, does_jump, does_jump_if, does_jump_if_not, does_load, does_load_elapsed, does_load_output, does_not, does_push, does_reset_if, does_run, does_set_if, does_set_input, does_set_preset, does_store, does_widen, does_widen_long}
+use Rattle.il_scan.proofs.DoesLemmas.{Does, does-combine, does-compare, does-compute, does-drop, does-jump, does-jump-if, does-jump-if-not, does-load, does-load-elapsed, does-load-output, does-not, does-push, does-reset-if, does-run, does-set-if, does-set-input, does-set-preset, does-store, does-widen, does-widen-long}
 
 -- ---- each instruction that is allowed
 
-room_of : (given after : List CellKind) → Some given ≡ Some after → length after ≤ 32
+room-of : (given after : List CellKind) → Some given ≡ Some after → length after ≤ 32
     → length given ≤ 32
-room_of given after e room = let size : length given ≡ length after =
-    ap (λ (k : List CellKind). length k) (some_same given after e) in omega arith
+room-of given after e room = let size : length given ≡ length after =
+    ap (λ (k : List CellKind). length k) (some-same given after e) in omega arith
 
-not_zero : (z : ℤ) → (z ≡ pos 0 → ⊥) → int_eq z (pos 0) ≡ false
-not_zero z ne = go (int_eq z (pos 0)) (Decides-int_eq z (pos 0)).0
+not-zero : (z : ℤ) → (z ≡ pos 0 → ⊥) → int_eq z (pos 0) ≡ false
+not-zero z ne = go (int_eq z (pos 0)) (Decides-int_eq z (pos 0)).0
   where
     go : (b : Bool) → (b ≡ true → z ≡ pos 0) → b ≡ false
     go true h = absurd (ne (h refl))
@@ -60,22 +60,22 @@ record Divisor (o : Operation) (w : Width) (v : Value) : Type 0 where
   test : (divides o && int_eq (number_of v) (pos 0)) ≡ false
   divisor : DividesBy o (number_of v)
 
-divisor_of : (o : Operation) (w : Width) (v : Value) → HasKind v (second_kind o w) → Divisor o w v
-divisor_of Add w v h = record { type = h; test = refl; divisor = tt }
-divisor_of Sub w v h = record { type = h; test = refl; divisor = tt }
-divisor_of Mul w v h = record { type = h; test = refl; divisor = tt }
-divisor_of Div w v h = record { type = h.0; test = not_zero (number_of v) h.1; divisor = h.1 }
-divisor_of Mod w v h = record { type = h.0; test = not_zero (number_of v) h.1; divisor = h.1 }
+divisor-of : (o : Operation) (w : Width) (v : Value) → HasKind v (second_kind o w) → Divisor o w v
+divisor-of Add w v h = record { type = h; test = refl; divisor = tt }
+divisor-of Sub w v h = record { type = h; test = refl; divisor = tt }
+divisor-of Mul w v h = record { type = h; test = refl; divisor = tt }
+divisor-of Div w v h = record { type = h.0; test = not-zero (number_of v) h.1; divisor = h.1 }
+divisor-of Mod w v h = record { type = h.0; test = not-zero (number_of v) h.1; divisor = h.1 }
 
-if_some : {A : Type 0} (b : Bool) (x y : A) → cond b (Some x) None ≡ Some y → (b ≡ true) × (x ≡ y)
-if_some true x y e = (refl, some_same x y e)
-if_some false x y e = absurd cc
+if-some : {A : Type 0} (b : Bool) (x y : A) → cond b (Some x) None ≡ Some y → (b ≡ true) × (x ≡ y)
+if-some true x y e = (refl, some-same x y e)
+if-some false x y e = absurd cc
 
 shown : (v : Value) (k : CellKind) (t : ElementaryType) → HasKind v k → type_of_kind k ≡ Some t
     → type_of v ≡ t
 shown v Any t h e = absurd cc
-shown v (Plain u) t h e = h ∙ some_same u t e
-shown v (NotZero w) t h e = h.0 ∙ some_same (type_of_width w) t e
+shown v (Plain u) t h e = h ∙ some-same u t e
+shown v (NotZero w) t h e = h.0 ∙ some-same (type_of_width w) t e
 
 module _ (types : List ElementaryType) (count now next p : ℕ) (slots : List Value)
     (timers : List TimerState) (after : List CellKind) (typed : Typed types count slots timers)
@@ -83,37 +83,37 @@ module _ (types : List ElementaryType) (count now next p : ℕ) (slots : List Va
     abbrev Done : Instr → List Value → List CellKind → Type 0
     Done i cells kinds = Does types count now i next p cells slots timers kinds
 
-    to_kinds : (i : Instr) (cells : List Value) (given : List CellKind) → Some given ≡ Some after
+    to-kinds : (i : Instr) (cells : List Value) (given : List CellKind) → Some given ≡ Some after
         → Done i cells given → Done i cells after
-    to_kinds i cells given e d = subst (Done i cells) (some_same given after e) d
+    to-kinds i cells given e d = subst (Done i cells) (some-same given after e) d
 
-    on_cells : (i : Instr) (cells these : List Value) (kinds : List CellKind) → cells ≡ these
+    on-cells : (i : Instr) (cells these : List Value) (kinds : List CellKind) → cells ≡ these
         → Done i these kinds → Done i cells kinds
-    on_cells i cells these kinds are d = subst (λ (v : List Value). Done i v kinds) (sym are) d
+    on-cells i cells these kinds are d = subst (λ (v : List Value). Done i v kinds) (sym are) d
 
     -- a BOOL on top that stays
-    on_truth : (i : Instr) (cells : List Value) (kinds : List CellKind)
+    on-truth : (i : Instr) (cells : List Value) (kinds : List CellKind)
         → looks_at (Plain elementary.Bool) kinds ≡ Some after → Fit cells kinds
         → ((b : Bool) (others : List Value) (rest : List CellKind) → Fit others rest
         → Fit (Truth b ∷ others) kinds → Done i (Truth b ∷ others) kinds) → Done i cells after
-    on_truth i cells kinds e fit does =
-        let r = bind_some (below (Plain elementary.Bool) kinds)
+    on-truth i cells kinds e fit does =
+        let r = bind-some (below (Plain elementary.Bool) kinds)
         (λ (rest : List CellKind). Some kinds)
         after e in
         let t = tops (Plain elementary.Bool) kinds r.0 cells r.1 fit in
-        let b = truth_there t.value t.kind in
+        let b = truth-there t.value t.kind in
         let are : cells ≡ Truth b.0 ∷ t.others = t.are ∙ ap (λ (v : Value). v ∷ t.others) b.1 in
-        to_kinds i cells kinds r.2
-        (on_cells i cells (Truth b.0 ∷ t.others) kinds are
+        to-kinds i cells kinds r.2
+        (on-cells i cells (Truth b.0 ∷ t.others) kinds are
         (does b.0 t.others r.0 t.fit (subst (λ (v : List Value). Fit v kinds) are fit)))
 
-    on_bool_slot : (i : Instr) (n : ℕ) (cells : List Value) (kinds : List CellKind)
+    on-bool-slot : (i : Instr) (n : ℕ) (cells : List Value) (kinds : List CellKind)
         → with_truth types n kinds ≡ Some after → Fit cells kinds
         → ((b : Bool) (others : List Value) (rest : List CellKind)
         → slice_get types n ≡ Some elementary.Bool → Fit others rest
         → Fit (Truth b ∷ others) kinds → Done i (Truth b ∷ others) kinds) → Done i cells after
-    on_bool_slot i n cells kinds e fit does =
-        let t = bind_some (slice_get types n)
+    on-bool-slot i n cells kinds e fit does =
+        let t = bind-some (slice_get types n)
         (λ (t : ElementaryType). cond (same_type t elementary.Bool)
         (looks_at (Plain elementary.Bool) kinds) None) after e in
         go t.0 (same_type t.0 elementary.Bool) refl t.1 t.2
@@ -123,163 +123,163 @@ module _ (types : List ElementaryType) (count now next p : ℕ) (slots : List Va
             → cond b (looks_at (Plain elementary.Bool) kinds) None ≡ Some after → Done i cells after
         go t false same get h = absurd cc
         go t true same get h =
-            on_truth i cells kinds h fit
+            on-truth i cells kinds h fit
             (λ b others rest f all. does b others rest
-            (get ∙ ap (λ (u : ElementaryType). Some u) (same_is t elementary.Bool same)) f all)
+            (get ∙ ap (λ (u : ElementaryType). Some u) (same-is t elementary.Bool same)) f all)
 
-    on_timer : (i : Instr) (n : ℕ) (cells : List Value) (made : Option (List CellKind))
+    on-timer : (i : Instr) (n : ℕ) (cells : List Value) (made : Option (List CellKind))
         → with_timer count n made ≡ Some after
         → (n < count → made ≡ Some after → Done i cells after)
         → Done i cells after
-    on_timer i n cells made e does = go (nat_lt n count) refl e
+    on-timer i n cells made e does = go (nat_lt n count) refl e
       where
         go : (b : Bool) → nat_lt n count ≡ b → cond b made None ≡ Some after → Done i cells after
         go true is h = does (ltb-true n count is) h
         go false is h = absurd cc
 
-    compute_does : (o : Operation) (w : Width) (cells : List Value) (kinds : List CellKind)
+    compute-does : (o : Operation) (w : Width) (cells : List Value) (kinds : List CellKind)
         → two (second_kind o w) (Plain (type_of_width w)) (Plain (type_of_width w)) kinds
         ≡ Some after
         → Fit cells kinds → Done (Compute o w) cells after
-    compute_does o w cells kinds e fit =
+    compute-does o w cells kinds e fit =
         let k = Plain (type_of_width w) in
-        let m = bind_some (below (second_kind o w) kinds)
+        let m = bind-some (below (second_kind o w) kinds)
         (λ (more : List CellKind). below k more >>= (λ rest. Some (k ∷ rest))) after e in
-        let r = bind_some (below k m.0) (λ (rest : List CellKind). Some (k ∷ rest)) after m.2 in
+        let r = bind-some (below k m.0) (λ (rest : List CellKind). Some (k ∷ rest)) after m.2 in
         let t = tops (second_kind o w) kinds m.0 cells m.1 fit in
         let u = tops k m.0 r.0 t.others r.1 t.fit in
-        let d = divisor_of o w t.value t.kind in
+        let d = divisor-of o w t.value t.kind in
         let b : ℤ = number_of t.value in
         let a : ℤ = number_of u.value in
-        let top : t.value ≡ value_of_width w b = number_there w t.value d.type in
-        let second : u.value ≡ value_of_width w a = number_there w u.value u.kind in
+        let top : t.value ≡ value_of_width w b = number-there w t.value d.type in
+        let second : u.value ≡ value_of_width w a = number-there w u.value u.kind in
         let are : cells ≡ value_of_width w b ∷ value_of_width w a ∷ u.others =
         t.are ∙ ap (λ (v : List Value). t.value ∷ v) u.are
         ∙ ap (λ (v : Value). v ∷ u.value ∷ u.others) top
         ∙ ap (λ (v : Value). value_of_width w b ∷ v ∷ u.others) second in
-        to_kinds (Compute o w) cells (k ∷ r.0) r.2
-        (on_cells (Compute o w) cells (value_of_width w b ∷ value_of_width w a ∷ u.others)
-        (k ∷ r.0) are (does_compute types count now next p u.others slots timers r.0 u.fit typed o
+        to-kinds (Compute o w) cells (k ∷ r.0) r.2
+        (on-cells (Compute o w) cells (value_of_width w b ∷ value_of_width w a ∷ u.others)
+        (k ∷ r.0) are (does-compute types count now next p u.others slots timers r.0 u.fit typed o
         w a b d.test d.divisor))
 
-    combine_does : (c : Connective) (cells : List Value) (kinds : List CellKind)
+    combine-does : (c : Connective) (cells : List Value) (kinds : List CellKind)
         → two (Plain elementary.Bool) (Plain elementary.Bool) (Plain elementary.Bool) kinds
         ≡ Some after → Fit cells kinds → Done (Combine c) cells after
-    combine_does c cells kinds e fit =
+    combine-does c cells kinds e fit =
         let k = Plain elementary.Bool in
-        let m = bind_some (below k kinds)
+        let m = bind-some (below k kinds)
         (λ (more : List CellKind). below k more >>= (λ rest. Some (k ∷ rest))) after e in
-        let r = bind_some (below k m.0) (λ (rest : List CellKind). Some (k ∷ rest)) after m.2 in
+        let r = bind-some (below k m.0) (λ (rest : List CellKind). Some (k ∷ rest)) after m.2 in
         let t = tops k kinds m.0 cells m.1 fit in
         let u = tops k m.0 r.0 t.others r.1 t.fit in
-        let b = truth_there t.value t.kind in
-        let a = truth_there u.value u.kind in
+        let b = truth-there t.value t.kind in
+        let a = truth-there u.value u.kind in
         let are : cells ≡ Truth b.0 ∷ Truth a.0 ∷ u.others =
         t.are ∙ ap (λ (v : List Value). t.value ∷ v) u.are
         ∙ ap (λ (v : Value). v ∷ u.value ∷ u.others) b.1
         ∙ ap (λ (v : Value). Truth b.0 ∷ v ∷ u.others) a.1 in
-        to_kinds (Combine c) cells (k ∷ r.0) r.2
-        (on_cells (Combine c) cells (Truth b.0 ∷ Truth a.0 ∷ u.others) (k ∷ r.0) are
-        (does_combine types count now next p u.others slots timers r.0 u.fit typed c a.0 b.0))
+        to-kinds (Combine c) cells (k ∷ r.0) r.2
+        (on-cells (Combine c) cells (Truth b.0 ∷ Truth a.0 ∷ u.others) (k ∷ r.0) are
+        (does-combine types count now next p u.others slots timers r.0 u.fit typed c a.0 b.0))
 
-    compare_does : (c : Comparison) (cells : List Value) (kinds : List CellKind)
+    compare-does : (c : Comparison) (cells : List Value) (kinds : List CellKind)
         → compares c kinds ≡ Some after → Fit cells kinds → Done (Compare c) cells after
-    compare_does c cells [] e fit = absurd cc
-    compare_does c cells (k ∷ []) e fit = absurd cc
-    compare_does c [] (k ∷ l ∷ rest) e fit = absurd fit
-    compare_does c (v ∷ []) (k ∷ l ∷ rest) e fit = absurd fit.1
-    compare_does c (v ∷ u ∷ others) (k ∷ l ∷ rest) e fit =
-        let t = bind_some (type_of_kind k)
+    compare-does c cells [] e fit = absurd cc
+    compare-does c cells (k ∷ []) e fit = absurd cc
+    compare-does c [] (k ∷ l ∷ rest) e fit = absurd fit
+    compare-does c (v ∷ []) (k ∷ l ∷ rest) e fit = absurd fit.1
+    compare-does c (v ∷ u ∷ others) (k ∷ l ∷ rest) e fit =
+        let t = bind-some (type_of_kind k)
         (λ (t : ElementaryType). type_of_kind l
         >>= (λ s. cond (are_compared c s t) (Some (Plain elementary.Bool ∷ rest)) None)) after e
         in
-        let s = bind_some (type_of_kind l)
+        let s = bind-some (type_of_kind l)
         (λ (s : ElementaryType). cond (are_compared c s t.0) (Some (Plain elementary.Bool ∷ rest))
         None) after t.2 in
-        let b = if_some (are_compared c s.0 t.0) (Plain elementary.Bool ∷ rest) after s.2 in
+        let b = if-some (are_compared c s.0 t.0) (Plain elementary.Bool ∷ rest) after s.2 in
         let vt : type_of v ≡ t.0 = shown v k t.0 fit.0.0 t.1 in
         let ut : type_of u ≡ s.0 = shown u l s.0 fit.1.0.0 s.1 in
         let test : is_comparable c u v ≡ true =
         ap (λ (x : ElementaryType). are_compared c x (type_of v)) ut
         ∙ ap (λ (x : ElementaryType). are_compared c s.0 x) vt ∙ b.0 in
-        to_kinds (Compare c) (v ∷ u ∷ others) (Plain elementary.Bool ∷ rest)
+        to-kinds (Compare c) (v ∷ u ∷ others) (Plain elementary.Bool ∷ rest)
         (ap (λ (x : List CellKind). Some x) b.1)
-        (does_compare types count now next p others slots timers rest fit.1.1 typed c u v test)
+        (does-compare types count now next p others slots timers rest fit.1.1 typed c u v test)
 
-    not_does : (cells : List Value) (kinds : List CellKind)
+    not-does : (cells : List Value) (kinds : List CellKind)
         → (below (Plain elementary.Bool) kinds >>= (λ rest. Some (Plain elementary.Bool ∷ rest)))
         ≡ Some after → Fit cells kinds → Done Not cells after
-    not_does cells kinds e fit =
+    not-does cells kinds e fit =
         let k = Plain elementary.Bool in
-        let r = bind_some (below k kinds) (λ (rest : List CellKind). Some (k ∷ rest)) after e in
+        let r = bind-some (below k kinds) (λ (rest : List CellKind). Some (k ∷ rest)) after e in
         let t = tops k kinds r.0 cells r.1 fit in
-        let b = truth_there t.value t.kind in
+        let b = truth-there t.value t.kind in
         let are : cells ≡ Truth b.0 ∷ t.others = t.are ∙ ap (λ (v : Value). v ∷ t.others) b.1 in
-        to_kinds Not cells (k ∷ r.0) r.2
-        (on_cells Not cells (Truth b.0 ∷ t.others) (k ∷ r.0) are
-        (does_not types count now next p t.others slots timers r.0 t.fit typed b.0))
+        to-kinds Not cells (k ∷ r.0) r.2
+        (on-cells Not cells (Truth b.0 ∷ t.others) (k ∷ r.0) are
+        (does-not types count now next p t.others slots timers r.0 t.fit typed b.0))
 
-    store_does : (n : ℕ) (cells : List Value) (kinds : List CellKind)
+    store-does : (n : ℕ) (cells : List Value) (kinds : List CellKind)
         → (slice_get types n >>= (λ t. looks_at (Plain t) kinds)) ≡ Some after → Fit cells kinds
         → Done (Slot Store n) cells after
-    store_does n cells kinds e fit =
-        let s = bind_some (slice_get types n) (λ (t : ElementaryType). looks_at (Plain t) kinds)
+    store-does n cells kinds e fit =
+        let s = bind-some (slice_get types n) (λ (t : ElementaryType). looks_at (Plain t) kinds)
         after
         e in
-        let r = bind_some (below (Plain s.0) kinds) (λ (rest : List CellKind). Some kinds) after s.2
+        let r = bind-some (below (Plain s.0) kinds) (λ (rest : List CellKind). Some kinds) after s.2
         in
         let t = tops (Plain s.0) kinds r.0 cells r.1 fit in
-        to_kinds (Slot Store n) cells kinds r.2
-        (on_cells (Slot Store n) cells (t.value ∷ t.others) kinds t.are
-        (does_store types count now next p t.value t.others slots timers r.0 t.fit typed n s.0 kinds
+        to-kinds (Slot Store n) cells kinds r.2
+        (on-cells (Slot Store n) cells (t.value ∷ t.others) kinds t.are
+        (does-store types count now next p t.value t.others slots timers r.0 t.fit typed n s.0 kinds
         s.1 t.kind t.is_value (subst (λ (v : List Value). Fit v kinds) t.are fit)))
 
-    drop_does : (cells : List Value) (kinds : List CellKind) → below Any kinds ≡ Some after
+    drop-does : (cells : List Value) (kinds : List CellKind) → below Any kinds ≡ Some after
         → Fit cells kinds → Done Drop cells after
-    drop_does cells kinds e fit =
+    drop-does cells kinds e fit =
         let t = tops Any kinds after cells e fit in
-        on_cells Drop cells (t.value ∷ t.others) after t.are
-        (does_drop types count now next p t.value t.others slots timers after t.fit typed)
+        on-cells Drop cells (t.value ∷ t.others) after t.are
+        (does-drop types count now next p t.value t.others slots timers after t.fit typed)
 
-    set_input_does : (n : ℕ) (cells : List Value) (kinds : List CellKind)
+    set-input-does : (n : ℕ) (cells : List Value) (kinds : List CellKind)
         → below (Plain elementary.Bool) kinds ≡ Some after → Fit cells kinds → n < count
         → Done (Timer SetInput n) cells after
-    set_input_does n cells kinds e fit there =
+    set-input-does n cells kinds e fit there =
         let t = tops (Plain elementary.Bool) kinds after cells e fit in
-        let b = truth_there t.value t.kind in
-        on_cells (Timer SetInput n) cells (Truth b.0 ∷ t.others) after
+        let b = truth-there t.value t.kind in
+        on-cells (Timer SetInput n) cells (Truth b.0 ∷ t.others) after
         (t.are ∙ ap (λ (v : Value). v ∷ t.others) b.1)
-        (does_set_input types count now next p t.others slots timers after t.fit typed n b.0
+        (does-set-input types count now next p t.others slots timers after t.fit typed n b.0
         there)
 
-    set_preset_does : (n : ℕ) (cells : List Value) (kinds : List CellKind)
+    set-preset-does : (n : ℕ) (cells : List Value) (kinds : List CellKind)
         → below (Plain elementary.Time) kinds ≡ Some after → Fit cells kinds → n < count
         → Done (Timer SetPreset n) cells after
-    set_preset_does n cells kinds e fit there =
+    set-preset-does n cells kinds e fit there =
         let t = tops (Plain elementary.Time) kinds after cells e fit in
-        let s = span_there t.value t.kind in
-        on_cells (Timer SetPreset n) cells (Span s.0 ∷ t.others) after
+        let s = span-there t.value t.kind in
+        on-cells (Timer SetPreset n) cells (Span s.0 ∷ t.others) after
         (t.are ∙ ap (λ (v : Value). v ∷ t.others) s.1)
-        (does_set_preset types count now next p t.others slots timers after t.fit typed n s.0
+        (does-set-preset types count now next p t.others slots timers after t.fit typed n s.0
         (subst IsValue s.1 t.is_value) there)
 
     -- WIDEN and WIDENL
-    widen_does : (cells : List Value) (kinds : List CellKind)
+    widen-does : (cells : List Value) (kinds : List CellKind)
         → widens width.Int width.Dint kinds ≡ Some after → Fit cells kinds
         → Done (Widen IntToDint) cells after
-    widen_does cells [] e fit = absurd cc
-    widen_does [] (k ∷ rest) e fit = absurd fit
-    widen_does (v ∷ others) (k ∷ rest) e fit =
+    widen-does cells [] e fit = absurd cc
+    widen-does [] (k ∷ rest) e fit = absurd fit
+    widen-does (v ∷ others) (k ∷ rest) e fit =
         go (is_within k (NotZero width.Int)) (is_within k (Plain elementary.Int)) refl refl e
       where
         made : (to : CellKind) → type_of v ≡ elementary.Int → HasKind (Long (number_of v)) to
             → Some (to ∷ rest) ≡ Some after → Done (Widen IntToDint) (v ∷ others) after
         made to is kind e =
-            let same : v ≡ Short (number_of v) = number_there width.Int v is in
-            to_kinds (Widen IntToDint) (v ∷ others) (to ∷ rest) e
-            (on_cells (Widen IntToDint) (v ∷ others) (Short (number_of v) ∷ others) (to ∷ rest)
+            let same : v ≡ Short (number_of v) = number-there width.Int v is in
+            to-kinds (Widen IntToDint) (v ∷ others) (to ∷ rest) e
+            (on-cells (Widen IntToDint) (v ∷ others) (Short (number_of v) ∷ others) (to ∷ rest)
             (ap (λ (u : Value). u ∷ others) same)
-            (does_widen types count now next p others slots timers rest fit.1 typed (number_of v) to
+            (does-widen types count now next p others slots timers rest fit.1 typed (number_of v) to
             kind (subst IsValue same fit.0.1)))
 
         go : (a b : Bool) → is_within k (NotZero width.Int) ≡ a
@@ -287,28 +287,28 @@ module _ (types : List ElementaryType) (count now next p : ℕ) (slots : List Va
             → cond a (Some (NotZero width.Dint ∷ rest))
             (cond b (Some (Plain elementary.Dint ∷ rest)) None) ≡ Some after
             → Done (Widen IntToDint) (v ∷ others) after
-        go true b f g e = let h = kind_above v k (NotZero width.Int) f fit.0.0 in
+        go true b f g e = let h = kind-above v k (NotZero width.Int) f fit.0.0 in
             made (NotZero width.Dint) h.0 (refl, h.1) e
         go false true f g e = let h =
-            kind_above v k (Plain elementary.Int) g fit.0.0 in made (Plain elementary.Dint) h refl e
+            kind-above v k (Plain elementary.Int) g fit.0.0 in made (Plain elementary.Dint) h refl e
         go false false f g e = absurd cc
 
-    widen_long_does : (cells : List Value) (kinds : List CellKind)
+    widen-long-does : (cells : List Value) (kinds : List CellKind)
         → widens width.Dint width.Lint kinds ≡ Some after → Fit cells kinds
         → Done (Widen DintToLint) cells after
-    widen_long_does cells [] e fit = absurd cc
-    widen_long_does [] (k ∷ rest) e fit = absurd fit
-    widen_long_does (v ∷ others) (k ∷ rest) e fit =
+    widen-long-does cells [] e fit = absurd cc
+    widen-long-does [] (k ∷ rest) e fit = absurd fit
+    widen-long-does (v ∷ others) (k ∷ rest) e fit =
         go (is_within k (NotZero width.Dint)) (is_within k (Plain elementary.Dint)) refl refl e
       where
         made : (to : CellKind) → type_of v ≡ elementary.Dint → HasKind (Wide (number_of v)) to
             → Some (to ∷ rest) ≡ Some after → Done (Widen DintToLint) (v ∷ others) after
         made to is kind e =
-            let same : v ≡ Long (number_of v) = number_there width.Dint v is in
-            to_kinds (Widen DintToLint) (v ∷ others) (to ∷ rest) e
-            (on_cells (Widen DintToLint) (v ∷ others) (Long (number_of v) ∷ others) (to ∷ rest)
+            let same : v ≡ Long (number_of v) = number-there width.Dint v is in
+            to-kinds (Widen DintToLint) (v ∷ others) (to ∷ rest) e
+            (on-cells (Widen DintToLint) (v ∷ others) (Long (number_of v) ∷ others) (to ∷ rest)
             (ap (λ (u : Value). u ∷ others) same)
-            (does_widen_long types count now next p others slots timers rest fit.1 typed
+            (does-widen-long types count now next p others slots timers rest fit.1 typed
             (number_of v)
             to kind (subst IsValue same fit.0.1)))
 
@@ -317,10 +317,10 @@ module _ (types : List ElementaryType) (count now next p : ℕ) (slots : List Va
             → cond a (Some (NotZero width.Lint ∷ rest))
             (cond b (Some (Plain elementary.Lint ∷ rest)) None) ≡ Some after
             → Done (Widen DintToLint) (v ∷ others) after
-        go true b f g e = let h = kind_above v k (NotZero width.Dint) f fit.0.0 in
+        go true b f g e = let h = kind-above v k (NotZero width.Dint) f fit.0.0 in
             made (NotZero width.Lint) h.0 (refl, h.1) e
         go false true f g e = let h =
-            kind_above v k (Plain elementary.Dint) g fit.0.0 in
+            kind-above v k (Plain elementary.Dint) g fit.0.0 in
             made (Plain elementary.Lint) h refl e
         go false false f g e = absurd cc
 
@@ -329,60 +329,60 @@ module _ (types : List ElementaryType) (count now next p : ℕ) (slots : List Va
         → length after ≤ 32 → Done i cells after
     does Halt cells kinds e good going fit room = absurd (going refl)
     does (Push v) cells kinds e good going fit room =
-        to_kinds (Push v) cells (kind_of v ∷ kinds) e
-        (does_push types count now next p cells slots timers kinds fit typed v good
-        (room_of (kind_of v ∷ kinds) after e room))
-    does Drop cells kinds e good going fit room = drop_does cells kinds e fit
+        to-kinds (Push v) cells (kind_of v ∷ kinds) e
+        (does-push types count now next p cells slots timers kinds fit typed v good
+        (room-of (kind_of v ∷ kinds) after e room))
+    does Drop cells kinds e good going fit room = drop-does cells kinds e fit
     does (Slot Load n) cells kinds e good going fit room =
-        let t = bind_some (slice_get types n) (λ (t : ElementaryType). Some (Plain t ∷ kinds)) after
+        let t = bind-some (slice_get types n) (λ (t : ElementaryType). Some (Plain t ∷ kinds)) after
         e
         in
-        to_kinds (Slot Load n) cells (Plain t.0 ∷ kinds) t.2
-        (does_load types count now next p cells slots timers kinds fit typed n t.0 t.1
-        (room_of (Plain t.0 ∷ kinds) after t.2 room))
-    does (Slot Store n) cells kinds e good going fit room = store_does n cells kinds e fit
+        to-kinds (Slot Load n) cells (Plain t.0 ∷ kinds) t.2
+        (does-load types count now next p cells slots timers kinds fit typed n t.0 t.1
+        (room-of (Plain t.0 ∷ kinds) after t.2 room))
+    does (Slot Store n) cells kinds e good going fit room = store-does n cells kinds e fit
     does (Slot SetIf n) cells kinds e good going fit room =
-        on_bool_slot (Slot SetIf n) n cells kinds e fit
-        (λ b others rest get f all. does_set_if types count now next p others slots timers rest f
+        on-bool-slot (Slot SetIf n) n cells kinds e fit
+        (λ b others rest get f all. does-set-if types count now next p others slots timers rest f
         typed n b kinds get all)
     does (Slot ResetIf n) cells kinds e good going fit room =
-        on_bool_slot (Slot ResetIf n) n cells kinds e fit
-        (λ b others rest get f all. does_reset_if types count now next p others slots timers rest
+        on-bool-slot (Slot ResetIf n) n cells kinds e fit
+        (λ b others rest get f all. does-reset-if types count now next p others slots timers rest
         f typed n b kinds get all)
-    does Not cells kinds e good going fit room = not_does cells kinds e fit
-    does (Combine c) cells kinds e good going fit room = combine_does c cells kinds e fit
-    does (Compute o w) cells kinds e good going fit room = compute_does o w cells kinds e fit
-    does (Compare c) cells kinds e good going fit room = compare_does c cells kinds e fit
-    does (Widen IntToDint) cells kinds e good going fit room = widen_does cells kinds e fit
-    does (Widen DintToLint) cells kinds e good going fit room = widen_long_does cells kinds e fit
+    does Not cells kinds e good going fit room = not-does cells kinds e fit
+    does (Combine c) cells kinds e good going fit room = combine-does c cells kinds e fit
+    does (Compute o w) cells kinds e good going fit room = compute-does o w cells kinds e fit
+    does (Compare c) cells kinds e good going fit room = compare-does c cells kinds e fit
+    does (Widen IntToDint) cells kinds e good going fit room = widen-does cells kinds e fit
+    does (Widen DintToLint) cells kinds e good going fit room = widen-long-does cells kinds e fit
     does (Jump Always distance) cells kinds e good going fit room =
-        to_kinds (Jump Always distance) cells kinds e
-        (does_jump types count now next p cells slots timers kinds fit typed distance)
+        to-kinds (Jump Always distance) cells kinds e
+        (does-jump types count now next p cells slots timers kinds fit typed distance)
     does (Jump IfTrue distance) cells kinds e good going fit room =
-        on_truth (Jump IfTrue distance) cells kinds e fit
-        (λ b others rest f all. does_jump_if types count now next p others slots timers rest f
+        on-truth (Jump IfTrue distance) cells kinds e fit
+        (λ b others rest f all. does-jump-if types count now next p others slots timers rest f
         typed b distance kinds all)
     does (Jump IfFalse distance) cells kinds e good going fit room =
-        on_truth (Jump IfFalse distance) cells kinds e fit
-        (λ b others rest f all. does_jump_if_not types count now next p others slots timers rest f
+        on-truth (Jump IfFalse distance) cells kinds e fit
+        (λ b others rest f all. does-jump-if-not types count now next p others slots timers rest f
         typed b distance kinds all)
     does (Timer SetInput n) cells kinds e good going fit room =
-        on_timer (Timer SetInput n) n cells (below (Plain elementary.Bool) kinds) e
-        (λ there f. set_input_does n cells kinds f fit there)
+        on-timer (Timer SetInput n) n cells (below (Plain elementary.Bool) kinds) e
+        (λ there f. set-input-does n cells kinds f fit there)
     does (Timer SetPreset n) cells kinds e good going fit room =
-        on_timer (Timer SetPreset n) n cells (below (Plain elementary.Time) kinds) e
-        (λ there f. set_preset_does n cells kinds f fit there)
+        on-timer (Timer SetPreset n) n cells (below (Plain elementary.Time) kinds) e
+        (λ there f. set-preset-does n cells kinds f fit there)
     does (Timer Run n) cells kinds e good going fit room =
-        on_timer (Timer Run n) n cells (Some kinds) e
-        (λ there f. to_kinds (Timer Run n) cells kinds f
-        (does_run types count now next p cells slots timers kinds fit typed n there))
+        on-timer (Timer Run n) n cells (Some kinds) e
+        (λ there f. to-kinds (Timer Run n) cells kinds f
+        (does-run types count now next p cells slots timers kinds fit typed n there))
     does (Timer LoadOutput n) cells kinds e good going fit room =
-        on_timer (Timer LoadOutput n) n cells (Some (Plain elementary.Bool ∷ kinds)) e
-        (λ there f. to_kinds (Timer LoadOutput n) cells (Plain elementary.Bool ∷ kinds) f
-        (does_load_output types count now next p cells slots timers kinds fit typed n there
-        (room_of (Plain elementary.Bool ∷ kinds) after f room)))
+        on-timer (Timer LoadOutput n) n cells (Some (Plain elementary.Bool ∷ kinds)) e
+        (λ there f. to-kinds (Timer LoadOutput n) cells (Plain elementary.Bool ∷ kinds) f
+        (does-load-output types count now next p cells slots timers kinds fit typed n there
+        (room-of (Plain elementary.Bool ∷ kinds) after f room)))
     does (Timer LoadElapsed n) cells kinds e good going fit room =
-        on_timer (Timer LoadElapsed n) n cells (Some (Plain elementary.Time ∷ kinds)) e
-        (λ there f. to_kinds (Timer LoadElapsed n) cells (Plain elementary.Time ∷ kinds) f
-        (does_load_elapsed types count now next p cells slots timers kinds fit typed n there
-        (room_of (Plain elementary.Time ∷ kinds) after f room)))
+        on-timer (Timer LoadElapsed n) n cells (Some (Plain elementary.Time ∷ kinds)) e
+        (λ there f. to-kinds (Timer LoadElapsed n) cells (Plain elementary.Time ∷ kinds) f
+        (does-load-elapsed types count now next p cells slots timers kinds fit typed n there
+        (room-of (Plain elementary.Time ∷ kinds) after f room)))

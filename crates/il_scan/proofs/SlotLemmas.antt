@@ -13,11 +13,11 @@ use Rattle.il_image.specs.Values.{default_value, number_of, type_of, value_of}
 use Rattle.il_image.specs.Tables.{slot_types}
 use Rattle.il_verify.specs.Judging.{is_read_only}
 use Rattle.il_verify.specs.Slots.{point_slot, slots_of, variable_slot}
-use Rattle.il_verify.proofs.EffectLemmas.{some_same}
+use Rattle.il_verify.proofs.EffectLemmas.{some-same}
 use Rattle.il_image.specs.declared.value.Value.TheVariants.{Truth}
-use Rattle.il_image.proofs.KindLemmas.{same_is, same_self}
-use Rattle.il_image.proofs.MapLemmas.{mapped_turn}
-use Rattle.il_image.proofs.ValueLemmas.{default_typed}
+use Rattle.il_image.proofs.KindLemmas.{same-is, same-self}
+use Rattle.il_image.proofs.MapLemmas.{mapped-turn}
+use Rattle.il_image.proofs.ValueLemmas.{default-typed}
 use Rattle.bay_base.specs.Types.{same_type}
 use Rattle.std.proofs.lemmas.Bool.{and_parts}
 use Rattle.std.specs.Prelude.{is_some}
@@ -28,36 +28,36 @@ use Rattle.il_scan.specs.Words.{AreTyped, StandFor, value_at, values_of, words_o
 
 -- ---- first words, variable by variable
 
-pub number_turn : (variables : List Value) (i : ℕ) (y : ℤ) (first done new : List ℤ)
+pub number-turn : (variables : List Value) (i : ℕ) (y : ℤ) (first done new : List ℤ)
     → done ≡ first ++ words_of (take i variables) → i < length variables → new ≡ done ++ y ∷ []
     → y ≡ number_of (get_or variables i (Truth false))
     → new ≡ first ++ words_of (take (i + 1) variables)
-number_turn variables i y first done new so_far within more is =
-    mapped_turn number_of variables i (Truth false) y first done new so_far within is more
+number-turn variables i y first done new so_far within more is =
+    mapped-turn number_of variables i (Truth false) y first done new so_far within is more
 
 -- ---- words and values of slots
 
-inputs_case : (b : Bool) (s : Value) (points : List ImagePoint) (inputs slots : List Value)
+inputs-case : (b : Bool) (s : Value) (points : List ImagePoint) (inputs slots : List Value)
     → ((left : List Value) → with_inputs points (words_of left) (words_of slots)
     ≡ words_of (with_inputs points left slots))
     → cond b (number_of s) (first_input (words_of inputs) (number_of s))
     ∷ with_inputs points (cond b (words_of inputs) (drop 1 (words_of inputs))) (words_of slots)
     ≡ words_of (cond b s (first_input inputs s)
     ∷ with_inputs points (cond b inputs (drop 1 inputs)) slots)
-inputs_case true s points inputs slots more = ap (λ (w : List ℤ). number_of s ∷ w) (more inputs)
-inputs_case false s points [] slots more = ap (λ (w : List ℤ). number_of s ∷ w) (more [])
-inputs_case false s points (i ∷ inputs) slots more =
+inputs-case true s points inputs slots more = ap (λ (w : List ℤ). number_of s ∷ w) (more inputs)
+inputs-case false s points [] slots more = ap (λ (w : List ℤ). number_of s ∷ w) (more [])
+inputs-case false s points (i ∷ inputs) slots more =
     ap (λ (w : List ℤ). number_of i ∷ w) (more inputs)
 
-inputs_are : (points : List ImagePoint) (inputs slots : List Value)
+inputs-are : (points : List ImagePoint) (inputs slots : List Value)
     → with_inputs points (words_of inputs) (words_of slots)
     ≡ words_of (with_inputs points inputs slots)
-inputs_are [] inputs slots = refl
-inputs_are (p ∷ points) inputs [] = refl
-inputs_are (p ∷ points) inputs (s ∷ slots) =
-    inputs_case p.writable s points inputs slots (λ left. inputs_are points left slots)
+inputs-are [] inputs slots = refl
+inputs-are (p ∷ points) inputs [] = refl
+inputs-are (p ∷ points) inputs (s ∷ slots) =
+    inputs-case p.writable s points inputs slots (λ left. inputs-are points left slots)
 
-typed_case : (b : Bool) (p : ImagePoint) (s : Value) (points : List ImagePoint)
+typed-case : (b : Bool) (p : ImagePoint) (s : Value) (points : List ImagePoint)
     (more : List ElementaryType) (inputs slots : List Value)
     → (type_of s ≡ p.elementary) × IsValue s
     → ((left : List Value) → AreInputs points left
@@ -66,41 +66,41 @@ typed_case : (b : Bool) (p : ImagePoint) (s : Value) (points : List ImagePoint)
     → AreTyped (p.elementary ∷ map type_of_point points ++ more)
     (cond (not b) s (first_input inputs s)
     ∷ with_inputs points (cond (not b) inputs (drop 1 inputs)) slots)
-typed_case false p s points more inputs slots t rest h = (t, rest inputs h)
-typed_case true p s points more [] slots t rest h = absurd h
-typed_case true p s points more (i ∷ inputs) slots t rest h = (h.0, rest inputs h.1)
+typed-case false p s points more inputs slots t rest h = (t, rest inputs h)
+typed-case true p s points more [] slots t rest h = absurd h
+typed-case true p s points more (i ∷ inputs) slots t rest h = (h.0, rest inputs h.1)
 
-not_not : (b : Bool) → not (not b) ≡ b
-not_not true = refl
-not_not false = refl
+not-not : (b : Bool) → not (not b) ≡ b
+not-not true = refl
+not-not false = refl
 
-inputs_typed : (points : List ImagePoint) (more : List ElementaryType) (inputs slots : List Value)
+inputs-typed : (points : List ImagePoint) (more : List ElementaryType) (inputs slots : List Value)
     → AreInputs points inputs → AreTyped (map type_of_point points ++ more) slots
     → AreTyped (map type_of_point points ++ more) (with_inputs points inputs slots)
-inputs_typed [] more inputs slots h t = t
-inputs_typed (p ∷ points) more inputs [] h t = absurd t
-inputs_typed (p ∷ points) more inputs (s ∷ slots) h t =
+inputs-typed [] more inputs slots h t = t
+inputs-typed (p ∷ points) more inputs [] h t = absurd t
+inputs-typed (p ∷ points) more inputs (s ∷ slots) h t =
     subst (λ (b : Bool). AreTyped (p.elementary ∷ map type_of_point points ++ more)
     (cond b s (first_input inputs s)
-    ∷ with_inputs points (cond b inputs (drop 1 inputs)) slots)) (not_not p.writable)
-    (typed_case (not p.writable) p s points more inputs slots t.0
-    (λ left g. inputs_typed points more left slots g t.1) h)
+    ∷ with_inputs points (cond b inputs (drop 1 inputs)) slots)) (not-not p.writable)
+    (typed-case (not p.writable) p s points more inputs slots t.0
+    (λ left g. inputs-typed points more left slots g t.1) h)
 
-are_words : (points : List ImagePoint) (more : List ElementaryType) (values : List Value)
+are-words : (points : List ImagePoint) (more : List ElementaryType) (values : List Value)
     → AreTyped (map type_of_point points ++ more) values → AreWords points (words_of values)
-are_words [] more values h = tt
-are_words (p ∷ points) more [] h = absurd h
-are_words (p ∷ points) more (v ∷ values) h = (
+are-words [] more values h = tt
+are-words (p ∷ points) more [] h = absurd h
+are-words (p ∷ points) more (v ∷ values) h = (
   subst (λ (t : ElementaryType). IsSome (value_of t (number_of v))) h.0.0 h.0.1,
-  are_words points more values h.1,
+  are-words points more values h.1,
 )
 
-few_points : (points : List ImagePoint) (words : List ℤ) → AreWords points words
+few-points : (points : List ImagePoint) (words : List ℤ) → AreWords points words
     → length points ≤ length words
-few_points [] words h = omega arith
-few_points (p ∷ points) [] h = absurd h
-few_points (p ∷ points) (w ∷ words) h = let more : length points ≤ length words =
-    few_points points words h.1 in omega arith
+few-points [] words h = omega arith
+few-points (p ∷ points) [] h = absurd h
+few-points (p ∷ points) (w ∷ words) h = let more : length points ≤ length words =
+    few-points points words h.1 in omega arith
 
 pub outputs_are : (points : List ImagePoint) (more : List ElementaryType) (words : List ℤ)
     → given_by points words ≡ outputs_of points (values_of (map type_of_point points ++ more) words)
@@ -112,65 +112,65 @@ outputs_are (p ∷ points) more (w ∷ words) =
 
 -- ---- of an image
 
-pub held_words : (image : Image) (words : List ℤ) (timers : List TimerState)
+pub held-words : (image : Image) (words : List ℤ) (timers : List TimerState)
     → IsHeld image words timers → AreWords image.points words
-held_words image words timers h =
+held-words image words timers h =
     subst (AreWords image.points) (sym h.stand.are)
-    (are_words image.points (map type_of image.variables) (values_of (slot_types image) words)
+    (are-words image.points (map type_of image.variables) (values_of (slot_types image) words)
     h.stand.typed)
 
-pub held_points : (image : Image) (words : List ℤ) (timers : List TimerState)
+pub held-points : (image : Image) (words : List ℤ) (timers : List TimerState)
     → IsHeld image words timers → length image.points ≤ length words
-held_points image words timers h = few_points image.points words (held_words image words timers h)
+held-points image words timers h = few-points image.points words (held-words image words timers h)
 
-pub taken_stand : (image : Image) (words : List ℤ) (timers : List TimerState) (inputs : List Value)
+pub taken-stand : (image : Image) (words : List ℤ) (timers : List TimerState) (inputs : List Value)
     → IsHeld image words timers → AreInputs image.points inputs
     → StandFor (slot_types image) (with_inputs image.points (words_of inputs) words)
     (with_inputs image.points inputs (values_of (slot_types image) words))
-taken_stand image words timers inputs h are = record {
+taken-stand image words timers inputs h are = record {
   are = ap (with_inputs image.points (words_of inputs)) h.stand.are
-      ∙ inputs_are image.points inputs (values_of (slot_types image) words);
-  typed = inputs_typed image.points (map type_of image.variables) inputs
+      ∙ inputs-are image.points inputs (values_of (slot_types image) words);
+  typed = inputs-typed image.points (map type_of image.variables) inputs
       (values_of (slot_types image) words) are h.stand.typed;
 }
 
 -- a point that may only be read has a slot that may only be read
-point_only : (points : List ImagePoint) (variables : List Value) (n : ℕ) (p : ImagePoint)
+point-only : (points : List ImagePoint) (variables : List Value) (n : ℕ) (p : ImagePoint)
     → slice_get points n ≡ Some p → p.writable ≡ false
     → is_read_only (map point_slot points ++ map variable_slot variables) n ≡ true
-point_only [] variables n p e w = absurd cc
-point_only (q ∷ points) variables zero p e w = let same : q ≡ p =
-    some_same q p e in ap (λ (o : ImagePoint). not o.writable) same ∙ ap (λ (b : Bool). not b) w
-point_only (q ∷ points) variables (suc n) p e w = point_only points variables n p e w
+point-only [] variables n p e w = absurd cc
+point-only (q ∷ points) variables zero p e w = let same : q ≡ p =
+    some-same q p e in ap (λ (o : ImagePoint). not o.writable) same ∙ ap (λ (b : Bool). not b) w
+point-only (q ∷ points) variables (suc n) p e w = point-only points variables n p e w
 
-pub only_read : (image : Image) (n : ℕ) (p : ImagePoint) → slice_get image.points n ≡ Some p
+pub only-read : (image : Image) (n : ℕ) (p : ImagePoint) → slice_get image.points n ≡ Some p
     → p.writable ≡ false → is_read_only (slots_of image) n ≡ true
 unfolding slots_of
-only_read image n p e w = point_only image.points image.variables n p e w
+only-read image n p e w = point-only image.points image.variables n p e w
 
 zipped : Option ElementaryType → Option ℤ → Option Value
 zipped None o = None
 zipped (Some t) None = None
 zipped (Some t) (Some w) = Some (value_at t w)
 
-zipped_none : (o : Option ElementaryType) → zipped o None ≡ None
+zipped-none : (o : Option ElementaryType) → zipped o None ≡ None
 unfolding zipped
-zipped_none None = refl
-zipped_none (Some t) = refl
+zipped-none None = refl
+zipped-none (Some t) = refl
 
-get_value : (types : List ElementaryType) (words : List ℤ) (n : ℕ)
+get-value : (types : List ElementaryType) (words : List ℤ) (n : ℕ)
     → slice_get (values_of types words) n ≡ zipped (slice_get types n) (slice_get words n)
 unfolding zipped
-get_value [] words n = refl
-get_value (t ∷ types) [] n = sym (zipped_none (slice_get (t ∷ types) n))
-get_value (t ∷ types) (w ∷ words) zero = refl
-get_value (t ∷ types) (w ∷ words) (suc n) = get_value types words n
+get-value [] words n = refl
+get-value (t ∷ types) [] n = sym (zipped-none (slice_get (t ∷ types) n))
+get-value (t ∷ types) (w ∷ words) zero = refl
+get-value (t ∷ types) (w ∷ words) (suc n) = get-value types words n
 
-pub same_slot : (types : List ElementaryType) (words others : List ℤ) (n : ℕ)
+pub same-slot : (types : List ElementaryType) (words others : List ℤ) (n : ℕ)
     → slice_get words n ≡ slice_get others n
     → slice_get (values_of types words) n ≡ slice_get (values_of types others) n
-same_slot types words others n e =
-    get_value types words n ∙ ap (zipped (slice_get types n)) e ∙ sym (get_value types others n)
+same-slot types words others n e =
+    get-value types words n ∙ ap (zipped (slice_get types n)) e ∙ sym (get-value types others n)
 
 -- ---- at first
 
@@ -181,40 +181,40 @@ first_number elementary.Dint = refl
 first_number elementary.Lint = refl
 first_number elementary.Time = refl
 
-first_words : (points : List ImagePoint) (variables : List Value)
+first-words : (points : List ImagePoint) (variables : List Value)
     → map (λ (p : ImagePoint). pos 0) points ++ words_of variables
     ≡ words_of (first_slots points variables)
-first_words [] variables = refl
-first_words (p ∷ points) variables =
-    ap (λ (w : List ℤ). pos 0 ∷ w) (first_words points variables)
+first-words [] variables = refl
+first-words (p ∷ points) variables =
+    ap (λ (w : List ℤ). pos 0 ∷ w) (first-words points variables)
     ∙ ap (λ (z : ℤ). z ∷ words_of (first_slots points variables)) (sym (first_number p.elementary))
 
-variables_typed : (variables : List Value) → Each IsValue variables
+variables-typed : (variables : List Value) → Each IsValue variables
     → AreTyped (map type_of variables) variables
-variables_typed [] h = tt
-variables_typed (v ∷ variables) h = ((refl, h.0), variables_typed variables h.1)
+variables-typed [] h = tt
+variables-typed (v ∷ variables) h = ((refl, h.0), variables-typed variables h.1)
 
-slots_typed : (points : List ImagePoint) (variables : List Value) → Each IsValue variables
+slots-typed : (points : List ImagePoint) (variables : List Value) → Each IsValue variables
     → AreTyped (map type_of_point points ++ map type_of variables) (first_slots points variables)
-slots_typed [] variables h = variables_typed variables h
-slots_typed (p ∷ points) variables h = (default_typed p.elementary, slots_typed points variables h)
+slots-typed [] variables h = variables-typed variables h
+slots-typed (p ∷ points) variables h = (default-typed p.elementary, slots-typed points variables h)
 
-timers_first : (kinds : List TimerKind) → Each IsTimer (map first_state kinds)
-timers_first [] = tt
-timers_first (k ∷ kinds) = ((omega arith, omega arith), timers_first kinds)
+timers-first : (kinds : List TimerKind) → Each IsTimer (map first_state kinds)
+timers-first [] = tt
+timers-first (k ∷ kinds) = ((omega arith, omega arith), timers-first kinds)
 
-pub first_stand : (image : Image) (words : List ℤ) → Each IsValue image.variables
+pub first-stand : (image : Image) (words : List ℤ) → Each IsValue image.variables
     → words ≡ map (λ (p : ImagePoint). pos 0) image.points ++ words_of image.variables
     → StandFor (slot_types image) words (first_slots image.points image.variables)
-first_stand image words h e =
+first-stand image words h e =
     record {
-      are = e ∙ first_words image.points image.variables;
-      typed = slots_typed image.points image.variables h;
+      are = e ∙ first-words image.points image.variables;
+      typed = slots-typed image.points image.variables h;
     }
 
-pub times_first : (timers : List TimerState) (kinds : List TimerKind)
+pub times-first : (timers : List TimerState) (kinds : List TimerKind)
     → timers ≡ map first_state kinds → Each IsTimer timers
-times_first timers kinds e = subst (Each IsTimer) (sym e) (timers_first kinds)
+times-first timers kinds e = subst (Each IsTimer) (sym e) (timers-first kinds)
 
 -- ---- the test of inputs
 
@@ -224,21 +224,21 @@ of_type : (t : ElementaryType) (v : Value)
 of_type t v = (
   λ e.
       (let parts = and_parts (same_type (type_of v) t) (is_some (value_of t (number_of v))) e in
-      let same : type_of v ≡ t = same_is (type_of v) t parts.0 in (
+      let same : type_of v ≡ t = same-is (type_of v) t parts.0 in (
         same,
         subst (λ (u : ElementaryType). is_some (value_of u (number_of v)) ≡ true) (sym same)
             parts.1,
       )),
   λ h.
       (let test : same_type (type_of v) t ≡ true =
-      subst (λ (u : ElementaryType). same_type (type_of v) u ≡ true) h.0 (same_self (type_of v))
+      subst (λ (u : ElementaryType). same_type (type_of v) u ≡ true) h.0 (same-self (type_of v))
       in
       let some : is_some (value_of t (number_of v)) ≡ true =
       subst (λ (u : ElementaryType). is_some (value_of u (number_of v)) ≡ true) h.0 h.1 in
       rw (test, some) refl),
 )
 
-tested_case : (b : Bool) (p : ImagePoint) (points : List ImagePoint) (inputs : List Value)
+tested-case : (b : Bool) (p : ImagePoint) (points : List ImagePoint) (inputs : List Value)
     → ((left : List Value) → (are_inputs points left ≡ true → AreInputs points left)
     × (AreInputs points left → are_inputs points left ≡ true))
     → (cond b (are_inputs points inputs)
@@ -248,9 +248,9 @@ tested_case : (b : Bool) (p : ImagePoint) (points : List ImagePoint) (inputs : L
     × (AreTyped (map type_of_point (cond (not b) (p ∷ read_only points) (read_only points))) inputs
     → cond b (are_inputs points inputs)
     (begins_with p.elementary inputs && are_inputs points (drop 1 inputs)) ≡ true)
-tested_case true p points inputs rest = rest inputs
-tested_case false p points [] rest = (λ e. absurd cc, λ h. absurd h)
-tested_case false p points (i ∷ inputs) rest = (
+tested-case true p points inputs rest = rest inputs
+tested-case false p points [] rest = (λ e. absurd cc, λ h. absurd h)
+tested-case false p points (i ∷ inputs) rest = (
   λ e. (let parts = and_parts (is_of p.elementary i) (are_inputs points inputs) e in
       ((of_type p.elementary i).0 parts.0, (rest inputs).0 parts.1)),
   λ h. (let first = (of_type p.elementary i).1 h.0 in let more = (rest inputs).1 h.1 in
@@ -262,4 +262,4 @@ pub tested : (points : List ImagePoint) (inputs : List Value)
     × (AreInputs points inputs → are_inputs points inputs ≡ true)
 tested [] [] = (λ e. tt, λ h. refl)
 tested [] (i ∷ inputs) = (λ e. absurd cc, λ h. absurd h)
-tested (p ∷ points) inputs = tested_case p.writable p points inputs (λ left. tested points left)
+tested (p ∷ points) inputs = tested-case p.writable p points inputs (λ left. tested points left)

@@ -7,39 +7,39 @@ use Rattle.il_image.specs.Images.{Image}
 use Rattle.il_image.specs.Tables.{slot_types}
 use Rattle.il_scan.specs.Standing.{IsHeld, Typed}
 use Rattle.il_scan.specs.Words.{AreTyped, StandFor, values_of, words_of}
-use Rattle.il_scan.proofs.ValueLemmas.{value_again}
+use Rattle.il_scan.proofs.ValueLemmas.{value-again}
 
-values_again : (types : List ElementaryType) (values : List Value) → AreTyped types values
+values-again : (types : List ElementaryType) (values : List Value) → AreTyped types values
     → values_of types (words_of values) ≡ values
-values_again [] [] h = refl
-values_again [] (v ∷ values) h = absurd h
-values_again (t ∷ types) [] h = absurd h
-values_again (t ∷ types) (v ∷ values) h =
-    ap (λ (u : Value). u ∷ values_of types (words_of values)) (value_again t v h.0.0 h.0.1)
-    ∙ ap (λ (us : List Value). v ∷ us) (values_again types values h.1)
+values-again [] [] h = refl
+values-again [] (v ∷ values) h = absurd h
+values-again (t ∷ types) [] h = absurd h
+values-again (t ∷ types) (v ∷ values) h =
+    ap (λ (u : Value). u ∷ values_of types (words_of values)) (value-again t v h.0.0 h.0.1)
+    ∙ ap (λ (us : List Value). v ∷ us) (values-again types values h.1)
 
 -- Words stand for one list of values of given types.
-pub stand_again : (types : List ElementaryType) (words : List ℤ) (values : List Value)
+pub stand-again : (types : List ElementaryType) (words : List ℤ) (values : List Value)
     → StandFor types words values → values_of types words ≡ values
-stand_again types words values s = ap (values_of types) s.are ∙ values_again types values s.typed
+stand-again types words values s = ap (values_of types) s.are ∙ values-again types values s.typed
 
-pub stand_itself : (types : List ElementaryType) (words : List ℤ) (values : List Value)
+pub stand-itself : (types : List ElementaryType) (words : List ℤ) (values : List Value)
     → StandFor types words values → StandFor types words (values_of types words)
-stand_itself types words values s =
-    subst (StandFor types words) (sym (stand_again types words values s)) s
+stand-itself types words values s =
+    subst (StandFor types words) (sym (stand-again types words values s)) s
 
-pub held_by : (image : Image) (words : List ℤ) (values : List Value) (timers : List TimerState)
+pub held-by : (image : Image) (words : List ℤ) (values : List Value) (timers : List TimerState)
     → words ≡ words_of values → Typed (slot_types image) (length image.timers) values timers
     → IsHeld image words timers
-held_by image words values timers are typed = record {
-  stand = stand_itself (slot_types image) words values
+held-by image words values timers are typed = record {
+  stand = stand-itself (slot_types image) words values
       (record { are = are; typed = typed.of_types });
   so_many = typed.so_many;
   times = typed.times;
 }
 
-pub held_typed : (image : Image) (words : List ℤ) (timers : List TimerState)
+pub held-typed : (image : Image) (words : List ℤ) (timers : List TimerState)
     → IsHeld image words timers
     → Typed (slot_types image) (length image.timers) (values_of (slot_types image) words) timers
-held_typed image words timers h =
+held-typed image words timers h =
     record { of_types = h.stand.typed; so_many = h.so_many; times = h.times }

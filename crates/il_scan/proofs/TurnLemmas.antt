@@ -16,72 +16,72 @@ use Rattle.il_image.specs.Reading.{instr_at}
 use Rattle.il_image.specs.Tables.{Enters, IsPlace, LeadsTo, slot_types}
 use Rattle.il_image.specs.Kinds.{AreWithin}
 use Rattle.il_image.proofs.BegunLemmas.{begun}
-use Rattle.il_image.proofs.KindLemmas.{kind_above}
+use Rattle.il_image.proofs.KindLemmas.{kind-above}
 use Rattle.il_image.proofs.PlaceLemmas.{stands}
 use Rattle.il_verify.specs.Judging.{is_read_only, writes_read_only}
 use Rattle.il_verify.specs.Slots.{slots_of}
-use Rattle.il_verify.proofs.EffectLemmas.{some_same}
-use Rattle.il_verify.proofs.TableLemmas.{same_instr, some_way}
-use Rattle.il_verify.proofs.WithinLemmas.{within_length}
+use Rattle.il_verify.proofs.EffectLemmas.{some-same}
+use Rattle.il_verify.proofs.TableLemmas.{same-instr, some-way}
+use Rattle.il_verify.proofs.WithinLemmas.{within-length}
 use Rattle.il_image.specs.declared.value.Value.{Value}
-use Rattle.il_scan.specs.Standing.{Fit, KeepsSlots, Standing, StandsAt, Turns, words_at}
-use Rattle.il_scan.specs.Working.{IsReady, Words, leads, top, worked}
-use Rattle.il_scan.proofs.CellLemmas.{fit_length}
+use Rattle.il_scan.specs.Standing.{Fit, KeepsSlots, StandsAs, StandsAt, Turns, words_at}
+use Rattle.il_scan.specs.Working.{IsReady, Words, leads, top, words_after}
+use Rattle.il_scan.proofs.CellLemmas.{fit-length}
 use Rattle.il_scan.proofs.DoesLemmas.{Does}
 use Rattle.il_scan.proofs.SimLemmas.{does}
 
 -- ---- where words lead
 
 chosen : (b : Bool) (x y to : ℕ) → Some (cond b x y) ≡ Some to → (to ≡ x) ⊎ (to ≡ y)
-chosen true x y to e = inl (sym (some_same x to e))
-chosen false x y to e = inr (sym (some_same y to e))
+chosen true x y to e = inl (sym (some-same x to e))
+chosen false x y to e = inr (sym (some-same y to e))
 
-turned_round : {A B : Type 0} → A ⊎ B → B ⊎ A
-turned_round h = elim h [ inl a ↦ inr a | inr b ↦ inl b ]
+turned-round : {A B : Type 0} → A ⊎ B → B ⊎ A
+turned-round h = elim h [ inl a ↦ inr a | inr b ↦ inl b ]
 
-leads_there : (i : Instr) (next : ℕ) (stack : List ℤ) (to : ℕ) → leads i next stack ≡ Some to
+leads-there : (i : Instr) (next : ℕ) (stack : List ℤ) (to : ℕ) → leads i next stack ≡ Some to
     → LeadsTo i next to
-leads_there Halt next stack to e = absurd cc
-leads_there (Jump Always distance) next stack to e = sym (some_same (next + distance) to e)
-leads_there (Jump IfTrue distance) next stack to e =
+leads-there Halt next stack to e = absurd cc
+leads-there (Jump Always distance) next stack to e = sym (some-same (next + distance) to e)
+leads-there (Jump IfTrue distance) next stack to e =
     chosen (int_eq (top stack) (pos 0)) next (next + distance) to e
-leads_there (Jump IfFalse distance) next stack to e =
-    turned_round (chosen (int_eq (top stack) (pos 0)) (next + distance) next to e)
-leads_there (Push v) next stack to e = sym (some_same next to e)
-leads_there Drop next stack to e = sym (some_same next to e)
-leads_there (Slot slot_use n) next stack to e = sym (some_same next to e)
-leads_there Not next stack to e = sym (some_same next to e)
-leads_there (Combine c) next stack to e = sym (some_same next to e)
-leads_there (Compute o w) next stack to e = sym (some_same next to e)
-leads_there (Compare c) next stack to e = sym (some_same next to e)
-leads_there (Widen w) next stack to e = sym (some_same next to e)
-leads_there (Timer timer_use n) next stack to e = sym (some_same next to e)
+leads-there (Jump IfFalse distance) next stack to e =
+    turned-round (chosen (int_eq (top stack) (pos 0)) (next + distance) next to e)
+leads-there (Push v) next stack to e = sym (some-same next to e)
+leads-there Drop next stack to e = sym (some-same next to e)
+leads-there (Slot slot_use n) next stack to e = sym (some-same next to e)
+leads-there Not next stack to e = sym (some-same next to e)
+leads-there (Combine c) next stack to e = sym (some-same next to e)
+leads-there (Compute o w) next stack to e = sym (some-same next to e)
+leads-there (Compare c) next stack to e = sym (some-same next to e)
+leads-there (Widen w) next stack to e = sym (some-same next to e)
+leads-there (Timer timer_use n) next stack to e = sym (some-same next to e)
 
 -- ---- slots of points that may only be read
 
-get_other : {A : Type 0} (xs : List A) (k n : ℕ) (x : A) → (n ≡ k → ⊥)
+get-other : {A : Type 0} (xs : List A) (k n : ℕ) (x : A) → (n ≡ k → ⊥)
     → slice_get (slice_set xs k x) n ≡ slice_get xs n
-get_other [] k n x ne = refl
-get_other (y ∷ xs) zero zero x ne = absurd (ne refl)
-get_other (y ∷ xs) zero (suc n) x ne = refl
-get_other (y ∷ xs) (suc k) zero x ne = refl
-get_other (y ∷ xs) (suc k) (suc n) x ne = get_other xs k n x (λ e. ne (ap suc e))
+get-other [] k n x ne = refl
+get-other (y ∷ xs) zero zero x ne = absurd (ne refl)
+get-other (y ∷ xs) zero (suc n) x ne = refl
+get-other (y ∷ xs) (suc k) zero x ne = refl
+get-other (y ∷ xs) (suc k) (suc n) x ne = get-other xs k n x (λ e. ne (ap suc e))
 
-not_both : (b : Bool) → b ≡ true → b ≡ false → ⊥
-not_both b e f = absurd cc
+not-both : (b : Bool) → b ≡ true → b ≡ false → ⊥
+not-both b e f = absurd cc
 
 module _ (image : Image) (now n : ℕ) (only : is_read_only (slots_of image) n ≡ true) where
   other : (k : ℕ) → is_read_only (slots_of image) k ≡ false → n ≡ k → ⊥
   other k e same =
-      not_both (is_read_only (slots_of image) k)
+      not-both (is_read_only (slots_of image) k)
       (ap (λ (j : ℕ). is_read_only (slots_of image) j) (sym same) ∙ only) e
 
   keeps : (i : Instr) (m : Words) → writes_read_only (slots_of image) i ≡ false
-      → slice_get (worked now i m).slots n ≡ slice_get m.slots n
+      → slice_get (words_after now i m).slots n ≡ slice_get m.slots n
   keeps (Slot Load k) m e = refl
-  keeps (Slot Store k) m e = get_other m.slots k n _ (other k e)
-  keeps (Slot SetIf k) m e = get_other m.slots k n _ (other k e)
-  keeps (Slot ResetIf k) m e = get_other m.slots k n _ (other k e)
+  keeps (Slot Store k) m e = get-other m.slots k n _ (other k e)
+  keeps (Slot SetIf k) m e = get-other m.slots k n _ (other k e)
+  keeps (Slot ResetIf k) m e = get-other m.slots k n _ (other k e)
   keeps Halt m e = refl
   keeps (Push v) m e = refl
   keeps Drop m e = refl
@@ -99,49 +99,49 @@ module _ (image : Image) (now n : ℕ) (only : is_read_only (slots_of image) n �
 
 -- ---- values within other kinds
 
-fit_within : (values : List Value) (xs ys : List CellKind) → AreWithin xs ys → Fit values xs
+fit-within : (values : List Value) (xs ys : List CellKind) → AreWithin xs ys → Fit values xs
     → Fit values ys
-fit_within [] [] [] h g = tt
-fit_within [] [] (y ∷ ys) h g = absurd h
-fit_within [] (x ∷ xs) ys h g = absurd g
-fit_within (v ∷ values) [] ys h g = absurd g
-fit_within (v ∷ values) (x ∷ xs) [] h g = absurd h
-fit_within (v ∷ values) (x ∷ xs) (y ∷ ys) h g =
-    ((kind_above v x y h.0 g.0.0, g.0.1), fit_within values xs ys h.1 g.1)
+fit-within [] [] [] h g = tt
+fit-within [] [] (y ∷ ys) h g = absurd h
+fit-within [] (x ∷ xs) ys h g = absurd g
+fit-within (v ∷ values) [] ys h g = absurd g
+fit-within (v ∷ values) (x ∷ xs) [] h g = absurd h
+fit-within (v ∷ values) (x ∷ xs) (y ∷ ys) h g =
+    ((kind-above v x y h.0 g.0.0, g.0.1), fit-within values xs ys h.1 g.1)
 
-some_there : {A : Type 0} (o : Option A) (x : A) → o ≡ Some x → IsSome o
-some_there None x e = absurd cc
-some_there (Some y) x e = refl
+some-there : {A : Type 0} (o : Option A) (x : A) → o ≡ Some x → IsSome o
+some-there None x e = absurd cc
+some-there (Some y) x e = refl
 
 -- ---- one turn
 
 -- what the table says of an instruction that stands at the state's place
-record Allows (image : Image) (s : State) (h : Standing image s) (i : Instr) (next : ℕ)
+record Allows (image : Image) (s : State) (h : StandsAs image s) (i : Instr) (next : ℕ)
     : Type 0 where
   after : List CellKind
   effect_is : effect (slot_types image) (length image.timers) i h.kinds ≡ Some after
   enters : (to : ℕ) → LeadsTo i next to → Enters h.table to after
 
-module _ (image : Image) (now : ℕ) (s : State) (h : Standing image s) where
+module _ (image : Image) (now : ℕ) (s : State) (h : StandsAs image s) where
   is_place : IsPlace image.code s.place
-  is_place = (h.agrees.places s.place).0 (some_there (h.table s.place) h.kinds h.here)
+  is_place = (h.agrees.places s.place).0 (some-there (h.table s.place) h.kinds h.here)
 
-  pub place_within : s.place < length image.code
-  place_within = is_place.0
+  pub place-within : s.place < length image.code
+  place-within = is_place.0
 
   pub read_some : IsSome (instr_at image.code s.place)
   read_some = let a = h.agrees.allowed s.place h.kinds h.here in
-      some_there (instr_at image.code s.place) (a.instr, a.next) a.here
+      some-there (instr_at image.code s.place) (a.instr, a.next) a.here
 
-  pub cells_room : length s.cells ≡ length h.kinds
-  cells_room = fit_length s.cells h.kinds h.fit
+  pub cells-room : length s.cells ≡ length h.kinds
+  cells-room = fit-length s.cells h.kinds h.fit
 
   module _ (i : Instr) (next : ℕ) (here : instr_at image.code s.place ≡ Some (i, next))
       (octets : AreOctets image.code) where
     allows : Allows image s h i next
     allows =
         let a = h.agrees.allowed s.place h.kinds h.here in
-        let same = same_instr image.code s.place a.instr i a.next next a.here here in
+        let same = same-instr image.code s.place a.instr i a.next next a.here here in
         record {
           after = a.after;
           effect_is =
@@ -153,12 +153,12 @@ module _ (image : Image) (now : ℕ) (s : State) (h : Standing image s) where
               (subst (λ (j : Instr). LeadsTo j next to) (sym same.0) way));
         }
 
-    turn_is : turn image.code now s ≡ act now i next s
-    turn_is =
+    turn-is : turn image.code now s ≡ act now i next s
+    turn-is =
         ap (λ (o : Option (Instr × ℕ)). turn_of now o s) (begun image.code s.place is_place ∙ here)
 
-    goes_somewhere : (to : ℕ) → LeadsTo i next to → i ≡ Halt → ⊥
-    goes_somewhere to way e = subst (λ (j : Instr). LeadsTo j next to) e way
+    goes-somewhere : (to : ℕ) → LeadsTo i next to → i ≡ Halt → ⊥
+    goes-somewhere to way e = subst (λ (j : Instr). LeadsTo j next to) e way
 
     doing : (to : ℕ) → LeadsTo i next to
         → Does (slot_types image) (length image.timers) now i next s.place s.cells s.slots s.timers
@@ -167,45 +167,45 @@ module _ (image : Image) (now : ℕ) (s : State) (h : Standing image s) where
         let a = allows in
         let e = a.enters to way in
         let most : length e.0 ≤ 32 = h.agrees.room to e.0 e.1 in
-        let size : length a.after ≡ length e.0 = within_length a.after e.0 e.2 in
+        let size : length a.after ≡ length e.0 = within-length a.after e.0 e.2 in
         does (slot_types image) (length image.timers) now next s.place s.slots s.timers a.after
         h.typed i s.cells h.kinds a.effect_is
-        (stands image.code s.place i next octets here).is_instr (goes_somewhere to way) h.fit
+        (stands image.code s.place i next octets here).is_instr (goes-somewhere to way) h.fit
         (omega arith)
 
-    halt_ready : i ≡ Halt → IsReady i (words_at s)
-    halt_ready e = subst (λ (j : Instr). IsReady j (words_at s)) (sym e) tt
+    halt-ready : i ≡ Halt → IsReady i (words_at s)
+    halt-ready e = subst (λ (j : Instr). IsReady j (words_at s)) (sym e) tt
 
     pub ready : IsReady i (words_at s)
-    ready = elim (some_way i next) [ inl e ↦ halt_ready e | inr way ↦ (doing way.0 way.1).ready ]
+    ready = elim (some-way i next) [ inl e ↦ halt-ready e | inr way ↦ (doing way.0 way.1).ready ]
 
-    halted : (after : Words) → i ≡ Halt → after ≡ worked now i (words_at s)
+    halted : (after : Words) → i ≡ Halt → after ≡ words_after now i (words_at s)
         → Turns image now s None after
     unfolding act
     halted after e done = (
-      turn_is ∙ ap (λ (j : Instr). act now j next s) e,
-      done ∙ ap (λ (j : Instr). worked now j (words_at s)) e,
+      turn-is ∙ ap (λ (j : Instr). act now j next s) e,
+      done ∙ ap (λ (j : Instr). words_after now j (words_at s)) e,
       (next, here ∙ ap (λ (j : Instr). Some (j, next)) e),
     )
 
-    kept : KeepsSlots image (words_at s) (worked now i (words_at s))
+    kept : KeepsSlots image (words_at s) (words_after now i (words_at s))
     kept n only = keeps image now n only i (words_at s) (h.writes s.place i next is_place here)
 
     went : (to : ℕ) (after : Words) → leads i next (words_at s).stack ≡ Some to
-        → after ≡ worked now i (words_at s) → Turns image now s (Some to) after
+        → after ≡ words_after now i (words_at s) → Turns image now s (Some to) after
     went to after e done =
-        let way : LeadsTo i next to = leads_there i next (words_at s).stack to e in
+        let way : LeadsTo i next to = leads-there i next (words_at s).stack to e in
         let d = doing to way in
         let a = allows in
         let enter = a.enters to way in
-        let there : d.to ≡ to = some_same d.to to (sym d.leads_to ∙ e) in
+        let there : d.to ≡ to = some-same d.to to (sym d.leads_to ∙ e) in
         let t : State =
         record { place = to; cells = d.new_cells; slots = d.new_slots; timers = d.new_timers }
         in (
           record { instr = i; next = next; here = here; leads = way },
           (
             t,
-            turn_is ∙ d.goes_on ∙ ap
+            turn-is ∙ d.goes_on ∙ ap
                 (λ (n : ℕ). Goes (record
                 { place = n; cells = d.new_cells; slots = d.new_slots; timers = d.new_timers }))
                 there,
@@ -217,7 +217,7 @@ module _ (image : Image) (now : ℕ) (s : State) (h : Standing image s) where
                     writes = h.writes;
                     kinds = enter.0;
                     here = enter.1;
-                    fit = fit_within d.new_cells a.after enter.0 enter.2 d.fit;
+                    fit = fit-within d.new_cells a.after enter.0 enter.2 d.fit;
                     typed = d.typed;
                   };
               there = refl;
@@ -227,17 +227,17 @@ module _ (image : Image) (now : ℕ) (s : State) (h : Standing image s) where
           (λ n only. ap (λ (m : Words). slice_get m.slots n) done ∙ kept n only),
         )
 
-    no_way : (stack : List ℤ) → leads i next stack ≡ None → (to : ℕ) → leads i next stack ≡ Some to
+    no-way : (stack : List ℤ) → leads i next stack ≡ None → (to : ℕ) → leads i next stack ≡ Some to
         → ⊥
-    no_way stack e to f = let no : ◌≡◌ {A = Option ℕ} None (Some to) = sym e ∙ f in cc
+    no-way stack e to f = let no : ◌≡◌ {A = Option ℕ} None (Some to) = sym e ∙ f in cc
 
     pub turned : (to : Option ℕ) (after : Words) → to ≡ leads i next (words_at s).stack
-        → after ≡ worked now i (words_at s) → Turns image now s to after
+        → after ≡ words_after now i (words_at s) → Turns image now s to after
     turned (Some to) after e done = went to after (sym e) done
-    turned None after e done = elim (some_way i next) [
+    turned None after e done = elim (some-way i next) [
       | inl is ↦ halted after is done
       | inr way ↦ absurd (let d = doing way.0 way.1 in
-          no_way (words_at s).stack (sym e) d.to d.leads_to)
+          no-way (words_at s).stack (sym e) d.to d.leads_to)
     ]
 
 -- ---- the same at a place where words stand
@@ -247,22 +247,22 @@ module _ (image : Image) (now place : ℕ) (w : Words) (s : State) (h : StandsAt
     at_place : (f : ℕ → Option (Instr × ℕ)) → f s.place ≡ f place
     at_place f = ap f h.there
 
-    pub some_at : IsSome (instr_at image.code place)
-    some_at =
+    pub some-at : IsSome (instr_at image.code place)
+    some-at =
         subst (λ (p : ℕ). IsSome (instr_at image.code p)) h.there (read_some image now s h.standing)
 
     module _ (read : Instr × ℕ) (here : instr_at image.code place ≡ Some read)
         (octets : AreOctets image.code) where
-      here_so : instr_at image.code s.place ≡ Some (read.0, read.1)
-      here_so = at_place (instr_at image.code) ∙ here
+      here-so : instr_at image.code s.place ≡ Some (read.0, read.1)
+      here-so = at_place (instr_at image.code) ∙ here
 
-      pub ready_at : IsReady read.0 w
-      ready_at =
-          subst (IsReady read.0) h.are (ready image now s h.standing read.0 read.1 here_so octets)
+      pub ready-at : IsReady read.0 w
+      ready-at =
+          subst (IsReady read.0) h.are (ready image now s h.standing read.0 read.1 here-so octets)
 
-      pub turned_at : (to : Option ℕ) (after : Words) → to ≡ leads read.0 read.1 w.stack
-          → after ≡ worked now read.0 w → Turns image now s to after
-      turned_at to after e done =
-          turned image now s h.standing read.0 read.1 here_so octets to after
+      pub turned-at : (to : Option ℕ) (after : Words) → to ≡ leads read.0 read.1 w.stack
+          → after ≡ words_after now read.0 w → Turns image now s to after
+      turned-at to after e done =
+          turned image now s h.standing read.0 read.1 here-so octets to after
           (e ∙ ap (λ (m : Words). leads read.0 read.1 m.stack) (sym h.are))
-          (done ∙ ap (worked now read.0) (sym h.are))
+          (done ∙ ap (words_after now read.0) (sym h.are))

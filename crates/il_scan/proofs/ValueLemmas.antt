@@ -16,39 +16,39 @@ use Rattle.il_image.specs.declared.opcode.Connective.{Connective}
 use Rattle.il_image.specs.declared.opcode.Connective.TheVariants.{And, Or, Xor}
 use Rattle.il_image.specs.declared.value.Value.{Value}
 use Rattle.il_image.specs.declared.value.Value.TheVariants.{Truth, Short, Long, Wide, Span}
-use Rattle.il_image.specs.Arithmetic.{connected, type_of_width, wrapped}
+use Rattle.il_image.specs.Arithmetic.{logic_of, type_of_width, wrap_to}
 use Rattle.il_image.specs.Effects.{kind_of, kind_of_number}
 use Rattle.il_image.specs.Images.{IsValue}
 use Rattle.il_image.specs.Kinds.{HasKind}
 use Rattle.il_image.specs.Machine.{value_of_width}
 use Rattle.il_image.specs.Values.{number_of, type_of, value_of, is_between}
-use Rattle.il_image.proofs.ValueLemmas.{value_back}
+use Rattle.il_image.proofs.ValueLemmas.{value-back}
 use Rattle.il_scan.specs.Words.{value_at}
-use Rattle.il_scan.specs.Working.{combined, word_of}
+use Rattle.il_scan.specs.Working.{logic_word, word_of}
 
-pub truth_word : (b : Bool) → number_of (Truth b) ≡ word_of b
-truth_word true = refl
-truth_word false = refl
+pub truth-word : (b : Bool) → number_of (Truth b) ≡ word_of b
+truth-word true = refl
+truth-word false = refl
 
-pub truth_value : (b : Bool) → IsValue (Truth b)
-truth_value true = refl
-truth_value false = refl
+pub truth-value : (b : Bool) → IsValue (Truth b)
+truth-value true = refl
+truth-value false = refl
 
 -- Two values of one type that have one number are the same.
-pub same_value : (v u : Value) → IsValue v → IsValue u → type_of v ≡ type_of u
+pub same-value : (v u : Value) → IsValue v → IsValue u → type_of v ≡ type_of u
     → number_of v ≡ number_of u → v ≡ u
-same_value v u is its t n =
+same-value v u is its t n =
     let all : Some v ≡ Some u =
-    sym (value_back v is) ∙ ap (λ (s : ElementaryType). value_of s (number_of v)) t
-    ∙ ap (value_of (type_of u)) n ∙ value_back u its in
+    sym (value-back v is) ∙ ap (λ (s : ElementaryType). value_of s (number_of v)) t
+    ∙ ap (value_of (type_of u)) n ∙ value-back u its in
     cc
 
 -- the value of a type that its number stands for
-pub value_again : (t : ElementaryType) (v : Value) → type_of v ≡ t → IsValue v
+pub value-again : (t : ElementaryType) (v : Value) → type_of v ≡ t → IsValue v
     → value_at t (number_of v) ≡ v
-value_again t v e is =
+value-again t v e is =
     let back : value_of t (number_of v) ≡ Some v =
-    ap (λ (s : ElementaryType). value_of s (number_of v)) (sym e) ∙ value_back v is in
+    ap (λ (s : ElementaryType). value_of s (number_of v)) (sym e) ∙ value-back v is in
     ap (λ (o : Option Value). unwrap_or o (Truth false)) back
 
 -- ---- ranges
@@ -61,19 +61,19 @@ between w m (negsuc n) size fits =
     let e : leb n m ≡ true = le-leb n m (omega arith) in
     rw e refl
 
-some_value : {A : Type 0} (b : Bool) (x : A) → b ≡ true → IsSome (cond b (Some x) None)
-some_value true x e = refl
-some_value false x e = absurd cc
+some-value : {A : Type 0} (b : Bool) (x : A) → b ≡ true → IsSome (cond b (Some x) None)
+some-value true x e = refl
+some-value false x e = absurd cc
 
-pub wrapped_value : (w : Width) (z : ℤ) → IsValue (value_of_width w (wrapped w z))
-wrapped_value width.Int z =
-    some_value _ (Short (int_wrap w16 z))
+pub wrapped-value : (w : Width) (z : ℤ) → IsValue (value_of_width w (wrap_to w z))
+wrapped-value width.Int z =
+    some-value _ (Short (int_wrap w16 z))
     (between w16 0x7FFF (int_wrap w16 z) refl (SFits-int_wrap w16 z))
-wrapped_value width.Dint z =
-    some_value _ (Long (int_wrap w32 z))
+wrapped-value width.Dint z =
+    some-value _ (Long (int_wrap w32 z))
     (between w32 0x7FFF_FFFF (int_wrap w32 z) refl (SFits-int_wrap w32 z))
-wrapped_value width.Lint z =
-    some_value _ (Wide (int_wrap w64 z))
+wrapped-value width.Lint z =
+    some-value _ (Wide (int_wrap w64 z))
     (between w64 0x7FFF_FFFF_FFFF_FFFF (int_wrap w64 z) refl (SFits-int_wrap w64 z))
 
 pub number_in : (w : Width) (z : ℤ) → number_of (value_of_width w z) ≡ z
@@ -81,30 +81,30 @@ number_in width.Int z = refl
 number_in width.Dint z = refl
 number_in width.Lint z = refl
 
-pub type_in : (w : Width) (z : ℤ) → type_of (value_of_width w z) ≡ type_of_width w
-type_in width.Int z = refl
-type_in width.Dint z = refl
-type_in width.Lint z = refl
+pub type-in : (w : Width) (z : ℤ) → type_of (value_of_width w z) ≡ type_of_width w
+type-in width.Int z = refl
+type-in width.Dint z = refl
+type-in width.Lint z = refl
 
-pub span_value : (n : ℕ) → n ≤ 0x7FFF_FFFF → IsValue (Span n)
-span_value n h =
-    some_value _ (Span n) (let z : leb 0 n ≡ true = le-leb 0 n (omega arith) in
+pub span-value : (n : ℕ) → n ≤ 0x7FFF_FFFF → IsValue (Span n)
+span-value n h =
+    some-value _ (Span n) (let z : leb 0 n ≡ true = le-leb 0 n (omega arith) in
     let e : leb n 0x7FFF_FFFF ≡ true = le-leb n 0x7FFF_FFFF h in rw (z, e) refl)
 
-some_test : {A : Type 0} (b : Bool) (x : A) → IsSome (cond b (Some x) None) → b ≡ true
-some_test true x h = refl
-some_test false x h = h
+some-test : {A : Type 0} (b : Bool) (x : A) → IsSome (cond b (Some x) None) → b ≡ true
+some-test true x h = refl
+some-test false x h = h
 
-pub span_within : (n : ℕ) → IsValue (Span n) → n ≤ 0x7FFF_FFFF
-span_within n is =
+pub span-within : (n : ℕ) → IsValue (Span n) → n ≤ 0x7FFF_FFFF
+span-within n is =
     leb-true n 0x7FFF_FFFF (and_parts (leb 0 n) (leb n 0x7FFF_FFFF)
-    (some_test (is_between (pos 0) (pos 0x7FFF_FFFF) (pos n)) (Span n) is)).1
+    (some-test (is_between (pos 0) (pos 0x7FFF_FFFF) (pos n)) (Span n) is)).1
 
 -- widening keeps the number in range
-pub widened_short : (z : ℤ) → IsValue (Short z) → IsValue (Long z)
-widened_short z is =
-    some_value _ (Long z) (wider 0x7FFF 0x7FFF_FFFF z (omega arith)
-    (some_test (is_between (negsuc 0x7FFF) (pos 0x7FFF) z) (Short z) is))
+pub widened-short : (z : ℤ) → IsValue (Short z) → IsValue (Long z)
+widened-short z is =
+    some-value _ (Long z) (wider 0x7FFF 0x7FFF_FFFF z (omega arith)
+    (some-test (is_between (negsuc 0x7FFF) (pos 0x7FFF) z) (Short z) is))
   where
     wider : (m k : ℕ) (z : ℤ) → m ≤ k → is_between (negsuc m) (pos m) z ≡ true
         → is_between (negsuc k) (pos k) z ≡ true
@@ -112,10 +112,10 @@ widened_short z is =
     wider m k (negsuc n) h e = let g : n ≤ m = leb-true n m (and_parts (leb n m) true e).0 in
         let f : leb n k ≡ true = le-leb n k (omega arith) in rw f refl
 
-pub widened_long : (z : ℤ) → IsValue (Long z) → IsValue (Wide z)
-widened_long z is =
-    some_value _ (Wide z) (wider 0x7FFF_FFFF 0x7FFF_FFFF_FFFF_FFFF z (omega arith)
-    (some_test (is_between (negsuc 0x7FFF_FFFF) (pos 0x7FFF_FFFF) z) (Long z) is))
+pub widened-long : (z : ℤ) → IsValue (Long z) → IsValue (Wide z)
+widened-long z is =
+    some-value _ (Wide z) (wider 0x7FFF_FFFF 0x7FFF_FFFF_FFFF_FFFF z (omega arith)
+    (some-test (is_between (negsuc 0x7FFF_FFFF) (pos 0x7FFF_FFFF) z) (Long z) is))
   where
     wider : (m k : ℕ) (z : ℤ) → m ≤ k → is_between (negsuc m) (pos m) z ≡ true
         → is_between (negsuc k) (pos k) z ≡ true
@@ -125,72 +125,72 @@ widened_long z is =
 
 -- ---- kinds of values
 
-kind_case : (w : Width) (v : Value) (z : ℤ) (b : Bool) → int_eq z (pos 0) ≡ b
+kind-case : (w : Width) (v : Value) (z : ℤ) (b : Bool) → int_eq z (pos 0) ≡ b
     → type_of v ≡ type_of_width w → number_of v ≡ z
     → HasKind v (cond b (Plain (type_of_width w)) (NotZero w))
-kind_case w v z true e t n = t
-kind_case w v z false e t n = (
+kind-case w v z true e t n = t
+kind-case w v z false e t n = (
   t,
   λ zero. let yes : int_eq z (pos 0) ≡ true = (Decides-int_eq z (pos 0)).1 (sym n ∙ zero) in
       let no : false ≡ true = sym e ∙ yes in cc,
 )
 
-kind_number : (w : Width) (v : Value) (z : ℤ) → type_of v ≡ type_of_width w → number_of v ≡ z
+kind-number : (w : Width) (v : Value) (z : ℤ) → type_of v ≡ type_of_width w → number_of v ≡ z
     → HasKind v (kind_of_number w z)
-kind_number w v z t n = kind_case w v z (int_eq z (pos 0)) refl t n
+kind-number w v z t n = kind-case w v z (int_eq z (pos 0)) refl t n
 
-pub kind_there : (v : Value) → HasKind v (kind_of v)
-kind_there (Truth b) = refl
-kind_there (Short z) = kind_number width.Int (Short z) z refl refl
-kind_there (Long z) = kind_number width.Dint (Long z) z refl refl
-kind_there (Wide z) = kind_number width.Lint (Wide z) z refl refl
-kind_there (Span n) = refl
+pub kind-there : (v : Value) → HasKind v (kind_of v)
+kind-there (Truth b) = refl
+kind-there (Short z) = kind-number width.Int (Short z) z refl refl
+kind-there (Long z) = kind-number width.Dint (Long z) z refl refl
+kind-there (Wide z) = kind-number width.Lint (Wide z) z refl refl
+kind-there (Span n) = refl
 
 -- ---- values by their types
 
-pub truth_there : (v : Value) → type_of v ≡ elementary.Bool → (b : Bool) × (v ≡ Truth b)
-truth_there (Truth b) e = (b, refl)
-truth_there (Short z) e = absurd cc
-truth_there (Long z) e = absurd cc
-truth_there (Wide z) e = absurd cc
-truth_there (Span n) e = absurd cc
+pub truth-there : (v : Value) → type_of v ≡ elementary.Bool → (b : Bool) × (v ≡ Truth b)
+truth-there (Truth b) e = (b, refl)
+truth-there (Short z) e = absurd cc
+truth-there (Long z) e = absurd cc
+truth-there (Wide z) e = absurd cc
+truth-there (Span n) e = absurd cc
 
-pub span_there : (v : Value) → type_of v ≡ elementary.Time → (n : ℕ) × (v ≡ Span n)
-span_there (Truth b) e = absurd cc
-span_there (Short z) e = absurd cc
-span_there (Long z) e = absurd cc
-span_there (Wide z) e = absurd cc
-span_there (Span n) e = (n, refl)
+pub span-there : (v : Value) → type_of v ≡ elementary.Time → (n : ℕ) × (v ≡ Span n)
+span-there (Truth b) e = absurd cc
+span-there (Short z) e = absurd cc
+span-there (Long z) e = absurd cc
+span-there (Wide z) e = absurd cc
+span-there (Span n) e = (n, refl)
 
-pub number_there : (w : Width) (v : Value) → type_of v ≡ type_of_width w
+pub number-there : (w : Width) (v : Value) → type_of v ≡ type_of_width w
     → v ≡ value_of_width w (number_of v)
-number_there width.Int (Short z) e = refl
-number_there width.Dint (Long z) e = refl
-number_there width.Lint (Wide z) e = refl
-number_there width.Int (Truth b) e = absurd cc
-number_there width.Int (Long z) e = absurd cc
-number_there width.Int (Wide z) e = absurd cc
-number_there width.Int (Span n) e = absurd cc
-number_there width.Dint (Truth b) e = absurd cc
-number_there width.Dint (Short z) e = absurd cc
-number_there width.Dint (Wide z) e = absurd cc
-number_there width.Dint (Span n) e = absurd cc
-number_there width.Lint (Truth b) e = absurd cc
-number_there width.Lint (Short z) e = absurd cc
-number_there width.Lint (Long z) e = absurd cc
-number_there width.Lint (Span n) e = absurd cc
+number-there width.Int (Short z) e = refl
+number-there width.Dint (Long z) e = refl
+number-there width.Lint (Wide z) e = refl
+number-there width.Int (Truth b) e = absurd cc
+number-there width.Int (Long z) e = absurd cc
+number-there width.Int (Wide z) e = absurd cc
+number-there width.Int (Span n) e = absurd cc
+number-there width.Dint (Truth b) e = absurd cc
+number-there width.Dint (Short z) e = absurd cc
+number-there width.Dint (Wide z) e = absurd cc
+number-there width.Dint (Span n) e = absurd cc
+number-there width.Lint (Truth b) e = absurd cc
+number-there width.Lint (Short z) e = absurd cc
+number-there width.Lint (Long z) e = absurd cc
+number-there width.Lint (Span n) e = absurd cc
 
-pub combined_is : (c : Connective) (a b : Bool)
-    → combined c (number_of (Truth a)) (number_of (Truth b)) ≡ number_of (Truth (connected c a b))
-combined_is And true true = refl
-combined_is And true false = refl
-combined_is And false true = refl
-combined_is And false false = refl
-combined_is Or true true = refl
-combined_is Or true false = refl
-combined_is Or false true = refl
-combined_is Or false false = refl
-combined_is Xor true true = refl
-combined_is Xor true false = refl
-combined_is Xor false true = refl
-combined_is Xor false false = refl
+pub combined-is : (c : Connective) (a b : Bool)
+    → logic_word c (number_of (Truth a)) (number_of (Truth b)) ≡ number_of (Truth (logic_of c a b))
+combined-is And true true = refl
+combined-is And true false = refl
+combined-is And false true = refl
+combined-is And false false = refl
+combined-is Or true true = refl
+combined-is Or true false = refl
+combined-is Or false true = refl
+combined-is Or false false = refl
+combined-is Xor true true = refl
+combined-is Xor true false = refl
+combined-is Xor false true = refl
+combined-is Xor false false = refl

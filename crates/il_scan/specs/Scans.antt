@@ -5,7 +5,7 @@ use Rattle.il_image.specs.declared.image.ImagePoint.{ImagePoint}
 use Rattle.il_image.specs.declared.timer.TimerState.{TimerState}
 use Rattle.il_image.specs.declared.value.Value.{Value}
 use Rattle.il_image.specs.Images.{Image}
-use Rattle.il_image.specs.Machine.{Goes, Halted, State, run, initial_state, turn}
+use Rattle.il_image.specs.Machine.{Goes, Halted, State, run_from, initial_state, turn}
 use Rattle.il_image.specs.Tables.{slot_types}
 use Rattle.il_image.specs.Timers.{first_state}
 use Rattle.il_image.specs.Values.{default_value}
@@ -20,8 +20,8 @@ pub record Held : Type 0 where
   pub timers : List TimerState
 
 -- what callers see of words and timers
-abbrev pub held : Image → List ℤ → List TimerState → Held
-held image slots timers =
+abbrev pub held_of : Image → List ℤ → List TimerState → Held
+held_of image slots timers =
     record { image = image; slots = values_of (slot_types image) slots; timers = timers }
 
 -- ---- the first state
@@ -82,8 +82,9 @@ outputs_of (p ∷ points) (slot ∷ slots) =
 -- ---- a scan
 
 -- where the run of a scan starts
-abbrev pub started : Held → List Value → State
-started held inputs = initial_state (with_inputs held.image.points inputs held.slots) held.timers
+abbrev pub scan_start : Held → List Value → State
+scan_start held_of inputs =
+    initial_state (with_inputs held_of.image.points inputs held_of.slots) held_of.timers
 
 -- No state of a run of at most so many steps has more cells than this on its stack.
 abbrev pub IsWithin : List ℕ → ℕ → ℕ → ℕ → State → Type 0
@@ -100,15 +101,16 @@ pub record Scans (old : Held) (inputs : List Value) (now : ℕ) (new : Held) (st
   pub image : new.image ≡ old.image
   -- the run is over at HALT, given as many steps as it takes, and no step of it is a trap
   pub halts : (most : ℕ) → steps ≤ most
-      → run old.image.code now most (started old inputs) 0 ≡ Halted new.slots new.timers steps
+      → run_from old.image.code now most (scan_start old inputs) 0
+      ≡ Halted new.slots new.timers steps
   -- it takes no more steps than the budget, nor than the code has octets
   pub within : (budget : ℕ) → IsBudget old.image.code budget → steps ≤ budget
   pub few : steps ≤ length old.image.code
   -- the stack is never deeper than the image's depth
   pub depth : (most : ℕ) (steps : ℕ) → IsDepth old.image most
-      → IsWithin old.image.code now most steps (started old inputs)
+      → IsWithin old.image.code now most steps (scan_start old inputs)
   -- a point that may only be read keeps its input
   pub keeps : (n : ℕ) (p : ImagePoint) → slice_get old.image.points n ≡ Some p → p.writable ≡ false
-      → slice_get new.slots n ≡ slice_get (started old inputs).slots n
+      → slice_get new.slots n ≡ slice_get (scan_start old inputs).slots n
   -- the outputs are the points that may be written
   pub given : outputs ≡ outputs_of old.image.points new.slots

@@ -7,7 +7,7 @@ use Rattle.il_image.specs.declared.timer.TimerState.{TimerState}
 use Rattle.il_image.specs.declared.value.Value.{Value}
 use Rattle.il_image.specs.Images.{Each, Image, IsValue}
 use Rattle.il_image.specs.Kinds.{HasKind}
-use Rattle.il_image.specs.Machine.{Goes, Halted, Halts, State, run, initial_state, turn}
+use Rattle.il_image.specs.Machine.{Goes, Halted, Halts, State, run_from, initial_state, turn}
 use Rattle.il_image.specs.Tables.{Agrees, IsHalt, IsSuccessor, Table, slot_types}
 use Rattle.il_verify.specs.Judging.{is_read_only}
 use Rattle.il_verify.specs.Slots.{slots_of}
@@ -39,7 +39,7 @@ pub record Typed (types : List ElementaryType) (count : ℕ) (slots : List Value
   pub times : Each IsTimer timers
 
 -- An agreeing table allows the cells at the place, and the code writes what it may.
-pub record Standing (image : Image) (s : State) : Type 0 where
+pub record StandsAs (image : Image) (s : State) : Type 0 where
   pub table : Table
   pub agrees : Agrees image table
   pub writes : KeepsReadOnly image
@@ -54,7 +54,7 @@ words_at s = words (words_of s.cells) (words_of s.slots) s.timers
 
 -- The words stand for a state at this place of the code.
 pub record StandsAt (image : Image) (place : ℕ) (w : Words) (s : State) : Type 0 where
-  pub standing : Standing image s
+  pub standing : StandsAs image s
   pub there : s.place ≡ place
   pub are : words_at s ≡ w
 
@@ -90,7 +90,7 @@ first_state image slots timers = initial_state (values_of (slot_types image) slo
 pub record RunsTo (image : Image) (now : ℕ) (slots : List ℤ) (timers : List TimerState)
     (new_slots : List ℤ) (new_timers : List TimerState) (steps : ℕ) : Type 0 where
   pub halts : (most : ℕ) → steps ≤ most
-      → run image.code now most (first_state image slots timers) 0
+      → run_from image.code now most (first_state image slots timers) 0
       ≡ Halted (values_of (slot_types image) new_slots) new_timers steps
   pub within : (budget : ℕ) → IsBudget image.code budget → steps ≤ budget
   pub few : steps ≤ length image.code

@@ -13,8 +13,8 @@ use Rattle.il_image.specs.declared.opcode.TimerUse.{TimerUse}
 use Rattle.il_image.specs.declared.opcode.TimerUse.TheVariants.{SetInput, SetPreset, Run, LoadOutput, LoadElapsed}
 use Rattle.il_image.specs.declared.timer.TimerState.{TimerState}
 use Rattle.bay_base.specs.declared.types.TimerKind.TheVariants.{OnDelay}
-use Rattle.il_image.specs.Arithmetic.{DividesBy, compared, computed}
-use Rattle.il_image.specs.Timers.{called, first_state}
+use Rattle.il_image.specs.Arithmetic.{DividesBy, comparison_holds, computation_of}
+use Rattle.il_image.specs.Timers.{after_call, first_state}
 use Rattle.il_image.specs.Values.{number_of}
 use Rattle.il_scan.specs.Words.{slot_at}
 
@@ -51,10 +51,10 @@ abbrev pub is_not_zero : ℤ → Bool
 is_not_zero w = not (int_eq w (pos 0))
 
 -- AND, OR and XOR of the words of two BOOLs
-abbrev pub combined : Connective → ℤ → ℤ → ℤ
-combined And a b = if int_eq a (pos 0) then pos 0 else b
-combined Or a b = if int_eq a (pos 0) then b else pos 1
-combined Xor a b = word_of (not (int_eq a b))
+abbrev pub logic_word : Connective → ℤ → ℤ → ℤ
+logic_word And a b = if int_eq a (pos 0) then pos 0 else b
+logic_word Or a b = if int_eq a (pos 0) then b else pos 1
+logic_word Xor a b = word_of (not (int_eq a b))
 
 -- what an instruction does with a slot
 abbrev pub slot_worked : SlotUse → ℕ → Words → Words
@@ -86,27 +86,27 @@ timer_worked now SetPreset n m =
           (record (timer_at m.timers n) { preset = unsigned_abs (top m.stack) });
     }
 timer_worked now Run n m =
-    record m { timers = slice_set m.timers n (called (timer_at m.timers n) now) }
+    record m { timers = slice_set m.timers n (after_call (timer_at m.timers n) now) }
 timer_worked now LoadOutput n m =
     record m { stack = word_of (timer_at m.timers n).output ∷ m.stack }
 timer_worked now LoadElapsed n m = record m { stack = pos (timer_at m.timers n).elapsed ∷ m.stack }
 
 -- A word of a narrower type is the word of the same number of a wider one.
-abbrev pub worked : ℕ → Instr → Words → Words
-worked now Halt m = m
-worked now (Push v) m = record m { stack = number_of v ∷ m.stack }
-worked now Drop m = record m { stack = drop 1 m.stack }
-worked now (Slot use_of n) m = slot_worked use_of n m
-worked now Not m = record m { stack = word_of (int_eq (top m.stack) (pos 0)) ∷ drop 1 m.stack }
-worked now (Combine c) m =
-    record m { stack = combined c (first m.stack) (top m.stack) ∷ drop 2 m.stack }
-worked now (Compute o w) m =
-    record m { stack = computed o w (first m.stack) (top m.stack) ∷ drop 2 m.stack }
-worked now (Compare c) m =
-    record m { stack = word_of (compared c (first m.stack) (top m.stack)) ∷ drop 2 m.stack }
-worked now (Widen w) m = m
-worked now (Jump when distance) m = m
-worked now (Timer use_of n) m = timer_worked now use_of n m
+abbrev pub words_after : ℕ → Instr → Words → Words
+words_after now Halt m = m
+words_after now (Push v) m = record m { stack = number_of v ∷ m.stack }
+words_after now Drop m = record m { stack = drop 1 m.stack }
+words_after now (Slot use_of n) m = slot_worked use_of n m
+words_after now Not m = record m { stack = word_of (int_eq (top m.stack) (pos 0)) ∷ drop 1 m.stack }
+words_after now (Combine c) m =
+    record m { stack = logic_word c (first m.stack) (top m.stack) ∷ drop 2 m.stack }
+words_after now (Compute o w) m =
+    record m { stack = computation_of o w (first m.stack) (top m.stack) ∷ drop 2 m.stack }
+words_after now (Compare c) m =
+    record m { stack = word_of (comparison_holds c (first m.stack) (top m.stack)) ∷ drop 2 m.stack }
+words_after now (Widen w) m = m
+words_after now (Jump when distance) m = m
+words_after now (Timer use_of n) m = timer_worked now use_of n m
 
 -- the place of the next instruction, if there is one
 abbrev pub leads : Instr → ℕ → List ℤ → Option ℕ

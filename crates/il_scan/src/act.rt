@@ -1,11 +1,11 @@
 // What each instruction does to the stack, the slots and the timers.
 ghost use Rattle.std.specs.Prelude.{◌≡◌, ◌+◌, ◌^◌, ◌<◌, ◌∷◌, length, slice_set, drop, pos, unsigned_abs, if◌then◌else◌};
 ghost use Rattle.std.specs.Ordering.{int_eq};
-ghost use Rattle.il_image.specs.Arithmetic.{DividesBy, compared, computed};
+ghost use Rattle.il_image.specs.Arithmetic.{DividesBy, comparison_holds, computation_of};
 ghost use Rattle.il_image.specs.Timers as time;
 ghost use Rattle.il_scan.specs.Working as spec;
 ghost use Rattle.il_scan.specs.Words.{slot_at};
-ghost use Rattle.il_scan.specs.Working.{IsReady, IsSpan, is_not_zero, combined, timer_at, word_of, worked, words};
+ghost use Rattle.il_scan.specs.Working.{IsReady, IsSpan, is_not_zero, logic_word, timer_at, word_of, words_after, words};
 
 use crate::stack::Stack;
 use il_image::arithmetic::{Comparison, Operation, Width, compare, compute};
@@ -27,7 +27,7 @@ fn negate(stack: &mut Stack)
 #[inline(always)]
 fn and(stack: &mut Stack)
     requires two { 1 < length stack.old }
-    ensures { stack.new ≡ combined Connective.And (spec.first stack.old) (spec.top stack.old)
+    ensures { stack.new ≡ logic_word Connective.And (spec.first stack.old) (spec.top stack.old)
         ∷ drop 2 stack.old }
 {
     let second = stack.pop();
@@ -39,7 +39,7 @@ fn and(stack: &mut Stack)
 #[inline(always)]
 fn or(stack: &mut Stack)
     requires two { 1 < length stack.old }
-    ensures { stack.new ≡ combined Connective.Or (spec.first stack.old) (spec.top stack.old)
+    ensures { stack.new ≡ logic_word Connective.Or (spec.first stack.old) (spec.top stack.old)
         ∷ drop 2 stack.old }
 {
     let second = stack.pop();
@@ -51,7 +51,7 @@ fn or(stack: &mut Stack)
 #[inline(always)]
 fn xor(stack: &mut Stack)
     requires two { 1 < length stack.old }
-    ensures { stack.new ≡ combined Connective.Xor (spec.first stack.old) (spec.top stack.old)
+    ensures { stack.new ≡ logic_word Connective.Xor (spec.first stack.old) (spec.top stack.old)
         ∷ drop 2 stack.old }
 {
     let second = stack.pop();
@@ -63,7 +63,7 @@ fn xor(stack: &mut Stack)
 #[inline(always)]
 fn combine(stack: &mut Stack, connective: Connective)
     requires two { 1 < length stack.old }
-    ensures { stack.new ≡ combined connective (spec.first stack.old) (spec.top stack.old)
+    ensures { stack.new ≡ logic_word connective (spec.first stack.old) (spec.top stack.old)
         ∷ drop 2 stack.old }
 {
     match connective {
@@ -78,7 +78,7 @@ fn combine(stack: &mut Stack, connective: Connective)
 fn calculate(stack: &mut Stack, operation: Operation, width: Width)
     requires two { 1 < length stack.old }
     requires divisor { DividesBy operation (spec.top stack.old) }
-    ensures { stack.new ≡ computed operation width (spec.first stack.old) (spec.top stack.old)
+    ensures { stack.new ≡ computation_of operation width (spec.first stack.old) (spec.top stack.old)
         ∷ drop 2 stack.old }
 {
     let second = stack.pop();
@@ -92,7 +92,7 @@ fn calculate(stack: &mut Stack, operation: Operation, width: Width)
 fn calculate_by(stack: &mut Stack, operation: Operation, width: Width)
     requires two { 1 < length stack.old }
     requires divisor { DividesBy operation (spec.top stack.old) }
-    ensures { stack.new ≡ computed operation width (spec.first stack.old) (spec.top stack.old)
+    ensures { stack.new ≡ computation_of operation width (spec.first stack.old) (spec.top stack.old)
         ∷ drop 2 stack.old }
 {
     match operation {
@@ -108,7 +108,8 @@ fn calculate_by(stack: &mut Stack, operation: Operation, width: Width)
 #[inline(always)]
 fn relate(stack: &mut Stack, comparison: Comparison)
     requires two { 1 < length stack.old }
-    ensures { stack.new ≡ word_of (compared comparison (spec.first stack.old) (spec.top stack.old))
+    ensures { stack.new ≡ word_of
+        (comparison_holds comparison (spec.first stack.old) (spec.top stack.old))
         ∷ drop 2 stack.old }
 {
     let second = stack.pop();
@@ -120,7 +121,8 @@ fn relate(stack: &mut Stack, comparison: Comparison)
 #[inline(always)]
 fn relate_by(stack: &mut Stack, comparison: Comparison)
     requires two { 1 < length stack.old }
-    ensures { stack.new ≡ word_of (compared comparison (spec.first stack.old) (spec.top stack.old))
+    ensures { stack.new ≡ word_of
+        (comparison_holds comparison (spec.first stack.old) (spec.top stack.old))
         ∷ drop 2 stack.old }
 {
     match comparison {
@@ -222,7 +224,7 @@ fn set_preset(stack: &mut Stack, timers: &mut [TimerState], number: u16)
 fn run(timers: &mut [TimerState], number: u16, now: u64)
     requires { number < length timers.old }
     ensures { timers.new ≡ slice_set timers.old number
-        (time.called (timer_at timers.old number) now) }
+        (time.after_call (timer_at timers.old number) now) }
 {
     timers[usize::from(number)].call(now);
 }
@@ -264,7 +266,7 @@ pub(crate) fn act(
     requires ready { IsReady instr (words stack.old slots.old timers.old) }
     ensures to { result ≡ spec.leads instr next stack.old }
     ensures words { words stack.new slots.new timers.new
-        ≡ worked now instr (words stack.old slots.old timers.old) }
+        ≡ words_after now instr (words stack.old slots.old timers.old) }
 {
     match instr {
         Instr::Halt => return None,

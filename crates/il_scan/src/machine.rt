@@ -4,7 +4,7 @@ ghost use Rattle.std.specs.Borrow.{sem};
 ghost use Rattle.il_scan.specs.PointPlaces.{read_places};
 ghost use Rattle.il_scan.specs.Scans.{AreInputs, Scans, TakesMemory, held_first, outputs_of, read_only, type_of_point};
 ghost use Rattle.il_scan.specs.Standing.{IsHeld, IsKept};
-ghost use Rattle.il_scan.specs.Scans.{held};
+ghost use Rattle.il_scan.specs.Scans.{held_of};
 ghost use Rattle.il_scan.specs.Words.{values_of};
 ghost use Rattle.il_image.specs.Tables.{slot_types};
 ghost use Rattle.il_verify.specs.Verdicts.{IsSafe};
@@ -36,11 +36,11 @@ pub struct Machine {
 impl Model for Machine {
     ghost use Rattle.il_scan.specs.Scans.{Held};
     ghost use Rattle.il_scan.specs.Standing.{IsKept};
-    ghost use Rattle.il_scan.specs.Scans.{held};
+    ghost use Rattle.il_scan.specs.Scans.{held_of};
 
     ghost Value = { Held };
 
-    ghost view = { λ m. held m.verified m.slots.items m.timers.items };
+    ghost view = { λ m. held_of m.verified m.slots.items m.timers.items };
 
     ghost invariant = { λ m. IsKept m.verified m.slots.items m.timers.items m.places.reads.items
         m.places.writes.items m.outputs.items };
@@ -68,7 +68,7 @@ struct Memory {
 /// The memory of a machine at first.
 fn memory_of(alloc: Global, image: &Image) -> Result<Memory, AllocError>
     ensures first { IfOk result
-        (λ m. held image.now m.slots.items m.timers.items ≡ held_first image.now) }
+        (λ m. held_of image.now m.slots.items m.timers.items ≡ held_first image.now) }
     ensures kept { IfOk result
         (λ m. IsKept image.now m.slots.items m.timers.items m.places.reads.items
         m.places.writes.items m.outputs.items) }
@@ -99,8 +99,8 @@ fn run_points<I: Inputs>(
     requires types { I.types inputs.now ≡ map type_of_point (read_only image.now.points) }
     requires held { IsHeld image.now slots.old timers.old }
     requires read { reads.now ≡ read_places 0 image.now.points }
-    ensures scans { Scans (held image.now slots.old timers.old) (I.values inputs.now) now
-        (held image.now slots.new timers.new) result
+    ensures scans { Scans (held_of image.now slots.old timers.old) (I.values inputs.now) now
+        (held_of image.now slots.new timers.new) result
         (outputs_of image.now.points (values_of (slot_types image.now) slots.new)) }
     ensures held { IsHeld image.now slots.new timers.new }
 {
@@ -122,8 +122,8 @@ fn run_once(
     requires inputs { AreInputs image.now.points inputs.now }
     requires kept { IsKept image.now slots.old timers.old places.now.reads.items
         places.now.writes.items outputs.old }
-    ensures scans { Scans (held image.now slots.old timers.old) inputs.now now
-        (held image.now slots.new timers.new) result outputs.new }
+    ensures scans { Scans (held_of image.now slots.old timers.old) inputs.now now
+        (held_of image.now slots.new timers.new) result outputs.new }
     ensures kept { IsKept image.now slots.new timers.new places.now.reads.items
         places.now.writes.items outputs.new }
 {

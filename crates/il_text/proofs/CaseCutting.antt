@@ -3,14 +3,14 @@ use Rattle.std.proofs.Common.{◌≡◌, ℕ, suc, zero, ◌||◌, Bool, true, f
 use Rattle.std.specs.List.{list_all}
 use Rattle.std.specs.Str.{bytes_eq}
 use Rattle.std.proofs.lemmas.Bool.{ltb-true}
-use Rattle.il_text.proofs.CutLemmas.{and_left, and_right}
-use Rattle.il_text.specs.Characters.{is_blank, is_sign, is_word, begins_word, begins_name, linked}
-use Rattle.il_text.specs.Literals.{halves, prefixed, decimal, untyped}
+use Rattle.il_text.proofs.CutLemmas.{and-left, and-right}
+use Rattle.il_text.specs.Characters.{is_blank, is_sign, is_word, begins_word, begins_name, are_linked}
+use Rattle.il_text.specs.Literals.{halves, prefixed_literal, decimal, plain_literal}
 use Rattle.bay_base.proofs.WordLemmas.{reserved-upper}
 use Rattle.il_text.specs.Words.{symbol_of_word, reserved_symbol}
-use Rattle.il_text.specs.Pieces.{opens, ends, closes, blanked, blank_of, joins, join, pieces}
+use Rattle.il_text.specs.Pieces.{opens, ends, closes, without_comments, blank_of, joins, join, pieces}
 use Rattle.il_text.specs.Places.{last_line}
-use Rattle.il_text.specs.Symbols.{literal_piece, name_or_reserved, plain_word, word, mark_of, mark_piece, is_line_end, piece, cut}
+use Rattle.il_text.specs.Symbols.{literal_piece, name_or_reserved, plain_word, word, mark_of, mark_piece, is_line_end, piece, pieces_of}
 use Rattle.il_text.specs.Tokens.{Symbol, name, keyword_word, type_word, literal, mnemonic_word, mark_symbol, Piece, blank, line_end, token, bad_token, bad_literal}
 use Rattle.bay_base.specs.Words.{reserved_of}
 use Rattle.bay_base.specs.declared.words.ReservedWord.{ReservedWord}
@@ -24,7 +24,7 @@ use Rattle.il_text.specs.declared.token.Mark.TheVariants as mark
 use Rattle.il_text.specs.declared.token.Mnemonic.{Mnemonic}
 use Rattle.il_text.specs.declared.token.Mnemonic.TheVariants.{Combine}
 use Rattle.bay_base.specs.Names.{same_name}
-use Rattle.il_text.proofs.CaseLemmas.{up, up-eqb, up-underscore, up-digit, up-alphabetic, up-alphanumeric, same_up, length-up, halves-up, decimal-up, prefixed-up}
+use Rattle.il_text.proofs.CaseLemmas.{up, up-eqb, up-underscore, up-digit, up-alphabetic, up-alphanumeric, same-up, length-up, halves-up, decimal-up, prefixed-up}
 
 abbrev pub upper_symbol : Symbol → Symbol
 upper_symbol (name n) = name (map up n)
@@ -56,8 +56,8 @@ begins_word-up x = rw (word-up x, sign-up x) refl
 begins_name-up : (x : ℕ) → begins_name (up x) ≡ begins_name x
 begins_name-up x = rw (up-alphabetic x, up-underscore x) refl
 
-linked-up : (x y : ℕ) → linked (up x) (up y) ≡ linked x y
-unfolding linked
+linked-up : (x y : ℕ) → are_linked (up x) (up y) ≡ are_linked x y
+unfolding are_linked
 linked-up x y =
     rw (
       word-up y,
@@ -81,18 +81,18 @@ index-up (x ∷ xs) (suc k) = index-up xs k
 joins-up : (x : ℕ) (p : List ℕ) → joins (up x) (map up p) ≡ joins x p
 unfolding joins
 joins-up x p =
-    rw (index-up p 0, linked-up x (slice_index p 0), up-eqb x 38 (lit< tt), same_up p (78 ∷ []))
+    rw (index-up p 0, linked-up x (slice_index p 0), up-eqb x 38 (lit< tt), same-up p (78 ∷ []))
     refl
 
-cond_pieces : (b : Bool) (x : ℕ) (p : List ℕ) (ps : List (List ℕ))
+cond-pieces : (b : Bool) (x : ℕ) (p : List ℕ) (ps : List (List ℕ))
     → cond b ((up x ∷ map up p) ∷ map (map up) ps) ((up x ∷ []) ∷ map up p ∷ map (map up) ps)
     ≡ map (map up) (cond b ((x ∷ p) ∷ ps) ((x ∷ []) ∷ p ∷ ps))
-cond_pieces true x p ps = refl
-cond_pieces false x p ps = refl
+cond-pieces true x p ps = refl
+cond-pieces false x p ps = refl
 
 join-up : (x : ℕ) (ps : List (List ℕ)) → join (up x) (map (map up) ps) ≡ map (map up) (join x ps)
 join-up x [] = refl
-join-up x (p ∷ ps) = rw (joins-up x p) (cond_pieces (joins x p) x p ps)
+join-up x (p ∷ ps) = rw (joins-up x p) (cond-pieces (joins x p) x p ps)
 
 pieces-up : (xs : List ℕ) → pieces (map up xs) ≡ map (map up) (pieces xs)
 unfolding pieces
@@ -114,48 +114,53 @@ closes-up (x ∷ xs) =
     ∙ ap (λ (b : Bool). ends (x ∷ xs) || b) rest
 
 blank_of-up : (x : ℕ) → blank_of (up x) ≡ up (blank_of x)
-blank_of-up x = rw (up-eqb x 10 (lit< tt)) (blank_by (eqb x 10))
+blank_of-up x = rw (up-eqb x 10 (lit< tt)) (blank-by (eqb x 10))
   where
-    blank_by : (b : Bool) → cond b 10 32 ≡ up (cond b 10 32)
-    blank_by true = refl
-    blank_by false = refl
+    blank-by : (b : Bool) → cond b 10 32 ≡ up (cond b 10 32)
+    blank-by true = refl
+    blank-by false = refl
 
-opening_by : (b : Bool) → cond b 32 256 ≡ up (cond b 32 256)
-opening_by true = refl
-opening_by false = refl
+opening-by : (b : Bool) → cond b 32 256 ≡ up (cond b 32 256)
+opening-by true = refl
+opening-by false = refl
 
-cond_blanked : (b : Bool) (l m l' m' : List ℕ) → l ≡ map up l' → m ≡ map up m'
+cond-blanked : (b : Bool) (l m l' m' : List ℕ) → l ≡ map up l' → m ≡ map up m'
     → cond b l m ≡ map up (cond b l' m')
-cond_blanked true l m l' m' e f = e
-cond_blanked false l m l' m' e f = f
+cond-blanked true l m l' m' e f = e
+cond-blanked false l m l' m' e f = f
 
-blanked-up : (b : Bool) (xs : List ℕ) → blanked b (map up xs) ≡ map up (blanked b xs)
-unfolding blanked
+blanked-up : (b : Bool) (xs : List ℕ)
+    → without_comments b (map up xs) ≡ map up (without_comments b xs)
+unfolding without_comments
 blanked-up b [] = refl
 blanked-up true (x ∷ []) = ap (λ (c : ℕ). c ∷ []) (blank_of-up x)
 blanked-up false (x ∷ []) = refl
 blanked-up true (x ∷ y ∷ xs) =
-    let outside : blanked false (map up xs) ≡ map up (blanked false xs) =
-    unfold blanked in blanked-up false xs in
-    let inside : blanked true (up y ∷ map up xs) ≡ map up (blanked true (y ∷ xs)) =
-    unfold blanked in blanked-up true (y ∷ xs) in
-    ap (λ (b : Bool). cond b (32 ∷ 32 ∷ blanked false (map up xs))
-    (blank_of (up x) ∷ blanked true (up y ∷ map up xs))) (ends-up (x ∷ y ∷ xs))
-    ∙ cond_blanked (ends (x ∷ y ∷ xs)) _ _ (32 ∷ 32 ∷ blanked false xs)
-    (blank_of x ∷ blanked true (y ∷ xs)) (ap (λ (l : List ℕ). 32 ∷ 32 ∷ l) outside)
-    (ap (λ (c : ℕ). c ∷ blanked true (up y ∷ map up xs)) (blank_of-up x)
+    let outside : without_comments false (map up xs) ≡ map up (without_comments false xs) =
+    unfold without_comments in blanked-up false xs in
+    let inside : without_comments true (up y ∷ map up xs)
+    ≡ map up (without_comments true (y ∷ xs)) =
+    unfold without_comments in blanked-up true (y ∷ xs) in
+    ap (λ (b : Bool). cond b (32 ∷ 32 ∷ without_comments false (map up xs))
+    (blank_of (up x) ∷ without_comments true (up y ∷ map up xs))) (ends-up (x ∷ y ∷ xs))
+    ∙ cond-blanked (ends (x ∷ y ∷ xs)) _ _ (32 ∷ 32 ∷ without_comments false xs)
+    (blank_of x ∷ without_comments true (y ∷ xs)) (ap (λ (l : List ℕ). 32 ∷ 32 ∷ l) outside)
+    (ap (λ (c : ℕ). c ∷ without_comments true (up y ∷ map up xs)) (blank_of-up x)
     ∙ ap (λ (l : List ℕ). up (blank_of x) ∷ l) inside)
 blanked-up false (x ∷ y ∷ xs) =
-    let inside : blanked true (map up xs) ≡ map up (blanked true xs) =
-    unfold blanked in blanked-up true xs in
-    let outside : blanked false (up y ∷ map up xs) ≡ map up (blanked false (y ∷ xs)) =
-    unfold blanked in blanked-up false (y ∷ xs) in
-    ap (λ (b : Bool). cond b (cond (closes (map up xs)) 32 256 ∷ 32 ∷ blanked true (map up xs))
-    (up x ∷ blanked false (up y ∷ map up xs))) (opens-up (x ∷ y ∷ xs))
-    ∙ cond_blanked (opens (x ∷ y ∷ xs)) _ _ (cond (closes xs) 32 256 ∷ 32 ∷ blanked true xs)
-    (x ∷ blanked false (y ∷ xs))
-    (ap (λ (b : Bool). cond b 32 256 ∷ 32 ∷ blanked true (map up xs)) (closes-up xs)
-    ∙ ap (λ (c : ℕ). c ∷ 32 ∷ blanked true (map up xs)) (opening_by (closes xs))
+    let inside : without_comments true (map up xs) ≡ map up (without_comments true xs) =
+    unfold without_comments in blanked-up true xs in
+    let outside : without_comments false (up y ∷ map up xs)
+    ≡ map up (without_comments false (y ∷ xs)) =
+    unfold without_comments in blanked-up false (y ∷ xs) in
+    ap (λ (b : Bool). cond b
+    (cond (closes (map up xs)) 32 256 ∷ 32 ∷ without_comments true (map up xs))
+    (up x ∷ without_comments false (up y ∷ map up xs))) (opens-up (x ∷ y ∷ xs))
+    ∙ cond-blanked (opens (x ∷ y ∷ xs)) _ _
+    (cond (closes xs) 32 256 ∷ 32 ∷ without_comments true xs)
+    (x ∷ without_comments false (y ∷ xs))
+    (ap (λ (b : Bool). cond b 32 256 ∷ 32 ∷ without_comments true (map up xs)) (closes-up xs)
+    ∙ ap (λ (c : ℕ). c ∷ 32 ∷ without_comments true (map up xs)) (opening-by (closes xs))
     ∙ ap (λ (l : List ℕ). up (cond (closes xs) 32 256) ∷ 32 ∷ l) inside)
     (ap (λ (l : List ℕ). up x ∷ l) outside)
 
@@ -173,8 +178,8 @@ plain-up [] [] h = refl
 plain-up [] (k ∷ ks) h = refl
 plain-up (x ∷ p) [] h = refl
 plain-up (x ∷ p) (k ∷ ks) h =
-    let rest : bytes_eq (map up p) ks ≡ bytes_eq p ks = plain-up p ks (and_right (ltb k 65) _ h) in
-    rw (up-eqb x k (ltb-true k 65 (and_left (ltb k 65) _ h)), rest) refl
+    let rest : bytes_eq (map up p) ks ≡ bytes_eq p ks = plain-up p ks (and-right (ltb k 65) _ h) in
+    rw (up-eqb x k (ltb-true k 65 (and-left (ltb k 65) _ h)), rest) refl
 
 mark-up : (p : List ℕ) → mark_of (map up p) ≡ mark_of p
 unfolding mark_of
@@ -188,138 +193,139 @@ mark-up p =
       plain-up p (40 ∷ []) refl,
       plain-up p (41 ∷ []) refl,
       plain-up p (38 ∷ []) refl,
-      same_up p (38 ∷ 78 ∷ []),
+      same-up p (38 ∷ 78 ∷ []),
     ) refl
 
 line_end-up : (p : List ℕ) → is_line_end (map up p) ≡ is_line_end p
 line_end-up p = rw (plain-up p (10 ∷ []) refl, plain-up p (13 ∷ 10 ∷ []) refl) refl
 
 -- no reserved word is a name
-word_cases : (r : ReservedWord) → upper_symbol (symbol_of_word r) ≡ symbol_of_word r
-word_cases word_is.Ld = refl
-word_cases word_is.Ldn = refl
-word_cases word_is.St = refl
-word_cases word_is.Stn = refl
-word_cases word_is.S = refl
-word_cases word_is.R = refl
-word_cases word_is.And = refl
-word_cases word_is.Andn = refl
-word_cases word_is.Or = refl
-word_cases word_is.Orn = refl
-word_cases word_is.Xor = refl
-word_cases word_is.Xorn = refl
-word_cases word_is.Not = refl
-word_cases word_is.Add = refl
-word_cases word_is.Sub = refl
-word_cases word_is.Mul = refl
-word_cases word_is.Div = refl
-word_cases word_is.Mod = refl
-word_cases word_is.Gt = refl
-word_cases word_is.Ge = refl
-word_cases word_is.Eq = refl
-word_cases word_is.Ne = refl
-word_cases word_is.Le = refl
-word_cases word_is.Lt = refl
-word_cases word_is.Jmp = refl
-word_cases word_is.Jmpc = refl
-word_cases word_is.Jmpcn = refl
-word_cases word_is.Cal = refl
-word_cases word_is.Ret = refl
-word_cases word_is.Retc = refl
-word_cases word_is.Retcn = refl
-word_cases word_is.IntToDint = refl
-word_cases word_is.DintToLint = refl
-word_cases word_is.Program = refl
-word_cases word_is.EndProgram = refl
-word_cases word_is.Var = refl
-word_cases word_is.VarExternal = refl
-word_cases word_is.EndVar = refl
-word_cases word_is.Bool = refl
-word_cases word_is.Int = refl
-word_cases word_is.Dint = refl
-word_cases word_is.Lint = refl
-word_cases word_is.Time = refl
-word_cases word_is.Ton = refl
-word_cases word_is.Tof = refl
-word_cases word_is.True = refl
-word_cases word_is.False = refl
+word-cases : (r : ReservedWord) → upper_symbol (symbol_of_word r) ≡ symbol_of_word r
+word-cases word_is.Ld = refl
+word-cases word_is.Ldn = refl
+word-cases word_is.St = refl
+word-cases word_is.Stn = refl
+word-cases word_is.S = refl
+word-cases word_is.R = refl
+word-cases word_is.And = refl
+word-cases word_is.Andn = refl
+word-cases word_is.Or = refl
+word-cases word_is.Orn = refl
+word-cases word_is.Xor = refl
+word-cases word_is.Xorn = refl
+word-cases word_is.Not = refl
+word-cases word_is.Add = refl
+word-cases word_is.Sub = refl
+word-cases word_is.Mul = refl
+word-cases word_is.Div = refl
+word-cases word_is.Mod = refl
+word-cases word_is.Gt = refl
+word-cases word_is.Ge = refl
+word-cases word_is.Eq = refl
+word-cases word_is.Ne = refl
+word-cases word_is.Le = refl
+word-cases word_is.Lt = refl
+word-cases word_is.Jmp = refl
+word-cases word_is.Jmpc = refl
+word-cases word_is.Jmpcn = refl
+word-cases word_is.Cal = refl
+word-cases word_is.Ret = refl
+word-cases word_is.Retc = refl
+word-cases word_is.Retcn = refl
+word-cases word_is.IntToDint = refl
+word-cases word_is.DintToLint = refl
+word-cases word_is.Program = refl
+word-cases word_is.EndProgram = refl
+word-cases word_is.Var = refl
+word-cases word_is.VarExternal = refl
+word-cases word_is.EndVar = refl
+word-cases word_is.Bool = refl
+word-cases word_is.Int = refl
+word-cases word_is.Dint = refl
+word-cases word_is.Lint = refl
+word-cases word_is.Time = refl
+word-cases word_is.Ton = refl
+word-cases word_is.Tof = refl
+word-cases word_is.True = refl
+word-cases word_is.False = refl
 
-symbols_by : (o : Option ReservedWord)
+symbols-by : (o : Option ReservedWord)
     → option_map upper_symbol (option_map symbol_of_word o) ≡ option_map symbol_of_word o
-symbols_by None = refl
-symbols_by (Some r) = ap Some (word_cases r)
+symbols-by None = refl
+symbols-by (Some r) = ap Some (word-cases r)
 
 reserved-up : (w : List ℕ)
     → reserved_symbol (map up w) ≡ option_map upper_symbol (reserved_symbol w)
 unfolding reserved_symbol
-reserved-up w = ap (option_map symbol_of_word) (reserved-upper w) ∙ sym (symbols_by (reserved_of w))
+reserved-up w = ap (option_map symbol_of_word) (reserved-upper w) ∙ sym (symbols-by (reserved_of w))
 
 literal-up : (r : Result Literal LiteralFault) → literal_piece r ≡ upper_piece (literal_piece r)
 literal-up (Ok v) = refl
 literal-up (Err Malformed) = refl
 literal-up (Err OutOfRange) = refl
 
-named_cond : (w : List ℕ) (b : Bool)
+named-cond : (w : List ℕ) (b : Bool)
     → cond b (token (name (map up w))) bad_token ≡ upper_piece (cond b (token (name w)) bad_token)
-named_cond w true = refl
-named_cond w false = refl
+named-cond w true = refl
+named-cond w false = refl
 
-named_by : (w : List ℕ) (o : Option Symbol)
+named-by : (w : List ℕ) (o : Option Symbol)
     → name_or_reserved (map up w) (option_map upper_symbol o) ≡ upper_piece (name_or_reserved w o)
-named_by w (Some k) = refl
-named_by w None = rw (length-up w) (named_cond w (leb (length w) 64))
+named-by w (Some k) = refl
+named-by w None = rw (length-up w) (named-cond w (leb (length w) 64))
 
 plain_word-up : (w : List ℕ) → plain_word (map up w) ≡ upper_piece (plain_word w)
 unfolding plain_word
-plain_word-up w = ap (name_or_reserved (map up w)) (reserved-up w) ∙ named_by w (reserved_symbol w)
+plain_word-up w = ap (name_or_reserved (map up w)) (reserved-up w) ∙ named-by w (reserved_symbol w)
 
-word_by : (w : List ℕ) (o : Option (List ℕ × List ℕ)) → halves w ≡ o → (b : Bool)
+word-by : (w : List ℕ) (o : Option (List ℕ × List ℕ)) → halves w ≡ o → (b : Bool)
     → begins_name (slice_index w 0) ≡ b → word (map up w) ≡ upper_piece (word w)
 unfolding word
-word_by w (Some h) e b f = rw (halves-up w, e, prefixed-up h.0 h.1) (literal-up (prefixed h.0 h.1))
-word_by w None e true f =
+word-by w (Some h) e b f =
+    rw (halves-up w, e, prefixed-up h.0 h.1) (literal-up (prefixed_literal h.0 h.1))
+word-by w None e true f =
     rw (halves-up w, e, index-up w 0, begins_name-up (slice_index w 0), f) (plain_word-up w)
-word_by w None e false f =
+word-by w None e false f =
     rw (halves-up w, e, index-up w 0, begins_name-up (slice_index w 0), f, decimal-up w)
-    (literal-up (untyped (decimal w)))
+    (literal-up (plain_literal (decimal w)))
 
 -- no mark is a name
 record Kept (o : Option Symbol) : Type 0 where
   is : mark_piece o ≡ upper_piece (mark_piece o)
 
-kept_if : {s t : Option Symbol} → (b : Bool) → Kept s → Kept t → Kept (cond b s t)
-kept_if true h k = h
-kept_if false h k = k
+kept-if : {s t : Option Symbol} → (b : Bool) → Kept s → Kept t → Kept (cond b s t)
+kept-if true h k = h
+kept-if false h k = k
 
-kept_mark : (m : Mark) → Kept (Some (mark_symbol m))
-kept_mark m = record { is = refl }
+kept-mark : (m : Mark) → Kept (Some (mark_symbol m))
+kept-mark m = record { is = refl }
 
-kept_operator : (m : Mnemonic) → Kept (Some (mnemonic_word m))
-kept_operator m = record { is = refl }
+kept-operator : (m : Mnemonic) → Kept (Some (mnemonic_word m))
+kept-operator m = record { is = refl }
 
-kept_none : Kept None
-kept_none = record { is = refl }
+kept-none : Kept None
+kept-none = record { is = refl }
 
-kept_marks : (p : List ℕ) → Kept (mark_of p)
+kept-marks : (p : List ℕ) → Kept (mark_of p)
 unfolding mark_of
-kept_marks p =
-    kept_if (bytes_eq p (codes ":")) (kept_mark mark.Colon)
-    (kept_if (bytes_eq p (codes ":=")) (kept_mark mark.Assign)
-    (kept_if (bytes_eq p (codes ",")) (kept_mark mark.Comma)
-    (kept_if (bytes_eq p (codes ";")) (kept_mark mark.Semicolon)
-    (kept_if (bytes_eq p (codes ".")) (kept_mark mark.Dot)
-    (kept_if (bytes_eq p (codes "(")) (kept_mark mark.Open)
-    (kept_if (bytes_eq p (codes ")")) (kept_mark mark.Close)
-    (kept_if (bytes_eq p (codes "&")) (kept_operator (Combine And false))
-    (kept_if (same_name p (codes "&N")) (kept_operator (Combine And true)) kept_none))))))))
+kept-marks p =
+    kept-if (bytes_eq p (codes ":")) (kept-mark mark.Colon)
+    (kept-if (bytes_eq p (codes ":=")) (kept-mark mark.Assign)
+    (kept-if (bytes_eq p (codes ",")) (kept-mark mark.Comma)
+    (kept-if (bytes_eq p (codes ";")) (kept-mark mark.Semicolon)
+    (kept-if (bytes_eq p (codes ".")) (kept-mark mark.Dot)
+    (kept-if (bytes_eq p (codes "(")) (kept-mark mark.Open)
+    (kept-if (bytes_eq p (codes ")")) (kept-mark mark.Close)
+    (kept-if (bytes_eq p (codes "&")) (kept-operator (Combine And false))
+    (kept-if (same_name p (codes "&N")) (kept-operator (Combine And true)) kept-none))))))))
 
-piece_by : (p : List ℕ) (a b c : Bool) → is_blank (slice_index p 0) ≡ a → is_line_end p ≡ b
+piece-by : (p : List ℕ) (a b c : Bool) → is_blank (slice_index p 0) ≡ a → is_line_end p ≡ b
     → begins_word (slice_index p 0) ≡ c → piece (map up p) ≡ upper_piece (piece p)
 unfolding piece
-piece_by p true b c e f g = rw (index-up p 0, blank-up (slice_index p 0), e) refl
-piece_by p false true c e f g =
+piece-by p true b c e f g = rw (index-up p 0, blank-up (slice_index p 0), e) refl
+piece-by p false true c e f g =
     rw (index-up p 0, blank-up (slice_index p 0), e, line_end-up p, f) refl
-piece_by p false false true e f g =
+piece-by p false false true e f g =
     rw (
       index-up p 0,
       blank-up (slice_index p 0),
@@ -328,8 +334,8 @@ piece_by p false false true e f g =
       f,
       begins_word-up (slice_index p 0),
       g,
-    ) (word_by p _ refl _ refl)
-piece_by p false false false e f g =
+    ) (word-by p _ refl _ refl)
+piece-by p false false false e f g =
     rw (
       index-up p 0,
       blank-up (slice_index p 0),
@@ -339,17 +345,19 @@ piece_by p false false false e f g =
       begins_word-up (slice_index p 0),
       g,
       mark-up p,
-    ) (kept_marks p).is
+    ) (kept-marks p).is
 
 piece-up : (p : List ℕ) → piece (map up p) ≡ upper_piece (piece p)
-piece-up p = piece_by p _ _ _ refl refl refl
+piece-up p = piece-by p _ _ _ refl refl refl
 
-pieces_map : (ps : List (List ℕ)) → map piece (map (map up) ps) ≡ map upper_piece (map piece ps)
-pieces_map [] = refl
-pieces_map (p ∷ ps) = rw (piece-up p, pieces_map ps) refl
+pieces-map : (ps : List (List ℕ)) → map piece (map (map up) ps) ≡ map upper_piece (map piece ps)
+pieces-map [] = refl
+pieces-map (p ∷ ps) = rw (piece-up p, pieces-map ps) refl
 
-pub cut-up : (text : List ℕ) → cut false (map up text) ≡ map upper_piece (cut false text)
-unfolding cut
+pub cut-up : (text : List ℕ)
+    → pieces_of false (map up text) ≡ map upper_piece (pieces_of false text)
+unfolding pieces_of
 cut-up text =
     ap (λ (l : List ℕ). map piece (pieces l)) (blanked-up false text)
-    ∙ ap (map piece) (pieces-up (blanked false text)) ∙ pieces_map (pieces (blanked false text))
+    ∙ ap (map piece) (pieces-up (without_comments false text))
+    ∙ pieces-map (pieces (without_comments false text))

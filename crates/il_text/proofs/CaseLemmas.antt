@@ -11,7 +11,7 @@ use Rattle.bay_base.specs.Names.{same_name}
 use Rattle.il_text.specs.declared.literal.LiteralFault.{LiteralFault}
 use Rattle.il_text.specs.declared.program.Literal.TheVariants.{Lint}
 use Rattle.bay_base.proofs.NameLemmas.{same-upper}
-use Rattle.il_text.specs.Literals.{is_underscore, is_hash, is_integer, number, halves, base_of, decimal, based, integer, Signed, signed, truth_of, number_or_truth, bool_or_truth, typed_number, bool_literal, int_literal, dint_literal, time_literal, typed_bool, typed_int, typed_dint, typed_lint, typed_time, Duration, number_len, unit_len, number_of_part, with_part, part, parts, total_of, milliseconds, prefixed}
+use Rattle.il_text.specs.Literals.{is_underscore, is_hash, is_integer, number, halves, base_of, decimal, based_integer, integer, Signed, number_value, truth_of, number_or_truth, bool_or_truth, typed_number, bool_literal, int_literal, dint_literal, time_literal, typed_bool, typed_int, typed_dint, typed_lint, typed_time, Duration, number_len, unit_len, number_of_part, with_part, part, parts, total_of, milliseconds, prefixed_literal}
 
 abbrev pub up : ℕ → ℕ
 up = to_ascii_uppercase
@@ -37,8 +37,8 @@ up-alphanumeric x = grind (arith, nat_tests)
 pub up-digit_value : (x : ℕ) → digit_value (up x) ≡ digit_value x
 up-digit_value x = grind (arith, nat_tests)
 
-pub same_up : (a b : List ℕ) → same_name (map up a) b ≡ same_name a b
-same_up a b = same-upper a b
+pub same-up : (a b : List ℕ) → same_name (map up a) b ≡ same_name a b
+same-up a b = same-upper a b
 
 pub length-up : (a : List ℕ) → length (map up a) ≡ length a
 length-up [] = refl
@@ -63,18 +63,18 @@ integer_from-up radix w (x ∷ xs) =
 abbrev kept : List ℕ → List ℕ
 kept = filter (λ x. not (is_underscore x))
 
-kept_step : (radix n x : ℕ) (l m : List ℕ) (b : Bool)
+kept-step : (radix n x : ℕ) (l m : List ℕ) (b : Bool)
     → ((k : ℕ) → digits_value_after radix k l ≡ digits_value_after radix k m)
     → digits_value_after radix n (cond (not b) (up x ∷ l) l)
     ≡ digits_value_after radix n (cond (not b) (x ∷ m) m)
-kept_step radix n x l m true h = h n
-kept_step radix n x l m false h = rw (up-digit_value x) (h (n * radix + digit_value x))
+kept-step radix n x l m true h = h n
+kept-step radix n x l m false h = rw (up-digit_value x) (h (n * radix + digit_value x))
 
 value-up : (radix n : ℕ) (ds : List ℕ)
     → digits_value_after radix n (kept (map up ds)) ≡ digits_value_after radix n (kept ds)
 value-up radix n [] = refl
 value-up radix n (x ∷ xs) =
-    rw (up-underscore x) (kept_step radix n x (kept (map up xs)) (kept xs) (eqb x 95)
+    rw (up-underscore x) (kept-step radix n x (kept (map up xs)) (kept xs) (eqb x 95)
     (λ k. value-up radix k xs))
 
 number-up : (radix : ℕ) (ds : List ℕ) → number radix (map up ds) ≡ number radix ds
@@ -84,10 +84,10 @@ number-up radix ds = rw (integer_from-up radix true ds, value-up radix 0 ds) ref
 abbrev pub up_both : List ℕ × List ℕ → List ℕ × List ℕ
 up_both h = (map up h.0, map up h.1)
 
-cond_some : (b : Bool) (h : List ℕ × List ℕ)
+cond-some : (b : Bool) (h : List ℕ × List ℕ)
     → cond b (Some (up_both h)) None ≡ option_map up_both (cond b (Some h) None)
-cond_some true h = refl
-cond_some false h = refl
+cond-some true h = refl
+cond-some false h = refl
 
 hash-up : (w : List ℕ) → position_or_len is_hash (map up w) ≡ position_or_len is_hash w
 hash-up w = prefix-up (λ x. not (is_hash x)) (λ x. ap not (up-eqb x 35 (lit< tt))) w
@@ -97,11 +97,11 @@ unfolding halves
 halves-up w =
     let n : ℕ = position_or_len is_hash w in
     rw (hash-up w, length-up w, take-map up n w, drop-map up (n + 1) w)
-    (cond_some (ltb n (length w)) (take n w, drop (n + 1) w))
+    (cond-some (ltb n (length w)) (take n w, drop (n + 1) w))
 
 base-up : (w : List ℕ) → base_of (map up w) ≡ base_of w
 unfolding base_of
-base-up w = simp same_up
+base-up w = simp same-up
 
 pub decimal-up : (w : List ℕ) → decimal (map up w) ≡ decimal w
 unfolding decimal
@@ -109,18 +109,18 @@ decimal-up [] = refl
 decimal-up (x ∷ xs) =
     rw (up-eqb x 45 (lit< tt), up-eqb x 43 (lit< tt), number-up 10 xs, number-up 10 (x ∷ xs)) refl
 
-based-up : (a b : List ℕ) → based (map up a) (map up b) ≡ based a b
-unfolding based
+based-up : (a b : List ℕ) → based_integer (map up a) (map up b) ≡ based_integer a b
+unfolding based_integer
 based-up a b = simp (base-up, number-up)
 
-integer_by : (w : List ℕ) (o : Option (List ℕ × List ℕ)) → halves w ≡ o
+integer-by : (w : List ℕ) (o : Option (List ℕ × List ℕ)) → halves w ≡ o
     → integer (map up w) ≡ integer w
 unfolding integer
-integer_by w None e = rw (halves-up w, e) (decimal-up w)
-integer_by w (Some h) e = rw (halves-up w, e) (based-up h.0 h.1)
+integer-by w None e = rw (halves-up w, e) (decimal-up w)
+integer-by w (Some h) e = rw (halves-up w, e) (based-up h.0 h.1)
 
 integer-up : (w : List ℕ) → integer (map up w) ≡ integer w
-integer-up w = integer_by w (halves w) refl
+integer-up w = integer-by w (halves w) refl
 
 part_number-up : (b : Bool) (ds : List ℕ) → number_of_part b (map up ds) ≡ number_of_part b ds
 part_number-up b [] = refl
@@ -171,7 +171,7 @@ unfolding part
 part-up u f d =
     let same =
     ap (λ (w : List ℕ). same_name w u) (letters-up d.rest)
-    ∙ same_up (take (unit_len d.rest) (drop (number_len d.rest) d.rest)) u in
+    ∙ same-up (take (unit_len d.rest) (drop (number_len d.rest) d.rest)) u in
     let value =
     ap (number_of_part d.begun) (front-up d.rest)
     ∙ part_number-up d.begun (take (number_len d.rest) d.rest) in
@@ -209,23 +209,23 @@ milliseconds-up w =
     (then-up _ 3600000 _ _ (part-up _ 86400000 start)))))
 
 truth-up : (w : List ℕ) → truth_of (map up w) ≡ truth_of w
-truth-up w = rw (same_up w (codes "TRUE"), same_up w (codes "FALSE")) refl
+truth-up w = rw (same-up w (codes "TRUE"), same-up w (codes "FALSE")) refl
 
-number_by : (w : List ℕ) (o : Option Bool) → number_or_truth (map up w) o ≡ number_or_truth w o
-number_by w (Some b) = refl
-number_by w None = ap signed (integer-up w)
+number-by : (w : List ℕ) (o : Option Bool) → number_or_truth (map up w) o ≡ number_or_truth w o
+number-by w (Some b) = refl
+number-by w None = ap number_value (integer-up w)
 
 typed-up : (w : List ℕ) → typed_number (map up w) ≡ typed_number w
 unfolding typed_number
-typed-up w = ap (number_or_truth (map up w)) (truth-up w) ∙ number_by w (truth_of w)
+typed-up w = ap (number_or_truth (map up w)) (truth-up w) ∙ number-by w (truth_of w)
 
-bool_by : (w : List ℕ) (o : Option Bool) → bool_or_truth (map up w) o ≡ bool_or_truth w o
-bool_by w (Some b) = refl
-bool_by w None = ap (λ (z : Option Signed). signed z >>= bool_literal) (integer-up w)
+bool-by : (w : List ℕ) (o : Option Bool) → bool_or_truth (map up w) o ≡ bool_or_truth w o
+bool-by w (Some b) = refl
+bool-by w None = ap (λ (z : Option Signed). number_value z >>= bool_literal) (integer-up w)
 
 bool-up : (w : List ℕ) → typed_bool (map up w) ≡ typed_bool w
 unfolding typed_bool
-bool-up w = ap (bool_or_truth (map up w)) (truth-up w) ∙ bool_by w (truth_of w)
+bool-up w = ap (bool_or_truth (map up w)) (truth-up w) ∙ bool-by w (truth_of w)
 
 time-up : (w : List ℕ) → typed_time (map up w) ≡ typed_time w
 unfolding typed_time
@@ -243,6 +243,6 @@ lint-up : (w : List ℕ) → typed_lint (map up w) ≡ typed_lint w
 unfolding typed_lint
 lint-up w = ap (λ (z : Result ℤ LiteralFault). z >>= (λ value. Ok (Lint value))) (typed-up w)
 
-pub prefixed-up : (a w : List ℕ) → prefixed (map up a) (map up w) ≡ prefixed a w
-unfolding prefixed
-prefixed-up a w = simp (same_up, bool-up, int-up, dint-up, lint-up, time-up, based-up)
+pub prefixed-up : (a w : List ℕ) → prefixed_literal (map up a) (map up w) ≡ prefixed_literal a w
+unfolding prefixed_literal
+prefixed-up a w = simp (same-up, bool-up, int-up, dint-up, lint-up, time-up, based-up)

@@ -8,9 +8,9 @@ use Rattle.il_text.specs.LetterCase.{upper_action, upper_entry, upper_entries, u
 use Rattle.il_text.specs.Listing.{Action, load, store, combine, invert, convert, jump, leave, call, Entry, label, action, block, entry, entries_of, Declared, PlainProgram}
 use Rattle.il_text.specs.Parts.{Part, heading, opening, declaring, closing, labelling, acting, entering, leaving, ending}
 use Rattle.il_text.specs.Places.{last_line}
-use Rattle.il_text.specs.Reading.{onto, lines, tokens_of, Read, is_instruction, has_instruction, past_limit, counted, bounded, limited, stepped, after_parts, after_line, whole_at, reading, none_yet, program_of}
+use Rattle.il_text.specs.Reading.{onto, lines, tokens_of, Read, is_instruction, has_instruction, past_limit, with_instruction, within_bounds, within_limits, after_text_line, after_parts, after_line, whole_at, reading, none_yet, program_of}
 use Rattle.il_text.specs.Steps.{Opened, Reached, at_place, with_name, declared_in, with_declarations, with_item, with_opened, is_start, is_between_blocks, block_scope, is_outside, is_some, is_load, may_begin_with, declared_here, closed_block, left_here, may_stand, may_act, may_enter, may_leave, step, steps}
-use Rattle.il_text.specs.Symbols.{cut}
+use Rattle.il_text.specs.Symbols.{pieces_of}
 use Rattle.il_text.specs.Texts.{ReadsAs}
 use Rattle.il_text.specs.Tokens.{Symbol, Piece, blank, line_end, token, bad_token, bad_literal}
 use Rattle.il_text.specs.declared.fault.TextFault.{TextFault}
@@ -23,7 +23,7 @@ use Rattle.il_text.specs.declared.program.Scope.{Scope}
 use Rattle.il_text.proofs.CaseLemmas.{up}
 use Rattle.il_text.proofs.CaseCutting.{upper_symbol, upper_piece, cut-up, last_line-up}
 use Rattle.il_text.proofs.CaseForms.{upper_symbols, upper_part, upper_parts, parts-up}
-use Rattle.il_text.proofs.TextLemmas.{text_reads}
+use Rattle.il_text.proofs.TextLemmas.{text-reads}
 use Rattle.il_text.proofs.UniqueLemmas.{one_reading}
 
 onto-up : (p : Piece) (ls : List (List Piece))
@@ -84,15 +84,15 @@ upper_reached r =
       parentheses = map upper_opened r.parentheses;
     }
 
-cond_map : {A B : Type 0} → (f : A → B) (b : Bool) (o : Option A)
+cond-map : {A B : Type 0} → (f : A → B) (b : Bool) (o : Option A)
     → cond b (option_map f o) None ≡ option_map f (cond b o None)
-cond_map f true o = refl
-cond_map f false o = refl
+cond-map f true o = refl
+cond-map f false o = refl
 
-cond_to : (b : Bool) (o q : Option Reached) → o ≡ option_map upper_reached q
+cond-to : (b : Bool) (o q : Option Reached) → o ≡ option_map upper_reached q
     → cond b o None ≡ option_map upper_reached (cond b q None)
-cond_to true o q e = e
-cond_to false o q e = refl
+cond-to true o q e = e
+cond-to false o q e = refl
 
 some-up : (es : List Entry) → is_some (map upper_entry es) ≡ is_some es
 some-up [] = refl
@@ -183,7 +183,7 @@ declaring-up : (n : ℕ) (ns : List (List ℕ)) (kind : DeclaredType) (initial :
     ≡ option_map upper_reached (declared_here n ns kind initial r o)
 declaring-up n ns kind initial r None = refl
 declaring-up n ns kind initial r (Some scope) =
-    cond_to (may_begin_with scope initial) _
+    cond-to (may_begin_with scope initial) _
     (Some (with_declarations (map (declared_in n scope kind initial) ns) r))
     (ap (λ (ds : List Declared). Some (with_listed r ds))
     (ap (λ (ds : List Declared). map upper_declared r.declarations ++ ds)
@@ -220,37 +220,37 @@ left-up n r (f ∷ fs) =
 step-up : (n : ℕ) (r : Reached) (p : Part)
     → step n (upper_reached r) (upper_part p) ≡ option_map upper_reached (step n r p)
 unfolding step
-step-up n r (heading name) = cond_map upper_reached (is_start r.place) (Some (with_name name r))
+step-up n r (heading name) = cond-map upper_reached (is_start r.place) (Some (with_name name r))
 step-up n r (opening scope) =
-    cond_map upper_reached (is_between_blocks r.place) (Some (at_place (place.Block scope) r))
+    cond-map upper_reached (is_between_blocks r.place) (Some (at_place (place.Block scope) r))
 step-up n r (declaring ns kind initial) = declaring-up n ns kind initial r (block_scope r.place)
 step-up n r closing = closing-up r (block_scope r.place)
 step-up n r (labelling name) =
     ap (λ (b : Bool). cond b (Some (with_item (label n (map up name)) (upper_reached r))) None)
     (stand-up r)
-    ∙ cond_to (may_stand r) _ (Some (with_item (label n name) r))
+    ∙ cond-to (may_stand r) _ (Some (with_item (label n name) r))
     (ap Some (item-up r (label n name)))
 step-up n r (acting a) =
     ap (λ (b : Bool). cond b (Some (with_item (action n (upper_action a)) (upper_reached r))) None)
     (act-up r a)
-    ∙ cond_to (may_act r a) _ (Some (with_item (action n a) r)) (ap Some (item-up r (action n a)))
+    ∙ cond-to (may_act r a) _ (Some (with_item (action n a) r)) (ap Some (item-up r (action n a)))
 step-up n r (entering o g) =
     ap (λ (b : Bool). cond b (Some (with_opened n o g (upper_reached r))) None) (enter-up r)
-    ∙ cond_to (may_enter r) _ (Some (with_opened n o g r)) refl
+    ∙ cond-to (may_enter r) _ (Some (with_opened n o g r)) refl
 step-up n r leaving =
     ap (λ (b : Bool). cond b (left_here n (upper_reached r) (map upper_opened r.parentheses)) None)
     (leave-up r)
-    ∙ cond_to (may_leave r) _ (left_here n r r.parentheses) (left-up n r r.parentheses)
+    ∙ cond-to (may_leave r) _ (left_here n r r.parentheses) (left-up n r r.parentheses)
 step-up n r ending =
     ap (λ (b : Bool). cond b (Some (at_place place.Finished (upper_reached r))) None) (stand-up r)
-    ∙ cond_to (may_stand r) _ (Some (at_place place.Finished r)) refl
+    ∙ cond-to (may_stand r) _ (Some (at_place place.Finished r)) refl
 
-then_steps : (f g : Reached → Option Reached)
+then-steps : (f g : Reached → Option Reached)
     → ((s : Reached) → f (upper_reached s) ≡ option_map upper_reached (g s)) → (o : Option Reached)
     → option_and_then f (option_map upper_reached o)
     ≡ option_map upper_reached (option_and_then g o)
-then_steps f g h None = refl
-then_steps f g h (Some s) = h s
+then-steps f g h None = refl
+then-steps f g h (Some s) = h s
 
 steps-up : (n : ℕ) (r : Reached) (ps : List Part)
     → steps n (upper_reached r) (upper_parts ps) ≡ option_map upper_reached (steps n r ps)
@@ -258,7 +258,7 @@ unfolding steps
 steps-up n r [] = refl
 steps-up n r (p ∷ ps) =
     ap (option_and_then (λ s. steps n s (upper_parts ps))) (step-up n r p)
-    ∙ then_steps (λ s. steps n s (upper_parts ps)) (λ s. steps n s ps)
+    ∙ then-steps (λ s. steps n s (upper_parts ps)) (λ s. steps n s ps)
     (λ s. unfold steps in steps-up n s ps) (step n r p)
 
 one_instruction-up : (p : Part) → is_instruction (upper_part p) ≡ is_instruction p
@@ -283,37 +283,38 @@ abbrev upper_ok : Result Read TextFault → Result Read TextFault
 upper_ok (Ok r) = Ok (upper_read r)
 upper_ok (Err e) = Err e
 
-cond_ok : (b : Bool) (p q s t : Result Read TextFault) → p ≡ upper_ok s → q ≡ upper_ok t
+cond-ok : (b : Bool) (p q s t : Result Read TextFault) → p ≡ upper_ok s → q ≡ upper_ok t
     → cond b p q ≡ upper_ok (cond b s t)
-cond_ok true p q s t e f = e
-cond_ok false p q s t e f = f
+cond-ok true p q s t e f = e
+cond-ok false p q s t e f = f
 
 counted-up : (n last k : ℕ) (s : Reached)
-    → counted n last k (upper_reached s) ≡ upper_ok (counted n last k s)
+    → with_instruction n last k (upper_reached s) ≡ upper_ok (with_instruction n last k s)
 counted-up n last k s =
-    cond_ok (ltb k 4000) _ _ (Ok (record { reached = s; instructions = k + 1 }))
+    cond-ok (ltb k 4000) _ _ (Ok (record { reached = s; instructions = k + 1 }))
     (Err (past_limit n last (TooLong n))) refl refl
 
 bounded-up : (n last k : ℕ) (s : Reached)
-    → bounded n last k (upper_reached s) ≡ upper_ok (bounded n last k s)
-unfolding bounded
+    → within_bounds n last k (upper_reached s) ≡ upper_ok (within_bounds n last k s)
+unfolding within_bounds
 bounded-up n last k s =
-    ap (λ (m : ℕ). cond (leb m 16) (counted n last k (upper_reached s))
+    ap (λ (m : ℕ). cond (leb m 16) (with_instruction n last k (upper_reached s))
     (Err (past_limit n last (TooDeep n)))) (length-map s.parentheses upper_opened)
-    ∙ cond_ok (leb (length s.parentheses) 16) _ _ (counted n last k s)
+    ∙ cond-ok (leb (length s.parentheses) 16) _ _ (with_instruction n last k s)
     (Err (past_limit n last (TooDeep n))) (counted-up n last k s) refl
 
 limited-up : (n last k : ℕ) (ps : List Part) (s : Reached)
-    → limited n last k (upper_parts ps) (upper_reached s) ≡ upper_ok (limited n last k ps s)
+    → within_limits n last k (upper_parts ps) (upper_reached s)
+    ≡ upper_ok (within_limits n last k ps s)
 limited-up n last k ps s =
-    ap (λ (b : Bool). cond b (bounded n last k (upper_reached s))
+    ap (λ (b : Bool). cond b (within_bounds n last k (upper_reached s))
     (Ok (record { reached = upper_reached s; instructions = k }))) (instruction-up ps)
-    ∙ cond_ok (has_instruction ps) _ _ (bounded n last k s)
+    ∙ cond-ok (has_instruction ps) _ _ (within_bounds n last k s)
     (Ok (record { reached = s; instructions = k })) (bounded-up n last k s) refl
 
 stepped-up : (n last k : ℕ) (ps : List Part) (o : Option Reached)
-    → stepped n last k (upper_parts ps) (option_map upper_reached o)
-    ≡ upper_ok (stepped n last k ps o)
+    → after_text_line n last k (upper_parts ps) (option_map upper_reached o)
+    ≡ upper_ok (after_text_line n last k ps o)
 stepped-up n last k ps None = refl
 stepped-up n last k ps (Some s) = limited-up n last k ps s
 
@@ -322,7 +323,7 @@ forms-up : (n last : ℕ) (r : Read) (o : Option (List Part))
     ≡ upper_ok (after_parts n last r o)
 forms-up n last r None = refl
 forms-up n last r (Some ps) =
-    ap (stepped n last r.instructions (upper_parts ps)) (steps-up n r.reached ps)
+    ap (after_text_line n last r.instructions (upper_parts ps)) (steps-up n r.reached ps)
     ∙ stepped-up n last r.instructions ps (steps n r.reached ps)
 
 after-up : (n last : ℕ) (r : Read) (ss : List Symbol)
@@ -339,18 +340,18 @@ whole-up last s (place.Block scope) = refl
 whole-up last s place.Body = refl
 whole-up last s place.Finished = refl
 
-then_read : (f g : Read → Result PlainProgram TextFault)
+then-read : (f g : Read → Result PlainProgram TextFault)
     → ((s : Read) → f (upper_read s) ≡ upper_program (g s)) → (x : Result Read TextFault)
     → (upper_ok x >>= f) ≡ upper_program (x >>= g)
-then_read f g h (Ok s) = h s
-then_read f g h (Err e) = refl
+then-read f g h (Ok s) = h s
+then-read f g h (Err e) = refl
 
-then_tokens : (f g : List Symbol → Result PlainProgram TextFault)
+then-tokens : (f g : List Symbol → Result PlainProgram TextFault)
     → ((ss : List Symbol) → f (upper_symbols ss) ≡ upper_program (g ss))
     → (x : Result (List Symbol) TextFault)
     → (upper_tokens x >>= f) ≡ upper_program (x >>= g)
-then_tokens f g h (Ok ss) = h ss
-then_tokens f g h (Err e) = refl
+then-tokens f g h (Ok ss) = h ss
+then-tokens f g h (Err e) = refl
 
 reading-up : (last : ℕ) (r : Read) (n : ℕ) (ls : List (List Piece))
     → reading last (upper_read r) n (map (map upper_piece) ls) ≡ upper_program (reading last r n ls)
@@ -360,24 +361,24 @@ reading-up last r n (l ∷ ls) =
     ap (λ (x : Result (List Symbol) TextFault). x
     >>= (λ ts. after_line n last (upper_read r) ts
     >>= (λ s. reading last s (n + 1) (map (map upper_piece) ls)))) (tokens-up n l)
-    ∙ then_tokens _ (λ ts. after_line n last r ts >>= (λ s. reading last s (n + 1) ls))
+    ∙ then-tokens _ (λ ts. after_line n last r ts >>= (λ s. reading last s (n + 1) ls))
     (λ ts. ap (λ (x : Result Read TextFault). x
     >>= (λ s. reading last s (n + 1) (map (map upper_piece) ls))) (after-up n last r ts)
-    ∙ then_read _ (λ s. reading last s (n + 1) ls)
+    ∙ then-read _ (λ s. reading last s (n + 1) ls)
     (λ s. unfold reading in reading-up last s (n + 1) ls) (after_line n last r ts))
     (tokens_of n l)
 
 program-up : (text : List ℕ) → program_of (map up text) ≡ upper_program (program_of text)
 unfolding program_of
 program-up text =
-    ap (λ (k : ℕ). reading k none_yet 1 (lines (cut false (map up text)))) (last_line-up text)
+    ap (λ (k : ℕ). reading k none_yet 1 (lines (pieces_of false (map up text)))) (last_line-up text)
     ∙ ap (λ (ps : List Piece). reading (last_line text) none_yet 1 (lines ps)) (cut-up text)
-    ∙ ap (reading (last_line text) none_yet 1) (lines-up (cut false text))
-    ∙ reading-up (last_line text) none_yet 1 (lines (cut false text))
+    ∙ ap (reading (last_line text) none_yet 1) (lines-up (pieces_of false text))
+    ∙ reading-up (last_line text) none_yet 1 (lines (pieces_of false text))
 
 pub letters : LettersMayBeRespelled
 letters text read x =
-    let e = one_reading text read (program_of text) x (text_reads text) in
+    let e = one_reading text read (program_of text) x (text-reads text) in
     subst (λ (r : Result PlainProgram TextFault). ReadsAs (map up text) (upper_program r)) (sym e)
     (subst (λ (r : Result PlainProgram TextFault). ReadsAs (map up text) r) (program-up text)
-    (text_reads (map up text)))
+    (text-reads (map up text)))

@@ -14,78 +14,78 @@ use Rattle.il_text.specs.declared.program.Literal.{Literal}
 use Rattle.il_text.specs.declared.program.Operator.{Operator}
 use Rattle.il_text.specs.declared.program.Scope.{Scope}
 use Rattle.il_text.specs.declared.program.Scope.TheVariants.{Local, External}
-use Rattle.il_text.proofs.GrammarLemmas.{and_both, run}
+use Rattle.il_text.proofs.GrammarLemmas.{and-both, run}
 
 -- what is reached, by its parts
 abbrev pub state : Stage → List ℕ → List Declared → List Entry → List Opened → Reached
 state p name ds es fs =
     record { place = p; name = name; declarations = ds; items = es; parentheses = fs }
 
-pub run_step : (n : ℕ) (r s : Reached) (p : Part) (ps : List Numbered) → step n r p ≡ Some s
+pub run-step : (n : ℕ) (r s : Reached) (p : Part) (ps : List Numbered) → step n r p ≡ Some s
     → run r ((n, p) ∷ ps) ≡ run s ps
-run_step n r s p ps e = rw e refl
+run-step n r s p ps e = rw e refl
 
 abbrev list_of : Entries → List Entry
 list_of no_entries = []
 list_of (entry e es) = e ∷ list_of es
 
-entries_list : (es : Entries) → entries_of (list_of es) ≡ es
-entries_list no_entries = refl
-entries_list (entry e es) = ap (entry e) (entries_list es)
+entries-list : (es : Entries) → entries_of (list_of es) ≡ es
+entries-list no_entries = refl
+entries-list (entry e es) = ap (entry e) (entries-list es)
 
-first_is : (n : ℕ) (a : Action) → is_first (action n a) ≡ is_load a
-first_is n (load negated source) = refl
-first_is n (store kind place) = refl
-first_is n (combine operator negated source) = refl
-first_is n invert = refl
-first_is n (convert conversion) = refl
-first_is n (jump condition to) = refl
-first_is n (leave condition) = refl
-first_is n (call timer arguments) = refl
+first-is : (n : ℕ) (a : Action) → is_first (action n a) ≡ is_load a
+first-is n (load negated source) = refl
+first-is n (store kind place) = refl
+first-is n (combine operator negated source) = refl
+first-is n invert = refl
+first-is n (convert conversion) = refl
+first-is n (jump condition to) = refl
+first-is n (leave condition) = refl
+first-is n (call timer arguments) = refl
 
-label_step : (n : ℕ) (l name : List ℕ) (p : Stage) (ds : List Declared) (is : List Entry)
+label-step : (n : ℕ) (l name : List ℕ) (p : Stage) (ds : List Declared) (is : List Entry)
     → is_body p ≡ true
     → step n (state p name ds is []) (labelling l)
     ≡ Some (state place.Body name ds (is ++ label n l ∷ []) [])
 unfolding step may_stand
-label_step n l name p ds is b = rw b refl
+label-step n l name p ds is b = rw b refl
 
-act_step : (n : ℕ) (a : Action) (name : List ℕ) (p : Stage) (ds : List Declared) (is : List Entry)
+act-step : (n : ℕ) (a : Action) (name : List ℕ) (p : Stage) (ds : List Declared) (is : List Entry)
     → is_body p ≡ true
     → step n (state p name ds is []) (acting a)
     ≡ Some (state place.Body name ds (is ++ action n a ∷ []) [])
 unfolding step may_act
-act_step n a name p ds is b = rw b refl
+act-step n a name p ds is b = rw b refl
 
-act_inside : (n : ℕ) (a : Action) (name : List ℕ) (ds : List Declared) (is : List Entry)
+act-inside : (n : ℕ) (a : Action) (name : List ℕ) (ds : List Declared) (is : List Entry)
     (fs : List Opened) → is_plain a ≡ true → is_some is || is_first (action n a) ≡ true
     → step n (state place.Body name ds is fs) (acting a)
     ≡ Some (state place.Body name ds (is ++ action n a ∷ []) fs)
 unfolding step may_act
-act_inside n a name ds is fs i k =
+act-inside n a name ds is fs i k =
     let q : is_some is || is_load a ≡ true =
-    subst (λ (b : Bool). is_some is || b ≡ true) (first_is n a) k in
+    subst (λ (b : Bool). is_some is || b ≡ true) (first-is n a) k in
     rw (i, q, or-true (is_outside fs)) refl
 
 abbrev opened_by : ℕ → Operator → Bool → List Entry → Opened
 opened_by n o g is = record { line = n; operator = o; negated = g; outer = is }
 
-enter_step : (n : ℕ) (o : Operator) (g : Bool) (name : List ℕ) (p : Stage) (ds : List Declared)
+enter-step : (n : ℕ) (o : Operator) (g : Bool) (name : List ℕ) (p : Stage) (ds : List Declared)
     (is : List Entry) (fs : List Opened) → is_body p ≡ true → is_outside fs || is_some is ≡ true
     → step n (state p name ds is fs) (entering o g)
     ≡ Some (state place.Body name ds [] (opened_by n o g is ∷ fs))
 unfolding step may_enter
-enter_step n o g name p ds is fs b k = rw (b, k) refl
+enter-step n o g name p ds is fs b k = rw (b, k) refl
 
-leave_step : (n m : ℕ) (o : Operator) (g : Bool) (name : List ℕ) (ds : List Declared)
+leave-step : (n m : ℕ) (o : Operator) (g : Bool) (name : List ℕ) (ds : List Declared)
     (is : List Entry) (e : Entry) (es : List Entry) (fs : List Opened)
     → step m (state place.Body name ds (e ∷ es) (opened_by n o g is ∷ fs)) leaving
     ≡ Some (state place.Body name ds (is ++ block n o g (entries_of (e ∷ es)) m ∷ []) fs)
 unfolding step may_leave
-leave_step n m o g name ds is e es fs = refl
+leave-step n m o g name ds is e es fs = refl
 
 -- a whole parenthesis, where its entries are taken
-block_runs : (n m : ℕ) (o : Operator) (g : Bool) (es : Entries) (name : List ℕ) (p : Stage)
+block-runs : (n m : ℕ) (o : Operator) (g : Bool) (es : Entries) (name : List ℕ) (p : Stage)
     (ds : List Declared) (is : List Entry) (fs : List Opened) (ps : List Numbered)
     → is_body p ≡ true → is_outside fs || is_some is ≡ true → is_parenthesis es ≡ true
     → run (state place.Body name ds [] (opened_by n o g is ∷ fs))
@@ -93,207 +93,207 @@ block_runs : (n m : ℕ) (o : Operator) (g : Bool) (es : Entries) (name : List �
     ≡ run (state place.Body name ds (list_of es) (opened_by n o g is ∷ fs)) ((m, leaving) ∷ ps)
     → run (state p name ds is fs) (entry_parts (block n o g es m) ++ ps)
     ≡ run (state place.Body name ds (is ++ block n o g es m ∷ []) fs) ps
-block_runs n m o g no_entries name p ds is fs ps b k i h = absurd (false≢true i)
-block_runs n m o g (entry e es) name p ds is fs ps b k i h =
-    run_step n (state p name ds is fs) (state place.Body name ds [] (opened_by n o g is ∷ fs))
+block-runs n m o g no_entries name p ds is fs ps b k i h = absurd (false≢true i)
+block-runs n m o g (entry e es) name p ds is fs ps b k i h =
+    run-step n (state p name ds is fs) (state place.Body name ds [] (opened_by n o g is ∷ fs))
     (entering o g) ((entries_parts (entry e es) ++ (m, leaving) ∷ []) ++ ps)
-    (enter_step n o g name p ds is fs b k)
+    (enter-step n o g name p ds is fs b k)
     ∙ ap (run (state place.Body name ds [] (opened_by n o g is ∷ fs)))
     (append_assoc (entries_parts (entry e es)) ((m, leaving) ∷ []) ps)
     ∙ h
-    ∙ run_step m (state place.Body name ds (e ∷ list_of es) (opened_by n o g is ∷ fs))
+    ∙ run-step m (state place.Body name ds (e ∷ list_of es) (opened_by n o g is ∷ fs))
     (state place.Body name ds (is ++ block n o g (entries_of (e ∷ list_of es)) m ∷ []) fs)
     leaving ps
-    (leave_step n m o g name ds is e (list_of es) fs)
+    (leave-step n m o g name ds is e (list_of es) fs)
     ∙ ap (λ (x : Entries). run (state place.Body name ds (is ++ block n o g x m ∷ []) fs) ps)
-    (ap (entry e) (entries_list es))
+    (ap (entry e) (entries-list es))
 
-pub some_more : (is : List Entry) (e : Entry) → is_some (is ++ e ∷ []) ≡ true
-some_more [] e = refl
-some_more (d ∷ is) e = refl
+pub some-more : (is : List Entry) (e : Entry) → is_some (is ++ e ∷ []) ≡ true
+some-more [] e = refl
+some-more (d ∷ is) e = refl
 
 abbrev starts : Entries → Bool
 starts no_entries = true
 starts (entry e es) = is_first e
 
-or_more : (b c : Bool) → b ≡ true → b || c ≡ true
-or_more b c h = rw h refl
+or-more : (b c : Bool) → b ≡ true → b || c ≡ true
+or-more b c h = rw h refl
 
-or_none : (b : Bool) → b || false ≡ true → b ≡ true
-or_none true h = refl
-or_none false h = h
+or-none : (b : Bool) → b || false ≡ true → b ≡ true
+or-none true h = refl
+or-none false h = h
 
-parenthesis_starts : (es : Entries) → is_parenthesis es ≡ true
+parenthesis-starts : (es : Entries) → is_parenthesis es ≡ true
     → (starts es ≡ true) × (all_inner es ≡ true)
-parenthesis_starts no_entries h = absurd (false≢true h)
-parenthesis_starts (entry e es) h = and_both (is_first e) (is_inner e && all_inner es) h
+parenthesis-starts no_entries h = absurd (false≢true h)
+parenthesis-starts (entry e es) h = and-both (is_first e) (is_inner e && all_inner es) h
 
 mutual
   -- an entry of a parenthesis
-  entry_inside : (e : Entry) (name : List ℕ) (ds : List Declared) (is : List Entry)
+  entry-inside : (e : Entry) (name : List ℕ) (ds : List Declared) (is : List Entry)
       (fs : List Opened) (ps : List Numbered) → is_inner e ≡ true → is_some is || is_first e ≡ true
       → run (state place.Body name ds is fs) (entry_parts e ++ ps)
       ≡ run (state place.Body name ds (is ++ e ∷ []) fs) ps
-  entry_inside (label n l) name ds is fs ps i k = absurd (false≢true i)
-  entry_inside (action n a) name ds is fs ps i k =
-      run_step n (state place.Body name ds is fs)
+  entry-inside (label n l) name ds is fs ps i k = absurd (false≢true i)
+  entry-inside (action n a) name ds is fs ps i k =
+      run-step n (state place.Body name ds is fs)
       (state place.Body name ds (is ++ action n a ∷ []) fs) (acting a) ps
-      (act_inside n a name ds is fs i k)
-  entry_inside (block n o g es m) name ds is fs ps i k =
-      let s = parenthesis_starts es i in
-      block_runs n m o g es name place.Body ds is fs ps refl
-      (rw (or_none (is_some is) k) (or-true (is_outside fs))) i
-      (entries_inside es name ds [] (opened_by n o g is ∷ fs) ((m, leaving) ∷ ps) s.1 s.0)
+      (act-inside n a name ds is fs i k)
+  entry-inside (block n o g es m) name ds is fs ps i k =
+      let s = parenthesis-starts es i in
+      block-runs n m o g es name place.Body ds is fs ps refl
+      (rw (or-none (is_some is) k) (or-true (is_outside fs))) i
+      (entries-inside es name ds [] (opened_by n o g is ∷ fs) ((m, leaving) ∷ ps) s.1 s.0)
 
-  entries_inside : (es : Entries) (name : List ℕ) (ds : List Declared) (is : List Entry)
+  entries-inside : (es : Entries) (name : List ℕ) (ds : List Declared) (is : List Entry)
       (fs : List Opened) (ps : List Numbered) → all_inner es ≡ true → is_some is || starts es ≡ true
       → run (state place.Body name ds is fs) (entries_parts es ++ ps)
       ≡ run (state place.Body name ds (is ++ list_of es) fs) ps
-  entries_inside no_entries name ds is fs ps i k =
+  entries-inside no_entries name ds is fs ps i k =
       ap (λ (x : List Entry). run (state place.Body name ds x fs) ps) (sym (append-nil is))
-  entries_inside (entry e es) name ds is fs ps i k =
-      let a = and_both (is_inner e) (all_inner es) i in
+  entries-inside (entry e es) name ds is fs ps i k =
+      let a = and-both (is_inner e) (all_inner es) i in
       ap (run (state place.Body name ds is fs)) (append_assoc (entry_parts e) (entries_parts es) ps)
-      ∙ entry_inside e name ds is fs (entries_parts es ++ ps) a.0 k
-      ∙ entries_inside es name ds (is ++ e ∷ []) fs ps a.1 (or_more _ (starts es) (some_more is e))
+      ∙ entry-inside e name ds is fs (entries_parts es ++ ps) a.0 k
+      ∙ entries-inside es name ds (is ++ e ∷ []) fs ps a.1 (or-more _ (starts es) (some-more is e))
       ∙ ap (λ (x : List Entry). run (state place.Body name ds x fs) ps)
       (append_assoc is (e ∷ []) (list_of es))
 
 -- an entry of the body
-entry_outside : (e : Entry) (name : List ℕ) (p : Stage) (ds : List Declared) (is : List Entry)
+entry-outside : (e : Entry) (name : List ℕ) (p : Stage) (ds : List Declared) (is : List Entry)
     (ps : List Numbered) → is_body p ≡ true → is_outer e ≡ true
     → run (state p name ds is []) (entry_parts e ++ ps)
     ≡ run (state place.Body name ds (is ++ e ∷ []) []) ps
-entry_outside (label n l) name p ds is ps b i =
-    run_step n (state p name ds is []) (state place.Body name ds (is ++ label n l ∷ []) [])
-    (labelling l) ps (label_step n l name p ds is b)
-entry_outside (action n a) name p ds is ps b i =
-    run_step n (state p name ds is []) (state place.Body name ds (is ++ action n a ∷ []) [])
-    (acting a) ps (act_step n a name p ds is b)
-entry_outside (block n o g es m) name p ds is ps b i =
-    let s = parenthesis_starts es i in
-    block_runs n m o g es name p ds is [] ps b refl i
-    (entries_inside es name ds [] (opened_by n o g is ∷ []) ((m, leaving) ∷ ps) s.1 s.0)
+entry-outside (label n l) name p ds is ps b i =
+    run-step n (state p name ds is []) (state place.Body name ds (is ++ label n l ∷ []) [])
+    (labelling l) ps (label-step n l name p ds is b)
+entry-outside (action n a) name p ds is ps b i =
+    run-step n (state p name ds is []) (state place.Body name ds (is ++ action n a ∷ []) [])
+    (acting a) ps (act-step n a name p ds is b)
+entry-outside (block n o g es m) name p ds is ps b i =
+    let s = parenthesis-starts es i in
+    block-runs n m o g es name p ds is [] ps b refl i
+    (entries-inside es name ds [] (opened_by n o g is ∷ []) ((m, leaving) ∷ ps) s.1 s.0)
 
-items_run : (es : List Entry) (name : List ℕ) (p : Stage) (ds : List Declared) (is : List Entry)
+items-run : (es : List Entry) (name : List ℕ) (p : Stage) (ds : List Declared) (is : List Entry)
     (ps : List Numbered) → is_body p ≡ true → list_all is_outer es ≡ true
     → (q : Stage) × (is_body q ≡ true)
     × (run (state p name ds is []) (flat_map entry_parts es ++ ps)
     ≡ run (state q name ds (is ++ es) []) ps)
-items_run [] name p ds is ps b i =
+items-run [] name p ds is ps b i =
     (p, b, ap (λ (x : List Entry). run (state p name ds x []) ps) (sym (append-nil is)))
-items_run (e ∷ es) name p ds is ps b i =
-    let a = and_both (is_outer e) (list_all is_outer es) i in
-    let k = items_run es name place.Body ds (is ++ e ∷ []) ps refl a.1 in (
+items-run (e ∷ es) name p ds is ps b i =
+    let a = and-both (is_outer e) (list_all is_outer es) i in
+    let k = items-run es name place.Body ds (is ++ e ∷ []) ps refl a.1 in (
       k.0,
       k.1,
       ap (run (state p name ds is [])) (append_assoc (entry_parts e) (flat_map entry_parts es) ps)
-          ∙ entry_outside e name p ds is (flat_map entry_parts es ++ ps) b a.0
+          ∙ entry-outside e name p ds is (flat_map entry_parts es ++ ps) b a.0
           ∙ k.2
           ∙ ap (λ (x : List Entry). run (state k.0 name ds x []) ps) (append_assoc is (e ∷ []) es),
     )
 
-none_initial : (o : Option Literal) → is_none o ≡ true → may_begin_with External o ≡ true
-none_initial None h = refl
-none_initial (Some x) h = absurd (false≢true h)
+none-initial : (o : Option Literal) → is_none o ≡ true → may_begin_with External o ≡ true
+none-initial None h = refl
+none-initial (Some x) h = absurd (false≢true h)
 
 begins : (scope : Scope) (d : Declaration) → may_declare scope d ≡ true
     → may_begin_with scope d.initial ≡ true
 begins Local d h = refl
-begins External d h = none_initial d.initial h
+begins External d h = none-initial d.initial h
 
-declare_step : (d : Declaration) (scope : Scope) (name : List ℕ) (ds : List Declared)
+declare-step : (d : Declaration) (scope : Scope) (name : List ℕ) (ds : List Declared)
     → may_declare scope d ≡ true
     → step d.line (state (place.Block scope) name ds [] []) (declaring d.names d.kind d.initial)
     ≡ Some (state (place.Block scope) name (ds ++ names_declared scope d) [] [])
 unfolding step
-declare_step d scope name ds h = rw (begins scope d h) refl
+declare-step d scope name ds h = rw (begins scope d h) refl
 
-declarations_run : (dls : List Declaration) (scope : Scope) (name : List ℕ) (ds : List Declared)
+declarations-run : (dls : List Declaration) (scope : Scope) (name : List ℕ) (ds : List Declared)
     (ps : List Numbered) → list_all (may_declare scope) dls ≡ true
     → run (state (place.Block scope) name ds [] []) (map declaration_part dls ++ ps)
     ≡ run (state (place.Block scope) name (ds ++ flat_map (names_declared scope) dls) [] []) ps
-declarations_run [] scope name ds ps h =
+declarations-run [] scope name ds ps h =
     ap (λ (x : List Declared). run (state (place.Block scope) name x [] []) ps)
     (sym (append-nil ds))
-declarations_run (d ∷ dls) scope name ds ps h =
-    let a = and_both (may_declare scope d) (list_all (may_declare scope) dls) h in
-    run_step d.line (state (place.Block scope) name ds [] [])
+declarations-run (d ∷ dls) scope name ds ps h =
+    let a = and-both (may_declare scope d) (list_all (may_declare scope) dls) h in
+    run-step d.line (state (place.Block scope) name ds [] [])
     (state (place.Block scope) name (ds ++ names_declared scope d) [] [])
     (declaring d.names d.kind d.initial) (map declaration_part dls ++ ps)
-    (declare_step d scope name ds a.0)
-    ∙ declarations_run dls scope name (ds ++ names_declared scope d) ps a.1
+    (declare-step d scope name ds a.0)
+    ∙ declarations-run dls scope name (ds ++ names_declared scope d) ps a.1
     ∙ ap (λ (x : List Declared). run (state (place.Block scope) name x [] []) ps)
     (append_assoc ds (names_declared scope d) (flat_map (names_declared scope) dls))
 
-open_step : (n : ℕ) (scope : Scope) (name : List ℕ) (ds : List Declared)
+open-step : (n : ℕ) (scope : Scope) (name : List ℕ) (ds : List Declared)
     → step n (state place.Declarations name ds [] []) (opening scope)
     ≡ Some (state (place.Block scope) name ds [] [])
 unfolding step
-open_step n scope name ds = refl
+open-step n scope name ds = refl
 
-pub close_step : (n : ℕ) (scope : Scope) (name : List ℕ) (ds : List Declared)
+pub close-step : (n : ℕ) (scope : Scope) (name : List ℕ) (ds : List Declared)
     → step n (state (place.Block scope) name ds [] []) closing
     ≡ Some (state place.Declarations name ds [] [])
 unfolding step
-close_step n scope name ds = refl
+close-step n scope name ds = refl
 
-one_block : (b : Block) (name : List ℕ) (ds : List Declared) (ps : List Numbered)
+one-block : (b : Block) (name : List ℕ) (ds : List Declared) (ps : List Numbered)
     → is_allowed b ≡ true
     → run (state place.Declarations name ds [] []) (block_parts b ++ ps)
     ≡ run (state place.Declarations name (ds ++ block_declared b) [] []) ps
-one_block b name ds ps h =
-    run_step b.line (state place.Declarations name ds [] [])
+one-block b name ds ps h =
+    run-step b.line (state place.Declarations name ds [] [])
     (state (place.Block b.scope) name ds [] []) (opening b.scope)
     ((map declaration_part b.declarations ++ (b.end, closing) ∷ []) ++ ps)
-    (open_step b.line b.scope name ds)
+    (open-step b.line b.scope name ds)
     ∙ ap (run (state (place.Block b.scope) name ds [] []))
     (append_assoc (map declaration_part b.declarations) ((b.end, closing) ∷ []) ps)
-    ∙ declarations_run b.declarations b.scope name ds ((b.end, closing) ∷ ps) h
-    ∙ run_step b.end (state (place.Block b.scope) name (ds ++ block_declared b) [] [])
+    ∙ declarations-run b.declarations b.scope name ds ((b.end, closing) ∷ ps) h
+    ∙ run-step b.end (state (place.Block b.scope) name (ds ++ block_declared b) [] [])
     (state place.Declarations name (ds ++ block_declared b) [] []) closing ps
-    (close_step b.end b.scope name (ds ++ block_declared b))
+    (close-step b.end b.scope name (ds ++ block_declared b))
 
-blocks_run : (bs : List Block) (name : List ℕ) (ds : List Declared) (ps : List Numbered)
+blocks-run : (bs : List Block) (name : List ℕ) (ds : List Declared) (ps : List Numbered)
     → list_all is_allowed bs ≡ true
     → run (state place.Declarations name ds [] []) (flat_map block_parts bs ++ ps)
     ≡ run (state place.Declarations name (ds ++ flat_map block_declared bs) [] []) ps
-blocks_run [] name ds ps h =
+blocks-run [] name ds ps h =
     ap (λ (x : List Declared). run (state place.Declarations name x [] []) ps) (sym (append-nil ds))
-blocks_run (b ∷ bs) name ds ps h =
-    let a = and_both (is_allowed b) (list_all is_allowed bs) h in
+blocks-run (b ∷ bs) name ds ps h =
+    let a = and-both (is_allowed b) (list_all is_allowed bs) h in
     ap (run (state place.Declarations name ds [] []))
     (append_assoc (block_parts b) (flat_map block_parts bs) ps)
-    ∙ one_block b name ds (flat_map block_parts bs ++ ps) a.0
-    ∙ blocks_run bs name (ds ++ block_declared b) ps a.1
+    ∙ one-block b name ds (flat_map block_parts bs ++ ps) a.0
+    ∙ blocks-run bs name (ds ++ block_declared b) ps a.1
     ∙ ap (λ (x : List Declared). run (state place.Declarations name x [] []) ps)
     (append_assoc ds (block_declared b) (flat_map block_declared bs))
 
-heading_step : (n : ℕ) (name : List ℕ)
+heading-step : (n : ℕ) (name : List ℕ)
     → step n nothing_read (heading name) ≡ Some (state place.Declarations name [] [] [])
 unfolding step
-heading_step n name = refl
+heading-step n name = refl
 
-pub ending_step : (n : ℕ) (name : List ℕ) (p : Stage) (ds : List Declared) (is : List Entry)
+pub ending-step : (n : ℕ) (name : List ℕ) (p : Stage) (ds : List Declared) (is : List Entry)
     → is_body p ≡ true
     → step n (state p name ds is []) ending ≡ Some (state place.Finished name ds is [])
 unfolding step may_stand
-ending_step n name p ds is b = rw b refl
+ending-step n name p ds is b = rw b refl
 
 -- the parts of a program reach its end
-pub derived_runs : (ps : List Numbered) (p : PlainProgram) → Derives ps p
+pub derived-runs : (ps : List Numbered) (p : PlainProgram) → Derives ps p
     → run nothing_read ps ≡ Some (state place.Finished p.name p.declarations p.items [])
-derived_runs ps p d =
+derived-runs ps p d =
     let ds : List Declared = flat_map block_declared d.blocks in
-    let k = items_run p.items p.name place.Declarations ds [] ((d.end, ending) ∷ []) refl
+    let k = items-run p.items p.name place.Declarations ds [] ((d.end, ending) ∷ []) refl
     d.items_allowed in
     ap (run nothing_read) d.parts
-    ∙ run_step d.first nothing_read (state place.Declarations p.name [] [] []) (heading p.name)
+    ∙ run-step d.first nothing_read (state place.Declarations p.name [] [] []) (heading p.name)
     (flat_map block_parts d.blocks ++ (flat_map entry_parts p.items ++ (d.end, ending) ∷ []))
-    (heading_step d.first p.name)
-    ∙ blocks_run d.blocks p.name [] (flat_map entry_parts p.items ++ (d.end, ending) ∷ [])
+    (heading-step d.first p.name)
+    ∙ blocks-run d.blocks p.name [] (flat_map entry_parts p.items ++ (d.end, ending) ∷ [])
     d.blocks_allowed
     ∙ k.2
-    ∙ run_step d.end (state k.0 p.name ds p.items []) (state place.Finished p.name ds p.items [])
-    ending [] (ending_step d.end p.name k.0 ds p.items k.1)
+    ∙ run-step d.end (state k.0 p.name ds p.items []) (state place.Finished p.name ds p.items [])
+    ending [] (ending-step d.end p.name k.0 ds p.items k.1)
     ∙ ap (λ (x : List Declared). Some (state place.Finished p.name x p.items [])) (sym d.declared)

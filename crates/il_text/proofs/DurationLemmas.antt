@@ -4,16 +4,16 @@ use Rattle.std.proofs.lemmas.Bool.{cases_lt}
 use Rattle.std.proofs.Math.Nat.{mul-le-mul_left, mul-le-mul_right}
 use Rattle.bay_base.specs.Names.{same_name}
 use Rattle.il_text.specs.Literals.{Duration, number_len, unit_len, number_of_part, part, total_of, time_literal}
-use Rattle.il_text.specs.Runs.{capped}
+use Rattle.il_text.specs.Runs.{capped_number}
 use Rattle.il_text.specs.Durations.{capped_one, capped_duration, capped_time}
 use Rattle.std.proofs.lemmas.Bool.Decides.{nat_tests}
 
-cap_large : (t m : ℕ) → 2 ^ 32 ≤ m → min (t + m) (2 ^ 32) ≡ 2 ^ 32
-cap_large t m h = omega arith
+cap-large : (t m : ℕ) → 2 ^ 32 ≤ m → min (t + m) (2 ^ 32) ≡ 2 ^ 32
+cap-large t m h = omega arith
 
-cap_sum : (t n f : ℕ) → 0 < f
+cap-sum : (t n f : ℕ) → 0 < f
     → min (t + n * f) (2 ^ 32) ≡ min (min t (2 ^ 32) + min n (2 ^ 32) * f) (2 ^ 32)
-cap_sum t n f h = ⊎_elim
+cap-sum t n f h = ⊎_elim
     (λ (k : 2 ^ 32 < n).
     let e : min n (2 ^ 32) ≡ 2 ^ 32 = omega arith in
     let some : 1 ≤ f = omega arith in
@@ -24,59 +24,60 @@ cap_sum t n f h = ⊎_elim
     (λ (k : n ≤ 2 ^ 32). let e : min n (2 ^ 32) ≡ n = omega arith in rw e (omega arith))
     (cases_lt (2 ^ 32) n)
 
-some_same : (a b : Duration) → Some a ≡ Some b → a ≡ b
-some_same a b e = cc
+some-same : (a b : Duration) → Some a ≡ Some b → a ≡ b
+some-same a b e = cc
 
-pub none_from : (o : Option Duration) → capped_duration o ≡ None → o ≡ None
-none_from None e = refl
-none_from (Some d) e = cc
+pub none-from : (o : Option Duration) → capped_duration o ≡ None → o ≡ None
+none-from None e = refl
+none-from (Some d) e = cc
 
 -- the letters after the first number
 abbrev unit_of : List ℕ → List ℕ
 unit_of w = take (unit_len w) (drop (number_len w) w)
 
-pub part_none : (o : Option Duration) (u : List ℕ) (f : ℕ) → capped_duration o ≡ None
+pub part-none : (o : Option Duration) (u : List ℕ) (f : ℕ) → capped_duration o ≡ None
     → capped_duration (option_and_then (part u f) o) ≡ None
-part_none o u f e = rw (none_from o e) refl
+part-none o u f e = rw (none-from o e) refl
 
-other_here : (d : Duration) (u : List ℕ) (f : ℕ) → same_name (unit_of d.rest) u ≡ false
+other-here : (d : Duration) (u : List ℕ) (f : ℕ) → same_name (unit_of d.rest) u ≡ false
     → capped_duration (part u f d) ≡ Some (capped_one d)
 unfolding part
-other_here d u f h = rw h refl
+other-here d u f h = rw h refl
 
-pub part_other : (o : Option Duration) (s : Duration) (u : List ℕ) (f : ℕ)
+pub part-other : (o : Option Duration) (s : Duration) (u : List ℕ) (f : ℕ)
     → capped_duration o ≡ Some s → same_name (unit_of s.rest) u ≡ false
     → capped_duration (option_and_then (part u f) o) ≡ Some s
-part_other None s u f e h = cc
-part_other (Some d) s u f e h =
-    let same = some_same (capped_one d) s e in
-    other_here d u f (subst (λ (r : List ℕ). same_name (unit_of r) u ≡ false)
+part-other None s u f e h = cc
+part-other (Some d) s u f e h =
+    let same = some-same (capped_one d) s e in
+    other-here d u f (subst (λ (r : List ℕ). same_name (unit_of r) u ≡ false)
     (sym (ap (λ (x : Duration). x.rest) same)) h) ∙ e
 
-capped_none : (o : Option ℕ) → capped o ≡ None → o ≡ None
-capped_none None e = refl
-capped_none (Some n) e = cc
+capped-none : (o : Option ℕ) → capped_number o ≡ None → o ≡ None
+capped-none None e = refl
+capped-none (Some n) e = cc
 
-capped_some : (o : Option ℕ) (v : ℕ) → capped o ≡ Some v
+capped-some : (o : Option ℕ) (v : ℕ) → capped_number o ≡ Some v
     → (n : ℕ) × (o ≡ Some n) × (min n (2 ^ 64 - 1) ≡ v)
-capped_some None v e = cc
-capped_some (Some n) v e = (n, refl, cc)
+capped-some None v e = cc
+capped-some (Some n) v e = (n, refl, cc)
 
-bad_here : (d : Duration) (u : List ℕ) (f : ℕ) → same_name (unit_of d.rest) u ≡ true
-    → capped (number_of_part d.begun (take (number_len d.rest) d.rest)) ≡ None
+bad-here : (d : Duration) (u : List ℕ) (f : ℕ) → same_name (unit_of d.rest) u ≡ true
+    → capped_number (number_of_part d.begun (take (number_len d.rest) d.rest)) ≡ None
     → capped_duration (part u f d) ≡ None
 unfolding part
-bad_here d u f h n = rw (h, capped_none _ n) refl
+bad-here d u f h n = rw (h, capped-none _ n) refl
 
-pub part_bad : (o : Option Duration) (s : Duration) (u : List ℕ) (f : ℕ)
+pub part-bad : (o : Option Duration) (s : Duration) (u : List ℕ) (f : ℕ)
     → capped_duration o ≡ Some s → same_name (unit_of s.rest) u ≡ true
-    → capped (number_of_part s.begun (take (number_len s.rest) s.rest)) ≡ None
+    → capped_number (number_of_part s.begun (take (number_len s.rest) s.rest)) ≡ None
     → capped_duration (option_and_then (part u f) o) ≡ None
-part_bad None s u f e h n = cc
-part_bad (Some d) s u f e h n =
-    let same = sym (some_same (capped_one d) s e) in
-    bad_here d u f (subst (λ (x : Duration). same_name (unit_of x.rest) u ≡ true) same h)
-    (subst (λ (x : Duration). capped (number_of_part x.begun (take (number_len x.rest) x.rest))
+part-bad None s u f e h n = cc
+part-bad (Some d) s u f e h n =
+    let same = sym (some-same (capped_one d) s e) in
+    bad-here d u f (subst (λ (x : Duration). same_name (unit_of x.rest) u ≡ true) same h)
+    (subst (λ (x : Duration). capped_number
+    (number_of_part x.begun (take (number_len x.rest) x.rest))
     ≡ None) same n)
 
 -- the duration after a part, from the one before and the part's number
@@ -88,65 +89,66 @@ after_part f v s =
       begun = true;
     }
 
-more_total : (t n v f : ℕ) → 0 < f → min n (2 ^ 64 - 1) ≡ v
+more-total : (t n v f : ℕ) → 0 < f → min n (2 ^ 64 - 1) ≡ v
     → min (t + n * f) (2 ^ 32) ≡ min (min (min t (2 ^ 32)) (2 ^ 32) + min v (2 ^ 32) * f) (2 ^ 32)
-more_total t n v f p e =
+more-total t n v f p e =
     let a : min (min t (2 ^ 32)) (2 ^ 32) ≡ min t (2 ^ 32) = omega arith in
     let b : min v (2 ^ 32) ≡ min n (2 ^ 32) = omega arith in
-    rw (a, b) (cap_sum t n f p)
+    rw (a, b) (cap-sum t n f p)
 
-more_here : (d : Duration) (u : List ℕ) (f v : ℕ) → 0 < f → same_name (unit_of d.rest) u ≡ true
-    → capped (number_of_part d.begun (take (number_len d.rest) d.rest)) ≡ Some v
+more-here : (d : Duration) (u : List ℕ) (f v : ℕ) → 0 < f → same_name (unit_of d.rest) u ≡ true
+    → capped_number (number_of_part d.begun (take (number_len d.rest) d.rest)) ≡ Some v
     → capped_duration (part u f d) ≡ Some (after_part f v (capped_one d))
 unfolding part
-more_here d u f v p h n =
-    let q = capped_some _ v n in
+more-here d u f v p h n =
+    let q = capped-some _ v n in
     rw (h, q.1)
     (ap (λ (t : ℕ). Some (record {
       rest = drop (unit_len d.rest) (drop (number_len d.rest) d.rest);
       total = t;
       begun = true;
-    })) (more_total d.total q.0 v f p q.2))
+    })) (more-total d.total q.0 v f p q.2))
 
-pub part_more : (o : Option Duration) (s : Duration) (u : List ℕ) (f v : ℕ) → 0 < f
+pub part-more : (o : Option Duration) (s : Duration) (u : List ℕ) (f v : ℕ) → 0 < f
     → capped_duration o ≡ Some s → same_name (unit_of s.rest) u ≡ true
-    → capped (number_of_part s.begun (take (number_len s.rest) s.rest)) ≡ Some v
+    → capped_number (number_of_part s.begun (take (number_len s.rest) s.rest)) ≡ Some v
     → capped_duration (option_and_then (part u f) o)
     ≡ Some (record {
       rest = drop (unit_len s.rest) (drop (number_len s.rest) s.rest);
       total = min (min s.total (2 ^ 32) + min v (2 ^ 32) * f) (2 ^ 32);
       begun = true;
     })
-part_more None s u f v p e h n = cc
-part_more (Some d) s u f v p e h n =
-    let back = some_same (capped_one d) s e in
+part-more None s u f v p e h n = cc
+part-more (Some d) s u f v p e h n =
+    let back = some-same (capped_one d) s e in
     let same = sym back in
-    more_here d u f v p (subst (λ (x : Duration). same_name (unit_of x.rest) u ≡ true) same h)
-    (subst (λ (x : Duration). capped (number_of_part x.begun (take (number_len x.rest) x.rest))
+    more-here d u f v p (subst (λ (x : Duration). same_name (unit_of x.rest) u ≡ true) same h)
+    (subst (λ (x : Duration). capped_number
+    (number_of_part x.begun (take (number_len x.rest) x.rest))
     ≡ Some v) same n)
     ∙ ap (λ (x : Duration). Some (after_part f v x)) back
 
-pub ruleset part_rules = (part_none, part_other, part_bad, part_more)
+pub ruleset part_rules = (part-none, part-other, part-bad, part-more)
 
-map_cond : (b : Bool) (t : ℕ)
+map-cond : (b : Bool) (t : ℕ)
     → capped_time (cond b (Some t) None) ≡ cond b (Some (min t (2 ^ 32))) None
-map_cond true t = refl
-map_cond false t = refl
+map-cond true t = refl
+map-cond false t = refl
 
-total_here : (d : Duration)
+total-here : (d : Duration)
     → capped_time (total_of d)
     ≡ cond ((capped_one d).begun && length (capped_one d).rest == 0) (Some (capped_one d).total)
     None
 unfolding total_of
-total_here d = map_cond (d.begun && length d.rest == 0) d.total
+total-here d = map-cond (d.begun && length d.rest == 0) d.total
 
-pub total_from : (o : Option Duration) (s : Duration) → capped_duration o ≡ Some s
+pub total-from : (o : Option Duration) (s : Duration) → capped_duration o ≡ Some s
     → capped_time (option_and_then total_of o)
     ≡ cond (s.begun && length s.rest == 0) (Some s.total) None
-total_from None s e = cc
-total_from (Some d) s e =
-    total_here d ∙ ap (λ (x : Duration). cond (x.begun && length x.rest == 0) (Some x.total) None)
-    (some_same (capped_one d) s e)
+total-from None s e = cc
+total-from (Some d) s e =
+    total-here d ∙ ap (λ (x : Duration). cond (x.begun && length x.rest == 0) (Some x.total) None)
+    (some-same (capped_one d) s e)
 
 pub time_capped : (o : Option ℕ) → time_literal (capped_time o) ≡ time_literal o
 time_capped None = refl

@@ -49,25 +49,25 @@ record Read (above : ℕ) (d e : Duration) : Type 0 where
   summed : e.total ≡ d.total + sum_by value ps
   none : ps ≡ [] → e.begun ≡ d.begun
 
-same_some : {A : Type 0} (a b : A) → Some a ≡ Some b → a ≡ b
-same_some a b e = cc
+same-some : {A : Type 0} (a b : A) → Some a ≡ Some b → a ≡ b
+same-some a b e = cc
 
-no_run : (us : List Unit) (e : Duration) → run us None ≡ Some e → ⊥
-no_run [] e h = cc
-no_run (u ∷ us) e h = no_run us e h
+no-run : (us : List Unit) (e : Duration) → run us None ≡ Some e → ⊥
+no-run [] e h = cc
+no-run (u ∷ us) e h = no-run us e h
 
 -- a text is the number in front, the letters behind it, and what is left
-pieces_of : (n m : ℕ) (w : List ℕ) → w ≡ (take n w ++ take m (drop n w)) ++ drop m (drop n w)
-pieces_of n m w =
+pieces-of : (n m : ℕ) (w : List ℕ) → w ≡ (take n w ++ take m (drop n w)) ++ drop m (drop n w)
+pieces-of n m w =
     sym (append_assoc (take n w) (take m (drop n w)) (drop m (drop n w))
     ∙ ap (λ (t : List ℕ). take n w ++ t) (take-append-drop m (drop n w)) ∙ take-append-drop n w)
 
-taken_with : (u : Unit) (d e : Duration) (o : Option ℕ)
+taken-with : (u : Unit) (d e : Duration) (o : Option ℕ)
     → number_of_part d.begun (take (number_len d.rest) d.rest) ≡ o
     → same_name (take (unit_len d.rest) (drop (number_len d.rest) d.rest)) (letters u) ≡ true
     → with_part (size u) d o ≡ Some e → Taken u d e
-taken_with u d e None n s h = cc
-taken_with u d e (Some k) n s h = subst (λ (x : Duration). Taken u d x) (same_some _ e h) (record {
+taken-with u d e None n s h = cc
+taken-with u d e (Some k) n s h = subst (λ (x : Duration). Taken u d x) (same-some _ e h) (record {
   p = record {
     digits = take (number_len d.rest) d.rest;
     name = take (unit_len d.rest) (drop (number_len d.rest) d.rest);
@@ -76,31 +76,31 @@ taken_with u d e (Some k) n s h = subst (λ (x : Duration). Taken u d x) (same_s
   };
   is = record { counted = n; named = s };
   of = refl;
-  spelled = pieces_of (number_len d.rest) (unit_len d.rest) d.rest;
+  spelled = pieces-of (number_len d.rest) (unit_len d.rest) d.rest;
   summed = refl;
   begun = refl;
 })
 
-taken_or_same : (u : Unit) (d e : Duration) (b : Bool)
+taken-or-same : (u : Unit) (d e : Duration) (b : Bool)
     → same_name (take (unit_len d.rest) (drop (number_len d.rest) d.rest)) (letters u) ≡ b
     → cond b (with_part (size u) d (number_of_part d.begun (take (number_len d.rest) d.rest)))
     (Some d) ≡ Some e → (d ≡ e) ⊎ Taken u d e
-taken_or_same u d e true s h = inr (taken_with u d e _ refl s h)
-taken_or_same u d e false s h = inl (same_some d e h)
+taken-or-same u d e true s h = inr (taken-with u d e _ refl s h)
+taken-or-same u d e false s h = inl (same-some d e h)
 
-one_unit : (u : Unit) (d e : Duration) → part (letters u) (size u) d ≡ Some e
+one-unit : (u : Unit) (d e : Duration) → part (letters u) (size u) d ≡ Some e
     → (d ≡ e) ⊎ Taken u d e
 unfolding part
-one_unit u d e h = taken_or_same u d e _ refl h
+one-unit u d e h = taken-or-same u d e _ refl h
 
 raised : (behind : Bool) (low high : ℕ) (ps : List Part) → low < high → Parts behind low ps
     → Parts behind high ps
 raised behind low high [] h f = tt
 raised behind low high (p ∷ ps) h f = (f.0, omega (arith, f.1), f.2)
 
-to_fall : (low : ℕ) (ps : List Part) → Parts true low ps → Fall low ps
-to_fall low [] f = tt
-to_fall low (p ∷ ps) f = f
+to-fall : (low : ℕ) (ps : List Part) → Parts true low ps → Fall low ps
+to-fall low [] f = tt
+to-fall low (p ∷ ps) f = f
 
 skipped : (low high : ℕ) (d e : Duration) → low < high → Read low d e → Read high d e
 skipped low high d e h r =
@@ -119,7 +119,7 @@ joined u above d m e h t r = record {
   fall = (
     t.is,
     rw t.of h,
-    rw t.of (to_fall (size u) r.ps (subst (λ (b : Bool). Parts b (size u) r.ps) t.begun r.fall)),
+    rw t.of (to-fall (size u) r.ps (subst (λ (b : Bool). Parts b (size u) r.ps) t.begun r.fall)),
   );
   spelled =
       t.spelled ∙ ap (λ (w : List ℕ). spelling t.p ++ w) r.spelled
@@ -128,84 +128,84 @@ joined u above d m e h t r = record {
   none = λ z. cc;
 }
 
-read_from : (u : Unit) (us : List Unit) (above : ℕ) (d e : Duration) (o : Option Duration)
+read-from : (u : Unit) (us : List Unit) (above : ℕ) (d e : Duration) (o : Option Duration)
     → size u < above
     → ((m : Duration) → run us (Some m) ≡ Some e → Read (size u) m e)
     → part (letters u) (size u) d ≡ o → run us o ≡ Some e → Read above d e
-read_from u us above d e None h more s r = absurd (no_run us e r)
-read_from u us above d e (Some m) h more s r = ⊎_elim
+read-from u us above d e None h more s r = absurd (no-run us e r)
+read-from u us above d e (Some m) h more s r = ⊎_elim
     (λ (same : d ≡ m). skipped (size u) above d e h
     (subst (λ (x : Duration). Read (size u) x e) (sym same) (more m r)))
     (λ (t : Taken u d m). joined u above d m e h t (more m r))
-    (one_unit u d m s)
+    (one-unit u d m s)
 
-read_units : (us : List Unit) (above : ℕ) (d e : Duration) → Below above us
+read-units : (us : List Unit) (above : ℕ) (d e : Duration) → Below above us
     → run us (Some d) ≡ Some e → Read above d e
-read_units [] above d e b r = subst (λ (x : Duration). Read above d x) (same_some d e r)
+read-units [] above d e b r = subst (λ (x : Duration). Read above d x) (same-some d e r)
     (record { ps = []; fall = tt; spelled = refl; summed = omega arith; none = λ z. refl })
-read_units (u ∷ us) above d e b r =
-    read_from u us above d e _ b.0 (λ m k. read_units us (size u) m e b.1 k) refl r
+read-units (u ∷ us) above d e b r =
+    read-from u us above d e _ b.0 (λ m k. read-units us (size u) m e b.1 k) refl r
 
-all_below : Below 86400001 units
-all_below = (omega arith, (omega arith, (omega arith, (omega arith, (omega arith, tt)))))
+all-below : Below 86400001 units
+all-below = (omega arith, (omega arith, (omega arith, (omega arith, (omega arith, tt)))))
 
 abbrev start : List ℕ → Duration
 start w = record { rest = w; total = 0; begun = false }
 
-as_run : (w : List ℕ) → milliseconds w ≡ option_and_then total_of (run units (Some (start w)))
+as-run : (w : List ℕ) → milliseconds w ≡ option_and_then total_of (run units (Some (start w)))
 unfolding milliseconds parts
-as_run w = refl
+as-run w = refl
 
-total_if : (b : Bool) (d : Duration) (ms : ℕ)
+total-if : (b : Bool) (d : Duration) (ms : ℕ)
     → cond (b && length d.rest == 0) (Some d.total) None ≡ Some ms
     → (b ≡ true) × (d.rest ≡ []) × (d.total ≡ ms)
-total_if false d ms h = cc
-total_if true d ms h = rest_if (length d.rest == 0) d ms refl h where
-  rest_if : (b : Bool) (d : Duration) (ms : ℕ) → (length d.rest == 0) ≡ b
+total-if false d ms h = cc
+total-if true d ms h = rest-if (length d.rest == 0) d ms refl h where
+  rest-if : (b : Bool) (d : Duration) (ms : ℕ) → (length d.rest == 0) ≡ b
       → cond b (Some d.total) None ≡ Some ms → (true ≡ true) × (d.rest ≡ []) × (d.total ≡ ms)
-  rest_if false d ms e h = cc
-  rest_if true d ms e h = (refl, nil_from_length d.rest (eqb-true _ _ e), same_some _ ms h)
+  rest-if false d ms e h = cc
+  rest-if true d ms e h = (refl, nil_from_length d.rest (eqb-true _ _ e), same-some _ ms h)
 
-total_found : (d : Duration) (ms : ℕ) → total_of d ≡ Some ms
+total-found : (d : Duration) (ms : ℕ) → total_of d ≡ Some ms
     → (d.begun ≡ true) × (d.rest ≡ []) × (d.total ≡ ms)
 unfolding total_of
-total_found d ms h = total_if d.begun d ms h
+total-found d ms h = total-if d.begun d ms h
 
-spelled_out : (w : List ℕ) (ms : ℕ) (ps : List Part) (above : ℕ) → Parts false above ps
+spelled-out : (w : List ℕ) (ms : ℕ) (ps : List Part) (above : ℕ) → Parts false above ps
     → (ps ≡ [] → ⊥) → w ≡ flat_map spelling ps → ms ≡ sum_by value ps → IsDuration w ms
-spelled_out w ms [] above f z s t = absurd (z refl)
-spelled_out w ms (p ∷ ps) above f z s t =
+spelled-out w ms [] above f z s t = absurd (z refl)
+spelled-out w ms (p ∷ ps) above f z s t =
     record { first = p; more = ps; begins = f.0; falls = f.2; spelled = s; summed = t }
 
 ended : (w : List ℕ) (ms : ℕ) (above : ℕ) (e : Duration) → Read above (start w) e
     → total_of e ≡ Some ms → IsDuration w ms
 ended w ms above e r t =
-    let f = total_found e ms t in
-    spelled_out w ms r.ps above r.fall (λ z. false≢true (sym (r.none z) ∙ f.0))
+    let f = total-found e ms t in
+    spelled-out w ms r.ps above r.fall (λ z. false≢true (sym (r.none z) ∙ f.0))
     (r.spelled ∙ rw f.1 (append-nil (flat_map spelling r.ps)))
     (sym f.2 ∙ r.summed ∙ zero-add (sum_by value r.ps))
 
-found_in : (w : List ℕ) (ms : ℕ) (o : Option Duration) → run units (Some (start w)) ≡ o
+found-in : (w : List ℕ) (ms : ℕ) (o : Option Duration) → run units (Some (start w)) ≡ o
     → option_and_then total_of o ≡ Some ms → IsDuration w ms
-found_in w ms None e h = cc
-found_in w ms (Some d) e h =
-    ended w ms 86400001 d (read_units units 86400001 (start w) d all_below e) h
+found-in w ms None e h = cc
+found-in w ms (Some d) e h =
+    ended w ms 86400001 d (read-units units 86400001 (start w) d all-below e) h
 
-pub is_duration : (w : List ℕ) (ms : ℕ) → milliseconds w ≡ Some ms → IsDuration w ms
-is_duration w ms h = found_in w ms _ refl (sym (as_run w) ∙ h)
+pub is-duration : (w : List ℕ) (ms : ℕ) → milliseconds w ≡ Some ms → IsDuration w ms
+is-duration w ms h = found-in w ms _ refl (sym (as-run w) ∙ h)
 
 -- a character of a number
 abbrev numeral : ℕ → Bool
 numeral x = is_ascii_digit x || is_underscore x
 
-numeral_digit : (x : ℕ) → ltb (digit_value x) 10 ≡ true → numeral x ≡ true
-numeral_digit x h = grind (arith, nat_tests)
+numeral-digit : (x : ℕ) → ltb (digit_value x) 10 ≡ true → numeral x ≡ true
+numeral-digit x h = grind (arith, nat_tests)
 
-numeral_underscore : (x : ℕ) → eqb x 95 ≡ true → numeral x ≡ true
-numeral_underscore x h = grind (arith, nat_tests)
+numeral-underscore : (x : ℕ) → eqb x 95 ≡ true → numeral x ≡ true
+numeral-underscore x h = grind (arith, nat_tests)
 
-no_letter : (x : ℕ) → numeral x ≡ true → is_ascii_alphabetic x ≡ false
-no_letter x h = grind (arith, nat_tests)
+no-letter : (x : ℕ) → numeral x ≡ true → is_ascii_alphabetic x ≡ false
+no-letter x h = grind (arith, nat_tests)
 
 numeral-up : (x : ℕ) → numeral (up x) ≡ numeral x
 numeral-up x = rw (up-digit x, up-underscore x) refl
@@ -214,111 +214,111 @@ both : (a b : Bool) → (a && b) ≡ true → (a ≡ true) × (b ≡ true)
 both true b h = (refl, h)
 both false b h = cc
 
-some_if : (b : Bool) (v k : ℕ) → cond b (Some v) None ≡ Some k → b ≡ true
-some_if true v k h = refl
-some_if false v k h = cc
+some-if : (b : Bool) (v k : ℕ) → cond b (Some v) None ≡ Some k → b ≡ true
+some-if true v k h = refl
+some-if false v k h = cc
 
 abbrev Head : ℕ → List ℕ → Type 0
 Head x xs = (b : Bool) × (numeral x ≡ true) × (is_integer 10 b xs ≡ true)
 
-head_if : (x : ℕ) (xs : List ℕ) (u : Bool) → (u ≡ true → eqb x 95 ≡ true)
+head-if : (x : ℕ) (xs : List ℕ) (u : Bool) → (u ≡ true → eqb x 95 ≡ true)
     → cond u (is_integer 10 true xs) (ltb (digit_value x) 10 && is_integer 10 false xs) ≡ true
     → Head x xs
-head_if x xs true e h = (true, numeral_underscore x (e refl), h)
-head_if x xs false e h = let p = both _ _ h in (false, numeral_digit x p.0, p.1)
+head-if x xs true e h = (true, numeral-underscore x (e refl), h)
+head-if x xs false e h = let p = both _ _ h in (false, numeral-digit x p.0, p.1)
 
-integer_head : (x : ℕ) (xs : List ℕ) (wanted : Bool) → is_integer 10 wanted (x ∷ xs) ≡ true
+integer-head : (x : ℕ) (xs : List ℕ) (wanted : Bool) → is_integer 10 wanted (x ∷ xs) ≡ true
     → Head x xs
 unfolding is_integer
-integer_head x xs wanted h =
-    unfold is_integer in head_if x xs (not wanted && eqb x 95) (λ e. (both _ _ e).1) h
+integer-head x xs wanted h =
+    unfold is_integer in head-if x xs (not wanted && eqb x 95) (λ e. (both _ _ e).1) h
 
-number_integer : (ds : List ℕ) (k : ℕ) → number 10 ds ≡ Some k → is_integer 10 true ds ≡ true
+number-integer : (ds : List ℕ) (k : ℕ) → number 10 ds ≡ Some k → is_integer 10 true ds ≡ true
 unfolding number
-number_integer ds k h = some_if _ _ k h
+number-integer ds k h = some-if _ _ k h
 
-part_if : (x : ℕ) (xs : List ℕ) (k : ℕ) (u : Bool) → (u ≡ true → eqb x 95 ≡ true)
+part-if : (x : ℕ) (xs : List ℕ) (k : ℕ) (u : Bool) → (u ≡ true → eqb x 95 ≡ true)
     → cond u (number 10 xs) (number 10 (x ∷ xs)) ≡ Some k → Head x xs
-part_if x xs k true e h = (true, numeral_underscore x (e refl), number_integer xs k h)
-part_if x xs k false e h = integer_head x xs true (number_integer (x ∷ xs) k h)
+part-if x xs k true e h = (true, numeral-underscore x (e refl), number-integer xs k h)
+part-if x xs k false e h = integer-head x xs true (number-integer (x ∷ xs) k h)
 
-part_head : (behind : Bool) (x : ℕ) (xs : List ℕ) (k : ℕ) → number_of_part behind (x ∷ xs) ≡ Some k
+part-head : (behind : Bool) (x : ℕ) (xs : List ℕ) (k : ℕ) → number_of_part behind (x ∷ xs) ≡ Some k
     → Head x xs
-part_head behind x xs k h = part_if x xs k (behind && eqb x 95) (λ e. (both _ _ e).1) h
+part-head behind x xs k h = part-if x xs k (behind && eqb x 95) (λ e. (both _ _ e).1) h
 
-no_digits : (k : ℕ) (b : Bool) → cond b (number 10 []) (number 10 []) ≡ Some k → ⊥
+no-digits : (k : ℕ) (b : Bool) → cond b (number 10 []) (number 10 []) ≡ Some k → ⊥
 unfolding number is_integer
-no_digits k true h = cc
-no_digits k false h = cc
+no-digits k true h = cc
+no-digits k false h = cc
 
-one_longer : (x : ℕ) (ds w : List ℕ) → numeral x ≡ true
+one-longer : (x : ℕ) (ds w : List ℕ) → numeral x ≡ true
     → prefix_len numeral (ds ++ w) ≡ length ds + prefix_len numeral w
     → prefix_len numeral ((x ∷ ds) ++ w) ≡ length (x ∷ ds) + prefix_len numeral w
-one_longer x ds w h e = rw (h, e) (omega arith)
+one-longer x ds w h e = rw (h, e) (omega arith)
 
-digits_in_front : (b : Bool) (ds w : List ℕ) → is_integer 10 b ds ≡ true
+digits-in-front : (b : Bool) (ds w : List ℕ) → is_integer 10 b ds ≡ true
     → prefix_len numeral (ds ++ w) ≡ length ds + prefix_len numeral w
-digits_in_front b [] w h = sym (zero-add (prefix_len numeral w))
-digits_in_front b (x ∷ ds) w h = let p =
-    integer_head x ds b h in one_longer x ds w p.1 (digits_in_front p.0 ds w p.2)
+digits-in-front b [] w h = sym (zero-add (prefix_len numeral w))
+digits-in-front b (x ∷ ds) w h = let p =
+    integer-head x ds b h in one-longer x ds w p.1 (digits-in-front p.0 ds w p.2)
 
-number_in_front : (behind : Bool) (ds w : List ℕ) (k : ℕ) → number_of_part behind ds ≡ Some k
+number-in-front : (behind : Bool) (ds w : List ℕ) (k : ℕ) → number_of_part behind ds ≡ Some k
     → prefix_len numeral (ds ++ w) ≡ length ds + prefix_len numeral w
-number_in_front behind [] w k h = absurd (no_digits k _ h)
-number_in_front behind (x ∷ ds) w k h = let p =
-    part_head behind x ds k h in one_longer x ds w p.1 (digits_in_front p.0 ds w p.2)
+number-in-front behind [] w k h = absurd (no-digits k _ h)
+number-in-front behind (x ∷ ds) w k h = let p =
+    part-head behind x ds k h in one-longer x ds w p.1 (digits-in-front p.0 ds w p.2)
 
-number_ends : (behind : Bool) (ds w : List ℕ) (k : ℕ) → number_of_part behind ds ≡ Some k
+number-ends : (behind : Bool) (ds w : List ℕ) (k : ℕ) → number_of_part behind ds ≡ Some k
     → prefix_len is_ascii_alphabetic (ds ++ w) ≡ 0
-number_ends behind [] w k h = absurd (no_digits k _ h)
-number_ends behind (x ∷ ds) w k h = rw (no_letter x (part_head behind x ds k h).1) refl
+number-ends behind [] w k h = absurd (no-digits k _ h)
+number-ends behind (x ∷ ds) w k h = rw (no-letter x (part-head behind x ds k h).1) refl
 
-in_upper : (name : List ℕ) (u : Unit) → same_name name (letters u) ≡ true
+in-upper : (name : List ℕ) (u : Unit) → same_name name (letters u) ≡ true
     → map up name ≡ map up (letters u)
 unfolding same_name
-in_upper name u h = (bytes_eq-Decides (map up name) (map up (letters u))).0 h
+in-upper name u h = (bytes_eq-Decides (map up name) (map up (letters u))).0 h
 
-by_letters : (p : ℕ → Bool) → ((x : ℕ) → p (up x) ≡ p x) → (name : List ℕ) (u : Unit)
+by-letters : (p : ℕ → Bool) → ((x : ℕ) → p (up x) ≡ p x) → (name : List ℕ) (u : Unit)
     → same_name name (letters u) ≡ true → prefix_len p name ≡ prefix_len p (letters u)
-by_letters p f name u h =
-    sym (prefix-up p f name) ∙ ap (prefix_len p) (in_upper name u h) ∙ prefix-up p f (letters u)
+by-letters p f name u h =
+    sym (prefix-up p f name) ∙ ap (prefix_len p) (in-upper name u h) ∙ prefix-up p f (letters u)
 
-as_long : (name : List ℕ) (u : Unit) → same_name name (letters u) ≡ true
+as-long : (name : List ℕ) (u : Unit) → same_name name (letters u) ≡ true
     → length name ≡ length (letters u)
-as_long name u h = sym (length-up name) ∙ ap length (in_upper name u h) ∙ length-up (letters u)
+as-long name u h = sym (length-up name) ∙ ap length (in-upper name u h) ∙ length-up (letters u)
 
-all_letters : (u : Unit) → prefix_len is_ascii_alphabetic (letters u) ≡ length (letters u)
-all_letters days = refl
-all_letters hours = refl
-all_letters minutes = refl
-all_letters seconds = refl
-all_letters thousandths = refl
+all-letters : (u : Unit) → prefix_len is_ascii_alphabetic (letters u) ≡ length (letters u)
+all-letters days = refl
+all-letters hours = refl
+all-letters minutes = refl
+all-letters seconds = refl
+all-letters thousandths = refl
 
-no_numeral : (u : Unit) → (prefix_len numeral (letters u) ≡ 0)
+no-numeral : (u : Unit) → (prefix_len numeral (letters u) ≡ 0)
     × (eqb 0 (length (letters u)) ≡ false) × (same_name [] (letters u) ≡ false)
 unfolding same_name
-no_numeral days = (refl, refl, refl)
-no_numeral hours = (refl, refl, refl)
-no_numeral minutes = (refl, refl, refl)
-no_numeral seconds = (refl, refl, refl)
-no_numeral thousandths = (refl, refl, refl)
+no-numeral days = (refl, refl, refl)
+no-numeral hours = (refl, refl, refl)
+no-numeral minutes = (refl, refl, refl)
+no-numeral seconds = (refl, refl, refl)
+no-numeral thousandths = (refl, refl, refl)
 
-name_in_front : (name w : List ℕ) (u : Unit) → same_name name (letters u) ≡ true
+name-in-front : (name w : List ℕ) (u : Unit) → same_name name (letters u) ≡ true
     → prefix_len is_ascii_alphabetic w ≡ 0
     → prefix_len is_ascii_alphabetic (name ++ w) ≡ length name
-name_in_front name w u h e =
+name-in-front name w u h e =
     let a : prefix_len is_ascii_alphabetic name ≡ length name =
-    by_letters is_ascii_alphabetic up-alphabetic name u h ∙ all_letters u
-    ∙ sym (as_long name u h) in
+    by-letters is_ascii_alphabetic up-alphabetic name u h ∙ all-letters u
+    ∙ sym (as-long name u h) in
     prefix_len-append is_ascii_alphabetic name w
     ∙ rw (a, eq-eqb (length name) (length name) refl, e) (add-zero (length name))
 
-name_ends : (name w : List ℕ) (u : Unit) → same_name name (letters u) ≡ true
+name-ends : (name w : List ℕ) (u : Unit) → same_name name (letters u) ≡ true
     → prefix_len numeral (name ++ w) ≡ 0
-name_ends name w u h =
+name-ends name w u h =
     let a : prefix_len numeral name ≡ 0 =
-    by_letters numeral numeral-up name u h ∙ (no_numeral u).0 in
-    prefix_len-append numeral name w ∙ rw (a, as_long name u h, (no_numeral u).1) refl
+    by-letters numeral numeral-up name u h ∙ (no-numeral u).0 in
+    prefix_len-append numeral name w ∙ rw (a, as-long name u h, (no-numeral u).1) refl
 
 cuts : (ds name w r : List ℕ) → r ≡ ds ++ (name ++ w)
     → prefix_len numeral (ds ++ (name ++ w)) ≡ length ds
@@ -336,17 +336,17 @@ cuts ds name w r e n m =
       drop-append_seam name w,
     ) (refl, refl, refl)
 
-part_cuts : (behind : Bool) (p : Part) (w r : List ℕ) → IsPart behind p → r ≡ spelling p ++ w
+part-cuts : (behind : Bool) (p : Part) (w r : List ℕ) → IsPart behind p → r ≡ spelling p ++ w
     → prefix_len is_ascii_alphabetic w ≡ 0
     → (take (number_len r) r ≡ p.digits) × (take (unit_len r) (drop (number_len r) r) ≡ p.name)
     × (drop (unit_len r) (drop (number_len r) r) ≡ w)
-part_cuts behind p w r is e z =
+part-cuts behind p w r is e z =
     cuts p.digits p.name w r (e ∙ append_assoc p.digits p.name w)
-    (number_in_front behind p.digits (p.name ++ w) p.count is.counted
-    ∙ rw (name_ends p.name w p.unit is.named) (add-zero (length p.digits)))
-    (name_in_front p.name w p.unit is.named z)
+    (number-in-front behind p.digits (p.name ++ w) p.count is.counted
+    ∙ rw (name-ends p.name w p.unit is.named) (add-zero (length p.digits)))
+    (name-in-front p.name w p.unit is.named z)
 
-took_from : (u : Unit) (d : Duration) (ds name w : List ℕ) (k : ℕ)
+took-from : (u : Unit) (d : Duration) (ds name w : List ℕ) (k : ℕ)
     → take (number_len d.rest) d.rest ≡ ds
     → take (unit_len d.rest) (drop (number_len d.rest) d.rest) ≡ name
     → drop (unit_len d.rest) (drop (number_len d.rest) d.rest) ≡ w
@@ -354,17 +354,17 @@ took_from : (u : Unit) (d : Duration) (ds name w : List ℕ) (k : ℕ)
     → part (letters u) (size u) d
     ≡ Some (record { rest = w; total = d.total + k * size u; begun = true })
 unfolding part
-took_from u d ds name w k a b c n s = rw (b, s, a, n, c) refl
+took-from u d ds name w k a b c n s = rw (b, s, a, n, c) refl
 
 took : (u : Unit) (d : Duration) (p : Part) (w : List ℕ) → IsPart d.begun p → p.unit ≡ u
     → d.rest ≡ spelling p ++ w → prefix_len is_ascii_alphabetic w ≡ 0
     → part (letters u) (size u) d
     ≡ Some (record { rest = w; total = d.total + value p; begun = true })
 took u d p w is of e z =
-    let c = part_cuts d.begun p w d.rest is e z in
+    let c = part-cuts d.begun p w d.rest is e z in
     subst (λ (v : Unit). part (letters v) (size v) d
     ≡ Some (record { rest = w; total = d.total + value p; begun = true })) of
-    (took_from p.unit d p.digits p.name w p.count c.0 c.1 c.2 is.counted is.named)
+    (took-from p.unit d p.digits p.name w p.count c.0 c.1 c.2 is.counted is.named)
 
 left : (u : Unit) (d : Duration)
     → same_name (take (unit_len d.rest) (drop (number_len d.rest) d.rest)) (letters u) ≡ false
@@ -372,8 +372,8 @@ left : (u : Unit) (d : Duration)
 unfolding part
 left u d h = rw h refl
 
-left_at_end : (u : Unit) (d : Duration) → d.rest ≡ [] → part (letters u) (size u) d ≡ Some d
-left_at_end u d e = left u d (rw e (no_numeral u).2)
+left-at-end : (u : Unit) (d : Duration) → d.rest ≡ [] → part (letters u) (size u) d ≡ Some d
+left-at-end u d e = left u d (rw e (no-numeral u).2)
 
 abbrev measured : List ℕ → ℕ
 measured w =
@@ -393,30 +393,30 @@ unit_of n =
     cond (eqb n 1) thousandths
     (cond (eqb n 1000) seconds (cond (eqb n 60000) minutes (cond (eqb n 3600000) hours days)))
 
-unit_back : (u : Unit) → unit_of (size u) ≡ u
-unit_back days = refl
-unit_back hours = refl
-unit_back minutes = refl
-unit_back seconds = refl
-unit_back thousandths = refl
+unit-back : (u : Unit) → unit_of (size u) ≡ u
+unit-back days = refl
+unit-back hours = refl
+unit-back minutes = refl
+unit-back seconds = refl
+unit-back thousandths = refl
 
-other_if : (u v : Unit) (name : List ℕ) (b : Bool) → same_name name (letters u) ≡ true
+other-if : (u v : Unit) (name : List ℕ) (b : Bool) → same_name name (letters u) ≡ true
     → size u < size v → same_name name (letters v) ≡ b → b ≡ false
-other_if u v name false h l k = refl
-other_if u v name true h l k =
+other-if u v name false h l k = refl
+other-if u v name true h l k =
     let e : size u ≡ size v =
-    sym (size_of u) ∙ ap measured (sym (in_upper name u h) ∙ in_upper name v k) ∙ size_of v in
+    sym (size_of u) ∙ ap measured (sym (in-upper name u h) ∙ in-upper name v k) ∙ size_of v in
     absurd (omega (arith, e, l))
 
-other_unit : (u v : Unit) (name : List ℕ) → same_name name (letters u) ≡ true → size u < size v
+other-unit : (u v : Unit) (name : List ℕ) → same_name name (letters u) ≡ true → size u < size v
     → same_name name (letters v) ≡ false
-other_unit u v name h l = other_if u v name _ h l refl
+other-unit u v name h l = other-if u v name _ h l refl
 
-left_other : (u : Unit) (d : Duration) (p : Part) (w : List ℕ) → IsPart d.begun p
+left-other : (u : Unit) (d : Duration) (p : Part) (w : List ℕ) → IsPart d.begun p
     → size p.unit < size u → d.rest ≡ spelling p ++ w → prefix_len is_ascii_alphabetic w ≡ 0
     → part (letters u) (size u) d ≡ Some d
-left_other u d p w is l e z =
-    left u d (rw (part_cuts d.begun p w d.rest is e z).1 (other_unit p.unit u p.name is.named l))
+left-other u d p w is l e z =
+    left u d (rw (part-cuts d.begun p w d.rest is e z).1 (other-unit p.unit u p.name is.named l))
 
 -- the units below a bound are these
 abbrev Covers : ℕ → List Unit → Type 0
@@ -449,16 +449,16 @@ covered = (
 largest : (v : Unit) → size v < 86400001
 largest v = omega (arith, five v)
 
-from_fall : (low : ℕ) (ps : List Part) → Fall low ps → Parts true low ps
-from_fall low [] f = tt
-from_fall low (p ∷ ps) f = f
+from-fall : (low : ℕ) (ps : List Part) → Fall low ps → Parts true low ps
+from-fall low [] f = tt
+from-fall low (p ∷ ps) f = f
 
-parts_end : (low : ℕ) (ps : List Part) → Fall low ps
+parts-end : (low : ℕ) (ps : List Part) → Fall low ps
     → prefix_len is_ascii_alphabetic (flat_map spelling ps) ≡ 0
-parts_end low [] f = refl
-parts_end low (p ∷ ps) f =
+parts-end low [] f = refl
+parts-end low (p ∷ ps) f =
     ap (prefix_len is_ascii_alphabetic) (append_assoc p.digits p.name (flat_map spelling ps))
-    ∙ number_ends true p.digits (p.name ++ flat_map spelling ps) p.count (f.0).counted
+    ∙ number-ends true p.digits (p.name ++ flat_map spelling ps) p.count (f.0).counted
 
 abbrev any : List Part → Bool
 any [] = false
@@ -467,8 +467,8 @@ any (p ∷ ps) = true
 abbrev after : Duration → List Part → Duration
 after d ps = record { rest = []; total = d.total + sum_by value ps; begun = d.begun || any ps }
 
-nothing_left : (d : Duration) → d.rest ≡ [] → Some d ≡ Some (after d [])
-nothing_left d e =
+nothing-left : (d : Duration) → d.rest ≡ [] → Some d ≡ Some (after d [])
+nothing-left d e =
     rw (add-zero d.total, or-false d.begun)
     (ap (λ (w : List ℕ). Some (record { rest = w; total = d.total; begun = d.begun })) e)
 
@@ -484,34 +484,34 @@ added d p ps =
 
 passes : (us : List Unit) (above : ℕ) (d : Duration) (ps : List Part) → Covers above us
     → Parts d.begun above ps → d.rest ≡ flat_map spelling ps → run us (Some d) ≡ Some (after d ps)
-passes [] above d [] c f e = nothing_left d e
+passes [] above d [] c f e = nothing-left d e
 passes [] above d (p ∷ ps) c f e = absurd (c p.unit f.1)
 passes (u ∷ us) above d [] c f e =
-    ap (run us) (left_at_end u d e) ∙ passes us (size u) d [] c.1 tt e
+    ap (run us) (left-at-end u d e) ∙ passes us (size u) d [] c.1 tt e
 passes (u ∷ us) above d (p ∷ ps) c f e = ⊎_elim
     (λ (l : size p.unit < size u). ap (run us)
-    (left_other u d p (flat_map spelling ps) f.0 l e (parts_end (size p.unit) ps f.2))
+    (left-other u d p (flat_map spelling ps) f.0 l e (parts-end (size p.unit) ps f.2))
     ∙ passes us (size u) d (p ∷ ps) c.1 (f.0, l, f.2) e)
     (λ (l : size u ≤ size p.unit).
     let m : size p.unit ≤ size u = c.0 p.unit f.1 in
     let s : size p.unit ≡ size u = omega (arith, l, m) in
-    let of : p.unit ≡ u = sym (unit_back p.unit) ∙ ap unit_of s ∙ unit_back u in
-    ap (run us) (took u d p (flat_map spelling ps) f.0 of e (parts_end (size p.unit) ps f.2))
+    let of : p.unit ≡ u = sym (unit-back p.unit) ∙ ap unit_of s ∙ unit-back u in
+    ap (run us) (took u d p (flat_map spelling ps) f.0 of e (parts-end (size p.unit) ps f.2))
     ∙ passes us (size u) (behind_it d p ps) ps c.1
-    (from_fall (size u) ps (subst (λ (n : ℕ). Fall n ps) s f.2)) refl ∙ added d p ps)
+    (from-fall (size u) ps (subst (λ (n : ℕ). Fall n ps) s f.2)) refl ∙ added d p ps)
     (cases_lt (size p.unit) (size u))
 
-total_at_end : (n : ℕ) → total_of (record { rest = []; total = n; begun = true }) ≡ Some n
+total-at-end : (n : ℕ) → total_of (record { rest = []; total = n; begun = true }) ≡ Some n
 unfolding total_of
-total_at_end n = refl
+total-at-end n = refl
 
-pub has_milliseconds : (w : List ℕ) (ms : ℕ) → IsDuration w ms → milliseconds w ≡ Some ms
-has_milliseconds w ms i =
-    as_run w ∙ ap (option_and_then total_of)
+pub has-milliseconds : (w : List ℕ) (ms : ℕ) → IsDuration w ms → milliseconds w ≡ Some ms
+has-milliseconds w ms i =
+    as-run w ∙ ap (option_and_then total_of)
     (passes units 86400001 (start w) (i.first ∷ i.more) covered
     (i.begins, largest i.first.unit, i.falls) i.spelled)
-    ∙ total_at_end (0 + sum_by value (i.first ∷ i.more))
+    ∙ total-at-end (0 + sum_by value (i.first ∷ i.more))
     ∙ ap Some (zero-add (sum_by value (i.first ∷ i.more)) ∙ sym i.summed)
 
 pub durations : DurationsFall
-durations w ms = (is_duration w ms, has_milliseconds w ms)
+durations w ms = (is-duration w ms, has-milliseconds w ms)

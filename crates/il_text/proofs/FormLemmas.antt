@@ -12,10 +12,10 @@ pub place_of : (f : Symbol → Bool) (ts : List Token)
 place_of f [] = refl
 place_of f (t ∷ ts) = rw (place_of f ts) refl
 
-pub symbols_take : (n : ℕ) (ts : List Token) → take n (symbols_of ts) ≡ symbols_of (take n ts)
-symbols_take n ts = take-map symbol_of n ts
+pub symbols-take : (n : ℕ) (ts : List Token) → take n (symbols_of ts) ≡ symbols_of (take n ts)
+symbols-take n ts = take-map symbol_of n ts
 
-pub symbols_drop : (n : ℕ) (ts : List Token) → drop n (symbols_of ts) ≡ symbols_of (drop n ts)
-symbols_drop n ts = drop-map symbol_of n ts
+pub symbols-drop : (n : ℕ) (ts : List Token) → drop n (symbols_of ts) ≡ symbols_of (drop n ts)
+symbols-drop n ts = drop-map symbol_of n ts
 
-pub ruleset parts_rules = (symbols_take, symbols_drop)
+pub ruleset parts_rules = (symbols-take, symbols-drop)

@@ -9,7 +9,7 @@ use Rattle.std.proofs.lemmas.List.{map-append}
 use Rattle.il_text.specs.Grammar.{Numbered, Declaration, Block, declaration_part, block_parts, names_declared, block_declared, may_declare, is_allowed, entry_parts, entries_parts, is_plain, is_first, is_inner, all_inner, is_parenthesis, is_outer, Derives}
 use Rattle.il_text.specs.Listing.{Action, load, store, combine, invert, convert, jump, leave, call, Entry, label, action, block, Entries, entries_of, Declared}
 use Rattle.il_text.specs.Parts.{Part, heading, opening, declaring, closing, labelling, acting, entering, leaving, ending}
-use Rattle.il_text.specs.Reading.{listed}
+use Rattle.il_text.specs.Reading.{program_made}
 use Rattle.il_text.specs.Steps.{Opened, Reached, nothing_read, at_place, with_name, declared_in, with_declarations, with_item, with_opened, with_closed, is_start, is_between_blocks, block_scope, is_body, is_outside, is_some, is_load, may_begin_with, declared_here, closed_block, may_stand, may_act, may_enter, may_leave, left_here, step}
 use Rattle.il_text.specs.declared.listing.Stage.{Stage}
 use Rattle.il_text.specs.declared.listing.Stage.TheVariants as place
@@ -90,81 +90,81 @@ ReachesAt ps r place.Start = AtStart ps r
 ReachesAt ps r place.Declarations = Between ps r
 ReachesAt ps r (place.Block scope) = InBlock scope ps r
 ReachesAt ps r place.Body = InBody ps r
-ReachesAt ps r place.Finished = Derives ps (listed r)
+ReachesAt ps r place.Finished = Derives ps (program_made r)
 
 -- the parts reach this
 abbrev pub Reaches : List Numbered → Reached → Type 0
 Reaches ps r = ReachesAt ps r r.place
 
-pub cond_some : {A : Type 0} → (b : Bool) (x y : A) → cond b (Some x) None ≡ Some y
+pub cond-some : {A : Type 0} → (b : Bool) (x y : A) → cond b (Some x) None ≡ Some y
     → (b ≡ true) × (x ≡ y)
-cond_some true x y e = (refl, cc)
-cond_some false x y e = cc
+cond-some true x y e = (refl, cc)
+cond-some false x y e = cc
 
-pub and_both : (a b : Bool) → a && b ≡ true → (a ≡ true) × (b ≡ true)
-and_both true b h = (refl, h)
-and_both false b h = absurd (false≢true h)
+pub and-both : (a b : Bool) → a && b ≡ true → (a ≡ true) × (b ≡ true)
+and-both true b h = (refl, h)
+and-both false b h = absurd (false≢true h)
 
-pub both_and : (a b : Bool) → a ≡ true → b ≡ true → a && b ≡ true
-both_and a b h k = rw (h, k) refl
+pub both-and : (a b : Bool) → a ≡ true → b ≡ true → a && b ≡ true
+both-and a b h k = rw (h, k) refl
 
-body_at : (ps : List Numbered) (r : Reached) (p : Stage) → is_body p ≡ true → ReachesAt ps r p
+body-at : (ps : List Numbered) (r : Reached) (p : Stage) → is_body p ≡ true → ReachesAt ps r p
     → InBody ps r
-body_at ps r place.Start h x = absurd (false≢true h)
-body_at ps r place.Declarations h x = x.body
-body_at ps r (place.Block scope) h x = absurd (false≢true h)
-body_at ps r place.Body h x = x
-body_at ps r place.Finished h x = absurd (false≢true h)
+body-at ps r place.Start h x = absurd (false≢true h)
+body-at ps r place.Declarations h x = x.body
+body-at ps r (place.Block scope) h x = absurd (false≢true h)
+body-at ps r place.Body h x = x
+body-at ps r place.Finished h x = absurd (false≢true h)
 
-start_at : (ps : List Numbered) (r : Reached) (p : Stage) → is_start p ≡ true → ReachesAt ps r p
+start-at : (ps : List Numbered) (r : Reached) (p : Stage) → is_start p ≡ true → ReachesAt ps r p
     → AtStart ps r
-start_at ps r place.Start h x = x
-start_at ps r place.Declarations h x = absurd (false≢true h)
-start_at ps r (place.Block scope) h x = absurd (false≢true h)
-start_at ps r place.Body h x = absurd (false≢true h)
-start_at ps r place.Finished h x = absurd (false≢true h)
+start-at ps r place.Start h x = x
+start-at ps r place.Declarations h x = absurd (false≢true h)
+start-at ps r (place.Block scope) h x = absurd (false≢true h)
+start-at ps r place.Body h x = absurd (false≢true h)
+start-at ps r place.Finished h x = absurd (false≢true h)
 
-between_at : (ps : List Numbered) (r : Reached) (p : Stage) → is_between_blocks p ≡ true
+between-at : (ps : List Numbered) (r : Reached) (p : Stage) → is_between_blocks p ≡ true
     → ReachesAt ps r p → Between ps r
-between_at ps r place.Start h x = absurd (false≢true h)
-between_at ps r place.Declarations h x = x
-between_at ps r (place.Block scope) h x = absurd (false≢true h)
-between_at ps r place.Body h x = absurd (false≢true h)
-between_at ps r place.Finished h x = absurd (false≢true h)
+between-at ps r place.Start h x = absurd (false≢true h)
+between-at ps r place.Declarations h x = x
+between-at ps r (place.Block scope) h x = absurd (false≢true h)
+between-at ps r place.Body h x = absurd (false≢true h)
+between-at ps r place.Finished h x = absurd (false≢true h)
 
-block_at : (ps : List Numbered) (r : Reached) (p : Stage) (scope : Scope)
+block-at : (ps : List Numbered) (r : Reached) (p : Stage) (scope : Scope)
     → block_scope p ≡ Some scope → ReachesAt ps r p → InBlock scope ps r
-block_at ps r place.Start scope h x = cc
-block_at ps r place.Declarations scope h x = cc
-block_at ps r (place.Block other) scope h x = let e : other ≡ scope =
+block-at ps r place.Start scope h x = cc
+block-at ps r place.Declarations scope h x = cc
+block-at ps r (place.Block other) scope h x = let e : other ≡ scope =
     cc in subst (λ (k : Scope). InBlock k ps r) e x
-block_at ps r place.Body scope h x = cc
-block_at ps r place.Finished scope h x = cc
+block-at ps r place.Body scope h x = cc
+block-at ps r place.Finished scope h x = cc
 
-outside_is : (fs : List Opened) → is_outside fs ≡ true → fs ≡ []
-outside_is [] h = refl
-outside_is (f ∷ fs) h = absurd (false≢true h)
+outside-is : (fs : List Opened) → is_outside fs ≡ true → fs ≡ []
+outside-is [] h = refl
+outside-is (f ∷ fs) h = absurd (false≢true h)
 
-all_more : {A : Type 0} → (f : A → Bool) (xs : List A) (x : A) → list_all f xs ≡ true → f x ≡ true
+all-more : {A : Type 0} → (f : A → Bool) (xs : List A) (x : A) → list_all f xs ≡ true → f x ≡ true
     → list_all f (xs ++ x ∷ []) ≡ true
-all_more f [] x h k = rw k refl
-all_more f (y ∷ xs) x h k = let p =
-    and_both (f y) (list_all f xs) h in both_and (f y) _ p.0 (all_more f xs x p.1 k)
+all-more f [] x h k = rw k refl
+all-more f (y ∷ xs) x h k = let p =
+    and-both (f y) (list_all f xs) h in both-and (f y) _ p.0 (all-more f xs x p.1 k)
 
-pub flat_one : {X A : Type 0} → (f : X → List A) (xs : List X) (x : X)
+pub flat-one : {X A : Type 0} → (f : X → List A) (xs : List X) (x : X)
     → flat_map f (xs ++ x ∷ []) ≡ flat_map f xs ++ f x
-flat_one f xs x =
+flat-one f xs x =
     flat_map-append f xs (x ∷ []) ∙ ap (λ (l : List _). flat_map f xs ++ l) (append-nil (f x))
 
-pub entries_flat : (es : List Entry) → entries_parts (entries_of es) ≡ flat_map entry_parts es
-entries_flat [] = refl
-entries_flat (e ∷ es) = ap (λ (l : List Numbered). entry_parts e ++ l) (entries_flat es)
+pub entries-flat : (es : List Entry) → entries_parts (entries_of es) ≡ flat_map entry_parts es
+entries-flat [] = refl
+entries-flat (e ∷ es) = ap (λ (l : List Numbered). entry_parts e ++ l) (entries-flat es)
 
 -- one more entry in the body
-more_item : (ps : List Numbered) (r : Reached) (e : Entry) → InBody ps r
+more-item : (ps : List Numbered) (r : Reached) (e : Entry) → InBody ps r
     → items_right r.parentheses (r.items ++ e ∷ []) ≡ true
     → InBody (ps ++ entry_parts e) (with_item e r)
-more_item ps r e b k = record {
+more-item ps r e b k = record {
   first = b.first;
   blocks = b.blocks;
   parts =
@@ -173,25 +173,25 @@ more_item ps r e b k = record {
       ∙ ap (λ (l : List Numbered). front b.first r.name b.blocks ++ l)
       (append_assoc (opened_parts r.parentheses) (flat_map entry_parts r.items) (entry_parts e)
       ∙ ap (λ (l : List Numbered). opened_parts r.parentheses ++ l)
-      (sym (flat_one entry_parts r.items e)));
+      (sym (flat-one entry_parts r.items e)));
   declared = b.declared;
   blocks_allowed = b.blocks_allowed;
   right = k;
   opened = b.opened;
 }
 
-none_in_body : (r : Reached) → r.items ≡ [] → r.parentheses ≡ [] → body_parts r ≡ []
-none_in_body r h k = rw (h, k) refl
+none-in-body : (r : Reached) → r.items ≡ [] → r.parentheses ≡ [] → body_parts r ≡ []
+none-in-body r h k = rw (h, k) refl
 
-heading_taken : (n : ℕ) (name : List ℕ) (ps : List Numbered) (r : Reached) → AtStart ps r
+heading-taken : (n : ℕ) (name : List ℕ) (ps : List Numbered) (r : Reached) → AtStart ps r
     → Between (ps ++ (n, heading name) ∷ []) (with_name name r)
-heading_taken n name ps r a = record {
+heading-taken n name ps r a = record {
   body = record {
     first = n;
     blocks = [];
     parts =
         ap (λ (l : List Numbered). l ++ (n, heading name) ∷ []) a.parts
-        ∙ sym (ap (λ (l : List Numbered). front n name [] ++ l) (none_in_body r a.none a.outside));
+        ∙ sym (ap (λ (l : List Numbered). front n name [] ++ l) (none-in-body r a.none a.outside));
     declared = a.none_declared;
     blocks_allowed = refl;
     right = rw (a.outside, a.none) refl;
@@ -201,9 +201,9 @@ heading_taken n name ps r a = record {
   outside = a.outside;
 }
 
-opening_taken : (n : ℕ) (scope : Scope) (ps : List Numbered) (r : Reached) → Between ps r
+opening-taken : (n : ℕ) (scope : Scope) (ps : List Numbered) (r : Reached) → Between ps r
     → InBlock scope (ps ++ (n, opening scope) ∷ []) (at_place (place.Block scope) r)
-opening_taken n scope ps r a = record {
+opening-taken n scope ps r a = record {
   first = a.body.first;
   blocks = a.body.blocks;
   line = n;
@@ -211,7 +211,7 @@ opening_taken n scope ps r a = record {
   parts =
       ap (λ (l : List Numbered). l ++ (n, opening scope) ∷ [])
       (a.body.parts ∙ ap (λ (l : List Numbered). front a.body.first r.name a.body.blocks ++ l)
-      (none_in_body r a.none a.outside) ∙ append-nil (front a.body.first r.name a.body.blocks));
+      (none-in-body r a.none a.outside) ∙ append-nil (front a.body.first r.name a.body.blocks));
   declared = a.body.declared ∙ sym (append-nil (flat_map block_declared a.body.blocks));
   blocks_allowed = a.body.blocks_allowed;
   allowed = refl;
@@ -219,21 +219,21 @@ opening_taken n scope ps r a = record {
   outside = a.outside;
 }
 
-initial_none : (o : Option Literal) → may_begin_with External o ≡ true → is_none o ≡ true
-initial_none None h = refl
-initial_none (Some x) h = absurd (false≢true h)
+initial-none : (o : Option Literal) → may_begin_with External o ≡ true → is_none o ≡ true
+initial-none None h = refl
+initial-none (Some x) h = absurd (false≢true h)
 
-may_begin : (scope : Scope) (d : Declaration) → may_begin_with scope d.initial ≡ true
+may-begin : (scope : Scope) (d : Declaration) → may_begin_with scope d.initial ≡ true
     → may_declare scope d ≡ true
-may_begin Local d h = refl
-may_begin External d h = initial_none d.initial h
+may-begin Local d h = refl
+may-begin External d h = initial-none d.initial h
 
-declaring_taken : (n : ℕ) (ns : List (List ℕ)) (kind : DeclaredType) (initial : Option Literal)
+declaring-taken : (n : ℕ) (ns : List (List ℕ)) (kind : DeclaredType) (initial : Option Literal)
     (scope : Scope) (ps : List Numbered) (r : Reached) → InBlock scope ps r
     → may_begin_with scope initial ≡ true
     → InBlock scope (ps ++ (n, declaring ns kind initial) ∷ [])
     (with_declarations (map (declared_in n scope kind initial) ns) r)
-declaring_taken n ns kind initial scope ps r a h =
+declaring-taken n ns kind initial scope ps r a h =
     let d : Declaration = record { line = n; names = ns; kind = kind; initial = initial } in
     record {
       first = a.first;
@@ -254,16 +254,16 @@ declaring_taken n ns kind initial scope ps r a h =
           (flat_map (names_declared scope) a.declarations)
           (map (declared_in n scope kind initial) ns)
           ∙ ap (λ (l : List Declared). flat_map block_declared a.blocks ++ l)
-          (sym (flat_one (names_declared scope) a.declarations d));
+          (sym (flat-one (names_declared scope) a.declarations d));
       blocks_allowed = a.blocks_allowed;
-      allowed = all_more (may_declare scope) a.declarations d a.allowed (may_begin scope d h);
+      allowed = all-more (may_declare scope) a.declarations d a.allowed (may-begin scope d h);
       none = a.none;
       outside = a.outside;
     }
 
-closing_taken : (n : ℕ) (scope : Scope) (ps : List Numbered) (r : Reached) → InBlock scope ps r
+closing-taken : (n : ℕ) (scope : Scope) (ps : List Numbered) (r : Reached) → InBlock scope ps r
     → Between (ps ++ (n, closing) ∷ []) (at_place place.Declarations r)
-closing_taken n scope ps r a =
+closing-taken n scope ps r a =
     let b : Block =
     record { line = a.line; scope = scope; declarations = a.declarations; end = n } in
     let inner : List Numbered = (a.line, opening scope) ∷ map declaration_part a.declarations in
@@ -276,12 +276,12 @@ closing_taken n scope ps r a =
             ∙ append_assoc (front a.first r.name a.blocks)
             ((a.line, opening scope) ∷ map declaration_part a.declarations) ((n, closing) ∷ [])
             ∙ ap (λ (l : List Numbered). (a.first, heading r.name) ∷ l)
-            (sym (flat_one block_parts a.blocks b))
+            (sym (flat-one block_parts a.blocks b))
             ∙ sym (append-nil (front a.first r.name (a.blocks ++ b ∷ [])))
             ∙ sym (ap (λ (l : List Numbered). front a.first r.name (a.blocks ++ b ∷ []) ++ l)
-            (none_in_body r a.none a.outside));
-        declared = a.declared ∙ sym (flat_one block_declared a.blocks b);
-        blocks_allowed = all_more is_allowed a.blocks b a.blocks_allowed a.allowed;
+            (none-in-body r a.none a.outside));
+        declared = a.declared ∙ sym (flat-one block_declared a.blocks b);
+        blocks_allowed = all-more is_allowed a.blocks b a.blocks_allowed a.allowed;
         right = rw (a.outside, a.none) refl;
         opened = rw a.outside refl;
       };
@@ -289,51 +289,51 @@ closing_taken n scope ps r a =
       outside = a.outside;
     }
 
-right_outer : (fs : List Opened) (es : List Entry) (e : Entry) → is_outside fs ≡ true
+right-outer : (fs : List Opened) (es : List Entry) (e : Entry) → is_outside fs ≡ true
     → items_right fs es ≡ true → is_outer e ≡ true → items_right fs (es ++ e ∷ []) ≡ true
-right_outer [] es e o h k = all_more is_outer es e h k
-right_outer (f ∷ fs) es e o h k = absurd (false≢true o)
+right-outer [] es e o h k = all-more is_outer es e h k
+right-outer (f ∷ fs) es e o h k = absurd (false≢true o)
 
-first_load : (n : ℕ) (a : Action) → is_load a ≡ true → is_first (action n a) ≡ true
-first_load n (load negated source) h = refl
-first_load n (store kind place) h = absurd (false≢true h)
-first_load n (combine operator negated source) h = absurd (false≢true h)
-first_load n invert h = absurd (false≢true h)
-first_load n (convert conversion) h = absurd (false≢true h)
-first_load n (jump condition to) h = absurd (false≢true h)
-first_load n (leave condition) h = absurd (false≢true h)
-first_load n (call timer arguments) h = absurd (false≢true h)
+first-load : (n : ℕ) (a : Action) → is_load a ≡ true → is_first (action n a) ≡ true
+first-load n (load negated source) h = refl
+first-load n (store kind place) h = absurd (false≢true h)
+first-load n (combine operator negated source) h = absurd (false≢true h)
+first-load n invert h = absurd (false≢true h)
+first-load n (convert conversion) h = absurd (false≢true h)
+first-load n (jump condition to) h = absurd (false≢true h)
+first-load n (leave condition) h = absurd (false≢true h)
+first-load n (call timer arguments) h = absurd (false≢true h)
 
 -- one more entry of a parenthesis: the first of them, or a later one
-starts_more : (es : List Entry) (e : Entry) → starts_right es ≡ true
+starts-more : (es : List Entry) (e : Entry) → starts_right es ≡ true
     → is_some es || is_first e ≡ true → starts_right (es ++ e ∷ []) ≡ true
-starts_more [] e h k = k
-starts_more (d ∷ es) e h k = h
+starts-more [] e h k = k
+starts-more (d ∷ es) e h k = h
 
-right_inner : (f : Opened) (fs : List Opened) (es : List Entry) (e : Entry)
+right-inner : (f : Opened) (fs : List Opened) (es : List Entry) (e : Entry)
     → items_right (f ∷ fs) es ≡ true → is_inner e ≡ true → is_some es || is_first e ≡ true
     → items_right (f ∷ fs) (es ++ e ∷ []) ≡ true
-right_inner f fs es e h i k =
-    let p = and_both (starts_right es) (list_all is_inner es) h in
-    both_and (starts_right (es ++ e ∷ [])) _ (starts_more es e p.0 k) (all_more is_inner es e p.1 i)
+right-inner f fs es e h i k =
+    let p = and-both (starts_right es) (list_all is_inner es) h in
+    both-and (starts_right (es ++ e ∷ [])) _ (starts-more es e p.0 k) (all-more is_inner es e p.1 i)
 
-or_first : (b : Bool) (n : ℕ) (a : Action) → b || is_load a ≡ true
+or-first : (b : Bool) (n : ℕ) (a : Action) → b || is_load a ≡ true
     → b || is_first (action n a) ≡ true
-or_first true n a h = refl
-or_first false n a h = first_load n a h
+or-first true n a h = refl
+or-first false n a h = first-load n a h
 
-right_action : (n : ℕ) (a : Action) (fs : List Opened) (es : List Entry) → items_right fs es ≡ true
+right-action : (n : ℕ) (a : Action) (fs : List Opened) (es : List Entry) → items_right fs es ≡ true
     → is_outside fs || (is_plain a && (is_some es || is_load a)) ≡ true
     → items_right fs (es ++ action n a ∷ []) ≡ true
-right_action n a [] es h k = all_more is_outer es (action n a) h refl
-right_action n a (f ∷ fs) es h k =
-    let p = and_both (is_plain a) (is_some es || is_load a) k in
-    right_inner f fs es (action n a) h p.0 (or_first (is_some es) n a p.1)
+right-action n a [] es h k = all-more is_outer es (action n a) h refl
+right-action n a (f ∷ fs) es h k =
+    let p = and-both (is_plain a) (is_some es || is_load a) k in
+    right-inner f fs es (action n a) h p.0 (or-first (is_some es) n a p.1)
 
-entering_taken : (n : ℕ) (o : Operator) (g : Bool) (ps : List Numbered) (r : Reached) → InBody ps r
+entering-taken : (n : ℕ) (o : Operator) (g : Bool) (ps : List Numbered) (r : Reached) → InBody ps r
     → is_outside r.parentheses || is_some r.items ≡ true
     → InBody (ps ++ (n, entering o g) ∷ []) (with_opened n o g r)
-entering_taken n o g ps r b k = record {
+entering-taken n o g ps r b k = record {
   first = b.first;
   blocks = b.blocks;
   parts =
@@ -346,56 +346,56 @@ entering_taken n o g ps r b k = record {
   blocks_allowed = b.blocks_allowed;
   right = refl;
   opened =
-      both_and (is_outside r.parentheses || is_some r.items) _ k
-      (both_and (items_right r.parentheses r.items) _ b.right b.opened);
+      both-and (is_outside r.parentheses || is_some r.items) _ k
+      (both-and (items_right r.parentheses r.items) _ b.right b.opened);
 }
 
-inner_is : (es : List Entry) → list_all is_inner es ≡ true → all_inner (entries_of es) ≡ true
-inner_is [] h = refl
-inner_is (e ∷ es) h = let p =
-    and_both (is_inner e) (list_all is_inner es) h in both_and (is_inner e) _ p.0 (inner_is es p.1)
+inner-is : (es : List Entry) → list_all is_inner es ≡ true → all_inner (entries_of es) ≡ true
+inner-is [] h = refl
+inner-is (e ∷ es) h = let p =
+    and-both (is_inner e) (list_all is_inner es) h in both-and (is_inner e) _ p.0 (inner-is es p.1)
 
-or_false : (b : Bool) → b ≡ true → b || false ≡ true
-or_false true h = refl
-or_false false h = absurd (false≢true h)
+or-false : (b : Bool) → b ≡ true → b || false ≡ true
+or-false true h = refl
+or-false false h = absurd (false≢true h)
 
 -- the entries of a parenthesis, as a list
-parenthesis_is : (es : List Entry) → starts_right es ≡ true → list_all is_inner es ≡ true
+parenthesis-is : (es : List Entry) → starts_right es ≡ true → list_all is_inner es ≡ true
     → is_some es ≡ true → is_parenthesis (entries_of es) ≡ true
-parenthesis_is [] s h k = absurd (false≢true k)
-parenthesis_is (e ∷ es) s h k =
-    let p = and_both (is_inner e) (list_all is_inner es) h in
-    both_and (is_first e) _ s (both_and (is_inner e) _ p.0 (inner_is es p.1))
+parenthesis-is [] s h k = absurd (false≢true k)
+parenthesis-is (e ∷ es) s h k =
+    let p = and-both (is_inner e) (list_all is_inner es) h in
+    both-and (is_first e) _ s (both-and (is_inner e) _ p.0 (inner-is es p.1))
 
-right_block : (n m : ℕ) (o : Operator) (g : Bool) (inner : Entries) (fs : List Opened)
+right-block : (n m : ℕ) (o : Operator) (g : Bool) (inner : Entries) (fs : List Opened)
     (es : List Entry) → is_parenthesis inner ≡ true → items_right fs es ≡ true
     → is_outside fs || is_some es ≡ true → items_right fs (es ++ block n o g inner m ∷ []) ≡ true
-right_block n m o g inner [] es i h k = all_more is_outer es (block n o g inner m) h i
-right_block n m o g inner (f ∷ fs) es i h k =
-    right_inner f fs es (block n o g inner m) h i (or_false (is_some es) k)
+right-block n m o g inner [] es i h k = all-more is_outer es (block n o g inner m) h i
+right-block n m o g inner (f ∷ fs) es i h k =
+    right-inner f fs es (block n o g inner m) h i (or-false (is_some es) k)
 
-leaving_parts : (n : ℕ) (f : Opened) (fs : List Opened) (es : List Entry)
+leaving-parts : (n : ℕ) (f : Opened) (fs : List Opened) (es : List Entry)
     → (opened_parts (f ∷ fs) ++ flat_map entry_parts es) ++ (n, leaving) ∷ []
     ≡ opened_parts fs ++ flat_map entry_parts
     (f.outer ++ block f.line f.operator f.negated (entries_of es) n ∷ [])
-leaving_parts n f fs es =
+leaving-parts n f fs es =
     let e : Entry = block f.line f.operator f.negated (entries_of es) n in
-    rw (flat_one entry_parts f.outer e, entries_flat es)
+    rw (flat-one entry_parts f.outer e, entries-flat es)
     (simp append_assoc refl)
 
-leaving_taken : (n : ℕ) (f : Opened) (fs : List Opened) (ps : List Numbered) (r : Reached)
+leaving-taken : (n : ℕ) (f : Opened) (fs : List Opened) (ps : List Numbered) (r : Reached)
     → InBody ps r → r.parentheses ≡ f ∷ fs → is_some r.items ≡ true
     → InBody (ps ++ (n, leaving) ∷ []) (with_closed n r f fs)
-leaving_taken n f fs ps r b q k =
+leaving-taken n f fs ps r b q k =
     let right : items_right (f ∷ fs) r.items ≡ true =
     subst (λ (x : List Opened). items_right x r.items ≡ true) q b.right in
     let opened : opened_right (f ∷ fs) ≡ true =
     subst (λ (x : List Opened). opened_right x ≡ true) q b.opened in
-    let inner = and_both (starts_right r.items) (list_all is_inner r.items) right in
+    let inner = and-both (starts_right r.items) (list_all is_inner r.items) right in
     let outer =
-    and_both (is_outside fs || is_some f.outer) (items_right fs f.outer && opened_right fs)
+    and-both (is_outside fs || is_some f.outer) (items_right fs f.outer && opened_right fs)
     opened in
-    let rest = and_both (items_right fs f.outer) (opened_right fs) outer.1 in
+    let rest = and-both (items_right fs f.outer) (opened_right fs) outer.1 in
     record {
       first = b.first;
       blocks = b.blocks;
@@ -404,22 +404,22 @@ leaving_taken n f fs ps r b q k =
           ∙ append_assoc (front b.first r.name b.blocks) (body_parts r) ((n, leaving) ∷ [])
           ∙ ap (λ (l : List Numbered). front b.first r.name b.blocks ++ l)
           (ap (λ (x : List Opened). (opened_parts x ++ flat_map entry_parts r.items)
-          ++ (n, leaving) ∷ []) q ∙ leaving_parts n f fs r.items);
+          ++ (n, leaving) ∷ []) q ∙ leaving-parts n f fs r.items);
       declared = b.declared;
       blocks_allowed = b.blocks_allowed;
-      right = right_block f.line n f.operator f.negated (entries_of r.items) fs f.outer
-          (parenthesis_is r.items inner.0 inner.1 k) rest.0 outer.0;
+      right = right-block f.line n f.operator f.negated (entries_of r.items) fs f.outer
+          (parenthesis-is r.items inner.0 inner.1 k) rest.0 outer.0;
       opened = rest.1;
     }
 
-items_outer : (fs : List Opened) (es : List Entry) → fs ≡ [] → items_right fs es ≡ true
+items-outer : (fs : List Opened) (es : List Entry) → fs ≡ [] → items_right fs es ≡ true
     → list_all is_outer es ≡ true
-items_outer fs es q h = subst (λ (x : List Opened). items_right x es ≡ true) q h
+items-outer fs es q h = subst (λ (x : List Opened). items_right x es ≡ true) q h
 
-ending_taken : (n : ℕ) (ps : List Numbered) (r : Reached) → InBody ps r
-    → is_outside r.parentheses ≡ true → Derives (ps ++ (n, ending) ∷ []) (listed r)
-ending_taken n ps r b k =
-    let q = outside_is r.parentheses k in
+ending-taken : (n : ℕ) (ps : List Numbered) (r : Reached) → InBody ps r
+    → is_outside r.parentheses ≡ true → Derives (ps ++ (n, ending) ∷ []) (program_made r)
+ending-taken n ps r b k =
+    let q = outside-is r.parentheses k in
     record {
       first = b.first;
       blocks = b.blocks;
@@ -431,133 +431,133 @@ ending_taken n ps r b k =
           ++ ((opened_parts x ++ flat_map entry_parts r.items) ++ (n, ending) ∷ [])) q;
       declared = b.declared;
       blocks_allowed = b.blocks_allowed;
-      items_allowed = items_outer r.parentheses r.items q b.right;
+      items_allowed = items-outer r.parentheses r.items q b.right;
     }
 
-pub declared_some : (n : ℕ) (ns : List (List ℕ)) (kind : DeclaredType) (initial : Option Literal)
+pub declared-some : (n : ℕ) (ns : List (List ℕ)) (kind : DeclaredType) (initial : Option Literal)
     (r s : Reached) (o : Option Scope) → declared_here n ns kind initial r o ≡ Some s
     → (scope : Scope) × (o ≡ Some scope) × (may_begin_with scope initial ≡ true)
     × (with_declarations (map (declared_in n scope kind initial) ns) r ≡ s)
-declared_some n ns kind initial r s None e = cc
-declared_some n ns kind initial r s (Some scope) e =
-    let c = cond_some (may_begin_with scope initial)
+declared-some n ns kind initial r s None e = cc
+declared-some n ns kind initial r s (Some scope) e =
+    let c = cond-some (may_begin_with scope initial)
     (with_declarations (map (declared_in n scope kind initial) ns) r) s e in
     (scope, refl, c.0, c.1)
 
-pub closed_some : (r s : Reached) (o : Option Scope) → closed_block r o ≡ Some s
+pub closed-some : (r s : Reached) (o : Option Scope) → closed_block r o ≡ Some s
     → (scope : Scope) × (o ≡ Some scope) × (at_place place.Declarations r ≡ s)
-closed_some r s None e = cc
-closed_some r s (Some scope) e = (scope, refl, cc)
+closed-some r s None e = cc
+closed-some r s (Some scope) e = (scope, refl, cc)
 
-pub left_some : (n : ℕ) (r s : Reached) (fs : List Opened) → left_here n r fs ≡ Some s
+pub left-some : (n : ℕ) (r s : Reached) (fs : List Opened) → left_here n r fs ≡ Some s
     → (f : Opened) × (gs : List Opened) × (fs ≡ f ∷ gs) × (with_closed n r f gs ≡ s)
-left_some n r s [] e = cc
-left_some n r s (f ∷ fs) e = (f, fs, refl, cc)
+left-some n r s [] e = cc
+left-some n r s (f ∷ fs) e = (f, fs, refl, cc)
 
-pub cond_left : (b : Bool) (o : Option Reached) (s : Reached) → cond b o None ≡ Some s
+pub cond-left : (b : Bool) (o : Option Reached) (s : Reached) → cond b o None ≡ Some s
     → (b ≡ true) × (o ≡ Some s)
-cond_left true o s e = (refl, e)
-cond_left false o s e = cc
+cond-left true o s e = (refl, e)
+cond-left false o s e = cc
 
-block_back : (ps : List Numbered) (r : Reached) (p : Stage) (scope : Scope)
+block-back : (ps : List Numbered) (r : Reached) (p : Stage) (scope : Scope)
     → block_scope p ≡ Some scope → InBlock scope ps r → ReachesAt ps r p
-block_back ps r place.Start scope h x = cc
-block_back ps r place.Declarations scope h x = cc
-block_back ps r (place.Block other) scope h x = let e : scope ≡ other =
+block-back ps r place.Start scope h x = cc
+block-back ps r place.Declarations scope h x = cc
+block-back ps r (place.Block other) scope h x = let e : scope ≡ other =
     cc in subst (λ (k : Scope). InBlock k ps r) e x
-block_back ps r place.Body scope h x = cc
-block_back ps r place.Finished scope h x = cc
+block-back ps r place.Body scope h x = cc
+block-back ps r place.Finished scope h x = cc
 
 -- a part that is taken is the next of the grammar's
-step_reaches : (n : ℕ) (ps : List Numbered) (r s : Reached) (p : Part) → Reaches ps r
+step-reaches : (n : ℕ) (ps : List Numbered) (r s : Reached) (p : Part) → Reaches ps r
     → step n r p ≡ Some s → Reaches (ps ++ (n, p) ∷ []) s
 unfolding step may_stand may_act may_enter may_leave
-step_reaches n ps r s (heading name) x e =
-    let c = cond_some (is_start r.place) (with_name name r) s e in
+step-reaches n ps r s (heading name) x e =
+    let c = cond-some (is_start r.place) (with_name name r) s e in
     subst (λ (t : Reached). Reaches (ps ++ (n, heading name) ∷ []) t) c.1
-    (heading_taken n name ps r (start_at ps r r.place c.0 x))
-step_reaches n ps r s (opening scope) x e =
-    let c = cond_some (is_between_blocks r.place) (at_place (place.Block scope) r) s e in
+    (heading-taken n name ps r (start-at ps r r.place c.0 x))
+step-reaches n ps r s (opening scope) x e =
+    let c = cond-some (is_between_blocks r.place) (at_place (place.Block scope) r) s e in
     subst (λ (t : Reached). Reaches (ps ++ (n, opening scope) ∷ []) t) c.1
-    (opening_taken n scope ps r (between_at ps r r.place c.0 x))
-step_reaches n ps r s (declaring ns kind initial) x e =
-    let c = declared_some n ns kind initial r s (block_scope r.place) e in
+    (opening-taken n scope ps r (between-at ps r r.place c.0 x))
+step-reaches n ps r s (declaring ns kind initial) x e =
+    let c = declared-some n ns kind initial r s (block_scope r.place) e in
     subst (λ (t : Reached). Reaches (ps ++ (n, declaring ns kind initial) ∷ []) t) c.3
-    (block_back _ (with_declarations (map (declared_in n c.0 kind initial) ns) r) r.place c.0 c.1
-    (declaring_taken n ns kind initial c.0 ps r (block_at ps r r.place c.0 c.1 x) c.2))
-step_reaches n ps r s closing x e =
-    let c = closed_some r s (block_scope r.place) e in
+    (block-back _ (with_declarations (map (declared_in n c.0 kind initial) ns) r) r.place c.0 c.1
+    (declaring-taken n ns kind initial c.0 ps r (block-at ps r r.place c.0 c.1 x) c.2))
+step-reaches n ps r s closing x e =
+    let c = closed-some r s (block_scope r.place) e in
     subst (λ (t : Reached). Reaches (ps ++ (n, closing) ∷ []) t) c.2
-    (closing_taken n c.0 ps r (block_at ps r r.place c.0 c.1 x))
-step_reaches n ps r s (labelling name) x e =
-    let c = cond_some (is_body r.place && is_outside r.parentheses) (with_item (label n name) r) s e
+    (closing-taken n c.0 ps r (block-at ps r r.place c.0 c.1 x))
+step-reaches n ps r s (labelling name) x e =
+    let c = cond-some (is_body r.place && is_outside r.parentheses) (with_item (label n name) r) s e
     in
-    let h = and_both (is_body r.place) (is_outside r.parentheses) c.0 in
-    let b = body_at ps r r.place h.0 x in
+    let h = and-both (is_body r.place) (is_outside r.parentheses) c.0 in
+    let b = body-at ps r r.place h.0 x in
     subst (λ (t : Reached). Reaches (ps ++ (n, labelling name) ∷ []) t) c.1
-    (more_item ps r (label n name) b
-    (right_outer r.parentheses r.items (label n name) h.1 b.right refl))
-step_reaches n ps r s (acting a) x e =
-    let c = cond_some (is_body r.place
+    (more-item ps r (label n name) b
+    (right-outer r.parentheses r.items (label n name) h.1 b.right refl))
+step-reaches n ps r s (acting a) x e =
+    let c = cond-some (is_body r.place
     && (is_outside r.parentheses || (is_plain a && (is_some r.items || is_load a))))
     (with_item (action n a) r) s e in
-    let h = and_both (is_body r.place)
+    let h = and-both (is_body r.place)
     (is_outside r.parentheses || (is_plain a && (is_some r.items || is_load a))) c.0 in
-    let b = body_at ps r r.place h.0 x in
+    let b = body-at ps r r.place h.0 x in
     subst (λ (t : Reached). Reaches (ps ++ (n, acting a) ∷ []) t) c.1
-    (more_item ps r (action n a) b (right_action n a r.parentheses r.items b.right h.1))
-step_reaches n ps r s (entering o g) x e =
-    let c = cond_some (is_body r.place && (is_outside r.parentheses || is_some r.items))
+    (more-item ps r (action n a) b (right-action n a r.parentheses r.items b.right h.1))
+step-reaches n ps r s (entering o g) x e =
+    let c = cond-some (is_body r.place && (is_outside r.parentheses || is_some r.items))
     (with_opened n o g r) s e in
-    let h = and_both (is_body r.place) (is_outside r.parentheses || is_some r.items) c.0 in
+    let h = and-both (is_body r.place) (is_outside r.parentheses || is_some r.items) c.0 in
     subst (λ (t : Reached). Reaches (ps ++ (n, entering o g) ∷ []) t) c.1
-    (entering_taken n o g ps r (body_at ps r r.place h.0 x) h.1)
-step_reaches n ps r s leaving x e =
-    let c = cond_left (is_body r.place && is_some r.items) (left_here n r r.parentheses) s e in
-    let h = and_both (is_body r.place) (is_some r.items) c.0 in
-    let l = left_some n r s r.parentheses c.1 in
+    (entering-taken n o g ps r (body-at ps r r.place h.0 x) h.1)
+step-reaches n ps r s leaving x e =
+    let c = cond-left (is_body r.place && is_some r.items) (left_here n r r.parentheses) s e in
+    let h = and-both (is_body r.place) (is_some r.items) c.0 in
+    let l = left-some n r s r.parentheses c.1 in
     subst (λ (t : Reached). Reaches (ps ++ (n, leaving) ∷ []) t) l.3
-    (leaving_taken n l.0 l.1 ps r (body_at ps r r.place h.0 x) l.2 h.1)
-step_reaches n ps r s ending x e =
-    let c = cond_some (is_body r.place && is_outside r.parentheses) (at_place place.Finished r) s e
+    (leaving-taken n l.0 l.1 ps r (body-at ps r r.place h.0 x) l.2 h.1)
+step-reaches n ps r s ending x e =
+    let c = cond-some (is_body r.place && is_outside r.parentheses) (at_place place.Finished r) s e
     in
-    let h = and_both (is_body r.place) (is_outside r.parentheses) c.0 in
+    let h = and-both (is_body r.place) (is_outside r.parentheses) c.0 in
     subst (λ (t : Reached). Reaches (ps ++ (n, ending) ∷ []) t) c.1
-    (ending_taken n ps r (body_at ps r r.place h.0 x) h.1)
+    (ending-taken n ps r (body-at ps r r.place h.0 x) h.1)
 
-pub then_some : (o : Option Reached) (f : Reached → Option Reached) (s : Reached)
+pub then-some : (o : Option Reached) (f : Reached → Option Reached) (s : Reached)
     → option_and_then f o ≡ Some s → (t : Reached) × (o ≡ Some t) × (f t ≡ Some s)
-then_some None f s e = cc
-then_some (Some t) f s e = (t, refl, e)
+then-some None f s e = cc
+then-some (Some t) f s e = (t, refl, e)
 
 -- the parts that run from what parts reach
-pub run_reaches : (qs ps : List Numbered) (r s : Reached) → Reaches ps r → run r qs ≡ Some s
+pub run-reaches : (qs ps : List Numbered) (r s : Reached) → Reaches ps r → run r qs ≡ Some s
     → Reaches (ps ++ qs) s
-run_reaches [] ps r s x e = let same : r ≡ s = cc in
+run-reaches [] ps r s x e = let same : r ≡ s = cc in
     subst (λ (l : List Numbered). Reaches l s) (sym (append-nil ps))
     (subst (λ (t : Reached). Reaches ps t) same x)
-run_reaches (q ∷ qs) ps r s x e =
-    let c = then_some (step q.0 r q.1) (λ t. run t qs) s e in
+run-reaches (q ∷ qs) ps r s x e =
+    let c = then-some (step q.0 r q.1) (λ t. run t qs) s e in
     subst (λ (l : List Numbered). Reaches l s) (append_assoc ps (q ∷ []) qs)
-    (run_reaches qs (ps ++ q ∷ []) c.0 s (step_reaches q.0 ps r c.0 q.1 x c.1) c.2)
+    (run-reaches qs (ps ++ q ∷ []) c.0 s (step-reaches q.0 ps r c.0 q.1 x c.1) c.2)
 
-pub start_reaches : Reaches [] nothing_read
-start_reaches = record { parts = refl; none_declared = refl; none = refl; outside = refl }
+pub start-reaches : Reaches [] nothing_read
+start-reaches = record { parts = refl; none_declared = refl; none = refl; outside = refl }
 
-and_then_assoc : (o : Option Reached) (f g : Reached → Option Reached)
+and-then-assoc : (o : Option Reached) (f g : Reached → Option Reached)
     → option_and_then (λ s. option_and_then g (f s)) o ≡ option_and_then g (option_and_then f o)
-and_then_assoc None f g = refl
-and_then_assoc (Some s) f g = refl
+and-then-assoc None f g = refl
+and-then-assoc (Some s) f g = refl
 
-pub and_then_same : (o : Option Reached) (f g : Reached → Option Reached)
+pub and-then-same : (o : Option Reached) (f g : Reached → Option Reached)
     → ((s : Reached) → f s ≡ g s) → option_and_then f o ≡ option_and_then g o
-and_then_same None f g h = refl
-and_then_same (Some s) f g h = h s
+and-then-same None f g h = refl
+and-then-same (Some s) f g h = h s
 
-pub run_append : (xs ys : List Numbered) (r : Reached)
+pub run-append : (xs ys : List Numbered) (r : Reached)
     → run r (xs ++ ys) ≡ option_and_then (λ s. run s ys) (run r xs)
-run_append [] ys r = refl
-run_append (x ∷ xs) ys r =
-    and_then_same (step x.0 r x.1) (λ s. run s (xs ++ ys))
-    (λ s. option_and_then (λ t. run t ys) (run s xs)) (λ s. run_append xs ys s)
-    ∙ and_then_assoc (step x.0 r x.1) (λ s. run s xs) (λ s. run s ys)
+run-append [] ys r = refl
+run-append (x ∷ xs) ys r =
+    and-then-same (step x.0 r x.1) (λ s. run s (xs ++ ys))
+    (λ s. option_and_then (λ t. run t ys) (run s xs)) (λ s. run-append xs ys s)
+    ∙ and-then-assoc (step x.0 r x.1) (λ s. run s xs) (λ s. run s ys)

@@ -2,53 +2,53 @@
 use Rattle.std.proofs.Common.{◌≡◌, ℕ, ◌<◌, ◌≤◌, true, false, List, Some, None, length, slice_index, slice_range, refl, sym, arith}
 use Rattle.std.proofs.lemmas.Grind.{common_steps}
 use Rattle.il_text.specs.Characters.{is_blank, begins_word, begins_name}
-use Rattle.il_text.specs.Literals.{halves, prefixed, decimal, untyped}
+use Rattle.il_text.specs.Literals.{halves, prefixed_literal, decimal, plain_literal}
 use Rattle.il_text.specs.Symbols.{word, plain_word, literal_piece, is_line_end, mark_of, piece}
 use Rattle.il_text.specs.Tokens.{Symbol, blank, line_end, token, bad_token}
 
-pub word_some : (w : List ℕ) (h : List ℕ × List ℕ) → Some h ≡ halves w
-    → word w ≡ literal_piece (prefixed h.0 h.1)
+pub word-some : (w : List ℕ) (h : List ℕ × List ℕ) → Some h ≡ halves w
+    → word w ≡ literal_piece (prefixed_literal h.0 h.1)
 unfolding word
-word_some w h e = rw (sym e) refl
+word-some w h e = rw (sym e) refl
 
-pub word_name : (w : List ℕ) → halves w ≡ None → begins_name (slice_index w 0) ≡ true
+pub word-name : (w : List ℕ) → halves w ≡ None → begins_name (slice_index w 0) ≡ true
     → word w ≡ plain_word w
 unfolding word
-word_name w e b = rw (e, b) refl
+word-name w e b = rw (e, b) refl
 
-pub word_number : (w : List ℕ) → halves w ≡ None → begins_name (slice_index w 0) ≡ false
-    → word w ≡ literal_piece (untyped (decimal w))
+pub word-number : (w : List ℕ) → halves w ≡ None → begins_name (slice_index w 0) ≡ false
+    → word w ≡ literal_piece (plain_literal (decimal w))
 unfolding word
-word_number w e b = rw (e, b) refl
+word-number w e b = rw (e, b) refl
 
-pub ruleset word_rules = (word_some, word_name, word_number)
+pub ruleset word_rules = (word-some, word-name, word-number)
 
-pub first_of_range : (bs : List ℕ) (s e : ℕ) → s < e → e ≤ length bs
+pub first-of-range : (bs : List ℕ) (s e : ℕ) → s < e → e ≤ length bs
     → slice_index (slice_range bs s e) 0 ≡ slice_index bs s
-first_of_range bs s e h w = grind (arith, common_steps)
+first-of-range bs s e h w = grind (arith, common_steps)
 
-pub piece_blank : (p : List ℕ) → is_blank (slice_index p 0) ≡ true → piece p ≡ blank
+pub piece-blank : (p : List ℕ) → is_blank (slice_index p 0) ≡ true → piece p ≡ blank
 unfolding piece
-piece_blank p a = rw a refl
+piece-blank p a = rw a refl
 
-pub piece_line_end : (p : List ℕ) → is_blank (slice_index p 0) ≡ false → is_line_end p ≡ true
+pub piece-line-end : (p : List ℕ) → is_blank (slice_index p 0) ≡ false → is_line_end p ≡ true
     → piece p ≡ line_end
 unfolding piece
-piece_line_end p a b = rw (a, b) refl
+piece-line-end p a b = rw (a, b) refl
 
-pub piece_word : (p : List ℕ) → is_blank (slice_index p 0) ≡ false → is_line_end p ≡ false
+pub piece-word : (p : List ℕ) → is_blank (slice_index p 0) ≡ false → is_line_end p ≡ false
     → begins_word (slice_index p 0) ≡ true → piece p ≡ word p
 unfolding piece
-piece_word p a b d = rw (a, b, d) refl
+piece-word p a b d = rw (a, b, d) refl
 
-pub piece_mark : (p : List ℕ) (m : Symbol) → is_blank (slice_index p 0) ≡ false
+pub piece-mark : (p : List ℕ) (m : Symbol) → is_blank (slice_index p 0) ≡ false
     → is_line_end p ≡ false → begins_word (slice_index p 0) ≡ false
     → Some m ≡ mark_of p → piece p ≡ token m
 unfolding piece
-piece_mark p m a b d e = rw (a, b, d, sym e) refl
+piece-mark p m a b d e = rw (a, b, d, sym e) refl
 
-pub piece_none : (p : List ℕ) → is_blank (slice_index p 0) ≡ false → is_line_end p ≡ false
+pub piece-none : (p : List ℕ) → is_blank (slice_index p 0) ≡ false → is_line_end p ≡ false
     → begins_word (slice_index p 0) ≡ false
     → None ≡ mark_of p → piece p ≡ bad_token
 unfolding piece
-piece_none p a b d e = rw (a, b, d, sym e) refl
+piece-none p a b d e = rw (a, b, d, sym e) refl

@@ -8,7 +8,7 @@ use Rattle.il_text.specs.ListingViews.{opened_of}
 use Rattle.il_text.specs.Parts.{Part, declaring}
 use Rattle.il_text.specs.Steps.{Opened, Reached, block_scope, declared_in, is_outside, is_some, may_begin_with, step, steps}
 use Rattle.il_text.specs.Declaring.{declared_from}
-use Rattle.il_text.specs.Reading.{Read, has_instruction, bounded, after_parts, after_line}
+use Rattle.il_text.specs.Reading.{Read, has_instruction, within_bounds, after_parts, after_line}
 use Rattle.il_text.specs.declared.fault.TextFault.TheVariants.{BadLine}
 use Rattle.il_text.specs.Tokens.{Symbol}
 use Rattle.il_text.specs.TokenViews.{symbol_of, symbols_of}
@@ -24,133 +24,133 @@ use Rattle.il_text.specs.declared.program.Scope.{Scope}
 use Rattle.il_text.specs.declared.token.Mark.TheVariants as mark
 use Rattle.il_text.specs.declared.token.Token.{Token}
 
-pub front_item : {X : Type 0} → (xs : List X) (i : ℕ) (x : X) → i < length xs → x ≡ get_or xs i x
+pub front-item : {X : Type 0} → (xs : List X) (i : ℕ) (x : X) → i < length xs → x ≡ get_or xs i x
     → drop i xs ≡ x ∷ drop (i + 1) xs
-front_item {X} xs i x h e =
+front-item {X} xs i x h e =
     rw (add-one, drop-cons xs i x) (ap (λ (y : X). y ∷ drop (suc i) xs) (sym e))
 
 -- the symbols from a place on
-pub next_symbol : (ts : List Token) (i : ℕ) (t : Token) → i < length ts
+pub next-symbol : (ts : List Token) (i : ℕ) (t : Token) → i < length ts
     → symbols_of (drop i ts) ≡ symbol_of (get_or ts i t) ∷ symbols_of (drop (i + 1) ts)
-next_symbol ts i t h = rw (add-one, drop-cons ts i t) refl
+next-symbol ts i t h = rw (add-one, drop-cons ts i t) refl
 
 pub view_instruction : (line : ℕ) (i : ins.Instruction)
     → entry_of (Instruction line i) ≡ action line (action_of i)
 view_instruction line i = search (rules, the_lemmas)
 
-pub view_label : (line : ℕ) (name : Bor (List ℕ)) → entry_of (Label line name) ≡ label line name.now
-view_label line name = search (rules, the_lemmas)
+pub view-label : (line : ℕ) (name : Bor (List ℕ)) → entry_of (Label line name) ≡ label line name.now
+view-label line name = search (rules, the_lemmas)
 
-pub view_block : (line : ℕ) (operator : Operator) (negated : Bool) (items : Vec Item Global)
+pub view-block : (line : ℕ) (operator : Operator) (negated : Bool) (items : Vec Item Global)
     (end : ℕ)
     → entry_of (Block line operator negated items end)
     ≡ block line operator negated (entries_of (map entry_of items.items)) end
-view_block line operator negated items end = search (rules, the_lemmas)
+view-block line operator negated items end = search (rules, the_lemmas)
 
 -- the open parentheses with one more
-pub opened_more : (os : List Open) (o : Open)
+pub opened-more : (os : List Open) (o : Open)
     → reverse (map opened_of (os ++ o ∷ [])) ≡ opened_of o ∷ reverse (map opened_of os)
-opened_more os o = simp (map-append, reverse-append) refl
+opened-more os o = simp (map-append, reverse-append) refl
 
-outside_len : (fs : List Opened) → 0 < length fs → is_outside fs ≡ false
-outside_len [] h = absurd (omega (arith, h))
-outside_len (f ∷ fs) h = refl
+outside-len : (fs : List Opened) → 0 < length fs → is_outside fs ≡ false
+outside-len [] h = absurd (omega (arith, h))
+outside-len (f ∷ fs) h = refl
 
-pub outside_none : (os : List Open) → length os ≡ 0 → is_outside (reverse (map opened_of os)) ≡ true
-outside_none [] h = refl
-outside_none (o ∷ os) h = absurd (omega (arith, h))
+pub outside-none : (os : List Open) → length os ≡ 0 → is_outside (reverse (map opened_of os)) ≡ true
+outside-none [] h = refl
+outside-none (o ∷ os) h = absurd (omega (arith, h))
 
-pub outside_some : (os : List Open) → 0 < length os
+pub outside-some : (os : List Open) → 0 < length os
     → is_outside (reverse (map opened_of os)) ≡ false
-outside_some os h = outside_len _ (simp (length-reverse, length-map) h)
+outside-some os h = outside-len _ (simp (length-reverse, length-map) h)
 
-pub ruleset outside_rules = (outside_none, outside_some)
+pub ruleset outside_rules = (outside-none, outside-some)
 
-pub some_none : (is : List Item) → length is ≡ 0 → is_some (map entry_of is) ≡ false
-some_none [] h = refl
-some_none (i ∷ is) h = absurd (omega (arith, h))
+pub some-none : (is : List Item) → length is ≡ 0 → is_some (map entry_of is) ≡ false
+some-none [] h = refl
+some-none (i ∷ is) h = absurd (omega (arith, h))
 
-pub some_some : (is : List Item) → 0 < length is → is_some (map entry_of is) ≡ true
-some_some [] h = absurd (omega (arith, h))
-some_some (i ∷ is) h = refl
+pub some-some : (is : List Item) → 0 < length is → is_some (map entry_of is) ≡ true
+some-some [] h = absurd (omega (arith, h))
+some-some (i ∷ is) h = refl
 
-name_before : (f : List ℕ → Declared) (before : List Declared) (n : List ℕ)
+name-before : (f : List ℕ → Declared) (before : List Declared) (n : List ℕ)
     (o : Option (List (List ℕ)))
     → option_map (λ ns. before ++ map f ns) (option_map (λ ns. n ∷ ns) o)
     ≡ option_map (λ ns. (before ++ f n ∷ []) ++ map f ns) o
-name_before f before n None = refl
-name_before f before n (Some ns) = ap Some (sym (append_assoc before (f n ∷ []) (map f ns)))
+name-before f before n None = refl
+name-before f before n (Some ns) = ap Some (sym (append_assoc before (f n ∷ []) (map f ns)))
 
-pub at_name : (line : ℕ) (scope : Scope) (tail : Tail) (before : List Declared) (s : Symbol)
+pub at-name : (line : ℕ) (scope : Scope) (tail : Tail) (before : List Declared) (s : Symbol)
     (n : List ℕ) → name_of s ≡ Some n → (ss : List Symbol)
     → declared_from line scope tail before false (s ∷ ss)
     ≡ declared_from line scope tail
     (before ++ declared_in line scope tail.kind tail.initial n ∷ []) true ss
 unfolding declared_from names_from
-at_name line scope tail before s n e ss =
-    rw e (name_before (declared_in line scope tail.kind tail.initial) before n (names_from true ss))
+at-name line scope tail before s n e ss =
+    rw e (name-before (declared_in line scope tail.kind tail.initial) before n (names_from true ss))
 
-pub at_no_name : (line : ℕ) (scope : Scope) (tail : Tail) (before : List Declared) (s : Symbol)
+pub at-no-name : (line : ℕ) (scope : Scope) (tail : Tail) (before : List Declared) (s : Symbol)
     (ss : List Symbol) → name_of s ≡ None
     → declared_from line scope tail before false (s ∷ ss) ≡ None
 unfolding declared_from names_from
-at_no_name line scope tail before s ss e = rw e refl
+at-no-name line scope tail before s ss e = rw e refl
 
-pub at_comma : (line : ℕ) (scope : Scope) (tail : Tail) (before : List Declared) (s : Symbol)
+pub at-comma : (line : ℕ) (scope : Scope) (tail : Tail) (before : List Declared) (s : Symbol)
     (ss : List Symbol) → is_mark mark.Comma s ≡ true
     → declared_from line scope tail before true (s ∷ ss)
     ≡ declared_from line scope tail before false ss
 unfolding declared_from names_from
-at_comma line scope tail before s ss e = rw e refl
+at-comma line scope tail before s ss e = rw e refl
 
-pub at_no_comma : (line : ℕ) (scope : Scope) (tail : Tail) (before : List Declared) (s : Symbol)
+pub at-no-comma : (line : ℕ) (scope : Scope) (tail : Tail) (before : List Declared) (s : Symbol)
     (ss : List Symbol) → is_mark mark.Comma s ≡ false
     → declared_from line scope tail before true (s ∷ ss) ≡ None
 unfolding declared_from names_from
-at_no_comma line scope tail before s ss e = rw e refl
+at-no-comma line scope tail before s ss e = rw e refl
 
-none_after : {X : Type 0} → (xs : List X) (i : ℕ) → length xs ≤ i → drop i xs ≡ []
-none_after {X} xs i h = grind (arith, common_steps)
+none-after : {X : Type 0} → (xs : List X) (i : ℕ) → length xs ≤ i → drop i xs ≡ []
+none-after {X} xs i h = grind (arith, common_steps)
 
-pub declare_end : (line : ℕ) (scope : Scope) (tail : Tail) (before : List Declared)
+pub declare-end : (line : ℕ) (scope : Scope) (tail : Tail) (before : List Declared)
     (ts : List Token) (i : ℕ) → length ts ≤ i
     → declared_from line scope tail before true (symbols_of (drop i ts)) ≡ Some before
 unfolding declared_from names_from
-declare_end line scope tail before ts i h = rw (none_after ts i h) (ap Some (append-nil before))
+declare-end line scope tail before ts i h = rw (none-after ts i h) (ap Some (append-nil before))
 
-pub declare_no_end : (line : ℕ) (scope : Scope) (tail : Tail) (before : List Declared)
+pub declare-no-end : (line : ℕ) (scope : Scope) (tail : Tail) (before : List Declared)
     (ts : List Token) (i : ℕ) → length ts ≤ i
     → declared_from line scope tail before false (symbols_of (drop i ts)) ≡ None
 unfolding declared_from names_from
-declare_no_end line scope tail before ts i h = rw (none_after ts i h) refl
+declare-no-end line scope tail before ts i h = rw (none-after ts i h) refl
 
-pub ruleset some_rules = (some_none, some_some)
+pub ruleset some_rules = (some-none, some-some)
 
-pub ruleset declare_rules = (at_no_name, at_comma, at_no_comma)
+pub ruleset declare_rules = (at-no-name, at-comma, at-no-comma)
 
-and_some : (o : Option Reached) → option_and_then (λ s. Some s) o ≡ o
-and_some None = refl
-and_some (Some s) = refl
+and-some : (o : Option Reached) → option_and_then (λ s. Some s) o ≡ o
+and-some None = refl
+and-some (Some s) = refl
 
 -- one part alone
-pub steps_one : (n : ℕ) (r : Reached) (p : Part) → steps n r (p ∷ []) ≡ step n r p
+pub steps-one : (n : ℕ) (r : Reached) (p : Part) → steps n r (p ∷ []) ≡ step n r p
 unfolding steps
-steps_one n r p = and_some (step n r p)
+steps-one n r p = and-some (step n r p)
 
-pub steps_more : (n : ℕ) (r s : Reached) (p : Part) (ps : List Part) → step n r p ≡ Some s
+pub steps-more : (n : ℕ) (r s : Reached) (p : Part) (ps : List Part) → step n r p ≡ Some s
     → steps n r (p ∷ ps) ≡ steps n s ps
 unfolding steps
-steps_more n r s p ps e = rw e refl
+steps-more n r s p ps e = rw e refl
 
-pub steps_none : (n : ℕ) (r : Reached) (p : Part) (ps : List Part) → step n r p ≡ None
+pub steps-none : (n : ℕ) (r : Reached) (p : Part) (ps : List Part) → step n r p ≡ None
     → steps n r (p ∷ ps) ≡ None
 unfolding steps
-steps_none n r p ps e = rw e refl
+steps-none n r p ps e = rw e refl
 
-pub ruleset steps_rules = (steps_one, steps_more, steps_none)
+pub ruleset steps_rules = (steps-one, steps-more, steps-none)
 
-same_listed : (a b : List Declared) → Some a ≡ Some b → a ≡ b
-same_listed a b e = cc
+same-listed : (a b : List Declared) → Some a ≡ Some b → a ≡ b
+same-listed a b e = cc
 
 -- what is reached with these declarations in the place of the others
 abbrev pub with_listed : Reached → List Declared → Reached
@@ -163,55 +163,55 @@ with_listed r ds =
       parentheses = r.parentheses;
     }
 
-declared_with : (line : ℕ) (r : Reached) (scope : Scope) (t : Tail) (o : Option (List (List ℕ)))
+declared-with : (line : ℕ) (r : Reached) (scope : Scope) (t : Tail) (o : Option (List (List ℕ)))
     (ds : List Declared) → block_scope r.place ≡ Some scope → may_begin_with scope t.initial ≡ true
     → option_map (λ ns. r.declarations ++ map (declared_in line scope t.kind t.initial) ns) o
     ≡ Some ds
     → option_and_then (steps line r) (option_map (λ ns. declaring ns t.kind t.initial ∷ []) o)
     ≡ Some (with_listed r ds)
 unfolding step
-declared_with line r scope t None ds p b e = cc
-declared_with line r scope t (Some ns) ds p b e =
+declared-with line r scope t None ds p b e = cc
+declared-with line r scope t (Some ns) ds p b e =
     let d : r.declarations ++ map (declared_in line scope t.kind t.initial) ns ≡ ds =
-    same_listed _ _ e in
+    same-listed _ _ e in
     let one : step line r (declaring ns t.kind t.initial)
     ≡ Some (with_listed r (r.declarations ++ map (declared_in line scope t.kind t.initial) ns))
     = rw (p, b) refl in
-    steps_one line r (declaring ns t.kind t.initial) ∙ one
+    steps-one line r (declaring ns t.kind t.initial) ∙ one
     ∙ ap (λ (x : List Declared). Some (with_listed r x)) d
 
-pub declared_ok : (line : ℕ) (r : Reached) (scope : Scope) (t : Tail) (ss : List Symbol)
+pub declared-ok : (line : ℕ) (r : Reached) (scope : Scope) (t : Tail) (ss : List Symbol)
     (ds : List Declared) → block_scope r.place ≡ Some scope → may_begin_with scope t.initial ≡ true
     → declared_from line scope t r.declarations false ss ≡ Some ds
     → option_and_then (steps line r) (declared_names t ss) ≡ Some (with_listed r ds)
 unfolding declared_from
-declared_ok line r scope t ss ds p b e = declared_with line r scope t (names_from false ss) ds p b e
+declared-ok line r scope t ss ds p b e = declared-with line r scope t (names_from false ss) ds p b e
 
-none_with : (line : ℕ) (r : Reached) (scope : Scope) (t : Tail) (o : Option (List (List ℕ)))
+none-with : (line : ℕ) (r : Reached) (scope : Scope) (t : Tail) (o : Option (List (List ℕ)))
     → option_map (λ ns. r.declarations ++ map (declared_in line scope t.kind t.initial) ns) o ≡ None
     → option_and_then (steps line r) (option_map (λ ns. declaring ns t.kind t.initial ∷ []) o)
     ≡ None
-none_with line r scope t None e = refl
-none_with line r scope t (Some ns) e = cc
+none-with line r scope t None e = refl
+none-with line r scope t (Some ns) e = cc
 
-pub declared_bad : (line : ℕ) (r : Reached) (scope : Scope) (t : Tail) (ss : List Symbol)
+pub declared-bad : (line : ℕ) (r : Reached) (scope : Scope) (t : Tail) (ss : List Symbol)
     → declared_from line scope t r.declarations false ss ≡ None
     → option_and_then (steps line r) (declared_names t ss) ≡ None
 unfolding declared_from
-declared_bad line r scope t ss e = none_with line r scope t (names_from false ss) e
+declared-bad line r scope t ss e = none-with line r scope t (names_from false ss) e
 
 -- where no declaration may stand
-refused_with : (line : ℕ) (r : Reached) (t : Tail) (o : Option (List (List ℕ)))
+refused-with : (line : ℕ) (r : Reached) (t : Tail) (o : Option (List (List ℕ)))
     → ((ns : List (List ℕ)) → step line r (declaring ns t.kind t.initial) ≡ None)
     → option_and_then (steps line r) (option_map (λ ns. declaring ns t.kind t.initial ∷ []) o)
     ≡ None
-refused_with line r t None f = refl
-refused_with line r t (Some ns) f = steps_none line r (declaring ns t.kind t.initial) [] (f ns)
+refused-with line r t None f = refl
+refused-with line r t (Some ns) f = steps-none line r (declaring ns t.kind t.initial) [] (f ns)
 
-pub declared_refused : (line : ℕ) (r : Reached) (t : Tail) (ss : List Symbol)
+pub declared-refused : (line : ℕ) (r : Reached) (t : Tail) (ss : List Symbol)
     → ((ns : List (List ℕ)) → step line r (declaring ns t.kind t.initial) ≡ None)
     → option_and_then (steps line r) (declared_names t ss) ≡ None
-declared_refused line r t ss f = refused_with line r t (names_from false ss) f
+declared-refused line r t ss f = refused-with line r t (names_from false ss) f
 
 pub length_opened : (os : List Open) → length (reverse (map opened_of os)) ≡ length os
 length_opened os = simp (length-reverse, length-map) refl
@@ -223,48 +223,48 @@ blank_line line last r [] h = refl
 blank_line line last r (t ∷ ts) h = absurd (omega (arith, h))
 
 -- a line whose parts are taken
-taken_parts : (line last : ℕ) (r : Read) (o : Option (List Part)) (s : Reached) (b : Bool)
+taken-parts : (line last : ℕ) (r : Read) (o : Option (List Part)) (s : Reached) (b : Bool)
     → ((ps : List Part) → o ≡ Some ps → b ≡ has_instruction ps)
     → option_and_then (steps line r.reached) o ≡ Some s
     → after_parts line last r o
-    ≡ cond b (bounded line last r.instructions s)
+    ≡ cond b (within_bounds line last r.instructions s)
     (Ok (record { reached = s; instructions = r.instructions }))
-taken_parts line last r None s b h e = cc
-taken_parts line last r (Some ps) s b h e = rw (e, sym (h ps refl)) refl
+taken-parts line last r None s b h e = cc
+taken-parts line last r (Some ps) s b h e = rw (e, sym (h ps refl)) refl
 
-pub line_taken : (line last : ℕ) (r : Read) (ts : List Symbol) (o : Option (List Part))
+pub line-taken : (line last : ℕ) (r : Read) (ts : List Symbol) (o : Option (List Part))
     (s : Reached) (b : Bool) → o ≡ parts_of ts
     → ((ps : List Part) → o ≡ Some ps → b ≡ has_instruction ps)
     → option_and_then (steps line r.reached) o ≡ Some s
     → after_line line last r ts
-    ≡ cond b (bounded line last r.instructions s)
+    ≡ cond b (within_bounds line last r.instructions s)
     (Ok (record { reached = s; instructions = r.instructions }))
 unfolding after_line
-line_taken line last r ts o s b q h e =
-    ap (after_parts line last r) (sym q) ∙ taken_parts line last r o s b h e
+line-taken line last r ts o s b q h e =
+    ap (after_parts line last r) (sym q) ∙ taken-parts line last r o s b h e
 
-refused_parts : (line last : ℕ) (r : Read) (o : Option (List Part))
+refused-parts : (line last : ℕ) (r : Read) (o : Option (List Part))
     → option_and_then (steps line r.reached) o ≡ None
     → after_parts line last r o ≡ Err (BadLine line)
-refused_parts line last r None e = refl
-refused_parts line last r (Some ps) e = rw e refl
+refused-parts line last r None e = refl
+refused-parts line last r (Some ps) e = rw e refl
 
-pub line_refused : (line last : ℕ) (r : Read) (ts : List Symbol) (o : Option (List Part))
+pub line-refused : (line last : ℕ) (r : Read) (ts : List Symbol) (o : Option (List Part))
     → o ≡ parts_of ts → option_and_then (steps line r.reached) o ≡ None
     → after_line line last r ts ≡ Err (BadLine line)
 unfolding after_line
-line_refused line last r ts o q e =
-    ap (after_parts line last r) (sym q) ∙ refused_parts line last r o e
+line-refused line last r ts o q e =
+    ap (after_parts line last r) (sym q) ∙ refused-parts line last r o e
 
 -- where no declaration may stand, and where it may have no initial value
-pub step_outside : (line : ℕ) (r : Reached) (ns : List (List ℕ)) (kind : DeclaredType)
+pub step-outside : (line : ℕ) (r : Reached) (ns : List (List ℕ)) (kind : DeclaredType)
     (initial : Option Literal) → block_scope r.place ≡ None
     → step line r (declaring ns kind initial) ≡ None
 unfolding step
-step_outside line r ns kind initial e = rw e refl
+step-outside line r ns kind initial e = rw e refl
 
-pub step_initial : (line : ℕ) (r : Reached) (ns : List (List ℕ)) (kind : DeclaredType)
+pub step-initial : (line : ℕ) (r : Reached) (ns : List (List ℕ)) (kind : DeclaredType)
     (initial : Option Literal) (scope : Scope) → block_scope r.place ≡ Some scope
     → may_begin_with scope initial ≡ false → step line r (declaring ns kind initial) ≡ None
 unfolding step
-step_initial line r ns kind initial scope e b = rw (e, b) refl
+step-initial line r ns kind initial scope e b = rw (e, b) refl

@@ -4,210 +4,214 @@ use Rattle.std.specs.List.{list_all}
 use Rattle.std.proofs.lemmas.Bool.{false≢true, eqb-true, ne_eqb, lt-ltb}
 use Rattle.std.proofs.lemmas.List.{map-append}
 use Rattle.std.proofs.Math.Bool.{and-false, or-true}
-use Rattle.il_text.specs.Characters.{is_blank, linked}
+use Rattle.il_text.specs.Characters.{is_blank, are_linked}
 use Rattle.bay_base.specs.Names.{same_name}
-use Rattle.il_text.specs.Pieces.{opens, ends, closes, blanked, blank_of, joins, join, pieces}
+use Rattle.il_text.specs.Pieces.{opens, ends, closes, without_comments, blank_of, joins, join, pieces}
 use Rattle.il_text.specs.Places.{last_line}
 use Rattle.il_text.specs.Reading.{lines, onto, reading, none_yet, program_of}
 use Rattle.il_text.specs.Respelling.{ends_inside, AreBlanks, BlanksMayBeRespelled}
-use Rattle.il_text.specs.Symbols.{piece, cut}
+use Rattle.il_text.specs.Symbols.{piece, pieces_of}
 use Rattle.il_text.specs.Tokens.{Piece, blank, line_end, token, bad_token, bad_literal}
-use Rattle.il_text.proofs.CutLemmas.{and_left, and_right, Stands, blanked_first, blanked_plain}
+use Rattle.il_text.proofs.CutLemmas.{and-left, and-right, Stands, blanked-first, blanked-plain}
 use Rattle.il_text.specs.Listing.{PlainProgram}
 use Rattle.il_text.specs.Texts.{ReadsAs}
 use Rattle.il_text.specs.declared.fault.TextFault.{TextFault}
-use Rattle.il_text.proofs.TextLemmas.{text_reads}
+use Rattle.il_text.proofs.TextLemmas.{text-reads}
 use Rattle.il_text.proofs.UniqueLemmas.{one_reading}
-use Rattle.il_text.proofs.ReadLemmas.{Alone, alone-space, pieces_alone, space_piece}
+use Rattle.il_text.proofs.ReadLemmas.{Alone, alone-space, pieces-alone, space-piece}
 
-or_cases : (a b : Bool) → a || b ≡ true → (a ≡ true) ⊎ (b ≡ true)
-or_cases true b h = inl refl
-or_cases false b h = inr h
+or-cases : (a b : Bool) → a || b ≡ true → (a ≡ true) ⊎ (b ≡ true)
+or-cases true b h = inl refl
+or-cases false b h = inr h
 
-ends_more : (x : ℕ) (xs t : List ℕ) → ends (x ∷ xs) ≡ true → ends (x ∷ (xs ++ t)) ≡ true
-ends_more x [] t h = absurd (false≢true (and_right (eqb x 42) false h))
-ends_more x (y ∷ ys) t h = h
+ends-more : (x : ℕ) (xs t : List ℕ) → ends (x ∷ xs) ≡ true → ends (x ∷ (xs ++ t)) ≡ true
+ends-more x [] t h = absurd (false≢true (and-right (eqb x 42) false h))
+ends-more x (y ∷ ys) t h = h
 
-closes_more : (xs t : List ℕ) → closes xs ≡ true → closes (xs ++ t) ≡ true
+closes-more : (xs t : List ℕ) → closes xs ≡ true → closes (xs ++ t) ≡ true
 unfolding closes
-closes_more [] t h = absurd (false≢true h)
-closes_more (x ∷ xs) t h = ⊎_elim
-    (λ (e : ends (x ∷ xs) ≡ true). rw (ends_more x xs t e) refl)
+closes-more [] t h = absurd (false≢true h)
+closes-more (x ∷ xs) t h = ⊎_elim
+    (λ (e : ends (x ∷ xs) ≡ true). rw (ends-more x xs t e) refl)
     (λ (k : closes xs ≡ true). let more : closes (xs ++ t) ≡ true = unfold closes in
-    closes_more xs t k in rw more (or-true (ends (x ∷ (xs ++ t)))))
-    (or_cases (ends (x ∷ xs)) (closes xs) h)
+    closes-more xs t k in rw more (or-true (ends (x ∷ (xs ++ t)))))
+    (or-cases (ends (x ∷ xs)) (closes xs) h)
 
-closed_step : (x y : ℕ) (xs : List ℕ) (b : Bool) → ends (x ∷ y ∷ xs) ≡ b
+closed-step : (x y : ℕ) (xs : List ℕ) (b : Bool) → ends (x ∷ y ∷ xs) ≡ b
     → ends_inside true (x ∷ y ∷ xs) ≡ false
     → (ends_inside true (y ∷ xs) ≡ false → closes (y ∷ xs) ≡ true) → closes (x ∷ y ∷ xs) ≡ true
 unfolding closes ends_inside
-closed_step x y xs true e h f = rw e refl
-closed_step x y xs false e h f = let k = f (rw e at h) in rw k (or-true (ends (x ∷ y ∷ xs)))
+closed-step x y xs true e h f = rw e refl
+closed-step x y xs false e h f = let k = f (rw e at h) in rw k (or-true (ends (x ∷ y ∷ xs)))
 
-closed_later : (xs : List ℕ) → ends_inside true xs ≡ false → closes xs ≡ true
+closed-later : (xs : List ℕ) → ends_inside true xs ≡ false → closes xs ≡ true
 unfolding ends_inside
-closed_later [] h = absurd (false≢true (sym h))
-closed_later (x ∷ []) h = absurd (false≢true (sym h))
-closed_later (x ∷ y ∷ xs) h =
-    closed_step x y xs (ends (x ∷ y ∷ xs)) refl h (unfold ends_inside in closed_later (y ∷ xs))
+closed-later [] h = absurd (false≢true (sym h))
+closed-later (x ∷ []) h = absurd (false≢true (sym h))
+closed-later (x ∷ y ∷ xs) h =
+    closed-step x y xs (ends (x ∷ y ∷ xs)) refl h (unfold ends_inside in closed-later (y ∷ xs))
 
-inside_step : (x y : ℕ) (xs t : List ℕ) (e : Bool) → ends (x ∷ y ∷ xs) ≡ e
+inside-step : (x y : ℕ) (xs t : List ℕ) (e : Bool) → ends (x ∷ y ∷ xs) ≡ e
     → ends_inside true (x ∷ y ∷ xs) ≡ false
     → (ends (x ∷ y ∷ xs) ≡ true → ends_inside false xs ≡ false
-    → blanked false (xs ++ t) ≡ blanked false xs ++ blanked false t)
+    → without_comments false (xs ++ t) ≡ without_comments false xs ++ without_comments false t)
     → (ends (x ∷ y ∷ xs) ≡ false → ends_inside true (y ∷ xs) ≡ false
-    → blanked true (y ∷ (xs ++ t)) ≡ blanked true (y ∷ xs) ++ blanked false t)
-    → blanked true (x ∷ y ∷ (xs ++ t)) ≡ blanked true (x ∷ y ∷ xs) ++ blanked false t
-unfolding blanked ends_inside
-inside_step x y xs t true e h f g = rw e (ap (λ (l : List ℕ). 32 ∷ 32 ∷ l) (f e (rw e at h)))
-inside_step x y xs t false e h f g = rw e (ap (λ (l : List ℕ). blank_of x ∷ l) (g e (rw e at h)))
+    → without_comments true (y ∷ (xs ++ t))
+    ≡ without_comments true (y ∷ xs) ++ without_comments false t)
+    → without_comments true (x ∷ y ∷ (xs ++ t))
+    ≡ without_comments true (x ∷ y ∷ xs) ++ without_comments false t
+unfolding without_comments ends_inside
+inside-step x y xs t true e h f g = rw e (ap (λ (l : List ℕ). 32 ∷ 32 ∷ l) (f e (rw e at h)))
+inside-step x y xs t false e h f g = rw e (ap (λ (l : List ℕ). blank_of x ∷ l) (g e (rw e at h)))
 
-outside_step : (x y : ℕ) (xs t : List ℕ) (o : Bool) → opens (x ∷ y ∷ xs) ≡ o
+outside-step : (x y : ℕ) (xs t : List ℕ) (o : Bool) → opens (x ∷ y ∷ xs) ≡ o
     → ends_inside false (x ∷ y ∷ xs) ≡ false
     → (opens (x ∷ y ∷ xs) ≡ true → ends_inside true xs ≡ false
-    → blanked true (xs ++ t) ≡ blanked true xs ++ blanked false t)
+    → without_comments true (xs ++ t) ≡ without_comments true xs ++ without_comments false t)
     → (opens (x ∷ y ∷ xs) ≡ false → ends_inside false (y ∷ xs) ≡ false
-    → blanked false (y ∷ (xs ++ t)) ≡ blanked false (y ∷ xs) ++ blanked false t)
-    → blanked false (x ∷ y ∷ (xs ++ t)) ≡ blanked false (x ∷ y ∷ xs) ++ blanked false t
-unfolding blanked ends_inside
-outside_step x y xs t true o h f g =
+    → without_comments false (y ∷ (xs ++ t))
+    ≡ without_comments false (y ∷ xs) ++ without_comments false t)
+    → without_comments false (x ∷ y ∷ (xs ++ t))
+    ≡ without_comments false (x ∷ y ∷ xs) ++ without_comments false t
+unfolding without_comments ends_inside
+outside-step x y xs t true o h f g =
     let inside : ends_inside true xs ≡ false = rw o at h in
-    let closed = closed_later xs inside in
-    rw (o, closed, closes_more xs t closed) (ap (λ (l : List ℕ). 32 ∷ 32 ∷ l) (f o inside))
-outside_step x y xs t false o h f g = rw o (ap (λ (l : List ℕ). x ∷ l) (g o (rw o at h)))
+    let closed = closed-later xs inside in
+    rw (o, closed, closes-more xs t closed) (ap (λ (l : List ℕ). 32 ∷ 32 ∷ l) (f o inside))
+outside-step x y xs t false o h f g = rw o (ap (λ (l : List ℕ). x ∷ l) (g o (rw o at h)))
 
 -- two parts of a text, of which the first ends outside of a comment
-pub blanked_parts : (b : Bool) (u t : List ℕ) → ends_inside b u ≡ false → slice_index t 0 ≢ 42
-    → blanked b (u ++ t) ≡ blanked b u ++ blanked false t
-unfolding ends_inside blanked
-blanked_parts true [] t h n = absurd (false≢true (sym h))
-blanked_parts false [] t h n = refl
-blanked_parts true (x ∷ []) t h n = absurd (false≢true (sym h))
-blanked_parts false (x ∷ []) t h n =
+pub blanked-parts : (b : Bool) (u t : List ℕ) → ends_inside b u ≡ false → slice_index t 0 ≢ 42
+    → without_comments b (u ++ t) ≡ without_comments b u ++ without_comments false t
+unfolding ends_inside without_comments
+blanked-parts true [] t h n = absurd (false≢true (sym h))
+blanked-parts false [] t h n = refl
+blanked-parts true (x ∷ []) t h n = absurd (false≢true (sym h))
+blanked-parts false (x ∷ []) t h n =
     let plain : opens (x ∷ t) ≡ false =
-    rw (ne_eqb _ _ n) (and-false (eqb x 40)) in blanked_plain x t plain
-blanked_parts true (x ∷ y ∷ xs) t h n =
-    inside_step x y xs t _ refl h
-    (λ e k. unfold ends_inside blanked in blanked_parts false xs t k n)
-    (λ e k. unfold ends_inside blanked in blanked_parts true (y ∷ xs) t k n)
-blanked_parts false (x ∷ y ∷ xs) t h n =
-    outside_step x y xs t _ refl h
-    (λ e k. unfold ends_inside blanked in blanked_parts true xs t k n)
-    (λ e k. unfold ends_inside blanked in blanked_parts false (y ∷ xs) t k n)
+    rw (ne_eqb _ _ n) (and-false (eqb x 40)) in blanked-plain x t plain
+blanked-parts true (x ∷ y ∷ xs) t h n =
+    inside-step x y xs t _ refl h
+    (λ e k. unfold ends_inside without_comments in blanked-parts false xs t k n)
+    (λ e k. unfold ends_inside without_comments in blanked-parts true (y ∷ xs) t k n)
+blanked-parts false (x ∷ y ∷ xs) t h n =
+    outside-step x y xs t _ refl h
+    (λ e k. unfold ends_inside without_comments in blanked-parts true xs t k n)
+    (λ e k. unfold ends_inside without_comments in blanked-parts false (y ∷ xs) t k n)
 
 blank-cases : (c : ℕ) → is_blank c ≡ true → (c ≡ 32) ⊎ (c ≡ 9)
 blank-cases c h =
     ⊎_elim (λ (e : eqb c 32 ≡ true). inl (eqb-true c 32 e))
-    (λ (e : eqb c 9 ≡ true). inr (eqb-true c 9 e)) (or_cases (eqb c 32) (eqb c 9) h)
+    (λ (e : eqb c 9 ≡ true). inr (eqb-true c 9 e)) (or-cases (eqb c 32) (eqb c 9) h)
 
 not-blank : (c n : ℕ) → is_blank c ≡ true → n ≢ 32 → n ≢ 9 → c ≢ n
 not-blank c n h a b e =
     ⊎_elim (λ (k : c ≡ 32). a (sym e ∙ k)) (λ (k : c ≡ 9). b (sym e ∙ k)) (blank-cases c h)
 
 -- blanks, then any part of a text
-blanks_part : (b : Bool) (w t : List ℕ) → ends_inside b w ≡ false
-    → list_all is_blank (blanked b w) ≡ true
-    → blanked b (w ++ t) ≡ blanked b w ++ blanked false t
-unfolding ends_inside blanked
-blanks_part true [] t h a = absurd (false≢true (sym h))
-blanks_part false [] t h a = refl
-blanks_part true (x ∷ []) t h a = absurd (false≢true (sym h))
-blanks_part false (x ∷ []) t h a =
+blanks-part : (b : Bool) (w t : List ℕ) → ends_inside b w ≡ false
+    → list_all is_blank (without_comments b w) ≡ true
+    → without_comments b (w ++ t) ≡ without_comments b w ++ without_comments false t
+unfolding ends_inside without_comments
+blanks-part true [] t h a = absurd (false≢true (sym h))
+blanks-part false [] t h a = refl
+blanks-part true (x ∷ []) t h a = absurd (false≢true (sym h))
+blanks-part false (x ∷ []) t h a =
     let other : x ≢ 40 =
-    not-blank x 40 (and_left (is_blank x) true a) (λ e. absurd (omega (arith, e)))
+    not-blank x 40 (and-left (is_blank x) true a) (λ e. absurd (omega (arith, e)))
     (λ e. absurd (omega (arith, e))) in
-    let plain : opens (x ∷ t) ≡ false = rw (ne_eqb x 40 other) refl in blanked_plain x t plain
-blanks_part true (x ∷ y ∷ xs) t h a =
-    inside_step x y xs t _ refl h
-    (λ e k. let q = rw e at a in unfold ends_inside blanked in blanks_part false xs t k q)
-    (λ e k. let q = rw e at a in unfold ends_inside blanked in
-    blanks_part true (y ∷ xs) t k (and_right (is_blank (blank_of x)) _ q))
-blanks_part false (x ∷ y ∷ xs) t h a =
-    outside_step x y xs t _ refl h
-    (λ e k. let q = rw e at a in unfold ends_inside blanked in
-    blanks_part true xs t k (and_right (is_blank (cond (closes xs) 32 256)) _ q))
-    (λ e k. let q = rw e at a in unfold ends_inside blanked in
-    blanks_part false (y ∷ xs) t k (and_right (is_blank x) _ q))
+    let plain : opens (x ∷ t) ≡ false = rw (ne_eqb x 40 other) refl in blanked-plain x t plain
+blanks-part true (x ∷ y ∷ xs) t h a =
+    inside-step x y xs t _ refl h
+    (λ e k. let q = rw e at a in unfold ends_inside without_comments in blanks-part false xs t k q)
+    (λ e k. let q = rw e at a in unfold ends_inside without_comments in
+    blanks-part true (y ∷ xs) t k (and-right (is_blank (blank_of x)) _ q))
+blanks-part false (x ∷ y ∷ xs) t h a =
+    outside-step x y xs t _ refl h
+    (λ e k. let q = rw e at a in unfold ends_inside without_comments in
+    blanks-part true xs t k (and-right (is_blank (cond (closes xs) 32 256)) _ q))
+    (λ e k. let q = rw e at a in unfold ends_inside without_comments in
+    blanks-part false (y ∷ xs) t k (and-right (is_blank x) _ q))
 
 joins-blank : (x c : ℕ) → is_blank c ≡ true → joins x (c ∷ []) ≡ false
-unfolding joins linked same_name
+unfolding joins are_linked same_name
 joins-blank x c h =
     ⊎_elim (λ (e : c ≡ 32). rw e (and-false (eqb x 38)))
     (λ (e : c ≡ 9). rw e (and-false (eqb x 38))) (blank-cases c h)
 
-pub cond_parts : (b : Bool) (x : ℕ) (p : List ℕ) (ps ys : List (List ℕ))
+pub cond-parts : (b : Bool) (x : ℕ) (p : List ℕ) (ps ys : List (List ℕ))
     → cond b ((x ∷ p) ∷ (ps ++ ys)) ((x ∷ []) ∷ p ∷ (ps ++ ys))
     ≡ cond b ((x ∷ p) ∷ ps) ((x ∷ []) ∷ p ∷ ps) ++ ys
-cond_parts true x p ps ys = refl
-cond_parts false x p ps ys = refl
+cond-parts true x p ps ys = refl
+cond-parts false x p ps ys = refl
 
-join_parts : (x c : ℕ) (ps ys : List (List ℕ)) → is_blank c ≡ true
+join-parts : (x c : ℕ) (ps ys : List (List ℕ)) → is_blank c ≡ true
     → join x (ps ++ ((c ∷ []) ∷ ys)) ≡ join x ps ++ ((c ∷ []) ∷ ys)
-join_parts x c [] ys h = rw (joins-blank x c h) refl
-join_parts x c (p ∷ ps) ys h = cond_parts (joins x p) x p ps ((c ∷ []) ∷ ys)
+join-parts x c [] ys h = rw (joins-blank x c h) refl
+join-parts x c (p ∷ ps) ys h = cond-parts (joins x p) x p ps ((c ∷ []) ∷ ys)
 
 alone-tab : Alone 9
-unfolding linked
+unfolding are_linked
 alone-tab y = simp and-false refl
 
 alone-blank : (c : ℕ) → is_blank c ≡ true → Alone c
 alone-blank c h =
     ⊎_elim (λ (e : c ≡ 32). rw e alone-space) (λ (e : c ≡ 9). rw e alone-tab) (blank-cases c h)
 
-blank_alone : (c : ℕ) (t : List ℕ) → is_blank c ≡ true → pieces (c ∷ t) ≡ (c ∷ []) ∷ pieces t
-blank_alone c t h =
-    pieces_alone c t (alone-blank c h)
+blank-alone : (c : ℕ) (t : List ℕ) → is_blank c ≡ true → pieces (c ∷ t) ≡ (c ∷ []) ∷ pieces t
+blank-alone c t h =
+    pieces-alone c t (alone-blank c h)
     (not-blank c 38 h (λ e. absurd (omega (arith, e))) (λ e. absurd (omega (arith, e))))
 
 -- the pieces of two parts, of which the second begins with a blank
-pieces_parts : (u : List ℕ) (c : ℕ) (t : List ℕ) → is_blank c ≡ true
+pieces-parts : (u : List ℕ) (c : ℕ) (t : List ℕ) → is_blank c ≡ true
     → pieces (u ++ (c ∷ t)) ≡ pieces u ++ ((c ∷ []) ∷ pieces t)
 unfolding pieces
-pieces_parts [] c t h = unfold pieces in blank_alone c t h
-pieces_parts (x ∷ u) c t h =
-    ap (join x) (unfold pieces in pieces_parts u c t h) ∙ join_parts x c (pieces u) (pieces t) h
+pieces-parts [] c t h = unfold pieces in blank-alone c t h
+pieces-parts (x ∷ u) c t h =
+    ap (join x) (unfold pieces in pieces-parts u c t h) ∙ join-parts x c (pieces u) (pieces t) h
 
-tab_piece : piece (9 ∷ []) ≡ blank
+tab-piece : piece (9 ∷ []) ≡ blank
 unfolding piece
-tab_piece = refl
+tab-piece = refl
 
-blank_piece : (c : ℕ) → is_blank c ≡ true → piece (c ∷ []) ≡ blank
-blank_piece c h =
-    ⊎_elim (λ (e : c ≡ 32). rw e space_piece) (λ (e : c ≡ 9). rw e tab_piece) (blank-cases c h)
+blank-piece : (c : ℕ) → is_blank c ≡ true → piece (c ∷ []) ≡ blank
+blank-piece c h =
+    ⊎_elim (λ (e : c ≡ 32). rw e space-piece) (λ (e : c ≡ 9). rw e tab-piece) (blank-cases c h)
 
-lines_blank : (ps qs : List Piece) → lines (ps ++ (blank ∷ qs)) ≡ lines (ps ++ qs)
+lines-blank : (ps qs : List Piece) → lines (ps ++ (blank ∷ qs)) ≡ lines (ps ++ qs)
 unfolding lines
-lines_blank [] qs = refl
-lines_blank (blank ∷ ps) qs = unfold lines in lines_blank ps qs
-lines_blank (line_end ∷ ps) qs =
-    ap (λ (l : List (List Piece)). [] ∷ l) (unfold lines in lines_blank ps qs)
-lines_blank (token s ∷ ps) qs = ap (onto (token s)) (unfold lines in lines_blank ps qs)
-lines_blank (bad_token ∷ ps) qs = ap (onto bad_token) (unfold lines in lines_blank ps qs)
-lines_blank (bad_literal ∷ ps) qs = ap (onto bad_literal) (unfold lines in lines_blank ps qs)
+lines-blank [] qs = refl
+lines-blank (blank ∷ ps) qs = unfold lines in lines-blank ps qs
+lines-blank (line_end ∷ ps) qs =
+    ap (λ (l : List (List Piece)). [] ∷ l) (unfold lines in lines-blank ps qs)
+lines-blank (token s ∷ ps) qs = ap (onto (token s)) (unfold lines in lines-blank ps qs)
+lines-blank (bad_token ∷ ps) qs = ap (onto bad_token) (unfold lines in lines-blank ps qs)
+lines-blank (bad_literal ∷ ps) qs = ap (onto bad_literal) (unfold lines in lines-blank ps qs)
 
-lines_blanks : (bs t : List ℕ) (ps : List Piece) → list_all is_blank bs ≡ true
+lines-blanks : (bs t : List ℕ) (ps : List Piece) → list_all is_blank bs ≡ true
     → lines (ps ++ map piece (pieces (bs ++ t))) ≡ lines (ps ++ map piece (pieces t))
-lines_blanks [] t ps h = refl
-lines_blanks (c ∷ bs) t ps h =
-    let here : is_blank c ≡ true = and_left (is_blank c) _ h in
-    ap (λ (q : List (List ℕ)). lines (ps ++ map piece q)) (blank_alone c (bs ++ t) here)
-    ∙ ap (λ (q : Piece). lines (ps ++ (q ∷ map piece (pieces (bs ++ t))))) (blank_piece c here)
-    ∙ lines_blank ps (map piece (pieces (bs ++ t)))
-    ∙ lines_blanks bs t ps (and_right (is_blank c) _ h)
+lines-blanks [] t ps h = refl
+lines-blanks (c ∷ bs) t ps h =
+    let here : is_blank c ≡ true = and-left (is_blank c) _ h in
+    ap (λ (q : List (List ℕ)). lines (ps ++ map piece q)) (blank-alone c (bs ++ t) here)
+    ∙ ap (λ (q : Piece). lines (ps ++ (q ∷ map piece (pieces (bs ++ t))))) (blank-piece c here)
+    ∙ lines-blank ps (map piece (pieces (bs ++ t)))
+    ∙ lines-blanks bs t ps (and-right (is_blank c) _ h)
 
 -- blanks between two parts make no difference to the lines
-lines_between : (u bs t : List ℕ) → 0 < length bs → list_all is_blank bs ≡ true
+lines-between : (u bs t : List ℕ) → 0 < length bs → list_all is_blank bs ≡ true
     → lines (map piece (pieces (u ++ (bs ++ t))))
     ≡ lines (map piece (pieces u) ++ map piece (pieces t))
-lines_between u [] t n h = absurd (omega (arith, n))
-lines_between u (c ∷ bs) t n h =
-    let here : is_blank c ≡ true = and_left (is_blank c) _ h in
-    ap (λ (q : List (List ℕ)). lines (map piece q)) (pieces_parts u c (bs ++ t) here)
+lines-between u [] t n h = absurd (omega (arith, n))
+lines-between u (c ∷ bs) t n h =
+    let here : is_blank c ≡ true = and-left (is_blank c) _ h in
+    ap (λ (q : List (List ℕ)). lines (map piece q)) (pieces-parts u c (bs ++ t) here)
     ∙ ap lines (map-append piece (pieces u) ((c ∷ []) ∷ pieces (bs ++ t)))
     ∙ ap (λ (q : Piece). lines (map piece (pieces u) ++ (q ∷ map piece (pieces (bs ++ t)))))
-    (blank_piece c here)
-    ∙ lines_blank (map piece (pieces u)) (map piece (pieces (bs ++ t)))
-    ∙ lines_blanks bs t (map piece (pieces u)) (and_right (is_blank c) _ h)
+    (blank-piece c here)
+    ∙ lines-blank (map piece (pieces u)) (map piece (pieces (bs ++ t)))
+    ∙ lines-blanks bs t (map piece (pieces u)) (and-right (is_blank c) _ h)
 
 -- no line end
 abbrev no_end : ℕ → Bool
@@ -228,119 +232,121 @@ no_end-inside false h = refl
 both : (a b : Bool) → a ≡ true → b ≡ true → a && b ≡ true
 both a b h k = rw (h, k) refl
 
-ends_step : (x y : ℕ) (xs : List ℕ) (e : Bool) → ends (x ∷ y ∷ xs) ≡ e
-    → list_all is_blank (blanked true (x ∷ y ∷ xs)) ≡ true
-    → (list_all is_blank (blanked false xs) ≡ true → list_all no_end xs ≡ true)
-    → (list_all is_blank (blanked true (y ∷ xs)) ≡ true → list_all no_end (y ∷ xs) ≡ true)
+ends-step : (x y : ℕ) (xs : List ℕ) (e : Bool) → ends (x ∷ y ∷ xs) ≡ e
+    → list_all is_blank (without_comments true (x ∷ y ∷ xs)) ≡ true
+    → (list_all is_blank (without_comments false xs) ≡ true → list_all no_end xs ≡ true)
+    → (list_all is_blank (without_comments true (y ∷ xs)) ≡ true → list_all no_end (y ∷ xs) ≡ true)
     → list_all no_end (x ∷ y ∷ xs) ≡ true
-unfolding blanked
-ends_step x y xs true e h f g =
+unfolding without_comments
+ends-step x y xs true e h f g =
     let first =
-    no_end-of x 42 (eqb-true _ _ (and_left (eqb x 42) (eqb y 41) e))
+    no_end-of x 42 (eqb-true _ _ (and-left (eqb x 42) (eqb y 41) e))
     (λ k. absurd (omega (arith, k))) in
     let second =
-    no_end-of y 41 (eqb-true _ _ (and_right (eqb x 42) (eqb y 41) e))
+    no_end-of y 41 (eqb-true _ _ (and-right (eqb x 42) (eqb y 41) e))
     (λ k. absurd (omega (arith, k))) in
     both (no_end x) _ first (both (no_end y) _ second (f (rw e at h)))
-ends_step x y xs false e h f g =
+ends-step x y xs false e h f g =
     let q = rw e at h in
-    both (no_end x) _ (no_end-inside (eqb x 10) (and_left (is_blank (blank_of x)) _ q))
-    (g (and_right (is_blank (blank_of x)) _ q))
+    both (no_end x) _ (no_end-inside (eqb x 10) (and-left (is_blank (blank_of x)) _ q))
+    (g (and-right (is_blank (blank_of x)) _ q))
 
-opens_step : (x y : ℕ) (xs : List ℕ) (o : Bool) → opens (x ∷ y ∷ xs) ≡ o
-    → list_all is_blank (blanked false (x ∷ y ∷ xs)) ≡ true
-    → (list_all is_blank (blanked true xs) ≡ true → list_all no_end xs ≡ true)
-    → (list_all is_blank (blanked false (y ∷ xs)) ≡ true → list_all no_end (y ∷ xs) ≡ true)
+opens-step : (x y : ℕ) (xs : List ℕ) (o : Bool) → opens (x ∷ y ∷ xs) ≡ o
+    → list_all is_blank (without_comments false (x ∷ y ∷ xs)) ≡ true
+    → (list_all is_blank (without_comments true xs) ≡ true → list_all no_end xs ≡ true)
+    → (list_all is_blank (without_comments false (y ∷ xs)) ≡ true → list_all no_end (y ∷ xs) ≡ true)
     → list_all no_end (x ∷ y ∷ xs) ≡ true
-unfolding blanked
-opens_step x y xs true o h f g =
+unfolding without_comments
+opens-step x y xs true o h f g =
     let first =
-    no_end-of x 40 (eqb-true _ _ (and_left (eqb x 40) (eqb y 42) o))
+    no_end-of x 40 (eqb-true _ _ (and-left (eqb x 40) (eqb y 42) o))
     (λ k. absurd (omega (arith, k))) in
     let second =
-    no_end-of y 42 (eqb-true _ _ (and_right (eqb x 40) (eqb y 42) o))
+    no_end-of y 42 (eqb-true _ _ (and-right (eqb x 40) (eqb y 42) o))
     (λ k. absurd (omega (arith, k))) in
     let q = rw o at h in
     both (no_end x) _ first (both (no_end y) _ second
-    (f (and_right (is_blank (cond (closes xs) 32 256)) _ q)))
-opens_step x y xs false o h f g =
+    (f (and-right (is_blank (cond (closes xs) 32 256)) _ q)))
+opens-step x y xs false o h f g =
     let q = rw o at h in
-    both (no_end x) _ (no_end-blank x (and_left (is_blank x) _ q)) (g (and_right (is_blank x) _ q))
+    both (no_end x) _ (no_end-blank x (and-left (is_blank x) _ q)) (g (and-right (is_blank x) _ q))
 
 -- where a line end stands, no blank does
-no_ends_inside : (b : Bool) (w : List ℕ) → list_all is_blank (blanked b w) ≡ true
+no-ends-inside : (b : Bool) (w : List ℕ) → list_all is_blank (without_comments b w) ≡ true
     → list_all no_end w ≡ true
-unfolding blanked
-no_ends_inside b [] a = refl
-no_ends_inside true (x ∷ []) a =
-    both (no_end x) true (no_end-inside (eqb x 10) (and_left (is_blank (blank_of x)) true a)) refl
-no_ends_inside false (x ∷ []) a =
-    both (no_end x) true (no_end-blank x (and_left (is_blank x) true a)) refl
-no_ends_inside true (x ∷ y ∷ xs) a =
-    ends_step x y xs _ refl a (λ k. unfold blanked in no_ends_inside false xs k)
-    (λ k. unfold blanked in no_ends_inside true (y ∷ xs) k)
-no_ends_inside false (x ∷ y ∷ xs) a =
-    opens_step x y xs _ refl a (λ k. unfold blanked in no_ends_inside true xs k)
-    (λ k. unfold blanked in no_ends_inside false (y ∷ xs) k)
+unfolding without_comments
+no-ends-inside b [] a = refl
+no-ends-inside true (x ∷ []) a =
+    both (no_end x) true (no_end-inside (eqb x 10) (and-left (is_blank (blank_of x)) true a)) refl
+no-ends-inside false (x ∷ []) a =
+    both (no_end x) true (no_end-blank x (and-left (is_blank x) true a)) refl
+no-ends-inside true (x ∷ y ∷ xs) a =
+    ends-step x y xs _ refl a (λ k. unfold without_comments in no-ends-inside false xs k)
+    (λ k. unfold without_comments in no-ends-inside true (y ∷ xs) k)
+no-ends-inside false (x ∷ y ∷ xs) a =
+    opens-step x y xs _ refl a (λ k. unfold without_comments in no-ends-inside true xs k)
+    (λ k. unfold without_comments in no-ends-inside false (y ∷ xs) k)
 
-not_true : (b : Bool) → not b ≡ true → b ≡ false
-not_true true h = absurd (false≢true h)
-not_true false h = refl
+not-true : (b : Bool) → not b ≡ true → b ≡ false
+not-true true h = absurd (false≢true h)
+not-true false h = refl
 
-last_line_blanks : (w t : List ℕ) → list_all no_end w ≡ true → last_line (w ++ t) ≡ last_line t
+last-line-blanks : (w t : List ℕ) → list_all no_end w ≡ true → last_line (w ++ t) ≡ last_line t
 unfolding last_line
-last_line_blanks [] t a = refl
-last_line_blanks (x ∷ w) t a =
-    rw (not_true (eqb x 10) (and_left (no_end x) _ a))
-    (unfold last_line in last_line_blanks w t (and_right (no_end x) _ a))
+last-line-blanks [] t a = refl
+last-line-blanks (x ∷ w) t a =
+    rw (not-true (eqb x 10) (and-left (no_end x) _ a))
+    (unfold last_line in last-line-blanks w t (and-right (no_end x) _ a))
 
-pub last_line_parts : (u t s : List ℕ) → 0 < length t → 0 < length s → last_line t ≡ last_line s
+pub last-line-parts : (u t s : List ℕ) → 0 < length t → 0 < length s → last_line t ≡ last_line s
     → last_line (u ++ t) ≡ last_line (u ++ s)
 unfolding last_line
-last_line_parts [] t s n m e = e
-last_line_parts (x ∷ u) t s n m e =
+last-line-parts [] t s n m e = e
+last-line-parts (x ∷ u) t s n m e =
     let a : 0 < length (u ++ t) = simp length-append (omega arith) in
     let b : 0 < length (u ++ s) = simp length-append (omega arith) in
     rw (lt-ltb 0 (length (u ++ t)) a, lt-ltb 0 (length (u ++ s)) b)
     (ap (λ (k : ℕ). cond (eqb x 10 && true) (k + 1) k)
-    (unfold last_line in last_line_parts u t s n m e))
+    (unfold last_line in last-line-parts u t s n m e))
 
-some_blanked : (b : Bool) (p q x : ℕ) (l m : List ℕ) → 0 < length (cond b (p ∷ q ∷ l) (x ∷ m))
-some_blanked true p q x l m = omega arith
-some_blanked false p q x l m = omega arith
+some-blanked : (b : Bool) (p q x : ℕ) (l m : List ℕ) → 0 < length (cond b (p ∷ q ∷ l) (x ∷ m))
+some-blanked true p q x l m = omega arith
+some-blanked false p q x l m = omega arith
 
-length-blanked : (w : List ℕ) → 0 < length w → 0 < length (blanked false w)
-unfolding blanked
+length-blanked : (w : List ℕ) → 0 < length w → 0 < length (without_comments false w)
+unfolding without_comments
 length-blanked [] h = absurd (omega (arith, h))
 length-blanked (x ∷ []) h = omega arith
-length-blanked (x ∷ y ∷ xs) h = some_blanked (opens (x ∷ y ∷ xs)) _ _ x _ _
+length-blanked (x ∷ y ∷ xs) h = some-blanked (opens (x ∷ y ∷ xs)) _ _ x _ _
 
-first_blank : (bs : List ℕ) → 0 < length bs → list_all is_blank bs ≡ true
+first-blank : (bs : List ℕ) → 0 < length bs → list_all is_blank bs ≡ true
     → is_blank (slice_index bs 0) ≡ true
-first_blank [] n h = absurd (omega (arith, n))
-first_blank (c ∷ bs) n h = and_left (is_blank c) _ h
+first-blank [] n h = absurd (omega (arith, n))
+first-blank (c ∷ bs) n h = and-left (is_blank c) _ h
 
-first_other : (y' y : ℕ) → Stands y' y → is_blank y' ≡ true → y ≢ 42
-first_other y' y (inl e) h =
+first-other : (y' y : ℕ) → Stands y' y → is_blank y' ≡ true → y ≢ 42
+first-other y' y (inl e) h =
     not-blank y 42 (subst (λ (c : ℕ). is_blank c ≡ true) e h) (λ k. absurd (omega (arith, k)))
     (λ k. absurd (omega (arith, k)))
-first_other y' y (inr (o, s)) h = λ k. absurd (omega (arith, o, k))
+first-other y' y (inr (o, s)) h = λ k. absurd (omega (arith, o, k))
 
-no_star : (w t : List ℕ) → AreBlanks w → slice_index (w ++ t) 0 ≢ 42
-no_star [] t a = absurd (let n = a.some in omega (arith, n))
-no_star (x ∷ xs) t a =
-    first_other _ x (blanked_first (x ∷ xs))
-    (first_blank _ (length-blanked (x ∷ xs) a.some) a.blank)
+no-star : (w t : List ℕ) → AreBlanks w → slice_index (w ++ t) 0 ≢ 42
+no-star [] t a = absurd (let n = a.some in omega (arith, n))
+no-star (x ∷ xs) t a =
+    first-other _ x (blanked-first (x ∷ xs))
+    (first-blank _ (length-blanked (x ∷ xs) a.some) a.blank)
 
 lines_of : (u w v : List ℕ) → ends_inside false u ≡ false → AreBlanks w
-    → lines (cut false (u ++ (w ++ v)))
-    ≡ lines (map piece (pieces (blanked false u)) ++ map piece (pieces (blanked false v)))
-unfolding cut
+    → lines (pieces_of false (u ++ (w ++ v)))
+    ≡ lines (map piece (pieces (without_comments false u))
+    ++ map piece (pieces (without_comments false v)))
+unfolding pieces_of
 lines_of u w v h a =
     ap (λ (t : List ℕ). lines (map piece (pieces t)))
-    (blanked_parts false u (w ++ v) h (no_star w v a)
-    ∙ ap (λ (t : List ℕ). blanked false u ++ t) (blanks_part false w v a.closed a.blank))
-    ∙ lines_between (blanked false u) (blanked false w) (blanked false v) (length-blanked w a.some)
+    (blanked-parts false u (w ++ v) h (no-star w v a)
+    ∙ ap (λ (t : List ℕ). without_comments false u ++ t) (blanks-part false w v a.closed a.blank))
+    ∙ lines-between (without_comments false u) (without_comments false w) (without_comments false v)
+    (length-blanked w a.some)
     a.blank
 
 last_line_of : (u w s v : List ℕ) → AreBlanks w → AreBlanks s
@@ -348,17 +354,17 @@ last_line_of : (u w s v : List ℕ) → AreBlanks w → AreBlanks s
 last_line_of u w s v a b =
     let n = a.some in
     let m = b.some in
-    last_line_parts u (w ++ v) (s ++ v) (simp length-append (omega arith))
+    last-line-parts u (w ++ v) (s ++ v) (simp length-append (omega arith))
     (simp length-append (omega arith))
-    (last_line_blanks w v (no_ends_inside false w a.blank)
-    ∙ sym (last_line_blanks s v (no_ends_inside false s b.blank)))
+    (last-line-blanks w v (no-ends-inside false w a.blank)
+    ∙ sym (last-line-blanks s v (no-ends-inside false s b.blank)))
 
-same_reading : (before blanks others after : List ℕ) → ends_inside false before ≡ false
+same-reading : (before blanks others after : List ℕ) → ends_inside false before ≡ false
     → AreBlanks blanks → AreBlanks others
     → program_of (before ++ (blanks ++ after)) ≡ program_of (before ++ (others ++ after))
 unfolding program_of
-same_reading u w s v h a b =
-    ap (λ (n : ℕ). reading n none_yet 1 (lines (cut false (u ++ (w ++ v)))))
+same-reading u w s v h a b =
+    ap (λ (n : ℕ). reading n none_yet 1 (lines (pieces_of false (u ++ (w ++ v)))))
     (last_line_of u w s v a b)
     ∙ ap (reading (last_line (u ++ (s ++ v))) none_yet 1)
     (lines_of u w v h a ∙ sym (lines_of u s v h b))
@@ -368,8 +374,8 @@ pub moved : (a b : List ℕ) (read : Result PlainProgram TextFault) → program_
     → ReadsAs a read → ReadsAs b read
 moved a b read e x =
     subst (λ (r : Result PlainProgram TextFault). ReadsAs b r)
-    (sym (one_reading a read (program_of a) x (text_reads a) ∙ e)) (text_reads b)
+    (sym (one_reading a read (program_of a) x (text-reads a) ∙ e)) (text-reads b)
 
 pub respelled : BlanksMayBeRespelled
 respelled before blanks others after read h b o x =
-    moved _ _ read (same_reading before blanks others after h b o) x
+    moved _ _ read (same-reading before blanks others after h b o) x

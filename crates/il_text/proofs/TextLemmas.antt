@@ -9,18 +9,18 @@ use Rattle.il_text.specs.Grammar.{Numbered, Derives}
 use Rattle.il_text.specs.Listing.{label, action, PlainProgram}
 use Rattle.il_text.specs.Parts.{Part, heading, opening, declaring, closing, labelling, acting, entering, leaving, ending}
 use Rattle.il_text.specs.Places.{last_line}
-use Rattle.il_text.specs.Reading.{Read, tokens_of, is_instruction, has_instruction, past_limit, counted, bounded, stepped, after_parts, after_line, whole_at, reading, none_yet, program_of, lines}
+use Rattle.il_text.specs.Reading.{Read, tokens_of, is_instruction, has_instruction, past_limit, with_instruction, within_bounds, after_text_line, after_parts, after_line, whole_at, reading, none_yet, program_of, lines}
 use Rattle.il_text.specs.Steps.{Reached, nothing_read, at_place, with_name, with_item, with_opened, with_declarations, declared_in, left_here, block_scope, is_start, is_between_blocks, may_stand, may_act, may_enter, may_leave, step, steps}
-use Rattle.il_text.specs.Symbols.{cut}
-use Rattle.il_text.specs.Texts.{Line, numbered, all_parts, is_entering, is_leaving, IsDeep, Allowed, no_program, too_deep, too_long, Refused, Ends, OnParts, OnTokens, Reads, ReadsAs}
+use Rattle.il_text.specs.Symbols.{pieces_of}
+use Rattle.il_text.specs.Texts.{TextLine, numbered_parts, all_parts, is_entering, is_leaving, IsDeep, Allowed, no_program, too_deep, too_long, Refused, Ends, OnParts, OnTokens, Reads, ReadsAs}
 use Rattle.il_text.specs.Tokens.{Symbol, Piece}
 use Rattle.il_text.specs.declared.fault.TextFault.{TextFault}
 use Rattle.il_text.specs.declared.fault.TextFault.TheVariants.{TooDeep, TooLong}
 use Rattle.il_text.specs.declared.listing.Stage.{Stage}
 use Rattle.il_text.specs.declared.listing.Stage.TheVariants as place
-use Rattle.il_text.proofs.GrammarLemmas.{run, run_append, and_then_same, then_some, cond_some, cond_left, declared_some, closed_some, left_some, flat_one}
-use Rattle.il_text.proofs.DerivedLemmas.{state, derived_runs}
-use Rattle.il_text.proofs.FinishLemmas.{goes_on, stops, ended_derives}
+use Rattle.il_text.proofs.GrammarLemmas.{run, run-append, and-then-same, then-some, cond-some, cond-left, declared-some, closed-some, left-some, flat-one}
+use Rattle.il_text.proofs.DerivedLemmas.{state, derived-runs}
+use Rattle.il_text.proofs.FinishLemmas.{goes_on, stops, ended-derives}
 
 -- how many parentheses are open
 abbrev depth : Reached → ℕ
@@ -30,153 +30,154 @@ depth_of : (r s t : Reached) → depth t ≡ depth r → t ≡ s → depth s ≡
 depth_of r s t h e = sym (ap depth e) ∙ h
 
 -- the parentheses that a part opens and closes
-part_depth : (n : ℕ) (r s : Reached) (p : Part) → step n r p ≡ Some s
+part-depth : (n : ℕ) (r s : Reached) (p : Part) → step n r p ≡ Some s
     → depth s + cond (is_leaving (n, p)) 1 0 ≡ depth r + cond (is_entering (n, p)) 1 0
 unfolding step
-part_depth n r s (heading name) e =
+part-depth n r s (heading name) e =
     let d = depth_of r s (with_name name r) refl
-    (cond_some (is_start r.place) (with_name name r) s e).1 in omega (arith, d)
-part_depth n r s (opening scope) e =
+    (cond-some (is_start r.place) (with_name name r) s e).1 in omega (arith, d)
+part-depth n r s (opening scope) e =
     let d = depth_of r s (at_place (place.Block scope) r) refl
-    (cond_some (is_between_blocks r.place) (at_place (place.Block scope) r) s e).1 in
+    (cond-some (is_between_blocks r.place) (at_place (place.Block scope) r) s e).1 in
     omega (arith, d)
-part_depth n r s (declaring ns kind initial) e =
-    let c = declared_some n ns kind initial r s (block_scope r.place) e in
+part-depth n r s (declaring ns kind initial) e =
+    let c = declared-some n ns kind initial r s (block_scope r.place) e in
     let d = depth_of r s (with_declarations (map (declared_in n c.0 kind initial) ns) r) refl c.3 in
     omega (arith, d)
-part_depth n r s closing e =
-    let c = closed_some r s (block_scope r.place) e in
+part-depth n r s closing e =
+    let c = closed-some r s (block_scope r.place) e in
     let d = depth_of r s (at_place place.Declarations r) refl c.2 in omega (arith, d)
-part_depth n r s (labelling name) e =
+part-depth n r s (labelling name) e =
     let d = depth_of r s (with_item (label n name) r) refl
-    (cond_some (may_stand r) (with_item (label n name) r) s e).1 in omega (arith, d)
-part_depth n r s (acting a) e =
+    (cond-some (may_stand r) (with_item (label n name) r) s e).1 in omega (arith, d)
+part-depth n r s (acting a) e =
     let d = depth_of r s (with_item (action n a) r) refl
-    (cond_some (may_act r a) (with_item (action n a) r) s e).1 in omega (arith, d)
-part_depth n r s (entering o g) e =
+    (cond-some (may_act r a) (with_item (action n a) r) s e).1 in omega (arith, d)
+part-depth n r s (entering o g) e =
     let d : depth (with_opened n o g r) ≡ depth s =
-    ap depth (cond_some (may_enter r) (with_opened n o g r) s e).1 in omega (arith, d)
-part_depth n r s leaving e =
-    let c = cond_left (may_leave r) (left_here n r r.parentheses) s e in
-    let l = left_some n r s r.parentheses c.1 in
+    ap depth (cond-some (may_enter r) (with_opened n o g r) s e).1 in omega (arith, d)
+part-depth n r s leaving e =
+    let c = cond-left (may_leave r) (left_here n r r.parentheses) s e in
+    let l = left-some n r s r.parentheses c.1 in
     let d : length l.1 ≡ depth s = ap depth l.3 in
     let f : depth r ≡ length (l.0 ∷ l.1) = ap length l.2 in
     omega (arith, d, f)
-part_depth n r s ending e =
+part-depth n r s ending e =
     let d = depth_of r s (at_place place.Finished r) refl
-    (cond_some (may_stand r) (at_place place.Finished r) s e).1 in omega (arith, d)
+    (cond-some (may_stand r) (at_place place.Finished r) s e).1 in omega (arith, d)
 
 -- how many pass a test
 abbrev tally : {A : Type 0} → (A → Bool) → List A → ℕ
 tally f [] = 0
 tally f (x ∷ xs) = cond (f x) (1 + tally f xs) (tally f xs)
 
-tally_is : {A : Type 0} → (f : A → Bool) (xs : List A) → tally f xs ≡ count_by f xs
-tally_is f xs = is_count_by (tally f) f refl (λ x ys. refl) xs
+tally-is : {A : Type 0} → (f : A → Bool) (xs : List A) → tally f xs ≡ count_by f xs
+tally-is f xs = is_count_by (tally f) f refl (λ x ys. refl) xs
 
-tally_step : {A : Type 0} → (f : A → Bool) (x : A) (xs : List A)
+tally-step : {A : Type 0} → (f : A → Bool) (x : A) (xs : List A)
     → tally f (x ∷ xs) ≡ cond (f x) 1 0 + tally f xs
-tally_step f x xs =
+tally-step f x xs =
     elim (f x) as (λ b. cond b (1 + tally f xs) (tally f xs) ≡ cond b 1 0 + tally f xs)
     [ true ↦ refl | false ↦ sym (zero-add (tally f xs)) ]
 
-run_tally : (ps : List Numbered) (r s : Reached) → run r ps ≡ Some s
+run-tally : (ps : List Numbered) (r s : Reached) → run r ps ≡ Some s
     → depth s + tally is_leaving ps ≡ depth r + tally is_entering ps
-run_tally [] r s e = let k : r ≡ s = cc in ap (λ (t : Reached). depth t + 0) (sym k)
-run_tally (p ∷ ps) r s e =
-    let c = then_some (step p.0 r p.1) (λ t. run t ps) s e in
-    let one = part_depth p.0 r c.0 p.1 c.1 in
-    let more = run_tally ps c.0 s c.2 in
-    let a = tally_step is_leaving p ps in
-    let b = tally_step is_entering p ps in
+run-tally [] r s e = let k : r ≡ s = cc in ap (λ (t : Reached). depth t + 0) (sym k)
+run-tally (p ∷ ps) r s e =
+    let c = then-some (step p.0 r p.1) (λ t. run t ps) s e in
+    let one = part-depth p.0 r c.0 p.1 c.1 in
+    let more = run-tally ps c.0 s c.2 in
+    let a = tally-step is_leaving p ps in
+    let b = tally-step is_entering p ps in
     omega (arith, one, more, a, b)
 
-run_depth : (ps : List Numbered) (s : Reached) → run nothing_read ps ≡ Some s
+run-depth : (ps : List Numbered) (s : Reached) → run nothing_read ps ≡ Some s
     → depth s + count_by is_leaving ps ≡ count_by is_entering ps
-run_depth ps s e =
-    let h = run_tally ps nothing_read s e in
-    let a = tally_is is_leaving ps in
-    let b = tally_is is_entering ps in
+run-depth ps s e =
+    let h = run-tally ps nothing_read s e in
+    let a = tally-is is_leaving ps in
+    let b = tally-is is_entering ps in
     omega (arith, h, a, b)
 
-deep_so : (ls : List Line) (s : Reached) → run nothing_read (all_parts ls) ≡ Some s → 16 < depth s
+deep-so : (ls : List TextLine) (s : Reached) → run nothing_read (all_parts ls) ≡ Some s
+    → 16 < depth s
     → IsDeep ls
-deep_so ls s e h = let k = run_depth (all_parts ls) s e in omega (arith, k, h)
+deep-so ls s e h = let k = run-depth (all_parts ls) s e in omega (arith, k, h)
 
-shallow_so : (ls : List Line) (s : Reached) → run nothing_read (all_parts ls) ≡ Some s
+shallow-so : (ls : List TextLine) (s : Reached) → run nothing_read (all_parts ls) ≡ Some s
     → depth s ≤ 16 → IsDeep ls → ⊥
-shallow_so ls s e h d = let k = run_depth (all_parts ls) s e in omega (arith, k, h, d)
+shallow-so ls s e h d = let k = run-depth (all_parts ls) s e in omega (arith, k, h, d)
 
 -- a part that is no instruction leaves the parentheses as they are
-quiet_part : (n : ℕ) (p : Part) → is_instruction p ≡ false
+quiet-part : (n : ℕ) (p : Part) → is_instruction p ≡ false
     → (is_leaving (n, p) ≡ false) × (is_entering (n, p) ≡ false)
-quiet_part n (heading name) h = (refl, refl)
-quiet_part n (opening scope) h = (refl, refl)
-quiet_part n (declaring ns kind initial) h = (refl, refl)
-quiet_part n closing h = (refl, refl)
-quiet_part n (labelling name) h = (refl, refl)
-quiet_part n (acting a) h = absurd (false≢true (sym h))
-quiet_part n (entering o g) h = absurd (false≢true (sym h))
-quiet_part n leaving h = absurd (false≢true (sym h))
-quiet_part n ending h = (refl, refl)
+quiet-part n (heading name) h = (refl, refl)
+quiet-part n (opening scope) h = (refl, refl)
+quiet-part n (declaring ns kind initial) h = (refl, refl)
+quiet-part n closing h = (refl, refl)
+quiet-part n (labelling name) h = (refl, refl)
+quiet-part n (acting a) h = absurd (false≢true (sym h))
+quiet-part n (entering o g) h = absurd (false≢true (sym h))
+quiet-part n leaving h = absurd (false≢true (sym h))
+quiet-part n ending h = (refl, refl)
 
-or_neither : (a b : Bool) → a || b ≡ false → (a ≡ false) × (b ≡ false)
-or_neither true b h = absurd (false≢true (sym h))
-or_neither false b h = (refl, h)
+or-neither : (a b : Bool) → a || b ≡ false → (a ≡ false) × (b ≡ false)
+or-neither true b h = absurd (false≢true (sym h))
+or-neither false b h = (refl, h)
 
-quiet_sum : (a b : ℕ) (p q : Bool) → p ≡ false → q ≡ false → a + cond p 1 0 ≡ b + cond q 1 0 → a ≡ b
-quiet_sum a b p q e f h = let k : a + 0 ≡ b + 0 = rw (e, f) at h in omega (arith, k)
+quiet-sum : (a b : ℕ) (p q : Bool) → p ≡ false → q ≡ false → a + cond p 1 0 ≡ b + cond q 1 0 → a ≡ b
+quiet-sum a b p q e f h = let k : a + 0 ≡ b + 0 = rw (e, f) at h in omega (arith, k)
 
-quiet_depth : (n : ℕ) (ps : List Part) (r s : Reached) → has_instruction ps ≡ false
+quiet-depth : (n : ℕ) (ps : List Part) (r s : Reached) → has_instruction ps ≡ false
     → steps n r ps ≡ Some s → depth s ≡ depth r
 unfolding steps
-quiet_depth n [] r s h e = let k : r ≡ s = cc in ap depth (sym k)
-quiet_depth n (p ∷ ps) r s h e =
-    let q = or_neither (is_instruction p) (has_instruction ps) h in
-    let c = then_some (step n r p) (λ t. steps n t ps) s e in
-    let one = part_depth n r c.0 p c.1 in
-    let f = quiet_part n p q.0 in
-    let same : depth c.0 ≡ depth r = quiet_sum (depth c.0) (depth r) _ _ f.0 f.1 one in
-    (unfold steps in quiet_depth n ps c.0 s q.1 c.2) ∙ same
+quiet-depth n [] r s h e = let k : r ≡ s = cc in ap depth (sym k)
+quiet-depth n (p ∷ ps) r s h e =
+    let q = or-neither (is_instruction p) (has_instruction ps) h in
+    let c = then-some (step n r p) (λ t. steps n t ps) s e in
+    let one = part-depth n r c.0 p c.1 in
+    let f = quiet-part n p q.0 in
+    let same : depth c.0 ≡ depth r = quiet-sum (depth c.0) (depth r) _ _ f.0 f.1 one in
+    (unfold steps in quiet-depth n ps c.0 s q.1 c.2) ∙ same
 
-steps_run : (n : ℕ) (ps : List Part) (r : Reached) → run r (numbered (n, ps)) ≡ steps n r ps
+steps-run : (n : ℕ) (ps : List Part) (r : Reached) → run r (numbered_parts (n, ps)) ≡ steps n r ps
 unfolding steps
-steps_run n [] r = refl
-steps_run n (p ∷ ps) r =
-    and_then_same (step n r p) (λ s. run s (numbered (n, ps))) (λ s. steps n s ps)
-    (λ s. unfold steps in steps_run n ps s)
+steps-run n [] r = refl
+steps-run n (p ∷ ps) r =
+    and-then-same (step n r p) (λ s. run s (numbered_parts (n, ps))) (λ s. steps n s ps)
+    (λ s. unfold steps in steps-run n ps s)
 
 -- the lines with one more
-line_run : (before : List Line) (n : ℕ) (ps : List Part) (r : Reached)
+line-run : (before : List TextLine) (n : ℕ) (ps : List Part) (r : Reached)
     → run nothing_read (all_parts before) ≡ Some r
     → run nothing_read (all_parts (before ++ (n, ps) ∷ [])) ≡ steps n r ps
-line_run before n ps r e =
-    ap (run nothing_read) (flat_one numbered before (n, ps))
-    ∙ run_append (all_parts before) (numbered (n, ps)) nothing_read
-    ∙ ap (option_and_then (λ s. run s (numbered (n, ps)))) e
-    ∙ steps_run n ps r
+line-run before n ps r e =
+    ap (run nothing_read) (flat-one numbered_parts before (n, ps))
+    ∙ run-append (all_parts before) (numbered_parts (n, ps)) nothing_read
+    ∙ ap (option_and_then (λ s. run s (numbered_parts (n, ps)))) e
+    ∙ steps-run n ps r
 
 -- how many lines hold an instruction
-abbrev holds : Line → Bool
+abbrev holds : TextLine → Bool
 holds l = has_instruction l.1
 
-tally_more : (before : List Line) (l : Line)
+tally-more : (before : List TextLine) (l : TextLine)
     → tally holds (before ++ l ∷ []) ≡ tally holds before + cond (holds l) 1 0
-tally_more [] l = tally_step holds l [] ∙ omega arith
-tally_more (k ∷ before) l =
-    let a = tally_step holds k (before ++ l ∷ []) in
-    let b = tally_step holds k before in
-    let m = tally_more before l in
+tally-more [] l = tally-step holds l [] ∙ omega arith
+tally-more (k ∷ before) l =
+    let a = tally-step holds k (before ++ l ∷ []) in
+    let b = tally-step holds k before in
+    let m = tally-more before l in
     omega (arith, a, b, m)
 
-count_more : (before : List Line) (l : Line)
+count-more : (before : List TextLine) (l : TextLine)
     → count_by holds (before ++ l ∷ []) ≡ count_by holds before + cond (holds l) 1 0
-count_more before l =
-    sym (tally_is holds (before ++ l ∷ [])) ∙ tally_more before l
-    ∙ ap (λ (n : ℕ). n + cond (holds l) 1 0) (tally_is holds before)
+count-more before l =
+    sym (tally-is holds (before ++ l ∷ [])) ∙ tally-more before l
+    ∙ ap (λ (n : ℕ). n + cond (holds l) 1 0) (tally-is holds before)
 
 -- what is known after allowed lines
-record After (before : List Line) (r : Read) : Type 0 where
+record After (before : List TextLine) (r : Read) : Type 0 where
   runs : run nothing_read (all_parts before) ≡ Some r.reached
   count : r.instructions ≡ count_by holds before
   short : r.instructions ≤ 4000
@@ -186,31 +187,32 @@ abbrev is_finished : Stage → Bool
 is_finished place.Finished = true
 is_finished other = false
 
-some_same : (s t : Reached) → Some s ≡ Some t → s ≡ t
-some_same s t e = cc
+some-same : (s t : Reached) → Some s ≡ Some t → s ≡ t
+some-same s t e = cc
 
-not_finished : (before : List Line) (s : Reached) (p : Stage) → p ≡ s.place → is_finished p ≡ false
+not-finished : (before : List TextLine) (s : Reached) (p : Stage) → p ≡ s.place
+    → is_finished p ≡ false
     → run nothing_read (all_parts before) ≡ Some s
     → (program : PlainProgram) → Derives (all_parts before) program → ⊥
-not_finished before s p e f h program d =
-    let k = derived_runs (all_parts before) program d in
+not-finished before s p e f h program d =
+    let k = derived-runs (all_parts before) program d in
     let same : s ≡ state place.Finished program.name program.declarations program.items [] =
-    some_same _ _ (sym h ∙ k) in
+    some-same _ _ (sym h ∙ k) in
     let q : p ≡ place.Finished = e ∙ ap (λ (t : Reached). t.place) same in
     false≢true (sym f ∙ ap is_finished q)
 
-ends_so : (last : ℕ) (before : List Line) (s : Reached) (p : Stage) → p ≡ s.place
+ends-so : (last : ℕ) (before : List TextLine) (s : Reached) (p : Stage) → p ≡ s.place
     → run nothing_read (all_parts before) ≡ Some s → Ends last before (whole_at last s p)
-ends_so last before s place.Start e h = (not_finished before s place.Start e refl h, refl)
-ends_so last before s place.Declarations e h =
-    (not_finished before s place.Declarations e refl h, refl)
-ends_so last before s (place.Block scope) e h =
-    (not_finished before s (place.Block scope) e refl h, refl)
-ends_so last before s place.Body e h = (not_finished before s place.Body e refl h, refl)
-ends_so last before s place.Finished e h = ended_derives (all_parts before) s h (sym e)
+ends-so last before s place.Start e h = (not-finished before s place.Start e refl h, refl)
+ends-so last before s place.Declarations e h =
+    (not-finished before s place.Declarations e refl h, refl)
+ends-so last before s (place.Block scope) e h =
+    (not-finished before s (place.Block scope) e refl h, refl)
+ends-so last before s place.Body e h = (not-finished before s place.Body e refl h, refl)
+ends-so last before s place.Finished e h = ended-derives (all_parts before) s h (sym e)
 
 -- what a line's parts make, and what the lines behind it read as
-abbrev Going : ℕ → List Line → ℕ → List (List Piece) → Result PlainProgram TextFault → List Part
+abbrev Going : ℕ → List TextLine → ℕ → List (List Piece) → Result PlainProgram TextFault → List Part
     → Type 0
 Going last before n ls x ps =
     (Allowed (before ++ (n, ps) ∷ []) × Reads last (before ++ (n, ps) ∷ []) (n + 1) ls x)
@@ -221,36 +223,37 @@ rest last n ls s = reading last s (n + 1) ls
 
 -- all that is to be shown of the lines behind
 abbrev More : ℕ → ℕ → List (List Piece) → Type 0
-More last n ls = (b : List Line) (s : Read) → After b s → Reads last b (n + 1) ls (rest last n ls s)
+More last n ls =
+    (b : List TextLine) (s : Read) → After b s → Reads last b (n + 1) ls (rest last n ls s)
 
-goes_quiet : (last n instr : ℕ) (before : List Line) (ls : List (List Piece)) (ps : List Part)
+goes-quiet : (last n instr : ℕ) (before : List TextLine) (ls : List (List Piece)) (ps : List Part)
     (s : Reached) → More last n ls
     → run nothing_read (all_parts (before ++ (n, ps) ∷ [])) ≡ Some s → has_instruction ps ≡ false
     → instr ≡ count_by holds before → instr ≤ 4000 → depth s ≤ 16
     → Going last before n ls (rest last n ls (record { reached = s; instructions = instr })) ps
-goes_quiet last n instr before ls ps s f h q c k d =
-    let m = count_more before (n, ps) in
+goes-quiet last n instr before ls ps s f h q c k d =
+    let m = count-more before (n, ps) in
     let z : ◌≡◌ {A = ℕ} (cond (has_instruction ps) 1 0) 0 = rw q refl in
     let t : instr ≡ count_by holds (before ++ (n, ps) ∷ []) = omega (arith, m, z, c) in
     inl (
       record {
         goes_on = goes_on _ s h;
-        shallow = shallow_so (before ++ (n, ps) ∷ []) s h d;
+        shallow = shallow-so (before ++ (n, ps) ∷ []) s h d;
         short = λ long. absurd (omega (arith, t, k, long));
       },
       f (before ++ (n, ps) ∷ []) (record { reached = s; instructions = instr })
           (record { runs = h; count = t; short = k; shallow = d }),
     )
 
-counts_so : (last n instr : ℕ) (before : List Line) (ls : List (List Piece)) (ps : List Part)
+counts-so : (last n instr : ℕ) (before : List TextLine) (ls : List (List Piece)) (ps : List Part)
     (s : Reached) (b : Bool) → More last n ls
     → run nothing_read (all_parts (before ++ (n, ps) ∷ [])) ≡ Some s → has_instruction ps ≡ true
     → instr ≡ count_by holds before → ltb instr 4000 ≡ b → depth s ≤ 16
     → Going last before n ls
     (cond b (Ok (record { reached = s; instructions = instr + 1 }))
     (Err (past_limit n last (TooLong n))) >>= rest last n ls) ps
-counts_so last n instr before ls ps s true f h q c t d =
-    let m = count_more before (n, ps) in
+counts-so last n instr before ls ps s true f h q c t d =
+    let m = count-more before (n, ps) in
     let z : ◌≡◌ {A = ℕ} (cond (has_instruction ps) 1 0) 1 = rw q refl in
     let u : instr + 1 ≡ count_by holds (before ++ (n, ps) ∷ []) = omega (arith, m, z, c) in
     let k : instr < 4000 = ltb-true _ _ t in
@@ -258,85 +261,88 @@ counts_so last n instr before ls ps s true f h q c t d =
     inl (
       record {
         goes_on = goes_on _ s h;
-        shallow = shallow_so (before ++ (n, ps) ∷ []) s h d;
+        shallow = shallow-so (before ++ (n, ps) ∷ []) s h d;
         short = λ long. absurd (omega (arith, u, fits, long));
       },
       f (before ++ (n, ps) ∷ []) (record { reached = s; instructions = instr + 1 })
           (record { runs = h; count = u; short = fits; shallow = d }),
     )
-counts_so last n instr before ls ps s false f h q c t d =
-    let m = count_more before (n, ps) in
+counts-so last n instr before ls ps s false f h q c t d =
+    let m = count-more before (n, ps) in
     let z : ◌≡◌ {A = ℕ} (cond (has_instruction ps) 1 0) 1 = rw q refl in
     let k : 4000 ≤ instr = ltb-false _ _ t in
-    inr (too_long (goes_on _ s h) (shallow_so (before ++ (n, ps) ∷ []) s h d)
+    inr (too_long (goes_on _ s h) (shallow-so (before ++ (n, ps) ∷ []) s h d)
     (omega (arith, m, z, c, k)) refl)
 
-bounded_so : (last n instr : ℕ) (before : List Line) (ls : List (List Piece)) (ps : List Part)
+bounded-so : (last n instr : ℕ) (before : List TextLine) (ls : List (List Piece)) (ps : List Part)
     (s : Reached) (b : Bool) → More last n ls
     → run nothing_read (all_parts (before ++ (n, ps) ∷ [])) ≡ Some s → has_instruction ps ≡ true
     → instr ≡ count_by holds before → leb (depth s) 16 ≡ b
     → Going last before n ls
-    (cond b (counted n last instr s) (Err (past_limit n last (TooDeep n))) >>= rest last n ls)
+    (cond b (with_instruction n last instr s) (Err (past_limit n last (TooDeep n)))
+    >>= rest last n ls)
     ps
-bounded_so last n instr before ls ps s true f h q c t =
-    counts_so last n instr before ls ps s (ltb instr 4000) f h q c refl (leb-true _ _ t)
-bounded_so last n instr before ls ps s false f h q c t =
+bounded-so last n instr before ls ps s true f h q c t =
+    counts-so last n instr before ls ps s (ltb instr 4000) f h q c refl (leb-true _ _ t)
+bounded-so last n instr before ls ps s false f h q c t =
     let k : 16 < depth s = leb-false _ _ t in
-    inr (too_deep (goes_on _ s h) (deep_so (before ++ (n, ps) ∷ []) s h k) refl)
+    inr (too_deep (goes_on _ s h) (deep-so (before ++ (n, ps) ∷ []) s h k) refl)
 
-limited_so : (last n : ℕ) (before : List Line) (r : Read) (ls : List (List Piece)) (ps : List Part)
+limited-so : (last n : ℕ) (before : List TextLine) (r : Read) (ls : List (List Piece))
+    (ps : List Part)
     (s : Reached) (b : Bool) → More last n ls → After before r
     → run nothing_read (all_parts (before ++ (n, ps) ∷ [])) ≡ Some s → steps n r.reached ps ≡ Some s
     → has_instruction ps ≡ b
     → Going last before n ls
-    (cond b (bounded n last r.instructions s)
+    (cond b (within_bounds n last r.instructions s)
     (Ok (record { reached = s; instructions = r.instructions })) >>= rest last n ls) ps
-unfolding bounded
-limited_so last n before r ls ps s true f a h e q =
-    bounded_so last n r.instructions before ls ps s (leb (depth s) 16) f h q a.count refl
-limited_so last n before r ls ps s false f a h e q =
-    let d = quiet_depth n ps r.reached s q e in
-    goes_quiet last n r.instructions before ls ps s f h q a.count a.short
+unfolding within_bounds
+limited-so last n before r ls ps s true f a h e q =
+    bounded-so last n r.instructions before ls ps s (leb (depth s) 16) f h q a.count refl
+limited-so last n before r ls ps s false f a h e q =
+    let d = quiet-depth n ps r.reached s q e in
+    goes-quiet last n r.instructions before ls ps s f h q a.count a.short
     (omega (arith, d, a.shallow))
 
-stepped_so : (last n : ℕ) (before : List Line) (r : Read) (ls : List (List Piece)) (ps : List Part)
+stepped-so : (last n : ℕ) (before : List TextLine) (r : Read) (ls : List (List Piece))
+    (ps : List Part)
     (o : Option Reached) → More last n ls → After before r
     → steps n r.reached ps ≡ o
-    → Going last before n ls (stepped n last r.instructions ps o >>= rest last n ls) ps
-stepped_so last n before r ls ps None f a e =
+    → Going last before n ls (after_text_line n last r.instructions ps o >>= rest last n ls) ps
+stepped-so last n before r ls ps None f a e =
     inr (no_program (stops (all_parts (before ++ (n, ps) ∷ []))
-    (line_run before n ps r.reached a.runs ∙ e)) refl)
-stepped_so last n before r ls ps (Some s) f a e =
-    limited_so last n before r ls ps s (has_instruction ps) f a
-    (line_run before n ps r.reached a.runs ∙ e) e refl
+    (line-run before n ps r.reached a.runs ∙ e)) refl)
+stepped-so last n before r ls ps (Some s) f a e =
+    limited-so last n before r ls ps s (has_instruction ps) f a
+    (line-run before n ps r.reached a.runs ∙ e) e refl
 
-parts_so : (last n : ℕ) (before : List Line) (r : Read) (ls : List (List Piece))
+parts-so : (last n : ℕ) (before : List TextLine) (r : Read) (ls : List (List Piece))
     (o : Option (List Part)) → More last n ls → After before r
     → OnParts n (Going last before n ls (after_parts n last r o >>= rest last n ls)) o
     (after_parts n last r o >>= rest last n ls)
-parts_so last n before r ls None f a = refl
-parts_so last n before r ls (Some ps) f a =
-    stepped_so last n before r ls ps (steps n r.reached ps) f a refl
+parts-so last n before r ls None f a = refl
+parts-so last n before r ls (Some ps) f a =
+    stepped-so last n before r ls ps (steps n r.reached ps) f a refl
 
-tokens_so : (last n : ℕ) (before : List Line) (r : Read) (ls : List (List Piece))
+tokens-so : (last n : ℕ) (before : List TextLine) (r : Read) (ls : List (List Piece))
     (t : Result (List Symbol) TextFault) → More last n ls → After before r
     → OnTokens n (Going last before n ls (t >>= (λ ts. after_line n last r ts >>= rest last n ls)))
     t (t >>= (λ ts. after_line n last r ts >>= rest last n ls))
 unfolding after_line
-tokens_so last n before r ls (Err e) f a = refl
-tokens_so last n before r ls (Ok ts) f a = parts_so last n before r ls (parts_of ts) f a
+tokens-so last n before r ls (Err e) f a = refl
+tokens-so last n before r ls (Ok ts) f a = parts-so last n before r ls (parts_of ts) f a
 
-reads_so : (last : ℕ) (before : List Line) (r : Read) (n : ℕ) (ls : List (List Piece))
+reads-so : (last : ℕ) (before : List TextLine) (r : Read) (n : ℕ) (ls : List (List Piece))
     → After before r → Reads last before n ls (reading last r n ls)
 unfolding reading
-reads_so last before r n [] a = ends_so last before r.reached r.reached.place refl a.runs
-reads_so last before r n (l ∷ ls) a =
-    tokens_so last n before r ls (tokens_of n l)
-    (λ b s k. unfold reading in reads_so last b s (n + 1) ls k) a
+reads-so last before r n [] a = ends-so last before r.reached r.reached.place refl a.runs
+reads-so last before r n (l ∷ ls) a =
+    tokens-so last n before r ls (tokens_of n l)
+    (λ b s k. unfold reading in reads-so last b s (n + 1) ls k) a
 
 -- the program that is found, or the fault, is what the text reads as
-pub text_reads : (text : List ℕ) → ReadsAs text (program_of text)
+pub text-reads : (text : List ℕ) → ReadsAs text (program_of text)
 unfolding program_of ReadsAs
-text_reads text =
-    reads_so (last_line text) [] none_yet 1 (lines (cut false text))
+text-reads text =
+    reads-so (last_line text) [] none_yet 1 (lines (pieces_of false text))
     (record { runs = refl; count = refl; short = omega arith; shallow = omega arith })

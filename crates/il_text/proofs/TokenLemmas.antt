@@ -5,7 +5,7 @@ use Rattle.std.proofs.Math.ListN.{drop_of_length-le}
 use Rattle.std.proofs.Math.Seq.{drop-append_seam, take-append_seam}
 use Rattle.std.proofs.lemmas.List.{take-append-drop}
 use Rattle.bay_base.specs.declared.types.ElementaryType.{ElementaryType}
-use Rattle.il_text.specs.Forms.{after_front, elementary_of, is_mark, is_mnemonic, literal_of, name_of, parted, parts_at, same_mark, type_of}
+use Rattle.il_text.specs.Forms.{after_front, elementary_of, is_mark, is_mnemonic, literal_of, name_of, split_at_mark, parts_at, same_mark, type_of}
 use Rattle.il_text.specs.Tokens.{Symbol, name, keyword_word, type_word, literal, mnemonic_word, mark_symbol}
 use Rattle.il_text.specs.declared.program.DeclaredType.{DeclaredType}
 use Rattle.il_text.specs.declared.program.DeclaredType.TheVariants.{Elementary, Timer}
@@ -16,135 +16,135 @@ use Rattle.il_text.specs.declared.token.Mnemonic.{Mnemonic}
 
 -- ---- options
 
-pub some_same : {A : Type 0} (x y : A) → Some x ≡ Some y → x ≡ y
-some_same x y e = cc
+pub some-same : {A : Type 0} (x y : A) → Some x ≡ Some y → x ≡ y
+some-same x y e = cc
 
-pub map_some : {A B : Type 0} (f : A → B) (o : Option A) (y : B) → option_map f o ≡ Some y
+pub map-some : {A B : Type 0} (f : A → B) (o : Option A) (y : B) → option_map f o ≡ Some y
     → (x : A) × (o ≡ Some x) × (f x ≡ y)
-map_some f None y e = absurd cc
-map_some f (Some x) y e = (x, refl, some_same (f x) y e)
+map-some f None y e = absurd cc
+map-some f (Some x) y e = (x, refl, some-same (f x) y e)
 
-pub then_some : {A B : Type 0} (f : A → Option B) (o : Option A) (y : B)
+pub then-some : {A B : Type 0} (f : A → Option B) (o : Option A) (y : B)
     → option_and_then f o ≡ Some y
     → (x : A) × (o ≡ Some x) × (f x ≡ Some y)
-then_some f None y e = absurd cc
-then_some f (Some x) y e = (x, refl, e)
+then-some f None y e = absurd cc
+then-some f (Some x) y e = (x, refl, e)
 
-pub if_some : {A : Type 0} (b : Bool) (o : Option A) (y : A) → cond b o None ≡ Some y
+pub if-some : {A : Type 0} (b : Bool) (o : Option A) (y : A) → cond b o None ≡ Some y
     → (b ≡ true) × (o ≡ Some y)
-if_some true o y e = (refl, e)
-if_some false o y e = absurd cc
+if-some true o y e = (refl, e)
+if-some false o y e = absurd cc
 
-pub both_true : (a b : Bool) → a && b ≡ true → (a ≡ true) × (b ≡ true)
-both_true true b e = (refl, e)
-both_true false b e = absurd cc
+pub both-true : (a b : Bool) → a && b ≡ true → (a ≡ true) × (b ≡ true)
+both-true true b e = (refl, e)
+both-true false b e = absurd cc
 
-pub either_false : (a b : Bool) → a || b ≡ false → (a ≡ false) × (b ≡ false)
-either_false true b e = absurd cc
-either_false false b e = (refl, e)
+pub either-false : (a b : Bool) → a || b ≡ false → (a ≡ false) × (b ≡ false)
+either-false true b e = absurd cc
+either-false false b e = (refl, e)
 
 -- ---- tokens
 
-pub named_is : (s : Symbol) (n : List ℕ) → name_of s ≡ Some n → s ≡ name n
-named_is (name m) n e = ap (λ (x : List ℕ). name x) (some_same m n e)
-named_is (keyword_word w) n e = absurd cc
-named_is (type_word k) n e = absurd cc
-named_is (literal v) n e = absurd cc
-named_is (mnemonic_word m) n e = absurd cc
-named_is (mark_symbol m) n e = absurd cc
+pub named-is : (s : Symbol) (n : List ℕ) → name_of s ≡ Some n → s ≡ name n
+named-is (name m) n e = ap (λ (x : List ℕ). name x) (some-same m n e)
+named-is (keyword_word w) n e = absurd cc
+named-is (type_word k) n e = absurd cc
+named-is (literal v) n e = absurd cc
+named-is (mnemonic_word m) n e = absurd cc
+named-is (mark_symbol m) n e = absurd cc
 
-pub literal_is : (s : Symbol) (v : Literal) → literal_of s ≡ Some v → s ≡ literal v
-literal_is (name n) v e = absurd cc
-literal_is (keyword_word w) v e = absurd cc
-literal_is (type_word k) v e = absurd cc
-literal_is (literal u) v e = ap (λ (x : Literal). literal x) (some_same u v e)
-literal_is (mnemonic_word m) v e = absurd cc
-literal_is (mark_symbol m) v e = absurd cc
+pub literal-is : (s : Symbol) (v : Literal) → literal_of s ≡ Some v → s ≡ literal v
+literal-is (name n) v e = absurd cc
+literal-is (keyword_word w) v e = absurd cc
+literal-is (type_word k) v e = absurd cc
+literal-is (literal u) v e = ap (λ (x : Literal). literal x) (some-same u v e)
+literal-is (mnemonic_word m) v e = absurd cc
+literal-is (mark_symbol m) v e = absurd cc
 
-pub type_is : (s : Symbol) (k : DeclaredType) → type_of s ≡ Some k → s ≡ type_word k
-type_is (name n) k e = absurd cc
-type_is (keyword_word w) k e = absurd cc
-type_is (type_word l) k e = ap (λ (x : DeclaredType). type_word x) (some_same l k e)
-type_is (literal v) k e = absurd cc
-type_is (mnemonic_word m) k e = absurd cc
-type_is (mark_symbol m) k e = absurd cc
+pub type-is : (s : Symbol) (k : DeclaredType) → type_of s ≡ Some k → s ≡ type_word k
+type-is (name n) k e = absurd cc
+type-is (keyword_word w) k e = absurd cc
+type-is (type_word l) k e = ap (λ (x : DeclaredType). type_word x) (some-same l k e)
+type-is (literal v) k e = absurd cc
+type-is (mnemonic_word m) k e = absurd cc
+type-is (mark_symbol m) k e = absurd cc
 
-pub elementary_is : (s : Symbol) (k : DeclaredType) → elementary_of s ≡ Some k
+pub elementary-is : (s : Symbol) (k : DeclaredType) → elementary_of s ≡ Some k
     → (t : ElementaryType) × (s ≡ type_word (Elementary t)) × (k ≡ Elementary t)
-elementary_is (name n) k e = absurd cc
-elementary_is (keyword_word w) k e = absurd cc
-elementary_is (type_word (Elementary t)) k e = (t, refl, sym (some_same (Elementary t) k e))
-elementary_is (type_word (Timer t)) k e = absurd cc
-elementary_is (literal v) k e = absurd cc
-elementary_is (mnemonic_word m) k e = absurd cc
-elementary_is (mark_symbol m) k e = absurd cc
+elementary-is (name n) k e = absurd cc
+elementary-is (keyword_word w) k e = absurd cc
+elementary-is (type_word (Elementary t)) k e = (t, refl, sym (some-same (Elementary t) k e))
+elementary-is (type_word (Timer t)) k e = absurd cc
+elementary-is (literal v) k e = absurd cc
+elementary-is (mnemonic_word m) k e = absurd cc
+elementary-is (mark_symbol m) k e = absurd cc
 
-pub mnemonic_is : (s : Symbol) → is_mnemonic s ≡ true → (m : Mnemonic) × (s ≡ mnemonic_word m)
-mnemonic_is (name n) e = absurd cc
-mnemonic_is (keyword_word w) e = absurd cc
-mnemonic_is (type_word k) e = absurd cc
-mnemonic_is (literal v) e = absurd cc
-mnemonic_is (mnemonic_word m) e = (m, refl)
-mnemonic_is (mark_symbol m) e = absurd cc
+pub mnemonic-is : (s : Symbol) → is_mnemonic s ≡ true → (m : Mnemonic) × (s ≡ mnemonic_word m)
+mnemonic-is (name n) e = absurd cc
+mnemonic-is (keyword_word w) e = absurd cc
+mnemonic-is (type_word k) e = absurd cc
+mnemonic-is (literal v) e = absurd cc
+mnemonic-is (mnemonic_word m) e = (m, refl)
+mnemonic-is (mark_symbol m) e = absurd cc
 
-pub mark_is : (m n : Mark) → same_mark m n ≡ true → n ≡ m
-mark_is mark.Colon mark.Colon e = refl
-mark_is mark.Colon mark.Assign e = absurd cc
-mark_is mark.Colon mark.Comma e = absurd cc
-mark_is mark.Colon mark.Semicolon e = absurd cc
-mark_is mark.Colon mark.Dot e = absurd cc
-mark_is mark.Colon mark.Open e = absurd cc
-mark_is mark.Colon mark.Close e = absurd cc
-mark_is mark.Assign mark.Colon e = absurd cc
-mark_is mark.Assign mark.Assign e = refl
-mark_is mark.Assign mark.Comma e = absurd cc
-mark_is mark.Assign mark.Semicolon e = absurd cc
-mark_is mark.Assign mark.Dot e = absurd cc
-mark_is mark.Assign mark.Open e = absurd cc
-mark_is mark.Assign mark.Close e = absurd cc
-mark_is mark.Comma mark.Colon e = absurd cc
-mark_is mark.Comma mark.Assign e = absurd cc
-mark_is mark.Comma mark.Comma e = refl
-mark_is mark.Comma mark.Semicolon e = absurd cc
-mark_is mark.Comma mark.Dot e = absurd cc
-mark_is mark.Comma mark.Open e = absurd cc
-mark_is mark.Comma mark.Close e = absurd cc
-mark_is mark.Semicolon mark.Colon e = absurd cc
-mark_is mark.Semicolon mark.Assign e = absurd cc
-mark_is mark.Semicolon mark.Comma e = absurd cc
-mark_is mark.Semicolon mark.Semicolon e = refl
-mark_is mark.Semicolon mark.Dot e = absurd cc
-mark_is mark.Semicolon mark.Open e = absurd cc
-mark_is mark.Semicolon mark.Close e = absurd cc
-mark_is mark.Dot mark.Colon e = absurd cc
-mark_is mark.Dot mark.Assign e = absurd cc
-mark_is mark.Dot mark.Comma e = absurd cc
-mark_is mark.Dot mark.Semicolon e = absurd cc
-mark_is mark.Dot mark.Dot e = refl
-mark_is mark.Dot mark.Open e = absurd cc
-mark_is mark.Dot mark.Close e = absurd cc
-mark_is mark.Open mark.Colon e = absurd cc
-mark_is mark.Open mark.Assign e = absurd cc
-mark_is mark.Open mark.Comma e = absurd cc
-mark_is mark.Open mark.Semicolon e = absurd cc
-mark_is mark.Open mark.Dot e = absurd cc
-mark_is mark.Open mark.Open e = refl
-mark_is mark.Open mark.Close e = absurd cc
-mark_is mark.Close mark.Colon e = absurd cc
-mark_is mark.Close mark.Assign e = absurd cc
-mark_is mark.Close mark.Comma e = absurd cc
-mark_is mark.Close mark.Semicolon e = absurd cc
-mark_is mark.Close mark.Dot e = absurd cc
-mark_is mark.Close mark.Open e = absurd cc
-mark_is mark.Close mark.Close e = refl
+pub mark-is : (m n : Mark) → same_mark m n ≡ true → n ≡ m
+mark-is mark.Colon mark.Colon e = refl
+mark-is mark.Colon mark.Assign e = absurd cc
+mark-is mark.Colon mark.Comma e = absurd cc
+mark-is mark.Colon mark.Semicolon e = absurd cc
+mark-is mark.Colon mark.Dot e = absurd cc
+mark-is mark.Colon mark.Open e = absurd cc
+mark-is mark.Colon mark.Close e = absurd cc
+mark-is mark.Assign mark.Colon e = absurd cc
+mark-is mark.Assign mark.Assign e = refl
+mark-is mark.Assign mark.Comma e = absurd cc
+mark-is mark.Assign mark.Semicolon e = absurd cc
+mark-is mark.Assign mark.Dot e = absurd cc
+mark-is mark.Assign mark.Open e = absurd cc
+mark-is mark.Assign mark.Close e = absurd cc
+mark-is mark.Comma mark.Colon e = absurd cc
+mark-is mark.Comma mark.Assign e = absurd cc
+mark-is mark.Comma mark.Comma e = refl
+mark-is mark.Comma mark.Semicolon e = absurd cc
+mark-is mark.Comma mark.Dot e = absurd cc
+mark-is mark.Comma mark.Open e = absurd cc
+mark-is mark.Comma mark.Close e = absurd cc
+mark-is mark.Semicolon mark.Colon e = absurd cc
+mark-is mark.Semicolon mark.Assign e = absurd cc
+mark-is mark.Semicolon mark.Comma e = absurd cc
+mark-is mark.Semicolon mark.Semicolon e = refl
+mark-is mark.Semicolon mark.Dot e = absurd cc
+mark-is mark.Semicolon mark.Open e = absurd cc
+mark-is mark.Semicolon mark.Close e = absurd cc
+mark-is mark.Dot mark.Colon e = absurd cc
+mark-is mark.Dot mark.Assign e = absurd cc
+mark-is mark.Dot mark.Comma e = absurd cc
+mark-is mark.Dot mark.Semicolon e = absurd cc
+mark-is mark.Dot mark.Dot e = refl
+mark-is mark.Dot mark.Open e = absurd cc
+mark-is mark.Dot mark.Close e = absurd cc
+mark-is mark.Open mark.Colon e = absurd cc
+mark-is mark.Open mark.Assign e = absurd cc
+mark-is mark.Open mark.Comma e = absurd cc
+mark-is mark.Open mark.Semicolon e = absurd cc
+mark-is mark.Open mark.Dot e = absurd cc
+mark-is mark.Open mark.Open e = refl
+mark-is mark.Open mark.Close e = absurd cc
+mark-is mark.Close mark.Colon e = absurd cc
+mark-is mark.Close mark.Assign e = absurd cc
+mark-is mark.Close mark.Comma e = absurd cc
+mark-is mark.Close mark.Semicolon e = absurd cc
+mark-is mark.Close mark.Dot e = absurd cc
+mark-is mark.Close mark.Open e = absurd cc
+mark-is mark.Close mark.Close e = refl
 
-pub only_mark : (m : Mark) (s : Symbol) → is_mark m s ≡ true → s ≡ mark_symbol m
-only_mark m (name n) e = absurd cc
-only_mark m (keyword_word w) e = absurd cc
-only_mark m (type_word k) e = absurd cc
-only_mark m (literal v) e = absurd cc
-only_mark m (mnemonic_word k) e = absurd cc
-only_mark m (mark_symbol n) e = ap (λ (k : Mark). mark_symbol k) (mark_is m n e)
+pub only-mark : (m : Mark) (s : Symbol) → is_mark m s ≡ true → s ≡ mark_symbol m
+only-mark m (name n) e = absurd cc
+only-mark m (keyword_word w) e = absurd cc
+only-mark m (type_word k) e = absurd cc
+only-mark m (literal v) e = absurd cc
+only-mark m (mnemonic_word k) e = absurd cc
+only-mark m (mark_symbol n) e = ap (λ (k : Mark). mark_symbol k) (mark-is m n e)
 
 -- ---- what stands before and after a token
 
@@ -153,7 +153,7 @@ pub first_position : (f : Symbol → Bool) (front back : List Symbol) (s : Symbo
 first_position f [] back s none is =
     ap (λ (b : Bool). cond (not b) (1 + position_or_len f back) 0) is
 first_position f (x ∷ front) back s none is =
-    let two = either_false (f x) (list_any f front) none in
+    let two = either-false (f x) (list_any f front) none in
     let more : position_or_len f (front ++ s ∷ back) ≡ length front =
     first_position f front back s two.1 is in
     ap (λ (b : Bool). cond (not b) (1 + position_or_len f (front ++ s ∷ back)) 0) two.0
@@ -164,42 +164,42 @@ pub no_position : (f : Symbol → Bool) (ts : List Symbol) → list_any f ts ≡
     → position_or_len f ts ≡ length ts
 no_position f [] none = refl
 no_position f (x ∷ ts) none =
-    let two = either_false (f x) (list_any f ts) none in
+    let two = either-false (f x) (list_any f ts) none in
     let more : position_or_len f ts ≡ length ts = no_position f ts two.1 in
     ap (λ (b : Bool). cond (not b) (1 + position_or_len f ts) 0) two.0 ∙ ap (λ (n : ℕ). 1 + n) more
     ∙ (let e : 1 + length ts ≡ suc (length ts) = omega arith in e)
 
-pub parted_at : (m : Mark) (front back : List Symbol) (s : Symbol)
+pub parted-at : (m : Mark) (front back : List Symbol) (s : Symbol)
     → list_any (is_mark m) front ≡ false
-    → is_mark m s ≡ true → parted m (front ++ s ∷ back) ≡ Some (front, back)
+    → is_mark m s ≡ true → split_at_mark m (front ++ s ∷ back) ≡ Some (front, back)
 unfolding parts_at
-parted_at m front back s none is =
+parted-at m front back s none is =
     ap (λ (n : ℕ). after_front (take n (front ++ s ∷ back)) (drop n (front ++ s ∷ back)))
     (first_position (is_mark m) front back s none is)
     ∙ ap (λ (ts : List Symbol). after_front ts (drop (length front) (front ++ s ∷ back)))
     (take-append_seam front (s ∷ back))
     ∙ ap (λ (ts : List Symbol). after_front front ts) (drop-append_seam front (s ∷ back))
 
-pub not_parted : (m : Mark) (ts : List Symbol) → list_any (is_mark m) ts ≡ false
-    → parted m ts ≡ None
+pub not-parted : (m : Mark) (ts : List Symbol) → list_any (is_mark m) ts ≡ false
+    → split_at_mark m ts ≡ None
 unfolding parts_at
-not_parted m ts none =
+not-parted m ts none =
     ap (λ (n : ℕ). after_front (take n ts) (drop n ts)) (no_position (is_mark m) ts none)
     ∙ ap (λ (us : List Symbol). after_front (take (length ts) ts) us)
     (drop_of_length-le ts (omega arith))
 
-pub first_case : (f : Symbol → Bool) (x : Symbol) (ts : List Symbol) (s : Symbol) (b : List Symbol)
+pub first-case : (f : Symbol → Bool) (x : Symbol) (ts : List Symbol) (s : Symbol) (b : List Symbol)
     (t : Bool) → f x ≡ t → (drop (position_or_len f ts) ts ≡ s ∷ b → f s ≡ true)
     → drop (cond (not t) (1 + position_or_len f ts) 0) (x ∷ ts) ≡ s ∷ b → f s ≡ true
-first_case f x ts s b true is more e = (let same : x ≡ s = cc in ap f (sym same) ∙ is)
-first_case f x ts s b false is more e =
+first-case f x ts s b true is more e = (let same : x ≡ s = cc in ap f (sym same) ∙ is)
+first-case f x ts s b false is more e =
     more ((let n : suc (position_or_len f ts) ≡ 1 + position_or_len f ts = omega arith in
     ap (λ (k : ℕ). drop k (x ∷ ts)) n) ∙ e)
 
-pub passes_first : (f : Symbol → Bool) (ts : List Symbol) (s : Symbol) (b : List Symbol)
+pub passes-first : (f : Symbol → Bool) (ts : List Symbol) (s : Symbol) (b : List Symbol)
     → drop (position_or_len f ts) ts ≡ s ∷ b → f s ≡ true
-passes_first f [] s b e = absurd cc
-passes_first f (x ∷ ts) s b e = first_case f x ts s b (f x) refl (λ d. passes_first f ts s b d) e
+passes-first f [] s b e = absurd cc
+passes-first f (x ∷ ts) s b e = first-case f x ts s b (f x) refl (λ d. passes-first f ts s b d) e
 
 pub record Parted (m : Mark) (ts a b : List Symbol) : Type 0 where
   pub at : Symbol
@@ -211,20 +211,21 @@ pub cut_at : (front back a b : List Symbol) → after_front front back ≡ Some 
 cut_at front [] a b e = absurd cc
 cut_at front (s ∷ rest) a b e =
     let p : ◌≡◌ {A = List Symbol × List Symbol} (front, rest) (a, b) =
-    some_same (front, rest) (a, b) e in (
+    some-same (front, rest) (a, b) e in (
       s,
       ap (λ (q : List Symbol × List Symbol). q.0) p,
       ap (λ (q : List Symbol × List Symbol). s ∷ q.1) p,
     )
 
-pub was_parted : (m : Mark) (ts a b : List Symbol) → parted m ts ≡ Some (a, b) → Parted m ts a b
+pub was-parted : (m : Mark) (ts a b : List Symbol) → split_at_mark m ts ≡ Some (a, b)
+    → Parted m ts a b
 unfolding parts_at
-was_parted m ts a b e =
+was-parted m ts a b e =
     let n = position_or_len (is_mark m) ts in
     let c = cut_at (take n ts) (drop n ts) a b e in
     record {
       at = c.0;
       is = sym (take-append-drop n ts)
           ∙ ap (λ (xs : List Symbol). xs ++ drop n ts) c.1 ∙ ap (λ (xs : List Symbol). a ++ xs) c.2;
-      passes = passes_first (is_mark m) ts c.0 b c.2;
+      passes = passes-first (is_mark m) ts c.0 b c.2;
     }

@@ -25,8 +25,8 @@ begins_name x = is_ascii_alphabetic x || x == byte "_"
 
 -- Whether x and y, which directly follow one another, belong to one token: within a word, at the
 -- sign of a number, within `:=`, and within a line end.
-unfoldable pub linked : ℕ → ℕ → Bool
-linked x y =
+unfoldable pub are_linked : ℕ → ℕ → Bool
+are_linked x y =
     ((is_word y || (is_sign y && x == byte "#")) && is_word x)
     || (is_ascii_digit y && is_sign x)
     || (y == byte "=" && x == byte ":")

@@ -4,8 +4,8 @@ use Rattle.il_text.specs.Literals.{Duration}
 use Rattle.il_text.specs.declared.literal.Duration as code
 
 -- what is left of a duration in the code
-abbrev pub seen : code.Duration → Duration
-seen d = record { rest = d.rest.now; total = d.total; begun = d.begun }
+abbrev pub duration_view : code.Duration → Duration
+duration_view d = record { rest = d.rest.now; total = d.total; begun = d.begun }
 
 -- totals past every bound count as one
 abbrev pub capped_one : Duration → Duration

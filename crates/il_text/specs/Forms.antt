@@ -142,8 +142,8 @@ unfoldable pub parts_at : ℕ → List Symbol → Option (List Symbol × List Sy
 parts_at n ss = after_front (take n ss) (drop n ss)
 
 -- what stands before and after the first token of this mark
-abbrev pub parted : Mark → List Symbol → Option (List Symbol × List Symbol)
-parted m ss = parts_at (position_or_len (is_mark m) ss) ss
+abbrev pub split_at_mark : Mark → List Symbol → Option (List Symbol × List Symbol)
+split_at_mark m ss = parts_at (position_or_len (is_mark m) ss) ss
 
 -- one argument, or two where a comma parts them
 abbrev pub argument_list : List Symbol → Option (List Symbol × List Symbol)
@@ -155,7 +155,7 @@ argument_list ss (Some p) =
 -- [arg {"," arg}]: as there are two inputs, there are two arguments at most
 unfoldable pub arguments : List Symbol → Option (List (Input × Source))
 arguments [] = Some []
-arguments (s ∷ ss) = argument_list (s ∷ ss) (parted mark.Comma (s ∷ ss))
+arguments (s ∷ ss) = argument_list (s ∷ ss) (split_at_mark mark.Comma (s ∷ ss))
 
 -- the arguments, where nothing stands behind the `)`
 abbrev pub ends_with : List Symbol → List Symbol → Option (List (Input × Source))
@@ -169,13 +169,13 @@ closed_by (Some p) = ends_with p.0 p.1
 
 -- the arguments, and the one `)` at the end
 unfoldable pub closed_arguments : List Symbol → Option (List (Input × Source))
-closed_arguments ss = closed_by (parted mark.Close ss)
+closed_arguments ss = closed_by (split_at_mark mark.Close ss)
 
 -- name "(" [arg {"," arg}] ")"
-unfoldable pub called : List Symbol → Option Action
-called [] = None
-called (t ∷ []) = None
-called (t ∷ o ∷ ss) =
+unfoldable pub call_action : List Symbol → Option Action
+call_action [] = None
+call_action (t ∷ []) = None
+call_action (t ∷ o ∷ ss) =
     if is_mark mark.Open o then option_and_then (λ n. option_map (call n) (closed_arguments ss))
     (name_of t) else None
 
@@ -189,28 +189,28 @@ alone a [] = Some (acting a ∷ [])
 alone a (s ∷ ss) = None
 
 -- "(" [operand]: the operand is loaded as the first of the parenthesis
-abbrev pub entered : Operator → Bool → List Symbol → Option (List Part)
-entered o n [] = Some (entering o n ∷ [])
-entered o n (s ∷ ss) =
+abbrev pub parenthesis_parts : Operator → Bool → List Symbol → Option (List Part)
+parenthesis_parts o n [] = Some (entering o n ∷ [])
+parenthesis_parts o n (s ∷ ss) =
     option_map (λ x. entering o n ∷ acting (load false x) ∷ []) (operand (s ∷ ss))
 
 -- an operator that combines, with its operand or with `(`
-abbrev pub combined : Operator → Bool → List Symbol → Option (List Part)
-combined o n [] = None
-combined o n (s ∷ ss) =
-    if is_mark mark.Open s then entered o n ss
+abbrev pub operator_parts : Operator → Bool → List Symbol → Option (List Part)
+operator_parts o n [] = None
+operator_parts o n (s ∷ ss) =
+    if is_mark mark.Open s then parenthesis_parts o n ss
     else one_part (option_map (combine o n) (operand (s ∷ ss)))
 
 -- an operator, and what belongs to it
 unfoldable pub statement : Mnemonic → List Symbol → Option (List Part)
 statement (mnemonic.Load n) ss = one_part (option_map (load n) (operand ss))
 statement (mnemonic.Store k) ss = one_part (option_map (store k) (place ss))
-statement (mnemonic.Combine o n) ss = combined o n ss
+statement (mnemonic.Combine o n) ss = operator_parts o n ss
 statement mnemonic.Not ss = alone invert ss
 statement (mnemonic.Convert c) ss = alone (convert c) ss
 statement (mnemonic.Return c) ss = alone (leave c) ss
 statement (mnemonic.Jump c) ss = one_part (option_map (jump c) (only_name ss))
-statement mnemonic.Call ss = one_part (called ss)
+statement mnemonic.Call ss = one_part (call_action ss)
 
 -- type [":=" literal] ";"
 unfoldable pub tail : List Symbol → Option Tail
@@ -246,7 +246,7 @@ declared_by (Some p) = option_and_then (λ t. declared_names t p.0) (tail p.1)
 
 -- name {"," name} ":" tail
 unfoldable pub declaration : List Symbol → Option (List Part)
-declaration ss = declared_by (parted mark.Colon ss)
+declaration ss = declared_by (split_at_mark mark.Colon ss)
 
 -- what may stand behind a label: an operator, or nothing
 unfoldable pub may_follow_label : List Symbol → Bool
@@ -264,13 +264,13 @@ statement_by (mnemonic_word m) ss = statement m ss
 statement_by other ss = None
 
 -- a label, and the instruction that may stand behind it
-unfoldable pub labelled : List ℕ → List Symbol → Option (List Part)
-labelled n [] = Some (labelling n ∷ [])
-labelled n (m ∷ ss) = option_map (λ ps. labelling n ∷ ps) (statement_by m ss)
+unfoldable pub label_parts : List ℕ → List Symbol → Option (List Part)
+label_parts n [] = Some (labelling n ∷ [])
+label_parts n (m ∷ ss) = option_map (λ ps. labelling n ∷ ps) (statement_by m ss)
 
 -- what stands behind a label, or else a declaration
 abbrev pub label_or : List ℕ → List Symbol → Option (List Symbol) → Option (List Part)
-label_or n ss (Some rest) = labelled n rest
+label_or n ss (Some rest) = label_parts n rest
 label_or n ss None = declaration ss
 
 -- a line that begins with this name: a label, or a declaration
@@ -291,9 +291,9 @@ keyword_line keyword.VarExternal ss = only (opening External) ss
 keyword_line keyword.EndVar ss = only closing ss
 
 -- a line that begins with this mark
-unfoldable pub marked : Mark → List Symbol → Option (List Part)
-marked mark.Close ss = only leaving ss
-marked other ss = None
+unfoldable pub mark_parts : Mark → List Symbol → Option (List Part)
+mark_parts mark.Close ss = only leaving ss
+mark_parts other ss = None
 
 -- the form of a line by its first token
 abbrev pub by_first : Symbol → List Symbol → List Symbol → Option (List Part)
@@ -302,7 +302,7 @@ by_first (keyword_word w) rest ss = keyword_line w rest
 by_first (type_word k) rest ss = None
 by_first (literal v) rest ss = None
 by_first (mnemonic_word m) rest ss = statement m rest
-by_first (mark_symbol m) rest ss = marked m rest
+by_first (mark_symbol m) rest ss = mark_parts m rest
 
 -- the parts of a line, where it has a form; a blank line has none
 unfoldable pub parts_of : List Symbol → Option (List Part)

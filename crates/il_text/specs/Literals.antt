@@ -60,24 +60,24 @@ decimal w =
     else option_map (λ n. (false, n)) (number 10 w)
 
 -- binary_integer, octal_integer and hex_integer, of which none has a sign
-unfoldable pub based : List ℕ → List ℕ → Option Signed
-based base digits =
+unfoldable pub based_integer : List ℕ → List ℕ → Option Signed
+based_integer base digits =
     option_and_then (λ radix. option_map (λ n. (false, n)) (number radix digits)) (base_of base)
 
 -- a number by whether a `#` parts it
 abbrev decimal_or_based : List ℕ → Option (List ℕ × List ℕ) → Option Signed
 decimal_or_based w None = decimal w
-decimal_or_based w (Some h) = based h.0 h.1
+decimal_or_based w (Some h) = based_integer h.0 h.1
 
 -- a number with a sign, or behind a base
 unfoldable pub integer : List ℕ → Option Signed
 integer w = decimal_or_based w (halves w)
 
 -- the value of a number, which is of 64 bits at most
-abbrev pub signed : Option Signed → Result ℤ LiteralFault
-signed None = Err Malformed
-signed (Some (false, n)) = if nat_le n 9223372036854775807 then Ok (pos n) else Err OutOfRange
-signed (Some (true, n)) =
+abbrev pub number_value : Option Signed → Result ℤ LiteralFault
+number_value None = Err Malformed
+number_value (Some (false, n)) = if nat_le n 9223372036854775807 then Ok (pos n) else Err OutOfRange
+number_value (Some (true, n)) =
     if n == 0
     then Ok (pos 0)
     else if nat_le n 9223372036854775808
@@ -85,8 +85,8 @@ signed (Some (true, n)) =
     else Err OutOfRange
 
 -- a number without a type
-unfoldable pub untyped : Option Signed → Result Literal LiteralFault
-untyped z = signed z >>= (λ value. Ok (Number value))
+unfoldable pub plain_literal : Option Signed → Result Literal LiteralFault
+plain_literal z = number_value z >>= (λ value. Ok (Number value))
 
 -- the number is in the range, both ends too
 abbrev pub is_between : ℤ → ℤ → ℤ → Bool
@@ -116,7 +116,7 @@ truth_of w =
 -- TRUE and FALSE are literals that no type of numbers holds
 abbrev pub number_or_truth : List ℕ → Option Bool → Result ℤ LiteralFault
 number_or_truth w (Some b) = Err OutOfRange
-number_or_truth w None = signed (integer w)
+number_or_truth w None = number_value (integer w)
 
 -- the number behind a type of numbers
 unfoldable pub typed_number : List ℕ → Result ℤ LiteralFault
@@ -125,7 +125,7 @@ typed_number w = number_or_truth w (truth_of w)
 -- a truth value, or else the number 0 or 1
 abbrev pub bool_or_truth : List ℕ → Option Bool → Result Literal LiteralFault
 bool_or_truth w (Some b) = Ok (Truth b)
-bool_or_truth w None = signed (integer w) >>= bool_literal
+bool_or_truth w None = number_value (integer w) >>= bool_literal
 
 -- `BOOL#`: TRUE, FALSE, or the numbers 0 and 1
 unfoldable pub typed_bool : List ℕ → Result Literal LiteralFault
@@ -205,11 +205,11 @@ unfoldable pub typed_time : List ℕ → Result Literal LiteralFault
 typed_time w = time_literal (milliseconds w)
 
 -- a literal with something before its first `#`
-unfoldable pub prefixed : List ℕ → List ℕ → Result Literal LiteralFault
-prefixed before w =
+unfoldable pub prefixed_literal : List ℕ → List ℕ → Result Literal LiteralFault
+prefixed_literal before w =
     if same_name before (codes "BOOL") then typed_bool w
     else if same_name before (codes "INT") then typed_int w
     else if same_name before (codes "DINT") then typed_dint w
     else if same_name before (codes "LINT") then typed_lint w
     else if same_name before (codes "T") || same_name before (codes "TIME") then typed_time w
-    else untyped (based before w)
+    else plain_literal (based_integer before w)

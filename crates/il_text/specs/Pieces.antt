@@ -1,7 +1,7 @@
 -- A text is cut into pieces: tokens, blanks and line ends (IEC 61131-3:2003, 2.1 and annex B.2.1).
 use Rattle.std.specs.Prelude.{ℕ, Bool, true, false, ◌&&◌, ◌||◌, ◌==◌, if◌then◌else◌, List, [], ◌∷◌, slice_index, codes}
 use Rattle.std.specs.Str.{byte}
-use Rattle.il_text.specs.Characters.{linked}
+use Rattle.il_text.specs.Characters.{are_linked}
 use Rattle.bay_base.specs.Names.{same_name}
 
 -- the text begins with `(*`
@@ -18,8 +18,8 @@ closes [] = false
 closes (x ∷ xs) = ends (x ∷ xs) || closes xs
 
 -- what stands in the place of the opening of a comment that is not closed: it is no character
-abbrev pub unclosed : ℕ
-unclosed = 256
+abbrev pub unclosed_comment : ℕ
+unclosed_comment = 256
 
 -- a character within a comment
 abbrev pub blank_of : ℕ → ℕ
@@ -27,22 +27,22 @@ blank_of x = if x == 10 then 10 else byte " "
 
 -- The text with a space for each character of a comment but its line ends (2.1.5). `inside` says
 -- that the text begins within a comment. A comment ends at the first `*)` after its `(*`.
-unfoldable pub blanked : Bool → List ℕ → List ℕ
-blanked inside [] = []
-blanked inside (x ∷ []) = (if inside then blank_of x else x) ∷ []
-blanked inside (x ∷ y ∷ xs) =
+unfoldable pub without_comments : Bool → List ℕ → List ℕ
+without_comments inside [] = []
+without_comments inside (x ∷ []) = (if inside then blank_of x else x) ∷ []
+without_comments inside (x ∷ y ∷ xs) =
     if inside then
-    (if ends (x ∷ y ∷ xs) then byte " " ∷ byte " " ∷ blanked false xs
-    else blank_of x ∷ blanked true (y ∷ xs))
+    (if ends (x ∷ y ∷ xs) then byte " " ∷ byte " " ∷ without_comments false xs
+    else blank_of x ∷ without_comments true (y ∷ xs))
     else
-    (if opens (x ∷ y ∷ xs) then (if closes xs then byte " " else unclosed) ∷ byte " "
-    ∷ blanked true xs
-    else x ∷ blanked false (y ∷ xs))
+    (if opens (x ∷ y ∷ xs) then (if closes xs then byte " " else unclosed_comment) ∷ byte " "
+    ∷ without_comments true xs
+    else x ∷ without_comments false (y ∷ xs))
 
 -- Whether the character and the piece that directly follows it are one piece. A `&` takes the word
 -- `N` to itself, where it stands alone.
 unfoldable pub joins : ℕ → List ℕ → Bool
-joins x p = linked x (slice_index p 0) || (x == byte "&" && same_name p (codes "N"))
+joins x p = are_linked x (slice_index p 0) || (x == byte "&" && same_name p (codes "N"))
 
 -- a character in front of pieces: a part of the first one, or a piece of its own
 abbrev pub join : ℕ → List (List ℕ) → List (List ℕ)

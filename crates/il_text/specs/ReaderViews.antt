@@ -4,7 +4,7 @@ use Rattle.bay_base.specs.Results.{◌>>=◌}
 use Rattle.il_text.specs.Listing.{PlainProgram}
 use Rattle.il_text.specs.ListingViews.{read_of}
 use Rattle.il_text.specs.Reading.{Read, reading, lines, after_line, whole}
-use Rattle.il_text.specs.Symbols.{cut}
+use Rattle.il_text.specs.Symbols.{pieces_of}
 use Rattle.il_text.specs.Tokens.{Symbol, Piece, token}
 use Rattle.il_text.specs.TokenViews.{symbols_of}
 use Rattle.il_text.specs.declared.fault.TextFault.{TextFault}
@@ -19,13 +19,13 @@ read_on last r line ss ps = reading last r line (lines (map token ss ++ ps))
 abbrev pub left_of : code.Reader → Result PlainProgram TextFault
 left_of r =
     read_on r.last (read_of r.listing) r.line (symbols_of r.tokens.items)
-    (cut r.in_comment (drop r.at r.text.now))
+    (pieces_of r.in_comment (drop r.at r.text.now))
 
 -- the same where the line ends here
 abbrev pub ended_of : code.Reader → Result PlainProgram TextFault
 ended_of r =
     after_line r.line r.last (read_of r.listing) (symbols_of r.tokens.items)
-    >>= (λ s. read_on r.last s (r.line + 1) [] (cut r.in_comment (drop r.at r.text.now)))
+    >>= (λ s. read_on r.last s (r.line + 1) [] (pieces_of r.in_comment (drop r.at r.text.now)))
 
 -- and where the text does
 abbrev pub whole_of : code.Reader → Result PlainProgram TextFault

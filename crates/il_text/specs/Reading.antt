@@ -3,7 +3,7 @@ use Rattle.std.specs.Prelude.{ℕ, ◌+◌, Bool, true, false, ◌||◌, ◌==�
 use Rattle.bay_base.specs.Results.{◌>>=◌}
 use Rattle.il_text.specs.Listing.{PlainProgram}
 use Rattle.il_text.specs.Tokens.{Symbol, Piece, blank, line_end, token, bad_token, bad_literal}
-use Rattle.il_text.specs.Symbols.{cut}
+use Rattle.il_text.specs.Symbols.{pieces_of}
 use Rattle.il_text.specs.Forms.{parts_of}
 use Rattle.il_text.specs.Parts.{Part, heading, opening, declaring, closing, labelling, acting, entering, leaving, ending}
 use Rattle.il_text.specs.Places.{last_line}
@@ -64,48 +64,49 @@ abbrev pub past_limit : ℕ → ℕ → TextFault → TextFault
 past_limit line last fault = if line == last then BadLine line else fault
 
 -- one line with an instruction more, of which 4,000 may be
-abbrev pub counted : ℕ → ℕ → ℕ → Reached → Result Read TextFault
-counted line last before s =
+abbrev pub with_instruction : ℕ → ℕ → ℕ → Reached → Result Read TextFault
+with_instruction line last before s =
     if nat_lt before 4000
     then Ok (record { reached = s; instructions = before + 1 })
     else Err (past_limit line last (TooLong line))
 
 -- what a line with an instruction leaves, within the limits of 16 open parentheses and 4,000 such
 -- lines
-unfoldable pub bounded : ℕ → ℕ → ℕ → Reached → Result Read TextFault
-bounded line last before s =
+unfoldable pub within_bounds : ℕ → ℕ → ℕ → Reached → Result Read TextFault
+within_bounds line last before s =
     if nat_le (length s.parentheses) 16
-    then counted line last before s
+    then with_instruction line last before s
     else Err (past_limit line last (TooDeep line))
 
 -- what a line leaves, where the limits count only one with an instruction
-abbrev pub limited : ℕ → ℕ → ℕ → List Part → Reached → Result Read TextFault
-limited line last before ps s =
+abbrev pub within_limits : ℕ → ℕ → ℕ → List Part → Reached → Result Read TextFault
+within_limits line last before ps s =
     if has_instruction ps
-    then bounded line last before s
+    then within_bounds line last before s
     else Ok (record { reached = s; instructions = before })
 
 -- the same of a line that may not stand here
-abbrev pub stepped : ℕ → ℕ → ℕ → List Part → Option Reached → Result Read TextFault
-stepped line last before ps None = Err (BadLine line)
-stepped line last before ps (Some s) = limited line last before ps s
+abbrev pub after_text_line : ℕ → ℕ → ℕ → List Part → Option Reached → Result Read TextFault
+after_text_line line last before ps None = Err (BadLine line)
+after_text_line line last before ps (Some s) = within_limits line last before ps s
 
 -- the same of a line that may have no form
 abbrev pub after_parts : ℕ → ℕ → Read → Option (List Part) → Result Read TextFault
 after_parts line last r None = Err (BadLine line)
-after_parts line last r (Some ps) = stepped line last r.instructions ps (steps line r.reached ps)
+after_parts line last r (Some ps) =
+    after_text_line line last r.instructions ps (steps line r.reached ps)
 
 -- what a line of tokens leaves, or its fault
 unfoldable pub after_line : ℕ → ℕ → Read → List Symbol → Result Read TextFault
 after_line line last r ts = after_parts line last r (parts_of ts)
 
 -- the program that the lines make
-abbrev pub listed : Reached → PlainProgram
-listed s = record { name = s.name; declarations = s.declarations; items = s.items }
+abbrev pub program_made : Reached → PlainProgram
+program_made s = record { name = s.name; declarations = s.declarations; items = s.items }
 
 -- the text is whole after END_PROGRAM
 abbrev pub whole_at : ℕ → Reached → Stage → Result PlainProgram TextFault
-whole_at last s place.Finished = Ok (listed s)
+whole_at last s place.Finished = Ok (program_made s)
 whole_at last s other = Err (BadLine last)
 
 -- the program, if the text is whole
@@ -125,4 +126,4 @@ none_yet = record { reached = nothing_read; instructions = 0 }
 
 -- the program of a text, or its fault
 unfoldable pub program_of : List ℕ → Result PlainProgram TextFault
-program_of text = reading (last_line text) none_yet 1 (lines (cut false text))
+program_of text = reading (last_line text) none_yet 1 (lines (pieces_of false text))

@@ -2,7 +2,7 @@
 use Rattle.std.specs.Prelude.{◌≡◌, ℕ, ◌<◌, ◌==◌, Bool, true, false, if◌then◌else◌, List, [], ◌∷◌, ◌++◌, length, Result}
 use Rattle.std.specs.List.{list_all}
 use Rattle.il_text.specs.Characters.{is_blank}
-use Rattle.il_text.specs.Pieces.{opens, ends, blanked}
+use Rattle.il_text.specs.Pieces.{opens, ends, without_comments}
 use Rattle.il_text.specs.Listing.{PlainProgram}
 use Rattle.il_text.specs.Texts.{ReadsAs}
 use Rattle.il_text.specs.declared.fault.TextFault.{TextFault}
@@ -19,7 +19,7 @@ ends_inside inside (x ∷ y ∷ xs) =
 pub record AreBlanks (w : List ℕ) : Type 0 where
   pub some : 0 < length w
   pub closed : ends_inside false w ≡ false
-  pub blank : list_all is_blank (blanked false w) ≡ true
+  pub blank : list_all is_blank (without_comments false w) ≡ true
 
 -- a text with one spelling of blanks between two parts reads as that with another
 abbrev pub BlanksMayBeRespelled : Type 0
@@ -39,5 +39,5 @@ ends_with_cr (x ∷ y ∷ xs) = ends_with_cr (y ∷ xs)
 abbrev pub LineEndsMayBeRespelled : Type 0
 LineEndsMayBeRespelled =
     (before after : List ℕ) (read : Result PlainProgram TextFault)
-    → ends_inside false before ≡ false → ends_with_cr (blanked false before) ≡ false
+    → ends_inside false before ≡ false → ends_with_cr (without_comments false before) ≡ false
     → ReadsAs (before ++ (10 ∷ after)) read → ReadsAs (before ++ (13 ∷ 10 ∷ after)) read

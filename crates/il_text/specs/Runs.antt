@@ -2,8 +2,8 @@
 use Rattle.std.specs.Prelude.{◌≡◌, ◌<◌, ◌≤◌, ◌+◌, ◌-◌, ◌^◌, ◌==◌, ◌&&◌, not, Bool, ℕ, true, false, List, ◌∷◌, length, drop, slice_index, slice_range, Option, option_map, min}
 use Rattle.std.specs.Char.{to_ascii_uppercase}
 use Rattle.std.specs.Str.{byte}
-use Rattle.il_text.specs.Pieces.{pieces, blanked}
-use Rattle.il_text.specs.Characters.{linked}
+use Rattle.il_text.specs.Pieces.{pieces, without_comments}
+use Rattle.il_text.specs.Characters.{are_linked}
 use Rattle.il_text.specs.Literals.{Signed}
 
 -- from start to end each character belongs to the one before it, and that at end, if there is one,
@@ -12,12 +12,12 @@ pub record IsRun (bytes : List ℕ) (start end : ℕ) : Type 0 where
   pub after : start < end
   pub within : end ≤ length bytes
   pub inner : (k : ℕ) → start < k → k < end
-      → linked (slice_index bytes (k - 1)) (slice_index bytes k) ≡ true
-  pub last : linked (slice_index bytes (end - 1)) (slice_index bytes end) ≡ false
+      → are_linked (slice_index bytes (k - 1)) (slice_index bytes k) ≡ true
+  pub last : are_linked (slice_index bytes (end - 1)) (slice_index bytes end) ≡ false
 
 -- numbers past those of every type count as one
-abbrev pub capped : Option ℕ → Option ℕ
-capped = option_map (λ n. min n (2 ^ 64 - 1))
+abbrev pub capped_number : Option ℕ → Option ℕ
+capped_number = option_map (λ n. min n (2 ^ 64 - 1))
 
 -- the same of a number with its sign
 abbrev pub capped_signed : Option Signed → Option Signed
@@ -27,10 +27,10 @@ capped_signed = option_map (λ z. (z.0, min z.1 (2 ^ 64 - 1)))
 unfoldable pub is_negated_and : List ℕ → ℕ → Bool
 is_negated_and bytes at =
     slice_index bytes at == byte "&" && to_ascii_uppercase (slice_index bytes (at + 1)) == byte "N"
-    && not (linked (slice_index bytes (at + 1)) (slice_index bytes (at + 2)))
+    && not (are_linked (slice_index bytes (at + 1)) (slice_index bytes (at + 2)))
 
 -- the first piece from start on ends at end
 abbrev pub IsPiece : List ℕ → ℕ → ℕ → Type 0
 IsPiece bytes start end =
-    pieces (blanked false (drop start bytes))
-    ≡ slice_range bytes start end ∷ pieces (blanked false (drop end bytes))
+    pieces (without_comments false (drop start bytes))
+    ≡ slice_range bytes start end ∷ pieces (without_comments false (drop end bytes))

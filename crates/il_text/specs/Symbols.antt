@@ -4,8 +4,8 @@ use Rattle.std.specs.Prelude.{ℕ, Bool, true, false, ◌||◌, nat_le, if◌the
 use Rattle.std.specs.Str.{bytes_eq}
 use Rattle.bay_base.specs.Names.{same_name}
 use Rattle.il_text.specs.Characters.{is_blank, begins_word, begins_name}
-use Rattle.il_text.specs.Literals.{halves, prefixed, decimal, untyped}
-use Rattle.il_text.specs.Pieces.{pieces, blanked}
+use Rattle.il_text.specs.Literals.{halves, prefixed_literal, decimal, plain_literal}
+use Rattle.il_text.specs.Pieces.{pieces, without_comments}
 use Rattle.il_text.specs.Tokens.{Symbol, name, literal, mnemonic_word, mark_symbol, Piece, blank, line_end, token, bad_token, bad_literal}
 use Rattle.il_text.specs.Words.{reserved_symbol}
 use Rattle.il_text.specs.declared.literal.LiteralFault.{LiteralFault}
@@ -32,9 +32,11 @@ plain_word w = name_or_reserved w (reserved_symbol w)
 
 -- a word by whether a `#` parts it
 abbrev word_by_halves : List ℕ → Option (List ℕ × List ℕ) → Piece
-word_by_halves w (Some h) = literal_piece (prefixed h.0 h.1)
+word_by_halves w (Some h) = literal_piece (prefixed_literal h.0 h.1)
 word_by_halves w None =
-    if begins_name (slice_index w 0) then plain_word w else literal_piece (untyped (decimal w))
+    if begins_name (slice_index w 0)
+    then plain_word w
+    else literal_piece (plain_literal (decimal w))
 
 -- a name, a reserved word or a literal
 unfoldable pub word : List ℕ → Piece
@@ -72,5 +74,5 @@ piece p =
     else mark_piece (mark_of p)
 
 -- the pieces of a text, which begins within a comment where `inside` says so
-unfoldable pub cut : Bool → List ℕ → List Piece
-cut inside text = map piece (pieces (blanked inside text))
+unfoldable pub pieces_of : Bool → List ℕ → List Piece
+pieces_of inside text = map piece (pieces (without_comments inside text))

@@ -8,22 +8,22 @@ use Rattle.il_text.specs.Listing.{PlainProgram}
 use Rattle.il_text.specs.Parts.{Part, entering, leaving}
 use Rattle.il_text.specs.Places.{last_line}
 use Rattle.il_text.specs.Reading.{lines, tokens_of, has_instruction, past_limit, program_of}
-use Rattle.il_text.specs.Symbols.{cut}
+use Rattle.il_text.specs.Symbols.{pieces_of}
 use Rattle.il_text.specs.Tokens.{Symbol, Piece}
 use Rattle.il_text.specs.declared.fault.TextFault.{TextFault}
 use Rattle.il_text.specs.declared.fault.TextFault.TheVariants.{BadLine, TooDeep, TooLong}
 
 -- a line: its number, and its parts
-abbrev pub Line : Type 0
-Line = ℕ × List Part
+abbrev pub TextLine : Type 0
+TextLine = ℕ × List Part
 
 -- the parts of a line, each with its number
-abbrev pub numbered : Line → List Numbered
-numbered l = map (λ p. (l.0, p)) l.1
+abbrev pub numbered_parts : TextLine → List Numbered
+numbered_parts l = map (λ p. (l.0, p)) l.1
 
 -- the parts of lines, in order
-abbrev pub all_parts : List Line → List Numbered
-all_parts = flat_map numbered
+abbrev pub all_parts : List TextLine → List Numbered
+all_parts = flat_map numbered_parts
 
 -- the part opens a parenthesis
 abbrev pub is_entering : Numbered → Bool
@@ -36,21 +36,21 @@ is_leaving (line, leaving) = true
 is_leaving (line, other) = false
 
 -- more than 16 parentheses are open
-abbrev pub IsDeep : List Line → Type 0
+abbrev pub IsDeep : List TextLine → Type 0
 IsDeep ls = count_by is_leaving (all_parts ls) + 16 < count_by is_entering (all_parts ls)
 
 -- more than 4,000 lines hold an instruction or `)`
-abbrev pub IsLong : List Line → Type 0
+abbrev pub IsLong : List TextLine → Type 0
 IsLong ls = 4000 < count_by (λ l. has_instruction l.1) ls
 
 -- lines with which a program may begin
-pub record Allowed (ls : List Line) : Type 0 where
+pub record Allowed (ls : List TextLine) : Type 0 where
   pub goes_on : CanGoOn (all_parts ls)
   pub shallow : IsDeep ls → ⊥
   pub short : IsLong ls → ⊥
 
 -- what is wrong with the last of these lines, where the lines before it are allowed
-pub data LineFault (last line : ℕ) (ls : List Line) (fault : TextFault) : Type 0 where
+pub data LineFault (last line : ℕ) (ls : List TextLine) (fault : TextFault) : Type 0 where
   no_program : (CanGoOn (all_parts ls) → ⊥) → fault ≡ BadLine line → LineFault last line ls fault
   too_deep : CanGoOn (all_parts ls) → IsDeep ls → fault ≡ past_limit line last (TooDeep line)
       → LineFault last line ls fault
@@ -59,12 +59,12 @@ pub data LineFault (last line : ℕ) (ls : List Line) (fault : TextFault) : Type
       → LineFault last line ls fault
 
 -- the last of these lines is the faulty one
-abbrev pub Refused : ℕ → ℕ → List Line → Result PlainProgram TextFault → Type 0
+abbrev pub Refused : ℕ → ℕ → List TextLine → Result PlainProgram TextFault → Type 0
 Refused last line ls (Ok program) = ⊥
 Refused last line ls (Err fault) = LineFault last line ls fault
 
 -- the text ends: the lines are a program, or it ends early
-abbrev pub Ends : ℕ → List Line → Result PlainProgram TextFault → Type 0
+abbrev pub Ends : ℕ → List TextLine → Result PlainProgram TextFault → Type 0
 Ends last ls (Ok program) = Derives (all_parts ls) program
 Ends last ls (Err fault) =
     ((program : PlainProgram) → Derives (all_parts ls) program → ⊥) × (fault ≡ BadLine last)
@@ -84,7 +84,8 @@ OnTokens line goes (Ok ts) r = OnParts line goes (parts_of ts) r
 -- What the lines from this number on read as, after allowed lines: the first faulty line decides.
 -- In a line a bad token comes first, then what is no form of a line, then what cannot be gone on to
 -- a program, then the limits.
-abbrev pub Reads : ℕ → List Line → ℕ → List (List Piece) → Result PlainProgram TextFault → Type 0
+abbrev pub Reads : ℕ → List TextLine → ℕ → List (List Piece) → Result PlainProgram TextFault
+    → Type 0
 Reads last before line [] r = Ends last before r
 Reads last before line (l ∷ ls) r =
     OnTokens line
@@ -95,7 +96,7 @@ Reads last before line (l ∷ ls) r =
 
 -- what a text reads as
 unfoldable pub ReadsAs : List ℕ → Result PlainProgram TextFault → Type 0
-ReadsAs text r = Reads (last_line text) [] 1 (lines (cut false text)) r
+ReadsAs text r = Reads (last_line text) [] 1 (lines (pieces_of false text)) r
 
 -- a text reads as one program, or has one fault
 abbrev pub OneReading : Type 0

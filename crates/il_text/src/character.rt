@@ -39,9 +39,9 @@ pub(crate) fn begins_name(x: u8) -> bool
 }
 
 /// Whether two characters that directly follow one another belong to one token.
-#[tactic(auto, unfolding(crate::specs::Characters::linked))]
+#[tactic(auto, unfolding(crate::specs::Characters::are_linked))]
 pub(crate) fn is_linked(x: u8, y: u8) -> bool
-    ensures { result ≡ spec.linked x y }
+    ensures { result ≡ spec.are_linked x y }
 {
     ((is_word(y) || (is_sign(y) && x == b'#')) && is_word(x))
         || (y.is_ascii_digit() && is_sign(x))

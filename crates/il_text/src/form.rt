@@ -245,7 +245,7 @@ fn parts_at<'t, 'a>(tokens: &'t [Token<'a>], at: usize) -> Option<Halves<'t, 'a>
 /// What stands before and after the first token of this mark.
 #[tactic(auto, using(crate::proofs::FormLemmas::place_of))]
 fn parted<'t, 'a>(tokens: &'t [Token<'a>], mark: Mark) -> Option<Halves<'t, 'a>>
-    ensures { option_map halves_of result ≡ spec.parted mark (symbols_of tokens.now) }
+    ensures { option_map halves_of result ≡ spec.split_at_mark mark (symbols_of tokens.now) }
 {
     parts_at(tokens, mark_at(tokens, mark))
 }
@@ -254,7 +254,7 @@ fn parted<'t, 'a>(tokens: &'t [Token<'a>], mark: Mark) -> Option<Halves<'t, 'a>>
 fn argument_list<'a>(tokens: &[Token<'a>]) -> Option<Arguments<'a>>
     ensures { option_map arguments_of result
         ≡ spec.argument_list (symbols_of tokens.now)
-        (spec.parted Mark.Comma (symbols_of tokens.now)) }
+        (spec.split_at_mark Mark.Comma (symbols_of tokens.now)) }
 {
     match parted(tokens, Mark::Comma) {
         None => argument(tokens).map(Arguments::One),
@@ -290,9 +290,9 @@ fn closed_arguments<'a>(tokens: &[Token<'a>]) -> Option<Arguments<'a>>
 }
 
 /// The call of a timer.
-#[tactic(auto, unfolding(crate::specs::Forms::called))]
+#[tactic(auto, unfolding(crate::specs::Forms::call_action))]
 fn called<'a>(tokens: &[Token<'a>]) -> Option<Instruction<'a>>
-    ensures { option_map action_of result ≡ spec.called (symbols_of tokens.now) }
+    ensures { option_map action_of result ≡ spec.call_action (symbols_of tokens.now) }
 {
     match tokens {
         [timer, open, rest @ ..] if is_mark(*open, Mark::Open) => {
@@ -319,7 +319,7 @@ fn alone<'a>(instruction: Instruction<'a>, tokens: &[Token<'a>]) -> Option<State
 /// What stands behind the `(` of an operator.
 fn entered<'a>(operator: Operator, negated: bool, tokens: &[Token<'a>]) -> Option<Statement<'a>>
     ensures { option_map statement_parts result
-        ≡ spec.entered operator negated (symbols_of tokens.now) }
+        ≡ spec.parenthesis_parts operator negated (symbols_of tokens.now) }
 {
     let operand = match tokens {
         [] => None,
@@ -335,7 +335,7 @@ fn entered<'a>(operator: Operator, negated: bool, tokens: &[Token<'a>]) -> Optio
 /// What stands behind an operator that combines.
 fn combined<'a>(operator: Operator, negated: bool, tokens: &[Token<'a>]) -> Option<Statement<'a>>
     ensures { option_map statement_parts result
-        ≡ spec.combined operator negated (symbols_of tokens.now) }
+        ≡ spec.operator_parts operator negated (symbols_of tokens.now) }
 {
     match tokens {
         [] => None,
@@ -466,9 +466,10 @@ fn statement_by<'a>(first: Token<'a>, tokens: &[Token<'a>]) -> Option<Statement<
 }
 
 /// A label, and the instruction that may stand behind it.
-#[tactic(auto, unfolding(crate::specs::Forms::labelled))]
+#[tactic(auto, unfolding(crate::specs::Forms::label_parts))]
 fn labelled<'t, 'a>(label: &'a str, tokens: &'t [Token<'a>]) -> Option<Line<'t, 'a>>
-    ensures { option_and_then line_parts result ≡ spec.labelled label.now (symbols_of tokens.now) }
+    ensures { option_and_then line_parts result
+        ≡ spec.label_parts label.now (symbols_of tokens.now) }
 {
     match tokens {
         [] => Some(Line::Label(label)),
@@ -511,9 +512,9 @@ fn named_line<'t, 'a>(
 }
 
 /// A line that begins with a mark: `)` alone.
-#[tactic(auto, unfolding(crate::specs::Forms::marked))]
+#[tactic(auto, unfolding(crate::specs::Forms::mark_parts))]
 fn marked<'t, 'a>(mark: Mark, tokens: &'t [Token<'a>]) -> Option<Line<'t, 'a>>
-    ensures { option_and_then line_parts result ≡ spec.marked mark (symbols_of tokens.now) }
+    ensures { option_and_then line_parts result ≡ spec.mark_parts mark (symbols_of tokens.now) }
 {
     match (mark, tokens) {
         (Mark::Close, []) => Some(Line::Leaving),

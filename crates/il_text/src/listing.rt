@@ -209,13 +209,14 @@ impl<'a> Draft<'a> {
     }
 
     /// Counts a line that holds an instruction or `)`.
-    #[tactic(auto, using(crate::proofs::ListingLemmas::length_opened), unfolding(crate::specs::Reading::bounded))]
+    #[tactic(auto, using(crate::proofs::ListingLemmas::length_opened), unfolding(crate::specs::Reading::within_bounds))]
     fn count(&mut self, position: Position) -> Result<(), TextFault>
         ensures ok { OnOk result
-            (spec.bounded position.line position.last self.old.instructions (reached_of self.old)
+            (spec.within_bounds position.line position.last self.old.instructions
+            (reached_of self.old)
             ≡ Ok (read_of self.new)) }
         ensures refused { IfErr result
-            (λ e. spec.bounded position.line position.last self.old.instructions
+            (λ e. spec.within_bounds position.line position.last self.old.instructions
             (reached_of self.old) ≡ Err e) }
     {
         let line = position.line;

@@ -2,9 +2,9 @@
 ghost use Rattle.std.specs.Prelude.{◌≡◌, ◌≤◌, ◌<◌, ◌+◌, ◌*◌, ◌^◌, Option, length, min, option_map, option_and_then, IfSome};
 ghost use Rattle.std.specs.Char.{is_ascii_alphabetic};
 ghost use Rattle.std.specs.List.{prefix_len};
-ghost use Rattle.il_text.specs.Durations.{seen, capped_duration, capped_time};
+ghost use Rattle.il_text.specs.Durations.{duration_view, capped_duration, capped_time};
 ghost use Rattle.il_text.specs.Literals as spec;
-ghost use Rattle.il_text.specs.Runs.{capped, capped_signed};
+ghost use Rattle.il_text.specs.Runs.{capped_number, capped_signed};
 
 use crate::character::byte_at;
 use crate::program::Literal;
@@ -27,7 +27,7 @@ const CAP: u64 = 0x1_0000_0000;
 fn number(digits: &[u8], radix: u32) -> Option<u64>
     requires low { 2 ≤ radix }
     requires high { radix ≤ 16 }
-    ensures { result ≡ capped (spec.number radix digits.now) }
+    ensures { result ≡ capped_number (spec.number radix digits.now) }
 {
     let mut value = 0u64;
     let mut wanted = true;
@@ -77,9 +77,9 @@ pub(crate) fn decimal(word: &[u8]) -> Option<(bool, u64)>
 }
 
 /// A number after its base, which has no sign.
-#[tactic(auto, unfolding(crate::specs::Literals::based))]
+#[tactic(auto, unfolding(crate::specs::Literals::based_integer))]
 fn based(base: &str, digits: &str) -> Option<(bool, u64)>
-    ensures { result ≡ capped_signed (spec.based base.now digits.now) }
+    ensures { result ≡ capped_signed (spec.based_integer base.now digits.now) }
 {
     let radix = base_of(base)?;
     Some((false, number(digits.as_bytes(), radix)?))
@@ -105,7 +105,7 @@ fn integer(word: &str) -> Option<(bool, u64)>
 
 /// The value of a number, within 64 bits.
 fn signed(number: Option<(bool, u64)>) -> Result<i64, LiteralFault>
-    ensures { result ≡ spec.signed number }
+    ensures { result ≡ spec.number_value number }
 {
     match number {
         None => Err(LiteralFault::Malformed),
@@ -119,9 +119,9 @@ fn signed(number: Option<(bool, u64)>) -> Result<i64, LiteralFault>
 }
 
 /// A number without a type.
-#[tactic(auto, unfolding(crate::specs::Literals::untyped))]
+#[tactic(auto, unfolding(crate::specs::Literals::plain_literal))]
 pub(crate) fn untyped(number: Option<(bool, u64)>) -> Result<Literal, LiteralFault>
-    ensures { result ≡ spec.untyped number }
+    ensures { result ≡ spec.plain_literal number }
 {
     Ok(Literal::Number(signed(number)?))
 }
@@ -219,9 +219,9 @@ fn typed_lint(word: &str) -> Result<Literal, LiteralFault>
 }
 
 /// Reads a literal with something before its first `#`.
-#[tactic(auto, using(crate::proofs::LiteralLemmas::untyped_capped), unfolding(crate::specs::Literals::prefixed))]
+#[tactic(auto, using(crate::proofs::LiteralLemmas::untyped_capped), unfolding(crate::specs::Literals::prefixed_literal))]
 pub(crate) fn prefixed(before: &str, word: &str) -> Result<Literal, LiteralFault>
-    ensures { result ≡ spec.prefixed before.now word.now }
+    ensures { result ≡ spec.prefixed_literal before.now word.now }
 {
     if same_name(before, "BOOL") {
         return typed_bool(word);
@@ -269,7 +269,7 @@ fn letter_len(word: &[u8]) -> usize
 
 /// The number of a part; after the first part an `_` may stand before it.
 fn part_number(digits: &[u8], begun: bool) -> Option<u64>
-    ensures { result ≡ capped (spec.number_of_part begun digits.now) }
+    ensures { result ≡ capped_number (spec.number_of_part begun digits.now) }
 {
     match digits {
         [b'_', rest @ ..] if begun => number(rest, 10),
@@ -291,9 +291,9 @@ fn part<'a>(duration: Option<Duration<'a>>, unit: &[u8], factor: u64) -> Option<
     requires some { 0 < factor }
     requires small { factor < 2 ^ 31 }
     ensures { (before : Option spec.Duration)
-        → capped_duration before ≡ option_map seen duration.entry
+        → capped_duration before ≡ option_map duration_view duration.entry
         → capped_duration (option_and_then (spec.part unit.now factor) before)
-        ≡ option_map seen result }
+        ≡ option_map duration_view result }
 {
     let duration = duration?;
     let (digits, tail) = duration.rest.split_at(number_len(duration.rest));
@@ -311,7 +311,7 @@ fn part<'a>(duration: Option<Duration<'a>>, unit: &[u8], factor: u64) -> Option<
 
 /// The parts of a duration in falling units, of which the first may pass the next unit.
 fn parts(word: &[u8]) -> Option<Duration<'_>>
-    ensures { capped_duration (spec.parts word.now) ≡ option_map seen result }
+    ensures { capped_duration (spec.parts word.now) ≡ option_map duration_view result }
 {
     let whole = Duration {
         rest: word,

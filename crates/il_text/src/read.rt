@@ -3,7 +3,7 @@ ghost use Rattle.std.specs.Prelude.{◌≡◌, ◌≢◌, ◌<◌, ◌≤◌, �
 ghost use Rattle.il_text.specs.Grammar.{rises, item_lines};
 ghost use Rattle.il_text.specs.ListingViews.{reached_of};
 ghost use Rattle.il_text.specs.Pieces.{opens as starts_comment};
-ghost use Rattle.il_text.specs.Reading.{listed, program_of};
+ghost use Rattle.il_text.specs.Reading.{program_made, program_of};
 ghost use Rattle.il_text.specs.Texts.{ReadsAs};
 ghost use Rattle.il_text.specs.Views.{plain_program};
 ghost use Rattle.il_text.specs.declared.fault.TextFault.TheVariants.{OutOfMemory};
@@ -221,7 +221,8 @@ impl<'a> Reader<'a> {
 
     /// Takes the last line, after which the program has to be whole.
     fn finish(&mut self) -> Result<(), TextFault>
-        ensures ok { OnOk result (whole_of self.old ≡ Ok (listed (reached_of self.new.listing))) }
+        ensures ok { OnOk result
+            (whole_of self.old ≡ Ok (program_made (reached_of self.new.listing))) }
         ensures refused { IfErr result (λ e. e ≢ OutOfMemory → whole_of self.old ≡ Err e) }
     {
         let position = Position {

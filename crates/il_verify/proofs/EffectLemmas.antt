@@ -20,23 +20,23 @@ use Rattle.il_image.specs.declared.opcode.TimerUse.TheVariants.{SetInput, SetPre
 use Rattle.il_image.specs.Arithmetic.{type_of_width}
 use Rattle.il_image.specs.Effects.{are_compared, below, compares, effect, kind_of, looks_at, second_kind, two, type_of_kind, widens, with_timer, with_truth}
 use Rattle.il_image.specs.Kinds.{AreWithin, is_within}
-use Rattle.il_image.proofs.KindLemmas.{within_along, within_self, same_self, same_is}
+use Rattle.il_image.proofs.KindLemmas.{within-along, within-self, same-self, same-is}
 
-pub some_same : {A : Type 0} (x y : A) → Some x ≡ Some y → x ≡ y
-some_same x y e = cc
+pub some-same : {A : Type 0} (x y : A) → Some x ≡ Some y → x ≡ y
+some-same x y e = cc
 
-pub not_both : {A : Type 0} (o : Option A) (x : A) → o ≡ None → o ≡ Some x → ⊥
-not_both o x e f = cc
+pub not-both : {A : Type 0} (o : Option A) (x : A) → o ≡ None → o ≡ Some x → ⊥
+not-both o x e f = cc
 
-pub bind_some : {A B : Type 0} (o : Option A) (f : A → Option B) (y : B) → (o >>= f) ≡ Some y
+pub bind-some : {A B : Type 0} (o : Option A) (f : A → Option B) (y : B) → (o >>= f) ≡ Some y
     → (x : A) × (o ≡ Some x) × (f x ≡ Some y)
-bind_some None f y e = absurd cc
-bind_some (Some x) f y e = (x, refl, e)
+bind-some None f y e = absurd cc
+bind-some (Some x) f y e = (x, refl, e)
 
-pub bind_is : {A B : Type 0} (o : Option A) (f : A → Option B) (x : A) (r : Option B) → o ≡ Some x
+pub bind-is : {A B : Type 0} (o : Option A) (f : A → Option B) (x : A) (r : Option B) → o ≡ Some x
     → f x ≡ r → (o >>= f) ≡ r
-bind_is None f x r e g = absurd cc
-bind_is (Some y) f x r e g = ap f (some_same y x e) ∙ g
+bind-is None f x r e g = absurd cc
+bind-is (Some y) f x r e g = ap f (some-same y x e) ∙ g
 
 -- What comes of smaller kinds is there, and within what came of the others.
 pub record Lowers (made : Option (List CellKind)) (upper : List CellKind) : Type 0 where
@@ -44,97 +44,97 @@ pub record Lowers (made : Option (List CellKind)) (upper : List CellKind) : Type
   pub is : made ≡ Some lower
   pub within : AreWithin lower upper
 
-lowers_at : (made : Option (List CellKind)) (xs ys upper : List CellKind) → made ≡ Some xs
+lowers-at : (made : Option (List CellKind)) (xs ys upper : List CellKind) → made ≡ Some xs
     → AreWithin xs ys
     → Some ys ≡ Some upper → Lowers made upper
-lowers_at made xs ys upper e h is =
-    record { lower = xs; is = e; within = subst (AreWithin xs) (some_same ys upper is) h }
+lowers-at made xs ys upper e h is =
+    record { lower = xs; is = e; within = subst (AreWithin xs) (some-same ys upper is) h }
 
-below_case : (wanted x y : CellKind) (xs ys rest : List CellKind) (b : Bool)
+below-case : (wanted x y : CellKind) (xs ys rest : List CellKind) (b : Bool)
     → is_within y wanted ≡ b
     → is_within x y ≡ true → AreWithin xs ys → cond b (Some ys) None ≡ Some rest
     → Lowers (below wanted (x ∷ xs)) rest
-below_case wanted x y xs ys rest true e h g is =
-    let yes : is_within x wanted ≡ true = within_along x y wanted h e in
-    lowers_at (below wanted (x ∷ xs)) xs ys rest (rw yes refl) g is
-below_case wanted x y xs ys rest false e h g is = absurd cc
+below-case wanted x y xs ys rest true e h g is =
+    let yes : is_within x wanted ≡ true = within-along x y wanted h e in
+    lowers-at (below wanted (x ∷ xs)) xs ys rest (rw yes refl) g is
+below-case wanted x y xs ys rest false e h g is = absurd cc
 
-below_lower : (wanted : CellKind) (xs ys rest : List CellKind) → AreWithin xs ys
+below-lower : (wanted : CellKind) (xs ys rest : List CellKind) → AreWithin xs ys
     → below wanted ys ≡ Some rest → Lowers (below wanted xs) rest
-below_lower wanted [] [] rest h e = absurd cc
-below_lower wanted [] (y ∷ ys) rest h e = absurd h
-below_lower wanted (x ∷ xs) [] rest h e = absurd h
-below_lower wanted (x ∷ xs) (y ∷ ys) rest h e =
-    below_case wanted x y xs ys rest (is_within y wanted) refl h.0 h.1 e
+below-lower wanted [] [] rest h e = absurd cc
+below-lower wanted [] (y ∷ ys) rest h e = absurd h
+below-lower wanted (x ∷ xs) [] rest h e = absurd h
+below-lower wanted (x ∷ xs) (y ∷ ys) rest h e =
+    below-case wanted x y xs ys rest (is_within y wanted) refl h.0 h.1 e
 
-looks_lower : (wanted : CellKind) (xs ys upper : List CellKind) → AreWithin xs ys
+looks-lower : (wanted : CellKind) (xs ys upper : List CellKind) → AreWithin xs ys
     → looks_at wanted ys ≡ Some upper → Lowers (looks_at wanted xs) upper
-looks_lower wanted xs ys upper h e =
-    let r = bind_some (below wanted ys) (λ (rest : List CellKind). Some ys) upper e in
-    let l = below_lower wanted xs ys r.0 h r.1 in
-    lowers_at (looks_at wanted xs) xs ys upper
-    (bind_is (below wanted xs) (λ (rest : List CellKind). Some xs) l.lower (Some xs) l.is refl) h
+looks-lower wanted xs ys upper h e =
+    let r = bind-some (below wanted ys) (λ (rest : List CellKind). Some ys) upper e in
+    let l = below-lower wanted xs ys r.0 h r.1 in
+    lowers-at (looks_at wanted xs) xs ys upper
+    (bind-is (below wanted xs) (λ (rest : List CellKind). Some xs) l.lower (Some xs) l.is refl) h
     r.2
 
-one_lower : (wanted gives : CellKind) (xs ys upper : List CellKind) → AreWithin xs ys
+one-lower : (wanted gives : CellKind) (xs ys upper : List CellKind) → AreWithin xs ys
     → (below wanted ys >>= (λ rest. Some (gives ∷ rest))) ≡ Some upper
     → Lowers (below wanted xs >>= (λ rest. Some (gives ∷ rest))) upper
-one_lower wanted gives xs ys upper h e =
+one-lower wanted gives xs ys upper h e =
     let f = λ (rest : List CellKind). Some (gives ∷ rest) in
-    let r = bind_some (below wanted ys) f upper e in
-    let l = below_lower wanted xs ys r.0 h r.1 in
-    lowers_at _ (gives ∷ l.lower) (gives ∷ r.0) upper
-    (bind_is (below wanted xs) f l.lower (Some (gives ∷ l.lower)) l.is refl)
-    (within_self gives, l.within) r.2
+    let r = bind-some (below wanted ys) f upper e in
+    let l = below-lower wanted xs ys r.0 h r.1 in
+    lowers-at _ (gives ∷ l.lower) (gives ∷ r.0) upper
+    (bind-is (below wanted xs) f l.lower (Some (gives ∷ l.lower)) l.is refl)
+    (within-self gives, l.within) r.2
 
-two_lower : (top second gives : CellKind) (xs ys upper : List CellKind) → AreWithin xs ys
+two-lower : (top second gives : CellKind) (xs ys upper : List CellKind) → AreWithin xs ys
     → two top second gives ys ≡ Some upper → Lowers (two top second gives xs) upper
-two_lower top second gives xs ys upper h e =
+two-lower top second gives xs ys upper h e =
     let f = λ (more : List CellKind). below second more >>= (λ rest. Some (gives ∷ rest)) in
-    let m = bind_some (below top ys) f upper e in
-    let k = below_lower top xs ys m.0 h m.1 in
-    let l = one_lower second gives k.lower m.0 upper k.within m.2 in
+    let m = bind-some (below top ys) f upper e in
+    let k = below-lower top xs ys m.0 h m.1 in
+    let l = one-lower second gives k.lower m.0 upper k.within m.2 in
     record {
       lower = l.lower;
-      is = bind_is (below top xs) f k.lower (Some l.lower) k.is l.is;
+      is = bind-is (below top xs) f k.lower (Some l.lower) k.is l.is;
       within = l.within;
     }
 
-shown_lower : (x y : CellKind) (t : ElementaryType) → is_within x y ≡ true → type_of_kind y ≡ Some t
+shown-lower : (x y : CellKind) (t : ElementaryType) → is_within x y ≡ true → type_of_kind y ≡ Some t
     → type_of_kind x ≡ Some t
-shown_lower x Any t h e = absurd cc
-shown_lower Any (Plain u) t h e = absurd cc
-shown_lower (Plain v) (Plain u) t h e = ap (λ (w : ElementaryType). Some w) (same_is v u h) ∙ e
-shown_lower (NotZero w) (Plain u) t h e =
-    ap (λ (w : ElementaryType). Some w) (same_is (type_of_width w) u h) ∙ e
-shown_lower Any (NotZero v) t h e = absurd cc
-shown_lower (Plain u) (NotZero v) t h e = absurd cc
-shown_lower (NotZero w) (NotZero v) t h e =
-    ap (λ (w : ElementaryType). Some w) (same_is (type_of_width w) (type_of_width v) h) ∙ e
+shown-lower x Any t h e = absurd cc
+shown-lower Any (Plain u) t h e = absurd cc
+shown-lower (Plain v) (Plain u) t h e = ap (λ (w : ElementaryType). Some w) (same-is v u h) ∙ e
+shown-lower (NotZero w) (Plain u) t h e =
+    ap (λ (w : ElementaryType). Some w) (same-is (type_of_width w) u h) ∙ e
+shown-lower Any (NotZero v) t h e = absurd cc
+shown-lower (Plain u) (NotZero v) t h e = absurd cc
+shown-lower (NotZero w) (NotZero v) t h e =
+    ap (λ (w : ElementaryType). Some w) (same-is (type_of_width w) (type_of_width v) h) ∙ e
 
-if_some : {A : Type 0} (b : Bool) (x y : A) → cond b (Some x) None ≡ Some y → (b ≡ true) × (x ≡ y)
-if_some true x y e = (refl, some_same x y e)
-if_some false x y e = absurd cc
+if-some : {A : Type 0} (b : Bool) (x y : A) → cond b (Some x) None ≡ Some y → (b ≡ true) × (x ≡ y)
+if-some true x y e = (refl, some-same x y e)
+if-some false x y e = absurd cc
 
-compares_lower : (c : Comparison) (xs ys upper : List CellKind) → AreWithin xs ys
+compares-lower : (c : Comparison) (xs ys upper : List CellKind) → AreWithin xs ys
     → compares c ys ≡ Some upper → Lowers (compares c xs) upper
-compares_lower c [] [] upper h e = absurd cc
-compares_lower c [] (y ∷ ys) upper h e = absurd h
-compares_lower c (x ∷ xs) [] upper h e = absurd h
-compares_lower c (x ∷ []) (y ∷ []) upper h e = absurd cc
-compares_lower c (x ∷ []) (y ∷ u ∷ ys) upper h e = absurd h.1
-compares_lower c (x ∷ v ∷ xs) (y ∷ []) upper h e = absurd h.1
-compares_lower c (x ∷ v ∷ xs) (y ∷ u ∷ ys) upper h e =
+compares-lower c [] [] upper h e = absurd cc
+compares-lower c [] (y ∷ ys) upper h e = absurd h
+compares-lower c (x ∷ xs) [] upper h e = absurd h
+compares-lower c (x ∷ []) (y ∷ []) upper h e = absurd cc
+compares-lower c (x ∷ []) (y ∷ u ∷ ys) upper h e = absurd h.1
+compares-lower c (x ∷ v ∷ xs) (y ∷ []) upper h e = absurd h.1
+compares-lower c (x ∷ v ∷ xs) (y ∷ u ∷ ys) upper h e =
     let f = λ (t : ElementaryType). type_of_kind u
     >>= (λ s. cond (are_compared c s t) (Some (Plain elementary.Bool ∷ ys)) None) in
-    let t = bind_some (type_of_kind y) f upper e in
-    let s = bind_some (type_of_kind u)
+    let t = bind-some (type_of_kind y) f upper e in
+    let s = bind-some (type_of_kind u)
     (λ (s : ElementaryType). cond (are_compared c s t.0) (Some (Plain elementary.Bool ∷ ys))
     None) upper t.2 in
-    let b = if_some (are_compared c s.0 t.0) (Plain elementary.Bool ∷ ys) upper s.2 in
+    let b = if-some (are_compared c s.0 t.0) (Plain elementary.Bool ∷ ys) upper s.2 in
     let made : compares c (x ∷ v ∷ xs) ≡ Some (Plain elementary.Bool ∷ xs) =
-    (rw (shown_lower x y t.0 h.0 t.1) (rw (shown_lower v u s.0 h.1.0 s.1) (rw b.0 refl))) in
-    lowers_at (compares c (x ∷ v ∷ xs)) (Plain elementary.Bool ∷ xs) (Plain elementary.Bool ∷ ys)
+    (rw (shown-lower x y t.0 h.0 t.1) (rw (shown-lower v u s.0 h.1.0 s.1) (rw b.0 refl))) in
+    lowers-at (compares c (x ∷ v ∷ xs)) (Plain elementary.Bool ∷ xs) (Plain elementary.Bool ∷ ys)
     upper made (refl, h.1.1) (ap (λ (k : List CellKind). Some k) b.1)
 
 -- what widening makes of a top that is within the two kinds or not
@@ -142,39 +142,39 @@ abbrev widened_to : Bool → Bool → Width → List CellKind → Option (List C
 widened_to p q to rest =
     cond p (Some (NotZero to ∷ rest)) (cond q (Some (Plain (type_of_width to) ∷ rest)) None)
 
-widened_lower : (to : Width) (p q b d : Bool) (xs ys upper : List CellKind) → (b ≡ true → p ≡ true)
+widened-lower : (to : Width) (p q b d : Bool) (xs ys upper : List CellKind) → (b ≡ true → p ≡ true)
     → (d ≡ true → q ≡ true) → AreWithin xs ys → widened_to b d to ys ≡ Some upper
     → Lowers (widened_to p q to xs) upper
-widened_lower to true q true d xs ys upper f g h e =
-    lowers_at _ (NotZero to ∷ xs) (NotZero to ∷ ys) upper refl (within_self (NotZero to), h) e
-widened_lower to false q true d xs ys upper f g h e = absurd (let no : false ≡ true = f refl in cc)
-widened_lower to true q false true xs ys upper f g h e =
-    lowers_at _ (NotZero to ∷ xs) (Plain (type_of_width to) ∷ ys) upper refl
-    (same_self (type_of_width to), h) e
-widened_lower to false true false true xs ys upper f g h e =
-    lowers_at _ (Plain (type_of_width to) ∷ xs) (Plain (type_of_width to) ∷ ys) upper refl
-    (same_self (type_of_width to), h) e
-widened_lower to false false false true xs ys upper f g h e =
+widened-lower to true q true d xs ys upper f g h e =
+    lowers-at _ (NotZero to ∷ xs) (NotZero to ∷ ys) upper refl (within-self (NotZero to), h) e
+widened-lower to false q true d xs ys upper f g h e = absurd (let no : false ≡ true = f refl in cc)
+widened-lower to true q false true xs ys upper f g h e =
+    lowers-at _ (NotZero to ∷ xs) (Plain (type_of_width to) ∷ ys) upper refl
+    (same-self (type_of_width to), h) e
+widened-lower to false true false true xs ys upper f g h e =
+    lowers-at _ (Plain (type_of_width to) ∷ xs) (Plain (type_of_width to) ∷ ys) upper refl
+    (same-self (type_of_width to), h) e
+widened-lower to false false false true xs ys upper f g h e =
     absurd (let no : false ≡ true = g refl in cc)
-widened_lower to p q false false xs ys upper f g h e = absurd cc
+widened-lower to p q false false xs ys upper f g h e = absurd cc
 
-widens_lower : (from to : Width) (xs ys upper : List CellKind) → AreWithin xs ys
+widens-lower : (from to : Width) (xs ys upper : List CellKind) → AreWithin xs ys
     → widens from to ys ≡ Some upper → Lowers (widens from to xs) upper
-widens_lower from to [] [] upper h e = absurd cc
-widens_lower from to [] (y ∷ ys) upper h e = absurd h
-widens_lower from to (x ∷ xs) [] upper h e = absurd h
-widens_lower from to (x ∷ xs) (y ∷ ys) upper h e =
-    widened_lower to (is_within x (NotZero from)) (is_within x (Plain (type_of_width from)))
+widens-lower from to [] [] upper h e = absurd cc
+widens-lower from to [] (y ∷ ys) upper h e = absurd h
+widens-lower from to (x ∷ xs) [] upper h e = absurd h
+widens-lower from to (x ∷ xs) (y ∷ ys) upper h e =
+    widened-lower to (is_within x (NotZero from)) (is_within x (Plain (type_of_width from)))
     (is_within y (NotZero from)) (is_within y (Plain (type_of_width from))) xs ys upper
-    (within_along x y (NotZero from) h.0) (within_along x y (Plain (type_of_width from)) h.0) h.1 e
+    (within-along x y (NotZero from) h.0) (within-along x y (Plain (type_of_width from)) h.0) h.1 e
 
-truth_lower : (slots : List ElementaryType) (n : ℕ) (xs ys upper : List CellKind) → AreWithin xs ys
+truth-lower : (slots : List ElementaryType) (n : ℕ) (xs ys upper : List CellKind) → AreWithin xs ys
     → with_truth slots n ys ≡ Some upper → Lowers (with_truth slots n xs) upper
-truth_lower slots n xs ys upper h e =
+truth-lower slots n xs ys upper h e =
     let at =
     λ (kinds : List CellKind) (t : ElementaryType). cond (same_type t elementary.Bool)
     (looks_at (Plain elementary.Bool) kinds) None in
-    let t = bind_some (slice_get slots n) (at ys) upper e in
+    let t = bind-some (slice_get slots n) (at ys) upper e in
     go t.0 (same_type t.0 elementary.Bool) refl t.1 t.2
   where
     go : (t : ElementaryType) (b : Bool) → same_type t elementary.Bool ≡ b
@@ -183,14 +183,14 @@ truth_lower slots n xs ys upper h e =
         → Lowers (with_truth slots n xs) upper
     go t false same found g = absurd cc
     go t true same found g =
-        let l = looks_lower (Plain elementary.Bool) xs ys upper h g in
+        let l = looks-lower (Plain elementary.Bool) xs ys upper h g in
         record { lower = l.lower; is = rw found (rw same l.is); within = l.within }
 
-timer_lower : (timers n : ℕ) (f : List CellKind → Option (List CellKind))
+timer-lower : (timers n : ℕ) (f : List CellKind → Option (List CellKind))
     (xs ys upper : List CellKind)
     → ((up : List CellKind) → f ys ≡ Some up → Lowers (f xs) up)
     → with_timer timers n (f ys) ≡ Some upper → Lowers (with_timer timers n (f xs)) upper
-timer_lower timers n f xs ys upper lower e = go (nat_lt n timers) refl e
+timer-lower timers n f xs ys upper lower e = go (nat_lt n timers) refl e
   where
     go : (b : Bool) → nat_lt n timers ≡ b → cond b (f ys) None ≡ Some upper
         → Lowers (with_timer timers n (f xs)) upper
@@ -201,67 +201,67 @@ timer_lower timers n f xs ys upper lower e = go (nat_lt n timers) refl e
 pushed : (k : CellKind) (xs ys upper : List CellKind) → AreWithin xs ys → Some (k ∷ ys) ≡ Some upper
     → Lowers (Some (k ∷ xs)) upper
 pushed k xs ys upper h e =
-    lowers_at (Some (k ∷ xs)) (k ∷ xs) (k ∷ ys) upper refl (within_self k, h) e
+    lowers-at (Some (k ∷ xs)) (k ∷ xs) (k ∷ ys) upper refl (within-self k, h) e
 
 kept : (xs ys upper : List CellKind) → AreWithin xs ys → Some ys ≡ Some upper
     → Lowers (Some xs) upper
-kept xs ys upper h e = lowers_at (Some xs) xs ys upper refl h e
+kept xs ys upper h e = lowers-at (Some xs) xs ys upper refl h e
 
-pub effect_lower : (slots : List ElementaryType) (timers : ℕ) (i : Instr)
+pub effect-lower : (slots : List ElementaryType) (timers : ℕ) (i : Instr)
     (xs ys upper : List CellKind)
     → AreWithin xs ys → effect slots timers i ys ≡ Some upper
     → Lowers (effect slots timers i xs) upper
-effect_lower slots timers Halt xs ys upper h e = kept xs ys upper h e
-effect_lower slots timers (Push v) xs ys upper h e = pushed (kind_of v) xs ys upper h e
-effect_lower slots timers Drop xs ys upper h e = below_lower Any xs ys upper h e
-effect_lower slots timers (Slot Load n) xs ys upper h e =
-    let t = bind_some (slice_get slots n) (λ (t : ElementaryType). Some (Plain t ∷ ys)) upper e in
+effect-lower slots timers Halt xs ys upper h e = kept xs ys upper h e
+effect-lower slots timers (Push v) xs ys upper h e = pushed (kind_of v) xs ys upper h e
+effect-lower slots timers Drop xs ys upper h e = below-lower Any xs ys upper h e
+effect-lower slots timers (Slot Load n) xs ys upper h e =
+    let t = bind-some (slice_get slots n) (λ (t : ElementaryType). Some (Plain t ∷ ys)) upper e in
     let l = pushed (Plain t.0) xs ys upper h t.2 in
     record {
       lower = l.lower;
-      is = bind_is (slice_get slots n) (λ (t : ElementaryType). Some (Plain t ∷ xs)) t.0
+      is = bind-is (slice_get slots n) (λ (t : ElementaryType). Some (Plain t ∷ xs)) t.0
           (Some l.lower) t.1 l.is;
       within = l.within;
     }
-effect_lower slots timers (Slot Store n) xs ys upper h e =
-    let t = bind_some (slice_get slots n) (λ (t : ElementaryType). looks_at (Plain t) ys) upper e in
-    let l = looks_lower (Plain t.0) xs ys upper h t.2 in
+effect-lower slots timers (Slot Store n) xs ys upper h e =
+    let t = bind-some (slice_get slots n) (λ (t : ElementaryType). looks_at (Plain t) ys) upper e in
+    let l = looks-lower (Plain t.0) xs ys upper h t.2 in
     record {
       lower = l.lower;
-      is = bind_is (slice_get slots n) (λ (t : ElementaryType). looks_at (Plain t) xs) t.0
+      is = bind-is (slice_get slots n) (λ (t : ElementaryType). looks_at (Plain t) xs) t.0
           (Some l.lower) t.1 l.is;
       within = l.within;
     }
-effect_lower slots timers (Slot SetIf n) xs ys upper h e = truth_lower slots n xs ys upper h e
-effect_lower slots timers (Slot ResetIf n) xs ys upper h e = truth_lower slots n xs ys upper h e
-effect_lower slots timers Not xs ys upper h e =
-    one_lower (Plain elementary.Bool) (Plain elementary.Bool) xs ys upper h e
-effect_lower slots timers (Combine c) xs ys upper h e =
-    two_lower (Plain elementary.Bool) (Plain elementary.Bool) (Plain elementary.Bool) xs ys upper h
+effect-lower slots timers (Slot SetIf n) xs ys upper h e = truth-lower slots n xs ys upper h e
+effect-lower slots timers (Slot ResetIf n) xs ys upper h e = truth-lower slots n xs ys upper h e
+effect-lower slots timers Not xs ys upper h e =
+    one-lower (Plain elementary.Bool) (Plain elementary.Bool) xs ys upper h e
+effect-lower slots timers (Combine c) xs ys upper h e =
+    two-lower (Plain elementary.Bool) (Plain elementary.Bool) (Plain elementary.Bool) xs ys upper h
     e
-effect_lower slots timers (Compute o w) xs ys upper h e =
-    two_lower (second_kind o w) (Plain (type_of_width w)) (Plain (type_of_width w)) xs ys upper h e
-effect_lower slots timers (Compare c) xs ys upper h e = compares_lower c xs ys upper h e
-effect_lower slots timers (Widen IntToDint) xs ys upper h e =
-    widens_lower width.Int width.Dint xs ys upper h e
-effect_lower slots timers (Widen DintToLint) xs ys upper h e =
-    widens_lower width.Dint width.Lint xs ys upper h e
-effect_lower slots timers (Jump Always distance) xs ys upper h e = kept xs ys upper h e
-effect_lower slots timers (Jump IfTrue distance) xs ys upper h e =
-    looks_lower (Plain elementary.Bool) xs ys upper h e
-effect_lower slots timers (Jump IfFalse distance) xs ys upper h e =
-    looks_lower (Plain elementary.Bool) xs ys upper h e
-effect_lower slots timers (Timer SetInput n) xs ys upper h e =
-    timer_lower timers n (below (Plain elementary.Bool)) xs ys upper
-    (λ up f. below_lower (Plain elementary.Bool) xs ys up h f) e
-effect_lower slots timers (Timer SetPreset n) xs ys upper h e =
-    timer_lower timers n (below (Plain elementary.Time)) xs ys upper
-    (λ up f. below_lower (Plain elementary.Time) xs ys up h f) e
-effect_lower slots timers (Timer Run n) xs ys upper h e =
-    timer_lower timers n (λ kinds. Some kinds) xs ys upper (λ up f. kept xs ys up h f) e
-effect_lower slots timers (Timer LoadOutput n) xs ys upper h e =
-    timer_lower timers n (λ kinds. Some (Plain elementary.Bool ∷ kinds)) xs ys upper
+effect-lower slots timers (Compute o w) xs ys upper h e =
+    two-lower (second_kind o w) (Plain (type_of_width w)) (Plain (type_of_width w)) xs ys upper h e
+effect-lower slots timers (Compare c) xs ys upper h e = compares-lower c xs ys upper h e
+effect-lower slots timers (Widen IntToDint) xs ys upper h e =
+    widens-lower width.Int width.Dint xs ys upper h e
+effect-lower slots timers (Widen DintToLint) xs ys upper h e =
+    widens-lower width.Dint width.Lint xs ys upper h e
+effect-lower slots timers (Jump Always distance) xs ys upper h e = kept xs ys upper h e
+effect-lower slots timers (Jump IfTrue distance) xs ys upper h e =
+    looks-lower (Plain elementary.Bool) xs ys upper h e
+effect-lower slots timers (Jump IfFalse distance) xs ys upper h e =
+    looks-lower (Plain elementary.Bool) xs ys upper h e
+effect-lower slots timers (Timer SetInput n) xs ys upper h e =
+    timer-lower timers n (below (Plain elementary.Bool)) xs ys upper
+    (λ up f. below-lower (Plain elementary.Bool) xs ys up h f) e
+effect-lower slots timers (Timer SetPreset n) xs ys upper h e =
+    timer-lower timers n (below (Plain elementary.Time)) xs ys upper
+    (λ up f. below-lower (Plain elementary.Time) xs ys up h f) e
+effect-lower slots timers (Timer Run n) xs ys upper h e =
+    timer-lower timers n (λ kinds. Some kinds) xs ys upper (λ up f. kept xs ys up h f) e
+effect-lower slots timers (Timer LoadOutput n) xs ys upper h e =
+    timer-lower timers n (λ kinds. Some (Plain elementary.Bool ∷ kinds)) xs ys upper
     (λ up f. pushed (Plain elementary.Bool) xs ys up h f) e
-effect_lower slots timers (Timer LoadElapsed n) xs ys upper h e =
-    timer_lower timers n (λ kinds. Some (Plain elementary.Time ∷ kinds)) xs ys upper
+effect-lower slots timers (Timer LoadElapsed n) xs ys upper h e =
+    timer-lower timers n (λ kinds. Some (Plain elementary.Time ∷ kinds)) xs ys upper
     (λ up f. pushed (Plain elementary.Time) xs ys up h f) e

@@ -25,17 +25,17 @@ use Rattle.il_image.specs.Images.{Image}
 use Rattle.il_image.specs.Kinds.{is_within}
 use Rattle.il_image.specs.Machine.{divides}
 use Rattle.il_image.specs.Tables.{slot_types}
-use Rattle.il_image.proofs.KindLemmas.{same_self, within_along}
+use Rattle.il_image.proofs.KindLemmas.{same-self, within-along}
 use Rattle.il_verify.specs.declared.fault.VerifyFault.{VerifyFault}
 use Rattle.il_verify.specs.declared.fault.VerifyFault.TheVariants.{StackEmpty, StackFull, WrongKind, ZeroDivisor, NoSlot, NoTimer, BadTarget, Unreachable, DepthClash, NoHalt, BadBinding, OutOfMemory}
 use Rattle.il_verify.specs.declared.slots.SlotType.{SlotType}
-use Rattle.il_verify.specs.Judging.{◌or_else◌, fault_of, is_full, misfit, missing, operands, undivided, unfit, where_so, writes_read_only}
+use Rattle.il_verify.specs.Judging.{◌or_else◌, fault_of, is_full, misfit, missing, operands, without_divisor, unfit, where_so, writes_read_only}
 use Rattle.il_verify.specs.Slots.{point_slot, slots_of, types_of, variable_slot}
-use Rattle.il_verify.proofs.EffectLemmas.{some_same, bind_some}
+use Rattle.il_verify.proofs.EffectLemmas.{some-same, bind-some}
 
-pub types_are : (image : Image) → types_of (slots_of image) ≡ slot_types image
+pub types-are : (image : Image) → types_of (slots_of image) ≡ slot_types image
 unfolding slots_of
-types_are image =
+types-are image =
     rw (map-append (λ (s : SlotType). s.elementary) (map point_slot image.points)
     (map variable_slot image.variables))
     (rw (
@@ -45,119 +45,119 @@ types_are image =
 
 -- ---- faults one behind the other
 
-first_none : (a b : Option VerifyFault) → (a or_else b) ≡ None → (a ≡ None) × (b ≡ None)
-first_none None b e = (refl, e)
-first_none (Some f) b e = absurd cc
+first-none : (a b : Option VerifyFault) → (a or_else b) ≡ None → (a ≡ None) × (b ≡ None)
+first-none None b e = (refl, e)
+first-none (Some f) b e = absurd cc
 
-not_so : (b : Bool) (f : VerifyFault) → where_so b f ≡ None → b ≡ false
-not_so true f e = absurd cc
-not_so false f e = refl
+not-so : (b : Bool) (f : VerifyFault) → where_so b f ≡ None → b ≡ false
+not-so true f e = absurd cc
+not-so false f e = refl
 
-not_where : (b : Bool) (f : VerifyFault) → b ≡ false → where_so b f ≡ None
-not_where b f e = rw e refl
+not-where : (b : Bool) (f : VerifyFault) → b ≡ false → where_so b f ≡ None
+not-where b f e = rw e refl
 
 -- ---- what is allowed
 
-has_slot : (slots : List SlotType) (n : ℕ) (t : ElementaryType)
+has-slot : (slots : List SlotType) (n : ℕ) (t : ElementaryType)
     → slice_get (types_of slots) n ≡ Some t → nat_lt n (length slots) ≡ true
-has_slot slots n t e =
+has-slot slots n t e =
     let within : n < length (types_of slots) = slice_get_within (types_of slots) n t e in
     let size : length (types_of slots) ≡ length slots =
     length-map slots (λ (s : SlotType). s.elementary) in
     lt-ltb n (length slots) (omega arith)
 
-slot_there : (slots : List SlotType) (n : ℕ) (f : ElementaryType → Option (List CellKind))
+slot-there : (slots : List SlotType) (n : ℕ) (f : ElementaryType → Option (List CellKind))
     (gives : List CellKind) → (slice_get (types_of slots) n >>= f) ≡ Some gives
     → cond (nat_lt n (length slots)) None (Some NoSlot) ≡ None
-slot_there slots n f gives e = let t =
-    bind_some (slice_get (types_of slots) n) f gives e in rw (has_slot slots n t.0 t.1) refl
+slot-there slots n f gives e = let t =
+    bind-some (slice_get (types_of slots) n) f gives e in rw (has-slot slots n t.0 t.1) refl
 
-timer_there : (timers n : ℕ) (made : Option (List CellKind)) (gives : List CellKind)
+timer-there : (timers n : ℕ) (made : Option (List CellKind)) (gives : List CellKind)
     → with_timer timers n made ≡ Some gives → cond (nat_lt n timers) None (Some NoTimer) ≡ None
-timer_there timers n made gives e = go (nat_lt n timers) e
+timer-there timers n made gives e = go (nat_lt n timers) e
   where
     go : (b : Bool) → cond b made None ≡ Some gives → cond b None (Some NoTimer) ≡ None
     go true e = refl
     go false e = absurd cc
 
-timer_made : (timers n : ℕ) (made : Option (List CellKind)) (gives : List CellKind)
+timer-made : (timers n : ℕ) (made : Option (List CellKind)) (gives : List CellKind)
     → with_timer timers n made ≡ Some gives → made ≡ Some gives
-timer_made timers n made gives e = go (nat_lt n timers) e
+timer-made timers n made gives e = go (nat_lt n timers) e
   where
     go : (b : Bool) → cond b made None ≡ Some gives → made ≡ Some gives
     go true e = e
     go false e = absurd cc
 
-nothing_missing : (slots : List SlotType) (timers : ℕ) (i : Instr) (kinds gives : List CellKind)
+nothing-missing : (slots : List SlotType) (timers : ℕ) (i : Instr) (kinds gives : List CellKind)
     → effect (types_of slots) timers i kinds ≡ Some gives → missing (length slots) timers i ≡ None
-nothing_missing slots timers Halt kinds gives e = refl
-nothing_missing slots timers (Push v) kinds gives e = refl
-nothing_missing slots timers Drop kinds gives e = refl
-nothing_missing slots timers (Slot Load n) kinds gives e =
-    slot_there slots n (λ (t : ElementaryType). Some (Plain t ∷ kinds)) gives e
-nothing_missing slots timers (Slot Store n) kinds gives e =
-    slot_there slots n (λ (t : ElementaryType). looks_at (Plain t) kinds) gives e
-nothing_missing slots timers (Slot SetIf n) kinds gives e =
-    slot_there slots n (λ (t : ElementaryType). cond (same_type t elementary.Bool)
+nothing-missing slots timers Halt kinds gives e = refl
+nothing-missing slots timers (Push v) kinds gives e = refl
+nothing-missing slots timers Drop kinds gives e = refl
+nothing-missing slots timers (Slot Load n) kinds gives e =
+    slot-there slots n (λ (t : ElementaryType). Some (Plain t ∷ kinds)) gives e
+nothing-missing slots timers (Slot Store n) kinds gives e =
+    slot-there slots n (λ (t : ElementaryType). looks_at (Plain t) kinds) gives e
+nothing-missing slots timers (Slot SetIf n) kinds gives e =
+    slot-there slots n (λ (t : ElementaryType). cond (same_type t elementary.Bool)
     (looks_at (Plain elementary.Bool) kinds) None) gives e
-nothing_missing slots timers (Slot ResetIf n) kinds gives e =
-    slot_there slots n (λ (t : ElementaryType). cond (same_type t elementary.Bool)
+nothing-missing slots timers (Slot ResetIf n) kinds gives e =
+    slot-there slots n (λ (t : ElementaryType). cond (same_type t elementary.Bool)
     (looks_at (Plain elementary.Bool) kinds) None) gives e
-nothing_missing slots timers Not kinds gives e = refl
-nothing_missing slots timers (Combine c) kinds gives e = refl
-nothing_missing slots timers (Compute o w) kinds gives e = refl
-nothing_missing slots timers (Compare c) kinds gives e = refl
-nothing_missing slots timers (Widen w) kinds gives e = refl
-nothing_missing slots timers (Jump when distance) kinds gives e = refl
-nothing_missing slots timers (Timer SetInput n) kinds gives e = timer_there timers n _ gives e
-nothing_missing slots timers (Timer SetPreset n) kinds gives e = timer_there timers n _ gives e
-nothing_missing slots timers (Timer Run n) kinds gives e = timer_there timers n _ gives e
-nothing_missing slots timers (Timer LoadOutput n) kinds gives e = timer_there timers n _ gives e
-nothing_missing slots timers (Timer LoadElapsed n) kinds gives e = timer_there timers n _ gives e
+nothing-missing slots timers Not kinds gives e = refl
+nothing-missing slots timers (Combine c) kinds gives e = refl
+nothing-missing slots timers (Compute o w) kinds gives e = refl
+nothing-missing slots timers (Compare c) kinds gives e = refl
+nothing-missing slots timers (Widen w) kinds gives e = refl
+nothing-missing slots timers (Jump when distance) kinds gives e = refl
+nothing-missing slots timers (Timer SetInput n) kinds gives e = timer-there timers n _ gives e
+nothing-missing slots timers (Timer SetPreset n) kinds gives e = timer-there timers n _ gives e
+nothing-missing slots timers (Timer Run n) kinds gives e = timer-there timers n _ gives e
+nothing-missing slots timers (Timer LoadOutput n) kinds gives e = timer-there timers n _ gives e
+nothing-missing slots timers (Timer LoadElapsed n) kinds gives e = timer-there timers n _ gives e
 
 -- ---- enough values
 
-below_some : (wanted : CellKind) (kinds rest : List CellKind) → below wanted kinds ≡ Some rest
+below-some : (wanted : CellKind) (kinds rest : List CellKind) → below wanted kinds ≡ Some rest
     → length kinds ≡ suc (length rest)
-below_some wanted [] rest e = absurd cc
-below_some wanted (k ∷ kinds) rest e = go (is_within k wanted) e
+below-some wanted [] rest e = absurd cc
+below-some wanted (k ∷ kinds) rest e = go (is_within k wanted) e
   where
     go : (b : Bool) → cond b (Some kinds) None ≡ Some rest → suc (length kinds) ≡ suc (length rest)
-    go true f = ap (λ (v : List CellKind). suc (length v)) (some_same kinds rest f)
+    go true f = ap (λ (v : List CellKind). suc (length v)) (some-same kinds rest f)
     go false f = absurd cc
 
-looks_some : (wanted : CellKind) (kinds gives : List CellKind) → looks_at wanted kinds ≡ Some gives
+looks-some : (wanted : CellKind) (kinds gives : List CellKind) → looks_at wanted kinds ≡ Some gives
     → 1 ≤ length kinds
-looks_some wanted kinds gives e =
-    let r = bind_some (below wanted kinds) (λ (rest : List CellKind). Some kinds) gives e in
-    let size : length kinds ≡ suc (length r.0) = below_some wanted kinds r.0 r.1 in omega arith
+looks-some wanted kinds gives e =
+    let r = bind-some (below wanted kinds) (λ (rest : List CellKind). Some kinds) gives e in
+    let size : length kinds ≡ suc (length r.0) = below-some wanted kinds r.0 r.1 in omega arith
 
-one_some : (wanted given : CellKind) (kinds gives : List CellKind)
+one-some : (wanted given : CellKind) (kinds gives : List CellKind)
     → (below wanted kinds >>= (λ rest. Some (given ∷ rest))) ≡ Some gives → 1 ≤ length kinds
-one_some wanted given kinds gives e =
-    let r = bind_some (below wanted kinds) (λ (rest : List CellKind). Some (given ∷ rest)) gives e
+one-some wanted given kinds gives e =
+    let r = bind-some (below wanted kinds) (λ (rest : List CellKind). Some (given ∷ rest)) gives e
     in
-    let size : length kinds ≡ suc (length r.0) = below_some wanted kinds r.0 r.1 in omega arith
+    let size : length kinds ≡ suc (length r.0) = below-some wanted kinds r.0 r.1 in omega arith
 
-two_some : (top second given : CellKind) (kinds gives : List CellKind)
+two-some : (top second given : CellKind) (kinds gives : List CellKind)
     → two top second given kinds ≡ Some gives → 2 ≤ length kinds
-two_some top second given kinds gives e =
-    let r = bind_some (below top kinds)
+two-some top second given kinds gives e =
+    let r = bind-some (below top kinds)
     (λ (more : List CellKind). below second more >>= (λ rest. Some (given ∷ rest))) gives e in
-    let size : length kinds ≡ suc (length r.0) = below_some top kinds r.0 r.1 in
-    let more : 1 ≤ length r.0 = one_some second given r.0 gives r.2 in omega arith
+    let size : length kinds ≡ suc (length r.0) = below-some top kinds r.0 r.1 in
+    let more : 1 ≤ length r.0 = one-some second given r.0 gives r.2 in omega arith
 
-truth_some : (types : List ElementaryType) (n : ℕ) (kinds gives : List CellKind)
+truth-some : (types : List ElementaryType) (n : ℕ) (kinds gives : List CellKind)
     → with_truth types n kinds ≡ Some gives → 1 ≤ length kinds
-truth_some types n kinds gives e =
-    let t = bind_some (slice_get types n)
+truth-some types n kinds gives e =
+    let t = bind-some (slice_get types n)
     (λ (t : ElementaryType). cond (same_type t elementary.Bool)
     (looks_at (Plain elementary.Bool) kinds) None) gives e in
     go (same_type t.0 elementary.Bool) t.2
   where
     go : (b : Bool) → cond b (looks_at (Plain elementary.Bool) kinds) None ≡ Some gives
         → 1 ≤ length kinds
-    go true f = looks_some (Plain elementary.Bool) kinds gives f
+    go true f = looks-some (Plain elementary.Bool) kinds gives f
     go false f = absurd cc
 
 enough : (types : List ElementaryType) (timers : ℕ) (i : Instr) (kinds gives : List CellKind)
@@ -165,19 +165,19 @@ enough : (types : List ElementaryType) (timers : ℕ) (i : Instr) (kinds gives :
 enough types timers Halt kinds gives e = omega arith
 enough types timers (Push v) kinds gives e = omega arith
 enough types timers Drop kinds gives e = let size : length kinds ≡ suc (length gives) =
-    below_some Any kinds gives e in omega arith
+    below-some Any kinds gives e in omega arith
 enough types timers (Slot Load n) kinds gives e = omega arith
 enough types timers (Slot Store n) kinds gives e =
-    let t = bind_some (slice_get types n) (λ (t : ElementaryType). looks_at (Plain t) kinds) gives e
-    in looks_some (Plain t.0) kinds gives t.2
-enough types timers (Slot SetIf n) kinds gives e = truth_some types n kinds gives e
-enough types timers (Slot ResetIf n) kinds gives e = truth_some types n kinds gives e
+    let t = bind-some (slice_get types n) (λ (t : ElementaryType). looks_at (Plain t) kinds) gives e
+    in looks-some (Plain t.0) kinds gives t.2
+enough types timers (Slot SetIf n) kinds gives e = truth-some types n kinds gives e
+enough types timers (Slot ResetIf n) kinds gives e = truth-some types n kinds gives e
 enough types timers Not kinds gives e =
-    one_some (Plain elementary.Bool) (Plain elementary.Bool) kinds gives e
+    one-some (Plain elementary.Bool) (Plain elementary.Bool) kinds gives e
 enough types timers (Combine c) kinds gives e =
-    two_some (Plain elementary.Bool) (Plain elementary.Bool) (Plain elementary.Bool) kinds gives e
+    two-some (Plain elementary.Bool) (Plain elementary.Bool) (Plain elementary.Bool) kinds gives e
 enough types timers (Compute o w) kinds gives e =
-    two_some (second_kind o w) (Plain (type_of_width w)) (Plain (type_of_width w)) kinds gives e
+    two-some (second_kind o w) (Plain (type_of_width w)) (Plain (type_of_width w)) kinds gives e
 enough types timers (Compare c) (x ∷ y ∷ kinds) gives e = omega arith
 enough types timers (Compare c) (x ∷ []) gives e = absurd cc
 enough types timers (Compare c) [] gives e = absurd cc
@@ -186,129 +186,129 @@ enough types timers (Widen DintToLint) [] gives e = absurd cc
 enough types timers (Widen w) (x ∷ kinds) gives e = omega arith
 enough types timers (Jump Always distance) kinds gives e = omega arith
 enough types timers (Jump IfTrue distance) kinds gives e =
-    looks_some (Plain elementary.Bool) kinds gives e
+    looks-some (Plain elementary.Bool) kinds gives e
 enough types timers (Jump IfFalse distance) kinds gives e =
-    looks_some (Plain elementary.Bool) kinds gives e
+    looks-some (Plain elementary.Bool) kinds gives e
 enough types timers (Timer SetInput n) kinds gives e =
     let size : length kinds ≡ suc (length gives) =
-    below_some (Plain elementary.Bool) kinds gives (timer_made timers n _ gives e) in omega arith
+    below-some (Plain elementary.Bool) kinds gives (timer-made timers n _ gives e) in omega arith
 enough types timers (Timer SetPreset n) kinds gives e =
     let size : length kinds ≡ suc (length gives) =
-    below_some (Plain elementary.Time) kinds gives (timer_made timers n _ gives e) in omega arith
+    below-some (Plain elementary.Time) kinds gives (timer-made timers n _ gives e) in omega arith
 enough types timers (Timer Run n) kinds gives e = omega arith
 enough types timers (Timer LoadOutput n) kinds gives e = omega arith
 enough types timers (Timer LoadElapsed n) kinds gives e = omega arith
 
 -- ---- the kinds fit
 
-wider_below : (lower upper : CellKind) (kinds rest : List CellKind) → is_within lower upper ≡ true
+wider-below : (lower upper : CellKind) (kinds rest : List CellKind) → is_within lower upper ≡ true
     → below lower kinds ≡ Some rest → below upper kinds ≡ Some rest
-wider_below lower upper [] rest h e = absurd cc
-wider_below lower upper (k ∷ kinds) rest h e = go (is_within k lower) refl e
+wider-below lower upper [] rest h e = absurd cc
+wider-below lower upper (k ∷ kinds) rest h e = go (is_within k lower) refl e
   where
     go : (b : Bool) → is_within k lower ≡ b → cond b (Some kinds) None ≡ Some rest
         → cond (is_within k upper) (Some kinds) None ≡ Some rest
-    go true is f = rw (within_along k lower upper is h) f
+    go true is f = rw (within-along k lower upper is h) f
     go false is f = absurd cc
 
-second_within : (w : Width) (b : Bool)
+second-within : (w : Width) (b : Bool)
     → is_within (cond b (NotZero w) (Plain (type_of_width w))) (Plain (type_of_width w)) ≡ true
-second_within w true = same_self (type_of_width w)
-second_within w false = same_self (type_of_width w)
+second-within w true = same-self (type_of_width w)
+second-within w false = same-self (type_of_width w)
 
-undivided_some : (types : List ElementaryType) (timers : ℕ) (i : Instr)
+undivided-some : (types : List ElementaryType) (timers : ℕ) (i : Instr)
     (kinds gives : List CellKind)
     → effect types timers i kinds ≡ Some gives
-    → effect types timers (undivided i) kinds ≡ Some gives
-undivided_some types timers (Compute o w) kinds gives e =
+    → effect types timers (without_divisor i) kinds ≡ Some gives
+undivided-some types timers (Compute o w) kinds gives e =
     let number = Plain (type_of_width w) in
     let f = λ (more : List CellKind). below number more >>= (λ rest. Some (number ∷ rest)) in
-    let m = bind_some (below (second_kind o w) kinds) f gives e in
+    let m = bind-some (below (second_kind o w) kinds) f gives e in
     let wide : below number kinds ≡ Some m.0 =
-    wider_below (second_kind o w) number kinds m.0 (second_within w (divides o)) m.1 in
+    wider-below (second_kind o w) number kinds m.0 (second-within w (divides o)) m.1 in
     rw wide m.2
-undivided_some types timers Halt kinds gives e = e
-undivided_some types timers (Push v) kinds gives e = e
-undivided_some types timers Drop kinds gives e = e
-undivided_some types timers (Slot slot_use n) kinds gives e = e
-undivided_some types timers Not kinds gives e = e
-undivided_some types timers (Combine c) kinds gives e = e
-undivided_some types timers (Compare c) kinds gives e = e
-undivided_some types timers (Widen w) kinds gives e = e
-undivided_some types timers (Jump when distance) kinds gives e = e
-undivided_some types timers (Timer timer_use n) kinds gives e = e
+undivided-some types timers Halt kinds gives e = e
+undivided-some types timers (Push v) kinds gives e = e
+undivided-some types timers Drop kinds gives e = e
+undivided-some types timers (Slot slot_use n) kinds gives e = e
+undivided-some types timers Not kinds gives e = e
+undivided-some types timers (Combine c) kinds gives e = e
+undivided-some types timers (Compare c) kinds gives e = e
+undivided-some types timers (Widen w) kinds gives e = e
+undivided-some types timers (Jump when distance) kinds gives e = e
+undivided-some types timers (Timer timer_use n) kinds gives e = e
 
-fits_all : (a b : Option (List CellKind)) (x y : List CellKind) → a ≡ Some x → b ≡ Some y
+fits-all : (a b : Option (List CellKind)) (x y : List CellKind) → a ≡ Some x → b ≡ Some y
     → unfit a b ≡ None
-fits_all a b x y e f = rw (e, f) refl
+fits-all a b x y e f = rw (e, f) refl
 
 -- ---- the faults behind an effect
 
-behind_none : (a b r : Option VerifyFault) → a ≡ None → b ≡ r → (a or_else b) ≡ r
-behind_none None b r e f = f
-behind_none (Some x) b r e f = absurd cc
+behind-none : (a b r : Option VerifyFault) → a ≡ None → b ≡ r → (a or_else b) ≡ r
+behind-none None b r e f = f
+behind-none (Some x) b r e f = absurd cc
 
 -- where an instruction is allowed on the kinds, what is behind the first faults is its fault
-allowed_behind : (slots : List SlotType) (timers : ℕ) (i : Instr) (kinds gives : List CellKind)
+allowed-behind : (slots : List SlotType) (timers : ℕ) (i : Instr) (kinds gives : List CellKind)
     (r : Option VerifyFault) → effect (types_of slots) timers i kinds ≡ Some gives
     → (where_so (writes_read_only slots i) BadBinding or_else where_so (is_full (Some gives))
     StackFull) ≡ r → fault_of slots timers i kinds ≡ r
 unfolding fault_of
-allowed_behind slots timers i kinds gives r e last =
+allowed-behind slots timers i kinds gives r e last =
     let many : operands i ≤ length kinds = enough (types_of slots) timers i kinds gives e in
-    behind_none (missing (length slots) timers i) _ r (nothing_missing slots timers i kinds gives e)
-    (behind_none (where_so (nat_lt (length kinds) (operands i)) StackEmpty) _ r
-    (not_where _ StackEmpty (le-ltb (length kinds) (operands i) many))
-    (behind_none (misfit slots timers i kinds) _ r
-    (fits_all _ _ gives gives (undivided_some (types_of slots) timers i kinds gives e) e)
+    behind-none (missing (length slots) timers i) _ r (nothing-missing slots timers i kinds gives e)
+    (behind-none (where_so (nat_lt (length kinds) (operands i)) StackEmpty) _ r
+    (not-where _ StackEmpty (le-ltb (length kinds) (operands i) many))
+    (behind-none (misfit slots timers i kinds) _ r
+    (fits-all _ _ gives gives (undivided-some (types_of slots) timers i kinds gives e) e)
     (rw e last)))
 
-pub allowed_faultless : (slots : List SlotType) (timers : ℕ) (i : Instr)
+pub allowed-faultless : (slots : List SlotType) (timers : ℕ) (i : Instr)
     (kinds gives : List CellKind)
     → effect (types_of slots) timers i kinds ≡ Some gives → writes_read_only slots i ≡ false
     → length gives ≤ 32
     → fault_of slots timers i kinds ≡ None
-allowed_faultless slots timers i kinds gives e writes room =
-    allowed_behind slots timers i kinds gives None e
+allowed-faultless slots timers i kinds gives e writes room =
+    allowed-behind slots timers i kinds gives None e
     (rw (writes, le-ltb 32 (length gives) room) refl)
 
-pub write_fault : (slots : List SlotType) (timers : ℕ) (i : Instr) (kinds gives : List CellKind)
+pub write-fault : (slots : List SlotType) (timers : ℕ) (i : Instr) (kinds gives : List CellKind)
     → effect (types_of slots) timers i kinds ≡ Some gives → writes_read_only slots i ≡ true
     → fault_of slots timers i kinds ≡ Some BadBinding
-write_fault slots timers i kinds gives e writes =
-    allowed_behind slots timers i kinds gives (Some BadBinding) e (rw writes refl)
+write-fault slots timers i kinds gives e writes =
+    allowed-behind slots timers i kinds gives (Some BadBinding) e (rw writes refl)
 
-pub room_fault : (slots : List SlotType) (timers : ℕ) (i : Instr) (kinds gives : List CellKind)
+pub room-fault : (slots : List SlotType) (timers : ℕ) (i : Instr) (kinds gives : List CellKind)
     → effect (types_of slots) timers i kinds ≡ Some gives → writes_read_only slots i ≡ false
     → 32 < length gives
     → fault_of slots timers i kinds ≡ Some StackFull
-room_fault slots timers i kinds gives e writes many =
-    allowed_behind slots timers i kinds gives (Some StackFull) e
+room-fault slots timers i kinds gives e writes many =
+    allowed-behind slots timers i kinds gives (Some StackFull) e
     (rw (writes, lt-ltb 32 (length gives) many) refl)
 
 -- ---- the first faults
 
-pub missing_fault : (slots : List SlotType) (timers : ℕ) (i : Instr) (kinds : List CellKind)
+pub missing-fault : (slots : List SlotType) (timers : ℕ) (i : Instr) (kinds : List CellKind)
     (f : VerifyFault) → missing (length slots) timers i ≡ Some f
     → fault_of slots timers i kinds ≡ Some f
 unfolding fault_of
-missing_fault slots timers i kinds f e = rw e refl
+missing-fault slots timers i kinds f e = rw e refl
 
-pub empty_fault : (slots : List SlotType) (timers : ℕ) (i : Instr) (kinds : List CellKind)
+pub empty-fault : (slots : List SlotType) (timers : ℕ) (i : Instr) (kinds : List CellKind)
     → missing (length slots) timers i ≡ None → length kinds < operands i
     → fault_of slots timers i kinds ≡ Some StackEmpty
 unfolding fault_of
-empty_fault slots timers i kinds e less = rw (e, lt-ltb (length kinds) (operands i) less) refl
+empty-fault slots timers i kinds e less = rw (e, lt-ltb (length kinds) (operands i) less) refl
 
-pub misfit_fault : (slots : List SlotType) (timers : ℕ) (i : Instr) (kinds : List CellKind)
+pub misfit-fault : (slots : List SlotType) (timers : ℕ) (i : Instr) (kinds : List CellKind)
     (f : VerifyFault) → missing (length slots) timers i ≡ None → operands i ≤ length kinds
     → misfit slots timers i kinds ≡ Some f
     → fault_of slots timers i kinds ≡ Some f
 unfolding fault_of
-misfit_fault slots timers i kinds f e many is =
-    behind_none (missing (length slots) timers i) _ (Some f) e
-    (behind_none (where_so (nat_lt (length kinds) (operands i)) StackEmpty) _ (Some f)
-    (not_where _ StackEmpty (le-ltb (length kinds) (operands i) many)) (rw is refl))
+misfit-fault slots timers i kinds f e many is =
+    behind-none (missing (length slots) timers i) _ (Some f) e
+    (behind-none (where_so (nat_lt (length kinds) (operands i)) StackEmpty) _ (Some f)
+    (not-where _ StackEmpty (le-ltb (length kinds) (operands i) many)) (rw is refl))
 
 -- ---- what having no fault says
 
@@ -324,19 +324,19 @@ few n e = elim (cases_lt 32 n) [
   | inr h ↦ h
 ]
 
-pub faultless_fine : (slots : List SlotType) (timers : ℕ) (i : Instr) (kinds : List CellKind)
+pub faultless-fine : (slots : List SlotType) (timers : ℕ) (i : Instr) (kinds : List CellKind)
     → fault_of slots timers i kinds ≡ None → IsFine slots timers i kinds
 unfolding fault_of
-faultless_fine slots timers i kinds e =
-    let a = first_none (missing (length slots) timers i) _ e in
-    let b = first_none (where_so (nat_lt (length kinds) (operands i)) StackEmpty) _ a.1 in
-    let c = first_none (misfit slots timers i kinds) _ b.1 in
-    let d = first_none (where_so (writes_read_only slots i) BadBinding) _ c.1 in
+faultless-fine slots timers i kinds e =
+    let a = first-none (missing (length slots) timers i) _ e in
+    let b = first-none (where_so (nat_lt (length kinds) (operands i)) StackEmpty) _ a.1 in
+    let c = first-none (misfit slots timers i kinds) _ b.1 in
+    let d = first-none (where_so (writes_read_only slots i) BadBinding) _ c.1 in
     record {
-      writes = not_so (writes_read_only slots i) BadBinding d.0;
+      writes = not-so (writes_read_only slots i) BadBinding d.0;
       room = λ gives is. few (length gives)
           (subst (λ (o : Option (List CellKind)). is_full o ≡ false) is
-          (not_so (is_full (effect (types_of slots) timers i kinds)) StackFull d.1));
+          (not-so (is_full (effect (types_of slots) timers i kinds)) StackFull d.1));
     }
 
 -- ---- which faults an instruction has by itself
@@ -360,45 +360,45 @@ abbrev AllOwn : Option VerifyFault → Type 0
 AllOwn None = Unit {0}
 AllOwn (Some f) = IsOwn f
 
-both_own : (a b : Option VerifyFault) → AllOwn a → AllOwn b → AllOwn (a or_else b)
-both_own None b h g = g
-both_own (Some f) b h g = h
+both-own : (a b : Option VerifyFault) → AllOwn a → AllOwn b → AllOwn (a or_else b)
+both-own None b h g = g
+both-own (Some f) b h g = h
 
-so_own : (b : Bool) (f : VerifyFault) → IsOwn f → AllOwn (where_so b f)
-so_own true f h = h
-so_own false f h = tt
+so-own : (b : Bool) (f : VerifyFault) → IsOwn f → AllOwn (where_so b f)
+so-own true f h = h
+so-own false f h = tt
 
-unless_own : (b : Bool) (f : VerifyFault) → IsOwn f → AllOwn (cond b None (Some f))
-unless_own true f h = tt
-unless_own false f h = h
+unless-own : (b : Bool) (f : VerifyFault) → IsOwn f → AllOwn (cond b None (Some f))
+unless-own true f h = tt
+unless-own false f h = h
 
-unfit_own : (a b : Option (List CellKind)) → AllOwn (unfit a b)
-unfit_own None b = tt
-unfit_own (Some x) None = tt
-unfit_own (Some x) (Some y) = tt
+unfit-own : (a b : Option (List CellKind)) → AllOwn (unfit a b)
+unfit-own None b = tt
+unfit-own (Some x) None = tt
+unfit-own (Some x) (Some y) = tt
 
-missing_own : (slots timers : ℕ) (i : Instr) → AllOwn (missing slots timers i)
-missing_own slots timers (Slot slot_use n) = unless_own (nat_lt n slots) NoSlot tt
-missing_own slots timers (Timer timer_use n) = unless_own (nat_lt n timers) NoTimer tt
-missing_own slots timers Halt = tt
-missing_own slots timers (Push v) = tt
-missing_own slots timers Drop = tt
-missing_own slots timers Not = tt
-missing_own slots timers (Combine c) = tt
-missing_own slots timers (Compute o w) = tt
-missing_own slots timers (Compare c) = tt
-missing_own slots timers (Widen w) = tt
-missing_own slots timers (Jump when distance) = tt
+missing-own : (slots timers : ℕ) (i : Instr) → AllOwn (missing slots timers i)
+missing-own slots timers (Slot slot_use n) = unless-own (nat_lt n slots) NoSlot tt
+missing-own slots timers (Timer timer_use n) = unless-own (nat_lt n timers) NoTimer tt
+missing-own slots timers Halt = tt
+missing-own slots timers (Push v) = tt
+missing-own slots timers Drop = tt
+missing-own slots timers Not = tt
+missing-own slots timers (Combine c) = tt
+missing-own slots timers (Compute o w) = tt
+missing-own slots timers (Compare c) = tt
+missing-own slots timers (Widen w) = tt
+missing-own slots timers (Jump when distance) = tt
 
-pub own_of : (slots : List SlotType) (timers : ℕ) (i : Instr) (kinds : List CellKind)
+pub own-of : (slots : List SlotType) (timers : ℕ) (i : Instr) (kinds : List CellKind)
     (f : VerifyFault)
     → fault_of slots timers i kinds ≡ Some f → IsOwn f
 unfolding fault_of
-own_of slots timers i kinds f e =
+own-of slots timers i kinds f e =
     let all : AllOwn (fault_of slots timers i kinds) =
-    both_own (missing (length slots) timers i) _ (missing_own (length slots) timers i)
-    (both_own (where_so (nat_lt (length kinds) (operands i)) StackEmpty) _ (so_own _ StackEmpty tt)
-    (both_own (misfit slots timers i kinds) _ (unfit_own _ _)
-    (both_own (where_so (writes_read_only slots i) BadBinding) _ (so_own _ BadBinding tt)
-    (so_own _ StackFull tt)))) in
+    both-own (missing (length slots) timers i) _ (missing-own (length slots) timers i)
+    (both-own (where_so (nat_lt (length kinds) (operands i)) StackEmpty) _ (so-own _ StackEmpty tt)
+    (both-own (misfit slots timers i kinds) _ (unfit-own _ _)
+    (both-own (where_so (writes_read_only slots i) BadBinding) _ (so-own _ BadBinding tt)
+    (so-own _ StackFull tt)))) in
     subst AllOwn e all

@@ -8,59 +8,59 @@ use Rattle.il_image.specs.declared.instr.Instr.{Instr}
 use Rattle.il_image.specs.declared.kind.CellKind.{CellKind}
 use Rattle.il_verify.specs.declared.frame.Frame.{Frame}
 use Rattle.il_verify.specs.Refusals.{JumpsTo}
-use Rattle.il_verify.proofs.OrderLemmas.{set_elsewhere, set_here}
+use Rattle.il_verify.proofs.OrderLemmas.{set-elsewhere, set-here}
 use Rattle.il_verify.specs.Frames.{Clashing, Falls, Grows, Jumps, PlainFrame, PlainFrames, Pends, beside, frame_at, goes_on, plain_frame, plain_frames}
 
-here_is : (p q : ℕ) → q ≡ p → (q == p) ≡ true
-here_is p q e = grind (arith, nat_tests)
+here-is : (p q : ℕ) → q ≡ p → (q == p) ≡ true
+here-is p q e = grind (arith, nat_tests)
 
-not_here : (p q : ℕ) → (q ≡ p → ⊥) → (q == p) ≡ false
-not_here p q ne = grind (arith, nat_tests)
+not-here : (p q : ℕ) → (q ≡ p → ⊥) → (q == p) ≡ false
+not-here p q ne = grind (arith, nat_tests)
 
-pub beside_here : {A : Type 0} (p q : ℕ) (frame : Option A) (frames : ℕ → Option A) → q ≡ p
+pub beside-here : {A : Type 0} (p q : ℕ) (frame : Option A) (frames : ℕ → Option A) → q ≡ p
     → beside p frame frames q ≡ frame
-beside_here p q frame frames e = ap (λ (b : Bool). cond b frame (frames q)) (here_is p q e)
+beside-here p q frame frames e = ap (λ (b : Bool). cond b frame (frames q)) (here-is p q e)
 
-pub beside_other : {A : Type 0} (p q : ℕ) (frame : Option A) (frames : ℕ → Option A) → (q ≡ p → ⊥)
+pub beside-other : {A : Type 0} (p q : ℕ) (frame : Option A) (frames : ℕ → Option A) → (q ≡ p → ⊥)
     → beside p frame frames q ≡ frames q
-beside_other p q frame frames ne = ap (λ (b : Bool). cond b frame (frames q)) (not_here p q ne)
+beside-other p q frame frames ne = ap (λ (b : Bool). cond b frame (frames q)) (not-here p q ne)
 
-none_more : {A : Type 0} (xs : List (Option A)) (q : ℕ)
+none-more : {A : Type 0} (xs : List (Option A)) (q : ℕ)
     → option_and_then (λ o. o) (slice_get (xs ++ None ∷ []) q)
     ≡ option_and_then (λ o. o) (slice_get xs q)
-none_more [] zero = refl
-none_more [] (suc q) = refl
-none_more (x ∷ xs) zero = refl
-none_more (x ∷ xs) (suc q) = none_more xs q
+none-more [] zero = refl
+none-more [] (suc q) = refl
+none-more (x ∷ xs) zero = refl
+none-more (x ∷ xs) (suc q) = none-more xs q
 
-pub plain_at : (m : List (Option Frame)) (place : ℕ) (o : Option Frame) → o ≡ frame_at m place
+pub plain-at : (m : List (Option Frame)) (place : ℕ) (o : Option Frame) → o ≡ frame_at m place
     → plain_frames m place ≡ option_map plain_frame o
 unfolding plain_frames
-plain_at m place o e = ap (option_map plain_frame) (sym e)
+plain-at m place o e = ap (option_map plain_frame) (sym e)
 
-pub no_frames : (m : List (Option Frame)) (place : ℕ) → m ≡ [] → plain_frames m place ≡ None
+pub no-frames : (m : List (Option Frame)) (place : ℕ) → m ≡ [] → plain_frames m place ≡ None
 unfolding plain_frames
-no_frames m place e = ap (λ (l : List (Option Frame)). option_map plain_frame (frame_at l place)) e
+no-frames m place e = ap (λ (l : List (Option Frame)). option_map plain_frame (frame_at l place)) e
 
-pub others_stay : (old : List (Option Frame)) (place : ℕ) (w : Option Frame) (q : ℕ)
+pub others-stay : (old : List (Option Frame)) (place : ℕ) (w : Option Frame) (q : ℕ)
     → (q ≡ place → ⊥) → plain_frames (slice_set old place w) q ≡ plain_frames old q
 unfolding plain_frames
-others_stay old place w q ne =
+others-stay old place w q ne =
     ap (λ (o : Option (Option Frame)). option_map plain_frame (option_and_then (λ x. x) o))
-    (set_elsewhere old place q w ne)
+    (set-elsewhere old place q w ne)
 
-now_is : (old : List (Option Frame)) (place : ℕ) (w : Option Frame) → place < length old
+now-is : (old : List (Option Frame)) (place : ℕ) (w : Option Frame) → place < length old
     → plain_frames (slice_set old place w) place ≡ option_map plain_frame w
 unfolding plain_frames
-now_is old place w less =
+now-is old place w less =
     ap (λ (o : Option (Option Frame)). option_map plain_frame (option_and_then (λ x. x) o))
-    (set_here old place w less)
+    (set-here old place w less)
 
 -- a place behind the others, where nothing is pending
-pub one_more : (old : List (Option Frame)) (q : ℕ)
+pub one-more : (old : List (Option Frame)) (q : ℕ)
     → plain_frames (old ++ None ∷ []) q ≡ plain_frames old q
 unfolding plain_frames
-one_more old q = ap (option_map plain_frame) (none_more old q)
+one-more old q = ap (option_map plain_frame) (none-more old q)
 
 -- a slot of a list is the frame at its place
 pub slot_at : (m : List (Option Frame)) (place : ℕ) (o : Option Frame) → place < length m
@@ -76,58 +76,58 @@ pub pended : (old grown : List (Option Frame)) (place : ℕ) (o w : Option Frame
     → Pends (plain_frames old) (plain_frames (slice_set grown place w)) place come
 pended old grown place o w frame come same less was is grows = record {
   frame = plain_frame frame;
-  is = now_is grown place w less ∙ ap (option_map plain_frame) is;
+  is = now-is grown place w less ∙ ap (option_map plain_frame) is;
   grows = subst (λ (v : Option PlainFrame). Grows come v (plain_frame frame))
-      (sym (plain_at grown place o was) ∙ same place) grows;
-  others = λ q ne. others_stay grown place w q ne ∙ same q;
+      (sym (plain-at grown place o was) ∙ same place) grows;
+  others = λ q ne. others-stay grown place w q ne ∙ same q;
 }
 
-pub clash_at : (old : List (Option Frame)) (place : ℕ) (o : Option Frame) (kinds : List CellKind)
+pub clash-at : (old : List (Option Frame)) (place : ℕ) (o : Option Frame) (kinds : List CellKind)
     → o ≡ frame_at old place → Clashing (option_map plain_frame o) kinds
     → Clashing (plain_frames old place) kinds
-clash_at old place o kinds was c =
-    subst (λ (v : Option PlainFrame). Clashing v kinds) (sym (plain_at old place o was)) c
+clash-at old place o kinds was c =
+    subst (λ (v : Option PlainFrame). Clashing v kinds) (sym (plain-at old place o was)) c
 
 -- ---- to the next place
 
-pub falls_to : (instr : Instr) (next : ℕ) (come : PlainFrame) (old mid : List (Option Frame))
+pub falls-to : (instr : Instr) (next : ℕ) (come : PlainFrame) (old mid : List (Option Frame))
     (o : Option Frame) (m : PlainFrame) → goes_on instr ≡ true → o ≡ frame_at old next
     → ((q : ℕ) → (q ≡ next → ⊥) → plain_frames mid q ≡ plain_frames old q)
     → Grows come (option_map plain_frame o) m
     → Falls instr next come (plain_frames old) (beside next (Some m) (plain_frames mid))
-falls_to instr next come old mid o m on was gone grows to = elim (cases_eq to next) [
+falls-to instr next come old mid o m on was gone grows to = elim (cases_eq to next) [
   | inl e ↦ inl (
     (on, e),
     (
       m,
-      beside_here next to (Some m) (plain_frames mid) e,
+      beside-here next to (Some m) (plain_frames mid) e,
       subst (λ (v : Option PlainFrame). Grows come v m)
-          (sym (plain_at old next o was) ∙ ap (plain_frames old) (sym e)) grows,
+          (sym (plain-at old next o was) ∙ ap (plain_frames old) (sym e)) grows,
     ),
   )
-  | inr ne ↦ inr ((λ h. ne h.1), beside_other next to (Some m) (plain_frames mid) ne ∙ gone to ne)
+  | inr ne ↦ inr ((λ h. ne h.1), beside-other next to (Some m) (plain_frames mid) ne ∙ gone to ne)
 ]
 
-pub stays_so : (instr : Instr) (next : ℕ) (come : PlainFrame) (old mid : List (Option Frame))
+pub stays-so : (instr : Instr) (next : ℕ) (come : PlainFrame) (old mid : List (Option Frame))
     (o : Option Frame) → goes_on instr ≡ false → o ≡ frame_at old next
     → ((q : ℕ) → (q ≡ next → ⊥) → plain_frames mid q ≡ plain_frames old q)
     → Falls instr next come (plain_frames old)
     (beside next (option_map plain_frame o) (plain_frames mid))
-stays_so instr next come old mid o off was gone to = inr (
+stays-so instr next come old mid o off was gone to = inr (
   (λ h. let on : goes_on instr ≡ true = h.0 in cc),
   (elim (cases_eq to next) [
-    | inl e ↦ beside_here next to (option_map plain_frame o) (plain_frames mid) e
-        ∙ (sym (plain_at old next o was) ∙ ap (plain_frames old) (sym e))
-    | inr ne ↦ beside_other next to (option_map plain_frame o) (plain_frames mid) ne ∙ gone to ne
+    | inl e ↦ beside-here next to (option_map plain_frame o) (plain_frames mid) e
+        ∙ (sym (plain-at old next o was) ∙ ap (plain_frames old) (sym e))
+    | inr ne ↦ beside-other next to (option_map plain_frame o) (plain_frames mid) ne ∙ gone to ne
   ]),
 )
 
 -- ---- by a jump
 
-pub jumps_by : (instr : Instr) (next place : ℕ) (come : PlainFrame) (old new : PlainFrames)
+pub jumps-by : (instr : Instr) (next place : ℕ) (come : PlainFrame) (old new : PlainFrames)
     → ((to : ℕ) → JumpsTo instr next to → to ≡ place) → JumpsTo instr next place
     → Pends old new place come → Jumps instr next come old new
-jumps_by instr next place come old new only jumps p to = elim (cases_eq to place) [
+jumps-by instr next place come old new only jumps p to = elim (cases_eq to place) [
   | inl e ↦ inl (
     subst (JumpsTo instr next) (sym e) jumps,
     (p.frame, ap new e ∙ p.is, subst (λ (q : ℕ). Grows come (old q) p.frame) (sym e) p.grows),

@@ -16,46 +16,46 @@ use Rattle.il_image.specs.Images.{Image}
 use Rattle.il_image.specs.Kinds.{AreWithin, is_within}
 use Rattle.il_image.specs.Reading.{instr_at}
 use Rattle.il_image.specs.Tables.{IsPlace, LeadsTo, Table}
-use Rattle.il_image.proofs.KindLemmas.{same_is}
+use Rattle.il_image.proofs.KindLemmas.{same-is}
 use Rattle.il_verify.specs.declared.fault.VerifyFault.{VerifyFault}
 use Rattle.il_verify.specs.declared.fault.VerifyFault.TheVariants.{StackEmpty, StackFull, WrongKind, ZeroDivisor, NoSlot, NoTimer, BadTarget, Unreachable, DepthClash, NoHalt, BadBinding, OutOfMemory}
 use Rattle.il_verify.specs.Judging.{fault_of}
 use Rattle.il_verify.specs.Slots.{slots_of}
 use Rattle.il_verify.specs.Refusals.{after, Arrives, Clashes, Comes, FailsAt, GoesPast, HasOwn, IsFaultAt, IsFront, IsJoin, IsRefusal, JumpsBadly, JumpsTo, Passes, own_fault}
-use Rattle.il_verify.proofs.EffectLemmas.{some_same}
+use Rattle.il_verify.proofs.EffectLemmas.{some-same}
 
 -- ---- kinds
 
-width_same : (w v : Width) → type_of_width w ≡ type_of_width v → w ≡ v
-width_same width.Int width.Int e = refl
-width_same width.Int width.Dint e = absurd (cc)
-width_same width.Int width.Lint e = absurd (cc)
-width_same width.Dint width.Int e = absurd (cc)
-width_same width.Dint width.Dint e = refl
-width_same width.Dint width.Lint e = absurd (cc)
-width_same width.Lint width.Int e = absurd (cc)
-width_same width.Lint width.Dint e = absurd (cc)
-width_same width.Lint width.Lint e = refl
+width-same : (w v : Width) → type_of_width w ≡ type_of_width v → w ≡ v
+width-same width.Int width.Int e = refl
+width-same width.Int width.Dint e = absurd (cc)
+width-same width.Int width.Lint e = absurd (cc)
+width-same width.Dint width.Int e = absurd (cc)
+width-same width.Dint width.Dint e = refl
+width-same width.Dint width.Lint e = absurd (cc)
+width-same width.Lint width.Int e = absurd (cc)
+width-same width.Lint width.Dint e = absurd (cc)
+width-same width.Lint width.Lint e = refl
 
-kind_same : (a b : CellKind) → is_within a b ≡ true → is_within b a ≡ true → a ≡ b
-kind_same Any Any h g = refl
-kind_same Any (Plain t) h g = absurd (cc)
-kind_same Any (NotZero w) h g = absurd (cc)
-kind_same (Plain t) Any h g = absurd (cc)
-kind_same (Plain t) (Plain u) h g = ap (λ (k : ElementaryType). Plain k) (same_is t u h)
-kind_same (Plain t) (NotZero w) h g = absurd (cc)
-kind_same (NotZero w) Any h g = absurd (cc)
-kind_same (NotZero w) (Plain t) h g = absurd (cc)
-kind_same (NotZero w) (NotZero v) h g =
-    ap (λ (k : Width). NotZero k) (width_same w v (same_is (type_of_width w) (type_of_width v) h))
+kind-same : (a b : CellKind) → is_within a b ≡ true → is_within b a ≡ true → a ≡ b
+kind-same Any Any h g = refl
+kind-same Any (Plain t) h g = absurd (cc)
+kind-same Any (NotZero w) h g = absurd (cc)
+kind-same (Plain t) Any h g = absurd (cc)
+kind-same (Plain t) (Plain u) h g = ap (λ (k : ElementaryType). Plain k) (same-is t u h)
+kind-same (Plain t) (NotZero w) h g = absurd (cc)
+kind-same (NotZero w) Any h g = absurd (cc)
+kind-same (NotZero w) (Plain t) h g = absurd (cc)
+kind-same (NotZero w) (NotZero v) h g =
+    ap (λ (k : Width). NotZero k) (width-same w v (same-is (type_of_width w) (type_of_width v) h))
 
-kinds_same : (xs ys : List CellKind) → AreWithin xs ys → AreWithin ys xs → xs ≡ ys
-kinds_same [] [] h g = refl
-kinds_same [] (y ∷ ys) h g = absurd h
-kinds_same (x ∷ xs) [] h g = absurd h
-kinds_same (x ∷ xs) (y ∷ ys) h g =
-    let here = kind_same x y h.0 g.0 in
-    let more = kinds_same xs ys h.1 g.1 in
+kinds-same : (xs ys : List CellKind) → AreWithin xs ys → AreWithin ys xs → xs ≡ ys
+kinds-same [] [] h g = refl
+kinds-same [] (y ∷ ys) h g = absurd h
+kinds-same (x ∷ xs) [] h g = absurd h
+kinds-same (x ∷ xs) (y ∷ ys) h g =
+    let here = kind-same x y h.0 g.0 in
+    let more = kinds-same xs ys h.1 g.1 in
     cc
 
 -- ---- two tables that say the same before a place
@@ -64,13 +64,13 @@ kinds_same (x ∷ xs) (y ∷ ys) h g =
 abbrev Alike : Table → Table → ℕ → Type 0
 Alike t u done = (q : ℕ) → q < done → t q ≡ u q
 
-alike_back : (t u : Table) (done : ℕ) → Alike t u done → Alike u t done
-alike_back t u done same q less = sym (same q less)
+alike-back : (t u : Table) (done : ℕ) → Alike t u done → Alike u t done
+alike-back t u done same q less = sym (same q less)
 
-comes_alike : (image : Image) (t u : Table) (done to : ℕ) (kinds : List CellKind) → Alike t u done
+comes-alike : (image : Image) (t u : Table) (done to : ℕ) (kinds : List CellKind) → Alike t u done
     → Comes image t done to kinds → Comes image u done to kinds
-comes_alike image t u done to kinds same (inl h) = inl h
-comes_alike image t u done to kinds same (inr h) =
+comes-alike image t u done to kinds same (inl h) = inl h
+comes-alike image t u done to kinds same (inr h) =
     let c = h.2 in
     inr (
       h.0,
@@ -86,79 +86,79 @@ comes_alike image t u done to kinds same (inr h) =
       },
     )
 
-join_same : (image : Image) (t u : Table) (done to : ℕ) (kinds others : List CellKind)
+join-same : (image : Image) (t u : Table) (done to : ℕ) (kinds others : List CellKind)
     → Alike t u done
     → IsJoin image t done to kinds → IsJoin image u done to others → kinds ≡ others
-join_same image t u done to kinds others same m n =
-    kinds_same kinds others
-    (m.least others (λ k c. n.above k (comes_alike image t u done to k same c)))
+join-same image t u done to kinds others same m n =
+    kinds-same kinds others
+    (m.least others (λ k c. n.above k (comes-alike image t u done to k same c)))
     (n.least kinds (λ k c. m.above k
-    (comes_alike image u t done to k (alike_back t u done same) c)))
+    (comes-alike image u t done to k (alike-back t u done same) c)))
 
-join_alike : (image : Image) (t u : Table) (done to : ℕ) (kinds : List CellKind) → Alike t u done
+join-alike : (image : Image) (t u : Table) (done to : ℕ) (kinds : List CellKind) → Alike t u done
     → IsJoin image t done to kinds → IsJoin image u done to kinds
-join_alike image t u done to kinds same m =
-    let back = alike_back t u done same in
+join-alike image t u done to kinds same m =
+    let back = alike-back t u done same in
     record {
-      some = (m.some.0, comes_alike image t u done to m.some.0 same m.some.1);
-      above = λ others c. m.above others (comes_alike image u t done to others back c);
+      some = (m.some.0, comes-alike image t u done to m.some.0 same m.some.1);
+      above = λ others c. m.above others (comes-alike image u t done to others back c);
       least = λ top all. m.least top
-          (λ others c. all others (comes_alike image t u done to others same c));
+          (λ others c. all others (comes-alike image t u done to others same c));
     }
 
 -- ---- the tables of two fronts
 
-known_same : (image : Image) (t u : Table) (d e place : ℕ) (o p : Option (List CellKind))
+known-same : (image : Image) (t u : Table) (d e place : ℕ) (o p : Option (List CellKind))
     → IsFront image t d → IsFront image u e → place < d → place < e → Alike t u place → t place ≡ o
     → u place ≡ p → t place ≡ u place
-known_same image t u d e place None None f g less more same is other = is ∙ sym other
-known_same image t u d e place None (Some k) f g less more same is other =
+known-same image t u d e place None None f g less more same is other = is ∙ sym other
+known-same image t u d e place None (Some k) f g less more same is other =
     let known = (f.passes place less (g.only place k other).1).known in
     absurd (cc)
-known_same image t u d e place (Some k) None f g less more same is other =
+known-same image t u d e place (Some k) None f g less more same is other =
     let known = (g.passes place more (f.only place k is).1).known in
     absurd (cc)
-known_same image t u d e place (Some k) (Some l) f g less more same is other =
+known-same image t u d e place (Some k) (Some l) f g less more same is other =
     let equal =
-    join_same image t u place place k l same (f.joined place k is) (g.joined place l other) in
+    join-same image t u place place k l same (f.joined place k is) (g.joined place l other) in
     is ∙ ap (λ (kinds : List CellKind). Some kinds) equal ∙ sym other
 
-fronts_below : (image : Image) (t u : Table) (d e n place : ℕ) → IsFront image t d
+fronts-below : (image : Image) (t u : Table) (d e n place : ℕ) → IsFront image t d
     → IsFront image u e → place < n → place < d → place < e → t place ≡ u place
-fronts_below image t u d e zero place f g low less more = absurd (omega arith)
-fronts_below image t u d e (suc n) place f g low less more =
-    known_same image t u d e place (t place) (u place) f g less more
-    (λ q under. fronts_below image t u d e n q f g (omega arith) (omega arith) (omega arith))
+fronts-below image t u d e zero place f g low less more = absurd (omega arith)
+fronts-below image t u d e (suc n) place f g low less more =
+    known-same image t u d e place (t place) (u place) f g less more
+    (λ q under. fronts-below image t u d e n q f g (omega arith) (omega arith) (omega arith))
     refl refl
 
-pub fronts_alike : (image : Image) (t u : Table) (d e place : ℕ) → IsFront image t d
+pub fronts-alike : (image : Image) (t u : Table) (d e place : ℕ) → IsFront image t d
     → IsFront image u e → (d < place → ⊥) → (e < place → ⊥) → Alike t u place
-fronts_alike image t u d e place f g low high q less =
-    fronts_below image t u d e place q f g less (omega arith) (omega arith)
+fronts-alike image t u d e place f g low high q less =
+    fronts-below image t u d e place q f g less (omega arith) (omega arith)
 
 -- ---- what comes to a place
 
-pub leads_by_jump : (i : Instr) (next to : ℕ) → JumpsTo i next to → LeadsTo i next to
-leads_by_jump (Jump Always d) next to h = h
-leads_by_jump (Jump IfTrue d) next to h = inr h
-leads_by_jump (Jump IfFalse d) next to h = inr h
-leads_by_jump Halt next to h = absurd h
-leads_by_jump (Push v) next to h = absurd h
-leads_by_jump Drop next to h = absurd h
-leads_by_jump (Slot s n) next to h = absurd h
-leads_by_jump Not next to h = absurd h
-leads_by_jump (Combine c) next to h = absurd h
-leads_by_jump (Compute o w) next to h = absurd h
-leads_by_jump (Compare c) next to h = absurd h
-leads_by_jump (Widen w) next to h = absurd h
-leads_by_jump (Timer s n) next to h = absurd h
+pub leads-by-jump : (i : Instr) (next to : ℕ) → JumpsTo i next to → LeadsTo i next to
+leads-by-jump (Jump Always d) next to h = h
+leads-by-jump (Jump IfTrue d) next to h = inr h
+leads-by-jump (Jump IfFalse d) next to h = inr h
+leads-by-jump Halt next to h = absurd h
+leads-by-jump (Push v) next to h = absurd h
+leads-by-jump Drop next to h = absurd h
+leads-by-jump (Slot s n) next to h = absurd h
+leads-by-jump Not next to h = absurd h
+leads-by-jump (Combine c) next to h = absurd h
+leads-by-jump (Compute o w) next to h = absurd h
+leads-by-jump (Compare c) next to h = absurd h
+leads-by-jump (Widen w) next to h = absurd h
+leads-by-jump (Timer s n) next to h = absurd h
 
-here_same : (code : List ℕ) (place : ℕ) (i j : Instr) (n m : ℕ) → instr_at code place ≡ Some (i, n)
+here-same : (code : List ℕ) (place : ℕ) (i j : Instr) (n m : ℕ) → instr_at code place ≡ Some (i, n)
     → instr_at code place ≡ Some (j, m) → ◌≡◌ {A = Instr × ℕ} (i, n) (j, m)
-here_same code place i j n m h g = some_same (i, n) (j, m) (sym h ∙ g)
+here-same code place i j n m h g = some-same (i, n) (j, m) (sym h ∙ g)
 
-leads_same : (x y : Instr × ℕ) (to : ℕ) → x ≡ y → LeadsTo x.0 x.1 to → LeadsTo y.0 y.1 to
-leads_same x y to e h = subst (λ (z : Instr × ℕ). LeadsTo z.0 z.1 to) e h
+leads-same : (x y : Instr × ℕ) (to : ℕ) → x ≡ y → LeadsTo x.0 x.1 to → LeadsTo y.0 y.1 to
+leads-same x y to e h = subst (λ (z : Instr × ℕ). LeadsTo z.0 z.1 to) e h
 
 abbrev arrives_alike : (image : Image) (t u : Table) (place : ℕ) → Alike t u place
     → Arrives image t place → Arrives image u place
@@ -168,18 +168,18 @@ arrives_alike image t u place same a =
       next = a.next;
       kinds = a.kinds;
       here = a.here;
-      joined = join_alike image t u place place a.kinds same a.joined;
+      joined = join-alike image t u place place a.kinds same a.joined;
     }
 
-own_alike : (image : Image) (t u : Table) (place : ℕ) (fault : VerifyFault) → Alike t u place
+own-alike : (image : Image) (t u : Table) (place : ℕ) (fault : VerifyFault) → Alike t u place
     → HasOwn image t place fault → HasOwn image u place fault
-own_alike image t u place fault same h = (arrives_alike image t u place same h.0, h.1)
+own-alike image t u place fault same h = (arrives_alike image t u place same h.0, h.1)
 
-fault_alike : (image : Image) (t u : Table) (place : ℕ) (fault : VerifyFault) → Alike t u place
+fault-alike : (image : Image) (t u : Table) (place : ℕ) (fault : VerifyFault) → Alike t u place
     → IsFaultAt image t place fault → IsFaultAt image u place fault
-fault_alike image t u place Unreachable same h =
-    λ kinds c. h kinds (comes_alike image u t place place kinds (alike_back t u place same) c)
-fault_alike image t u place BadTarget same h =
+fault-alike image t u place Unreachable same h =
+    λ kinds c. h kinds (comes-alike image u t place place kinds (alike-back t u place same) c)
+fault-alike image t u place BadTarget same h =
     record {
       at = arrives_alike image t u place same h.at;
       faultless = h.faultless;
@@ -187,7 +187,7 @@ fault_alike image t u place BadTarget same h =
       jumps = h.jumps;
       bad = h.bad;
     }
-fault_alike image t u place NoHalt same h =
+fault-alike image t u place NoHalt same h =
     record {
       at = arrives_alike image t u place same h.at;
       faultless = h.faultless;
@@ -195,7 +195,7 @@ fault_alike image t u place NoHalt same h =
       leads = h.leads;
       past = h.past;
     }
-fault_alike image t u place DepthClash same h = record {
+fault-alike image t u place DepthClash same h = record {
   at = arrives_alike image t u place same h.at;
   gives = h.gives;
   faultless = h.faultless;
@@ -204,17 +204,17 @@ fault_alike image t u place DepthClash same h = record {
   to = h.to;
   leads = h.leads;
   others = h.others;
-  comes = comes_alike image t u place h.to h.others same h.comes;
+  comes = comes-alike image t u place h.to h.others same h.comes;
   unequal = h.unequal;
 }
-fault_alike image t u place OutOfMemory same h = h
-fault_alike image t u place StackEmpty same h = own_alike image t u place StackEmpty same h
-fault_alike image t u place StackFull same h = own_alike image t u place StackFull same h
-fault_alike image t u place WrongKind same h = own_alike image t u place WrongKind same h
-fault_alike image t u place ZeroDivisor same h = own_alike image t u place ZeroDivisor same h
-fault_alike image t u place NoSlot same h = own_alike image t u place NoSlot same h
-fault_alike image t u place NoTimer same h = own_alike image t u place NoTimer same h
-fault_alike image t u place BadBinding same h = own_alike image t u place BadBinding same h
+fault-alike image t u place OutOfMemory same h = h
+fault-alike image t u place StackEmpty same h = own-alike image t u place StackEmpty same h
+fault-alike image t u place StackFull same h = own-alike image t u place StackFull same h
+fault-alike image t u place WrongKind same h = own-alike image t u place WrongKind same h
+fault-alike image t u place ZeroDivisor same h = own-alike image t u place ZeroDivisor same h
+fault-alike image t u place NoSlot same h = own-alike image t u place NoSlot same h
+fault-alike image t u place NoTimer same h = own-alike image t u place NoTimer same h
+fault-alike image t u place BadBinding same h = own-alike image t u place BadBinding same h
 
 -- ---- a place has one fault at most
 
@@ -261,68 +261,68 @@ Met a b = ◌≡◌ {A = Instr × ℕ} (a.instr, a.next) (b.instr, b.next) × (a
 
 met : (image : Image) (t : Table) (place : ℕ) (a b : Arrives image t place) → Met a b
 met image t place a b = (
-  here_same image.code place a.instr b.instr a.next b.next a.here b.here,
-  join_same image t t place place a.kinds b.kinds (λ q less. refl) a.joined b.joined,
+  here-same image.code place a.instr b.instr a.next b.next a.here b.here,
+  join-same image t t place place a.kinds b.kinds (λ q less. refl) a.joined b.joined,
 )
 
-own_same : (image : Image) (t : Table) (place : ℕ) (a b : Arrives image t place)
+own-same : (image : Image) (t : Table) (place : ℕ) (a b : Arrives image t place)
     → own_fault a ≡ own_fault b
-own_same image t place a b =
+own-same image t place a b =
     let m = met image t place a b in
     ap (λ (x : Instr × ℕ). fault_of (slots_of image) (length image.timers) x.0 a.kinds) m.0
     ∙ ap (fault_of (slots_of image) (length image.timers) b.instr) m.1
 
-own_or_none : (image : Image) (t : Table) (place : ℕ) (fault : VerifyFault)
+own-or-none : (image : Image) (t : Table) (place : ℕ) (fault : VerifyFault)
     (a b : Arrives image t place) → own_fault a ≡ Some fault → own_fault b ≡ None → ⊥
-own_or_none image t place fault a b h g = let e = own_same image t place a b in absurd (cc)
+own-or-none image t place fault a b h g = let e = own-same image t place a b in absurd (cc)
 
-jump_or_not : (image : Image) (t : Table) (place : ℕ) (j : JumpsBadly image t place)
+jump-or-not : (image : Image) (t : Table) (place : ℕ) (j : JumpsBadly image t place)
     (b : Arrives image t place) → ((to : ℕ) → JumpsTo b.instr b.next to → IsPlace image.code to) → ⊥
-jump_or_not image t place j b all =
+jump-or-not image t place j b all =
     j.bad (all j.to (subst (λ (x : Instr × ℕ). JumpsTo x.0 x.1 j.to) (met image t place j.at b).0
     j.jumps))
 
-past_or_not : (image : Image) (t : Table) (place : ℕ) (g : GoesPast image t place)
+past-or-not : (image : Image) (t : Table) (place : ℕ) (g : GoesPast image t place)
     (b : Arrives image t place) → ((to : ℕ) → LeadsTo b.instr b.next to → IsPlace image.code to) → ⊥
-past_or_not image t place g b all =
+past-or-not image t place g b all =
     let there =
-    all g.at.next (leads_same (g.at.instr, g.at.next) (b.instr, b.next) g.at.next
+    all g.at.next (leads-same (g.at.instr, g.at.next) (b.instr, b.next) g.at.next
     (met image t place g.at b).0 g.leads) in
     absurd (omega (arith, there.0, g.past))
 
-reasons_same : (image : Image) (t : Table) (place : ℕ) (f g : VerifyFault) → Reason image t place f
+reasons-same : (image : Image) (t : Table) (place : ℕ) (f g : VerifyFault) → Reason image t place f
     → Reason image t place g → f ≡ g
-reasons_same image t place f g (inl h) (inl k) =
-    some_same f g (sym h.1 ∙ own_same image t place h.0 k.0 ∙ k.1)
-reasons_same image t place f g (inl h) (inr (inl k)) =
-    absurd (own_or_none image t place f h.0 k.1.at h.1 k.1.faultless)
-reasons_same image t place f g (inl h) (inr (inr (inl k))) =
-    absurd (own_or_none image t place f h.0 k.1.at h.1 k.1.faultless)
-reasons_same image t place f g (inl h) (inr (inr (inr k))) =
-    absurd (own_or_none image t place f h.0 k.1.at h.1 k.1.faultless)
-reasons_same image t place f g (inr (inl h)) (inl k) =
-    absurd (own_or_none image t place g k.0 h.1.at k.1 h.1.faultless)
-reasons_same image t place f g (inr (inl h)) (inr (inl k)) = h.0 ∙ sym k.0
-reasons_same image t place f g (inr (inl h)) (inr (inr (inl k))) =
-    absurd (jump_or_not image t place h.1 k.1.at k.1.jumps)
-reasons_same image t place f g (inr (inl h)) (inr (inr (inr k))) =
-    absurd (jump_or_not image t place h.1 k.1.at
-    (λ to j. k.1.targets to (leads_by_jump k.1.at.instr k.1.at.next to j)))
-reasons_same image t place f g (inr (inr (inl h))) (inl k) =
-    absurd (own_or_none image t place g k.0 h.1.at k.1 h.1.faultless)
-reasons_same image t place f g (inr (inr (inl h))) (inr (inl k)) =
-    absurd (jump_or_not image t place k.1 h.1.at h.1.jumps)
-reasons_same image t place f g (inr (inr (inl h))) (inr (inr (inl k))) = h.0 ∙ sym k.0
-reasons_same image t place f g (inr (inr (inl h))) (inr (inr (inr k))) =
-    absurd (past_or_not image t place h.1 k.1.at k.1.targets)
-reasons_same image t place f g (inr (inr (inr h))) (inl k) =
-    absurd (own_or_none image t place g k.0 h.1.at k.1 h.1.faultless)
-reasons_same image t place f g (inr (inr (inr h))) (inr (inl k)) =
-    absurd (jump_or_not image t place k.1 h.1.at
-    (λ to j. h.1.targets to (leads_by_jump h.1.at.instr h.1.at.next to j)))
-reasons_same image t place f g (inr (inr (inr h))) (inr (inr (inl k))) =
-    absurd (past_or_not image t place k.1 h.1.at h.1.targets)
-reasons_same image t place f g (inr (inr (inr h))) (inr (inr (inr k))) = h.0 ∙ sym k.0
+reasons-same image t place f g (inl h) (inl k) =
+    some-same f g (sym h.1 ∙ own-same image t place h.0 k.0 ∙ k.1)
+reasons-same image t place f g (inl h) (inr (inl k)) =
+    absurd (own-or-none image t place f h.0 k.1.at h.1 k.1.faultless)
+reasons-same image t place f g (inl h) (inr (inr (inl k))) =
+    absurd (own-or-none image t place f h.0 k.1.at h.1 k.1.faultless)
+reasons-same image t place f g (inl h) (inr (inr (inr k))) =
+    absurd (own-or-none image t place f h.0 k.1.at h.1 k.1.faultless)
+reasons-same image t place f g (inr (inl h)) (inl k) =
+    absurd (own-or-none image t place g k.0 h.1.at k.1 h.1.faultless)
+reasons-same image t place f g (inr (inl h)) (inr (inl k)) = h.0 ∙ sym k.0
+reasons-same image t place f g (inr (inl h)) (inr (inr (inl k))) =
+    absurd (jump-or-not image t place h.1 k.1.at k.1.jumps)
+reasons-same image t place f g (inr (inl h)) (inr (inr (inr k))) =
+    absurd (jump-or-not image t place h.1 k.1.at
+    (λ to j. k.1.targets to (leads-by-jump k.1.at.instr k.1.at.next to j)))
+reasons-same image t place f g (inr (inr (inl h))) (inl k) =
+    absurd (own-or-none image t place g k.0 h.1.at k.1 h.1.faultless)
+reasons-same image t place f g (inr (inr (inl h))) (inr (inl k)) =
+    absurd (jump-or-not image t place k.1 h.1.at h.1.jumps)
+reasons-same image t place f g (inr (inr (inl h))) (inr (inr (inl k))) = h.0 ∙ sym k.0
+reasons-same image t place f g (inr (inr (inl h))) (inr (inr (inr k))) =
+    absurd (past-or-not image t place h.1 k.1.at k.1.targets)
+reasons-same image t place f g (inr (inr (inr h))) (inl k) =
+    absurd (own-or-none image t place g k.0 h.1.at k.1 h.1.faultless)
+reasons-same image t place f g (inr (inr (inr h))) (inr (inl k)) =
+    absurd (jump-or-not image t place k.1 h.1.at
+    (λ to j. h.1.targets to (leads-by-jump h.1.at.instr h.1.at.next to j)))
+reasons-same image t place f g (inr (inr (inr h))) (inr (inr (inl k))) =
+    absurd (past-or-not image t place k.1 h.1.at h.1.targets)
+reasons-same image t place f g (inr (inr (inr h))) (inr (inr (inr k))) = h.0 ∙ sym k.0
 
 one_fault : (image : Image) (t : Table) (place : ℕ) (f g : VerifyFault) → IsFaultAt image t place f
     → IsFaultAt image t place g → f ≡ g
@@ -331,7 +331,7 @@ one_fault image t place f g h k = elim (reason image t place f h) [
       [ inl b ↦ a.0 ∙ sym b.0 | inr b ↦ absurd (something image t place g b a.1) ]
   | inr a ↦ elim (reason image t place g k) [
     | inl b ↦ absurd (something image t place f a b.1)
-    | inr b ↦ reasons_same image t place f g a b
+    | inr b ↦ reasons-same image t place f g a b
   ]
 ]
 
@@ -342,22 +342,22 @@ abbrev arrives_there : (image : Image) (t : Table) (place : ℕ) (p : Passes ima
 arrives_there image t place p m =
     record { instr = p.instr; next = p.next; kinds = p.kinds; here = p.here; joined = m }
 
-no_reason : (image : Image) (t : Table) (place : ℕ) (fault : VerifyFault) (p : Passes image t place)
+no-reason : (image : Image) (t : Table) (place : ℕ) (fault : VerifyFault) (p : Passes image t place)
     → IsJoin image t place place p.kinds → Reason image t place fault → ⊥
-no_reason image t place fault p m (inl h) =
-    own_or_none image t place fault h.0 (arrives_there image t place p m) h.1 p.faultless
-no_reason image t place fault p m (inr (inl h)) =
-    jump_or_not image t place h.1 (arrives_there image t place p m)
-    (λ to j. p.targets to (leads_by_jump p.instr p.next to j))
-no_reason image t place fault p m (inr (inr (inl h))) =
-    past_or_not image t place h.1 (arrives_there image t place p m) p.targets
-no_reason image t place fault p m (inr (inr (inr h))) =
+no-reason image t place fault p m (inl h) =
+    own-or-none image t place fault h.0 (arrives_there image t place p m) h.1 p.faultless
+no-reason image t place fault p m (inr (inl h)) =
+    jump-or-not image t place h.1 (arrives_there image t place p m)
+    (λ to j. p.targets to (leads-by-jump p.instr p.next to j))
+no-reason image t place fault p m (inr (inr (inl h))) =
+    past-or-not image t place h.1 (arrives_there image t place p m) p.targets
+no-reason image t place fault p m (inr (inr (inr h))) =
     let c = h.1 in
     let e = met image t place c.at (arrives_there image t place p m) in
     let same =
     ap (λ (x : Instr × ℕ). after image x.0 c.at.kinds) e.0 ∙ ap (after image p.instr) e.1 in
-    let gives = some_same c.gives p.gives (sym c.effect ∙ same ∙ p.effect) in
-    let leads = leads_same (c.at.instr, c.at.next) (p.instr, p.next) c.to e.0 c.leads in
+    let gives = some-same c.gives p.gives (sym c.effect ∙ same ∙ p.effect) in
+    let leads = leads-same (c.at.instr, c.at.next) (p.instr, p.next) c.to e.0 c.leads in
     c.unequal (p.depths c.to leads c.others c.comes ∙ sym (ap length gives))
 
 no_fault : (image : Image) (t : Table) (done place : ℕ) (fault : VerifyFault) → IsFront image t done
@@ -366,7 +366,7 @@ no_fault image t done place fault front less there h =
     let p = front.passes place less there in
     let m = front.joined place p.kinds p.known in
     elim (reason image t place fault h)
-    [ inl a ↦ a.1 m.some.0 m.some.1 | inr a ↦ no_reason image t place fault p m a ]
+    [ inl a ↦ a.1 m.some.0 m.some.1 | inr a ↦ no-reason image t place fault p m a ]
 
 -- ---- the refusal
 
@@ -374,34 +374,34 @@ not_before : (image : Image) (f g : VerifyFault) (p q : ℕ) → FailsAt image f
     → p < q → ⊥
 not_before image f g p q (t, front, there, h) (u, further, beyond, k) less =
     no_fault image u q p f further less there
-    (fault_alike image t u p f
-    (fronts_alike image t u p q p front further (λ l. absurd (omega arith))
+    (fault-alike image t u p f
+    (fronts-alike image t u p q p front further (λ l. absurd (omega arith))
     (λ l. absurd (omega arith))) h)
 
-failure_there : (image : Image) (f g : VerifyFault) (place : ℕ) → FailsAt image f place
+failure-there : (image : Image) (f g : VerifyFault) (place : ℕ) → FailsAt image f place
     → FailsAt image g place → f ≡ g
-failure_there image f g place (t, front, there, h) (u, further, beyond, k) =
+failure-there image f g place (t, front, there, h) (u, further, beyond, k) =
     one_fault image u place f g
-    (fault_alike image t u place f
-    (fronts_alike image t u place place place front further (λ l. absurd (omega arith))
+    (fault-alike image t u place f
+    (fronts-alike image t u place place place front further (λ l. absurd (omega arith))
     (λ l. absurd (omega arith))) h) k
 
-one_failure : (image : Image) (f g : VerifyFault) (p q : ℕ) → FailsAt image f p → FailsAt image g q
+one-failure : (image : Image) (f g : VerifyFault) (p q : ℕ) → FailsAt image f p → FailsAt image g q
     → (f ≡ g) × (p ≡ q)
-one_failure image f g p q a b = elim (cases_lt p q) [
+one-failure image f g p q a b = elim (cases_lt p q) [
   | inl less ↦ absurd (not_before image f g p q a b less)
   | inr more ↦ elim (cases_lt q p) [
     | inl less ↦ absurd (not_before image g f q p b a less)
     | inr other ↦ (
         let same : p ≡ q = omega arith in
         let here = subst (λ (n : ℕ). FailsAt image f n) same a in
-        (failure_there image f g q here b, same))
+        (failure-there image f g q here b, same))
   ]
 ]
 
-without_code : (image : Image) (fault : VerifyFault) (place : ℕ) → image.code ≡ []
+without-code : (image : Image) (fault : VerifyFault) (place : ℕ) → image.code ≡ []
     → FailsAt image fault place → ⊥
-without_code image fault place none (t, front, there, h) =
+without-code image fault place none (t, front, there, h) =
     absurd (omega (arith, there.0, ap length none))
 
 pub one_refusal : (points : List Point) (image : Image) (f g : VerifyFault) (p q : ℕ)
@@ -411,7 +411,7 @@ one_refusal points image f g p q (inl a) (inr b) = let x = a.0 in let y = b.0 in
 one_refusal points image f g p q (inr a) (inl b) = let x = a.0 in let y = b.0 in absurd (cc)
 one_refusal points image f g p q (inr (a, inl x)) (inr (b, inl y)) = (x.1 ∙ sym y.1, x.2 ∙ sym y.2)
 one_refusal points image f g p q (inr (a, inl x)) (inr (b, inr y)) =
-    absurd (without_code image g q x.0 y)
+    absurd (without-code image g q x.0 y)
 one_refusal points image f g p q (inr (a, inr x)) (inr (b, inl y)) =
-    absurd (without_code image f p y.0 x)
-one_refusal points image f g p q (inr (a, inr x)) (inr (b, inr y)) = one_failure image f g p q x y
+    absurd (without-code image f p y.0 x)
+one_refusal points image f g p q (inr (a, inr x)) (inr (b, inr y)) = one-failure image f g p q x y

@@ -11,17 +11,17 @@ use Rattle.il_image.specs.Images.{Each, IsCode, all_spelled}
 use Rattle.il_image.specs.Reading.{instr_at, instr_from}
 use Rattle.il_image.specs.Spelling.{IsInstr, spelling}
 use Rattle.il_image.specs.Tables.{IsPlace, behind_place, place_of}
-use Rattle.il_image.proofs.InstrLemmas.{back_instr}
-use Rattle.il_image.proofs.PlaceLemmas.{Forward, forward, goes_forward}
+use Rattle.il_image.proofs.InstrLemmas.{back-instr}
+use Rattle.il_image.proofs.PlaceLemmas.{Forward, forward, goes-forward}
 use Rattle.il_verify.specs.Frames.{MarksPlaces}
-use Rattle.il_verify.proofs.EffectLemmas.{not_both, some_same}
+use Rattle.il_verify.proofs.EffectLemmas.{not-both, some-same}
 
 -- ---- one place behind the other
 
-pub place_behind : (code : List ℕ) (n place : ℕ) (i : Instr) (next : ℕ)
+pub place-behind : (code : List ℕ) (n place : ℕ) (i : Instr) (next : ℕ)
     → place_of code n ≡ Some place → instr_at code place ≡ Some (i, next)
     → place_of code (suc n) ≡ Some next
-place_behind code n place i next e here =
+place-behind code n place i next e here =
     ap (behind_place code) e ∙ ap (option_map (λ (r : Instr × ℕ). r.1)) here
 
 pub record Before (code : List ℕ) (n next : ℕ) : Type 0 where
@@ -30,10 +30,10 @@ pub record Before (code : List ℕ) (n next : ℕ) : Type 0 where
   pub is : place_of code n ≡ Some place
   pub here : instr_at code place ≡ Some (instr, next)
 
-before_case : (code : List ℕ) (n next : ℕ) (o : Option ℕ) → place_of code n ≡ o
+before-case : (code : List ℕ) (n next : ℕ) (o : Option ℕ) → place_of code n ≡ o
     → behind_place code o ≡ Some next → Before code n next
-before_case code n next None is e = absurd cc
-before_case code n next (Some place) is e = read (instr_at code place) refl e
+before-case code n next None is e = absurd cc
+before-case code n next (Some place) is e = read (instr_at code place) refl e
   where
     read : (r : Option (Instr × ℕ)) → instr_at code place ≡ r
         → option_map (λ (q : Instr × ℕ). q.1) r ≡ Some next → Before code n next
@@ -43,14 +43,14 @@ before_case code n next (Some place) is e = read (instr_at code place) refl e
           place = place;
           instr = r.0;
           is = is;
-          here = here ∙ ap (λ (m : ℕ). Some (r.0, m)) (some_same r.1 next f);
+          here = here ∙ ap (λ (m : ℕ). Some (r.0, m)) (some-same r.1 next f);
         }
 
 pub before : (code : List ℕ) (n next : ℕ) → place_of code (suc n) ≡ Some next → Before code n next
-before code n next e = before_case code n next (place_of code n) refl e
+before code n next e = before-case code n next (place_of code n) refl e
 
-at_number : (code : List ℕ) (m k : ℕ) → m ≡ k → place_of code m ≡ place_of code k
-at_number code m k e = ap (place_of code) e
+at-number : (code : List ℕ) (m k : ℕ) → m ≡ k → place_of code m ≡ place_of code k
+at-number code m k e = ap (place_of code) e
 
 -- A later number has a later place.
 pub rises : (code : List ℕ) (n k p q : ℕ) → place_of code n ≡ Some p
@@ -58,35 +58,35 @@ pub rises : (code : List ℕ) (n k p q : ℕ) → place_of code n ≡ Some p
 rises code n zero p q e f =
     let b = before code (n + 0) q f in
     let same : b.place ≡ p =
-    some_same b.place p (sym b.is ∙ at_number code (n + 0) n (omega arith) ∙ e) in
-    let g : b.place < q = (goes_forward code b.place b.instr q b.here).0 in
+    some-same b.place p (sym b.is ∙ at-number code (n + 0) n (omega arith) ∙ e) in
+    let g : b.place < q = (goes-forward code b.place b.instr q b.here).0 in
     omega arith
 rises code n (suc k) p q e f =
     let b = before code (n + suc k) q f in
     let less : p < b.place =
-    rises code n k p b.place e (at_number code (suc (n + k)) (n + suc k) (omega arith) ∙ b.is)
+    rises code n k p b.place e (at-number code (suc (n + k)) (n + suc k) (omega arith) ∙ b.is)
     in
-    let g : b.place < q = (goes_forward code b.place b.instr q b.here).0 in
+    let g : b.place < q = (goes-forward code b.place b.instr q b.here).0 in
     omega arith
 
 -- No place stands between one and the next.
-pub none_between : (code : List ℕ) (n m p q : ℕ) (i : Instr) (next : ℕ) → place_of code n ≡ Some p
+pub none-between : (code : List ℕ) (n m p q : ℕ) (i : Instr) (next : ℕ) → place_of code n ≡ Some p
     → instr_at code p ≡ Some (i, next) → place_of code m ≡ Some q → p < q → next ≤ q
-none_between code n m p q i next e here f less = elim (cases_lt n m) [
+none-between code n m p q i next e here f less = elim (cases_lt n m) [
   | inr le ↦ elim (cases_eq m n) [
     | inl same ↦ absurd (let equal : p ≡ q =
-        some_same p q (sym e ∙ ap (place_of code) (sym same) ∙ f) in omega arith)
+        some-same p q (sym e ∙ ap (place_of code) (sym same) ∙ f) in omega arith)
     | inr ne ↦ absurd (let back : q < p =
-        rises code m (n - suc m) q p f (at_number code (suc (m + (n - suc m))) n (omega arith) ∙ e)
+        rises code m (n - suc m) q p f (at-number code (suc (m + (n - suc m))) n (omega arith) ∙ e)
         in omega arith)
   ]
   | inl lt ↦ elim (cases_eq m (suc n)) [
     | inl same ↦ (let equal : next ≡ q =
-        some_same next q (sym (place_behind code n p i next e here) ∙ ap (place_of code) (sym same)
+        some-same next q (sym (place-behind code n p i next e here) ∙ ap (place_of code) (sym same)
         ∙ f) in omega arith)
     | inr ne ↦ (let later : next < q =
-        rises code (suc n) (m - suc (suc n)) next q (place_behind code n p i next e here)
-        (at_number code (suc (suc n + (m - suc (suc n)))) m (omega arith) ∙ f) in omega arith)
+        rises code (suc n) (m - suc (suc n)) next q (place-behind code n p i next e here)
+        (at-number code (suc (suc n + (m - suc (suc n)))) m (omega arith) ∙ f) in omega arith)
   ]
 ]
 
@@ -97,29 +97,29 @@ pub record Rest (code : List ℕ) (place : ℕ) : Type 0 where
   pub are : Each IsInstr instrs
   pub is : drop place code ≡ all_spelled instrs
 
-read_first : (code : List ℕ) (place : ℕ) (i : Instr) (more : List Instr) → IsInstr i
+read-first : (code : List ℕ) (place : ℕ) (i : Instr) (more : List Instr) → IsInstr i
     → drop place code ≡ all_spelled (i ∷ more)
     → instr_at code place ≡ Some (i, length code - length (all_spelled more))
 unfolding instr_at
-read_first code place i more good e = rw (e, back_instr i (all_spelled more) good) refl
+read-first code place i more good e = rw (e, back-instr i (all_spelled more) good) refl
 
-rest_behind : (code : List ℕ) (place next : ℕ) (j : Instr) (instrs : List Instr)
+rest-behind : (code : List ℕ) (place next : ℕ) (j : Instr) (instrs : List Instr)
     → Each IsInstr instrs → drop place code ≡ all_spelled instrs
     → instr_at code place ≡ Some (j, next) → Rest code next
-rest_behind code place next j [] are e here =
-    let f = goes_forward code place j next here in
+rest-behind code place next j [] are e here =
+    let f = goes-forward code place j next here in
     let none : length (drop place code) ≡ 0 = ap length e in
     let cut : length (drop place code) ≡ length code - place = length-drop place code in
     absurd (omega arith)
-rest_behind code place next j (i ∷ more) are e here =
+rest-behind code place next j (i ∷ more) are e here =
     let pair : (i, length code - length (all_spelled more)) ≡ (j, next) =
-    some_same (i, length code - length (all_spelled more)) (j, next)
-    (sym (read_first code place i more are.0 e) ∙ here) in
+    some-same (i, length code - length (all_spelled more)) (j, next)
+    (sym (read-first code place i more are.0 e) ∙ here) in
     let second : length code - length (all_spelled more) ≡ next =
     ap (λ (q : Instr × ℕ). q.1) pair in
     let f : Forward code place i (all_spelled more) =
     forward code place i (all_spelled more)
-    (ap (instr_from Two) e ∙ back_instr i (all_spelled more) are.0) in
+    (ap (instr_from Two) e ∙ back-instr i (all_spelled more) are.0) in
     let size : next ≡ place + length (spelling i) = sym second ∙ f.next in
     record {
       instrs = more;
@@ -128,102 +128,102 @@ rest_behind code place next j (i ∷ more) are e here =
           ∙ ap (drop (length (spelling i))) e ∙ drop-append_seam (spelling i) (all_spelled more);
     }
 
-pub rest_at : (code : List ℕ) → IsCode code → (n place : ℕ) → place_of code n ≡ Some place
+pub rest-at : (code : List ℕ) → IsCode code → (n place : ℕ) → place_of code n ≡ Some place
     → Rest code place
-rest_at code c zero place e =
-    let start : 0 ≡ place = some_same 0 place e in
+rest-at code c zero place e =
+    let start : 0 ≡ place = some-same 0 place e in
     subst (Rest code) start (record { instrs = c.instrs; are = c.are; is = c.spelled })
-rest_at code c (suc n) place e =
+rest-at code c (suc n) place e =
     let b = before code n place e in
-    let r = rest_at code c n b.place b.is in
-    rest_behind code b.place place b.instr r.instrs r.are r.is b.here
+    let r = rest-at code c n b.place b.is in
+    rest-behind code b.place place b.instr r.instrs r.are r.is b.here
 
-first_there : (code : List ℕ) (place : ℕ) (instrs : List Instr) → Each IsInstr instrs
+first-there : (code : List ℕ) (place : ℕ) (instrs : List Instr) → Each IsInstr instrs
     → drop place code ≡ all_spelled instrs → place < length code → instr_at code place ≡ None → ⊥
-first_there code place [] are e within none =
+first-there code place [] are e within none =
     let size : length (drop place code) ≡ 0 = ap length e in
     let cut : length (drop place code) ≡ length code - place = length-drop place code in
     absurd (omega arith)
-first_there code place (i ∷ more) are e within none =
-    not_both (instr_at code place) _ none (read_first code place i more are.0 e)
+first-there code place (i ∷ more) are e within none =
+    not-both (instr_at code place) _ none (read-first code place i more are.0 e)
 
-pub always_there : (code : List ℕ) → IsCode code → (n place : ℕ) → place_of code n ≡ Some place
+pub always-there : (code : List ℕ) → IsCode code → (n place : ℕ) → place_of code n ≡ Some place
     → place < length code → instr_at code place ≡ None → ⊥
-always_there code c n place e within none = let r =
-    rest_at code c n place e in first_there code place r.instrs r.are r.is within none
+always-there code c n place e within none = let r =
+    rest-at code c n place e in first-there code place r.instrs r.are r.is within none
 
 pub record There (code : List ℕ) (place : ℕ) : Type 0 where
   pub instr : Instr
   pub next : ℕ
   pub is : instr_at code place ≡ Some (instr, next)
 
-there_case : (code : List ℕ) (place : ℕ) (o : Option (Instr × ℕ)) → instr_at code place ≡ o
+there-case : (code : List ℕ) (place : ℕ) (o : Option (Instr × ℕ)) → instr_at code place ≡ o
     → (o ≡ None → ⊥) → There code place
-there_case code place None is some = absurd (some refl)
-there_case code place (Some r) is some = record { instr = r.0; next = r.1; is = is }
+there-case code place None is some = absurd (some refl)
+there-case code place (Some r) is some = record { instr = r.0; next = r.1; is = is }
 
 pub is_there : (code : List ℕ) → IsCode code → (n place : ℕ) → place_of code n ≡ Some place
     → place < length code → There code place
 is_there code c n place e within =
-    there_case code place (instr_at code place) refl (always_there code c n place e within)
+    there-case code place (instr_at code place) refl (always-there code c n place e within)
 
 -- ---- the marks of places
 
-pub set_here : {A : Type 0} (xs : List A) (i : ℕ) (v : A) → i < length xs
+pub set-here : {A : Type 0} (xs : List A) (i : ℕ) (v : A) → i < length xs
     → slice_get (set xs i v) i ≡ Some v
-set_here [] i v h = absurd (omega arith)
-set_here (x ∷ xs) zero v h = refl
-set_here (x ∷ xs) (suc i) v h = set_here xs i v (omega arith)
+set-here [] i v h = absurd (omega arith)
+set-here (x ∷ xs) zero v h = refl
+set-here (x ∷ xs) (suc i) v h = set-here xs i v (omega arith)
 
-pub set_elsewhere : {A : Type 0} (xs : List A) (i j : ℕ) (v : A) → (j ≡ i → ⊥)
+pub set-elsewhere : {A : Type 0} (xs : List A) (i j : ℕ) (v : A) → (j ≡ i → ⊥)
     → slice_get (set xs i v) j ≡ slice_get xs j
-set_elsewhere [] i j v ne = refl
-set_elsewhere (x ∷ xs) zero zero v ne = absurd (ne refl)
-set_elsewhere (x ∷ xs) zero (suc j) v ne = refl
-set_elsewhere (x ∷ xs) (suc i) zero v ne = refl
-set_elsewhere (x ∷ xs) (suc i) (suc j) v ne = set_elsewhere xs i j v (λ e. ne (ap suc e))
+set-elsewhere [] i j v ne = refl
+set-elsewhere (x ∷ xs) zero zero v ne = absurd (ne refl)
+set-elsewhere (x ∷ xs) zero (suc j) v ne = refl
+set-elsewhere (x ∷ xs) (suc i) zero v ne = refl
+set-elsewhere (x ∷ xs) (suc i) (suc j) v ne = set-elsewhere xs i j v (λ e. ne (ap suc e))
 
-never_true : (n q : ℕ) → slice_get (replicate n false) q ≡ Some true → ⊥
-never_true zero q e = cc
-never_true (suc n) zero e = cc
-never_true (suc n) (suc q) e = never_true n q e
+never-true : (n q : ℕ) → slice_get (replicate n false) q ≡ Some true → ⊥
+never-true zero q e = cc
+never-true (suc n) zero e = cc
+never-true (suc n) (suc q) e = never-true n q e
 
 abbrev pub MarksBelow : List ℕ → ℕ → List Bool → Type 0
 MarksBelow code place starts =
     (q : ℕ) → (slice_get starts q ≡ Some true) ↔ ((q < place) × IsPlace code q)
 
-pub marks_none : (code : List ℕ) (n : ℕ) → MarksBelow code 0 (replicate n false)
-marks_none code n q =
-    (λ e. absurd (never_true n q e), λ h. absurd (let less : q < 0 = h.0 in omega arith))
+pub marks-none : (code : List ℕ) (n : ℕ) → MarksBelow code 0 (replicate n false)
+marks-none code n q =
+    (λ e. absurd (never-true n q e), λ h. absurd (let less : q < 0 = h.0 in omega arith))
 
-pub marks_more : (code : List ℕ) (n place : ℕ) (starts : List Bool) (i : Instr) (next : ℕ)
+pub marks-more : (code : List ℕ) (n place : ℕ) (starts : List Bool) (i : Instr) (next : ℕ)
     → place_of code n ≡ Some place → place < length code → length starts ≡ length code
     → instr_at code place ≡ Some (i, next)
     → MarksBelow code place starts → MarksBelow code next (set starts place true)
-marks_more code n place starts i next e within size here marks q = elim (cases_eq q place) [
+marks-more code n place starts i next e within size here marks q = elim (cases_eq q place) [
   | inl at ↦ (
-    (λ h. let f : place < next = (goes_forward code place i next here).0 in
+    (λ h. let f : place < next = (goes-forward code place i next here).0 in
         (omega arith, subst (IsPlace code) (sym at) (within, (n, e)))),
-    (λ h. ap (slice_get (set starts place true)) at ∙ set_here starts place true (omega arith)),
+    (λ h. ap (slice_get (set starts place true)) at ∙ set-here starts place true (omega arith)),
   )
   | inr ne ↦ (
-    (λ h. let old = (marks q).0 (sym (set_elsewhere starts place q true ne) ∙ h) in
+    (λ h. let old = (marks q).0 (sym (set-elsewhere starts place q true ne) ∙ h) in
         let less : q < place = old.0 in
-        let f : place < next = (goes_forward code place i next here).0 in (omega arith, old.1)),
+        let f : place < next = (goes-forward code place i next here).0 in (omega arith, old.1)),
     (λ h. let less : q < next = h.0 in
         elim (cases_lt q place) [
-          | inl before_it ↦ set_elsewhere starts place q true ne ∙ (marks q).1 (before_it, h.1)
+          | inl before_it ↦ set-elsewhere starts place q true ne ∙ (marks q).1 (before_it, h.1)
           | inr after_it ↦ absurd
               (let past : next ≤ q =
-              none_between code n h.1.1.0 place q i next e here h.1.1.1 (omega arith) in
+              none-between code n h.1.1.0 place q i next e here h.1.1.1 (omega arith) in
               omega arith)
         ]),
   )
 ]
 
-pub marks_all : (code : List ℕ) (place : ℕ) (starts : List Bool) → length code ≤ place
+pub marks-all : (code : List ℕ) (place : ℕ) (starts : List Bool) → length code ≤ place
     → MarksBelow code place starts → MarksPlaces code starts
-marks_all code place starts past marks q = (
+marks-all code place starts past marks q = (
   (λ h. ((marks q).0 h).1),
   (λ is. let within : q < length code = is.0 in (marks q).1 (omega arith, is)),
 )

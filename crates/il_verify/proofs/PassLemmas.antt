@@ -8,21 +8,21 @@ use Rattle.il_image.specs.declared.kind.CellKind.{CellKind}
 use Rattle.il_image.specs.Images.{Image}
 use Rattle.il_image.specs.Reading.{instr_at}
 use Rattle.il_image.specs.Tables.{Table, place_of}
-use Rattle.il_image.proofs.PlaceLemmas.{goes_forward}
+use Rattle.il_image.proofs.PlaceLemmas.{goes-forward}
 use Rattle.il_verify.specs.declared.fault.VerifyFault.{VerifyFault}
 use Rattle.il_verify.specs.declared.fault.VerifyFault.TheVariants.{StackEmpty, StackFull, WrongKind, ZeroDivisor, NoSlot, NoTimer, BadTarget, Unreachable, DepthClash, NoHalt, BadBinding, OutOfMemory}
 use Rattle.il_verify.specs.Frames.{Clashing, Collides, ComesWhere, FailsVisit, GoesOn, Grows, PlainFrame, PlainFrames, MisLeads, Visits, beside}
-use Rattle.il_verify.specs.Passing.{raised}
+use Rattle.il_verify.specs.Passing.{raised_budget}
 use Rattle.il_verify.specs.Refusals.{Arrives, Clashes, FailsAt, HasOwn, IsFaultAt, IsFront, IsJoin, JumpsTo}
 use Rattle.il_verify.specs.Verdicts.{IsMeasured}
-use Rattle.il_verify.proofs.EffectLemmas.{some_same}
-use Rattle.il_verify.proofs.JudgeLemmas.{IsOwn, own_of, types_are}
-use Rattle.il_verify.proofs.LengthLemmas.{Lengths, is_budget, lengths_first, lengths_more, path_short}
-use Rattle.il_verify.proofs.MapLemmas.{beside_here, beside_other}
-use Rattle.il_verify.proofs.OrderLemmas.{place_behind}
-use Rattle.il_verify.proofs.StepLemmas.{Framed, Standing, at_place, leads_join, framed_none, framed_some, not_at, right_targets, standing_first, standing_more, table_more}
-use Rattle.il_verify.proofs.TableLemmas.{agrees, first_place, is_depth, keeps_read_only, leads_on, join_room}
-use Rattle.il_verify.proofs.WithinLemmas.{within_length}
+use Rattle.il_verify.proofs.EffectLemmas.{some-same}
+use Rattle.il_verify.proofs.JudgeLemmas.{IsOwn, own-of, types-are}
+use Rattle.il_verify.proofs.LengthLemmas.{Lengths, is-budget, lengths-first, lengths-more, path-short}
+use Rattle.il_verify.proofs.MapLemmas.{beside-here, beside-other}
+use Rattle.il_verify.proofs.OrderLemmas.{place-behind}
+use Rattle.il_verify.proofs.StepLemmas.{Framed, Standing, at_place, leads-join, framed-none, framed-some, not-at, right-targets, standing_first, standing_more, table_more}
+use Rattle.il_verify.proofs.TableLemmas.{agrees, first-place, is-depth, keeps-read-only, leads-on, join-room}
+use Rattle.il_verify.proofs.WithinLemmas.{within-length}
 use Rattle.il_image.specs.Effects.{effect}
 use Rattle.bay_base.specs.declared.types.ElementaryType.{ElementaryType}
 
@@ -56,29 +56,29 @@ module _ (image : Image) (place : ℕ) (instr : Instr) (next : ℕ) (come : Plai
   abbrev tables : Table
   tables = table_more image place instr next come old new p.number p.numbered here was v p.standing
 
-  at_it : tables place ≡ Some come.kinds
-  at_it = at_place image place instr next come old new p.number p.numbered here was v p.standing
+  at-it : tables place ≡ Some come.kinds
+  at-it = at_place image place instr next come old new p.number p.numbered here was v p.standing
 
-  off_it : (q : ℕ) → (q ≡ place → ⊥) → tables q ≡ p.standing.table q
-  off_it = not_at image place instr next come old new p.number p.numbered here was v p.standing
+  off-it : (q : ℕ) → (q ≡ place → ⊥) → tables q ≡ p.standing.table q
+  off-it = not-at image place instr next come old new p.number p.numbered here was v p.standing
 
-  deepest_more : Deepest tables (max (length come.kinds) depth)
-  deepest_more = record {
+  deepest-more : Deepest tables (max (length come.kinds) depth)
+  deepest-more = record {
     most = λ q kinds is. elim (cases_eq q place) [
       | inl e ↦ (let same : length come.kinds ≡ length kinds =
-          ap length (some_same come.kinds kinds (sym at_it ∙ ap tables (sym e) ∙ is)) in
+          ap length (some-same come.kinds kinds (sym at-it ∙ ap tables (sym e) ∙ is)) in
           omega arith)
-      | inr ne ↦ (let h : length kinds ≤ depth = p.deepest.most q kinds (sym (off_it q ne) ∙ is) in
+      | inr ne ↦ (let h : length kinds ≤ depth = p.deepest.most q kinds (sym (off-it q ne) ∙ is) in
           omega arith)
     ];
     some = elim (larger (length come.kinds) depth) [
-      | inl e ↦ inr (place, come.kinds, at_it, sym e)
+      | inl e ↦ inr (place, come.kinds, at-it, sym e)
       | inr e ↦ elim p.deepest.some [
         | inl z ↦ inl (e ∙ z)
         | inr w ↦ inr (
           w.0,
           w.1,
-          (off_it w.0 (λ at. let less : w.0 < place = (p.standing.front.only w.0 w.1 w.2).0 in
+          (off-it w.0 (λ at. let less : w.0 < place = (p.standing.front.only w.0 w.1 w.2).0 in
               omega arith) ∙ w.2),
           w.3 ∙ sym e,
         )
@@ -86,43 +86,44 @@ module _ (image : Image) (place : ℕ) (instr : Instr) (next : ℕ) (come : Plai
     ];
   }
 
-  pub passing_more : (halts : Bool) → IsTrue halts ↔ (instr ≡ Halt)
-      → Passing image next (raised halts come.longest budget) (max (length come.kinds) depth) new
-  passing_more halts says = record {
+  pub passing-more : (halts : Bool) → IsTrue halts ↔ (instr ≡ Halt)
+      → Passing image next (raised_budget halts come.longest budget) (max (length come.kinds) depth)
+      new
+  passing-more halts says = record {
     number = suc p.number;
-    numbered = place_behind image.code p.number place instr next p.numbered here;
-    within = (goes_forward image.code place instr next here).1;
+    numbered = place-behind image.code p.number place instr next p.numbered here;
+    within = (goes-forward image.code place instr next here).1;
     standing =
         standing_more image place instr next come old new p.number p.numbered here was v p.standing;
     lengths =
-        lengths_more image place instr next come old new p.number p.numbered here was v
+        lengths-more image place instr next come old new p.number p.numbered here was v
         p.standing.places budget p.lengths halts says;
-    deepest = deepest_more;
+    deepest = deepest-more;
   }
 
 -- ---- the first place alone is to come
 
-pub passing_first : (image : Image) (frames : PlainFrames) (come : PlainFrame)
+pub passing-first : (image : Image) (frames : PlainFrames) (come : PlainFrame)
     → 0 < length image.code → frames 0 ≡ Some come → come.kinds ≡ [] → come.longest ≡ 1
     → ((q : ℕ) → (q ≡ 0 → ⊥) → frames q ≡ None) → Passing image 0 0 0 frames
-passing_first image frames come some is empty one none = record {
+passing-first image frames come some is empty one none = record {
   number = 0;
   numbered = refl;
   within = omega arith;
   standing = standing_first image frames come some is empty none;
-  lengths = lengths_first image.code frames come is one none;
+  lengths = lengths-first image.code frames come is one none;
   deepest = record { most = λ q kinds e. absurd cc; some = inl refl };
 }
 
 -- ---- what is known before a place
 
-pub here_short : (image : Image) (place budget depth : ℕ) (frames : PlainFrames) (come : PlainFrame)
+pub here-short : (image : Image) (place budget depth : ℕ) (frames : PlainFrames) (come : PlainFrame)
     → Passing image place budget depth frames → frames place ≡ Some come
     → (come.longest ≤ place + 1) × (length come.kinds ≤ 32)
-here_short image place budget depth frames come p was = (
-  path_short image.code come.longest place (p.lengths.paths place come (omega arith) was),
-  join_room image p.standing.table place p.standing.front place place come.kinds
-      (framed_some image p.standing.table place place (frames place) come was
+here-short image place budget depth frames come p was = (
+  path-short image.code come.longest place (p.lengths.paths place come (omega arith) was),
+  join-room image p.standing.table place p.standing.front place place come.kinds
+      (framed-some image p.standing.table place place (frames place) come was
       (p.standing.framed place (omega arith))),
 )
 
@@ -135,14 +136,14 @@ measured image done budget depth frames p past some =
     let within : done ≤ length image.code = p.within in
     let end : done ≡ length image.code = omega arith in
     let front = subst (λ (n : ℕ). IsFront image p.standing.table n) end p.standing.front in
-    let first = front.passes 0 some (first_place image.code some) in
+    let first = front.passes 0 some (first-place image.code some) in
     record {
       safe = record {
         table = (p.standing.table, agrees image p.standing.table front some);
-        writes = keeps_read_only image p.standing.table front;
+        writes = keeps-read-only image p.standing.table front;
       };
-      longest = is_budget image.code budget frames done past p.lengths p.standing.places;
-      deepest = is_depth image p.standing.table front some depth (record {
+      longest = is-budget image.code budget frames done past p.lengths p.standing.places;
+      deepest = is-depth image p.standing.table front some depth (record {
         some = elim p.deepest.some [
           | inl z ↦ (
             0,
@@ -159,43 +160,43 @@ measured image done budget depth frames p past some =
 
 -- ---- the pass stops
 
-pub fails_unreached : (image : Image) (place budget depth : ℕ) (frames : PlainFrames)
+pub fails-unreached : (image : Image) (place budget depth : ℕ) (frames : PlainFrames)
     → Passing image place budget depth frames → place < length image.code → frames place ≡ None
     → FailsAt image Unreachable place
-fails_unreached image place budget depth frames p less none = (
+fails-unreached image place budget depth frames p less none = (
   p.standing.table,
   p.standing.front,
   (less, (p.number, p.numbered)),
-  framed_none image p.standing.table place place (frames place) none
+  framed-none image p.standing.table place place (frames place) none
       (p.standing.framed place (omega arith)),
 )
 
-own_fault_at : (image : Image) (table : Table) (place : ℕ) (fault : VerifyFault) → IsOwn fault
+own-fault-at : (image : Image) (table : Table) (place : ℕ) (fault : VerifyFault) → IsOwn fault
     → HasOwn image table place fault → IsFaultAt image table place fault
-own_fault_at image table place StackEmpty own h = h
-own_fault_at image table place StackFull own h = h
-own_fault_at image table place WrongKind own h = h
-own_fault_at image table place ZeroDivisor own h = h
-own_fault_at image table place NoSlot own h = h
-own_fault_at image table place NoTimer own h = h
-own_fault_at image table place BadBinding own h = h
-own_fault_at image table place BadTarget own h = absurd own
-own_fault_at image table place Unreachable own h = absurd own
-own_fault_at image table place DepthClash own h = absurd own
-own_fault_at image table place NoHalt own h = absurd own
-own_fault_at image table place OutOfMemory own h = absurd own
+own-fault-at image table place StackEmpty own h = h
+own-fault-at image table place StackFull own h = h
+own-fault-at image table place WrongKind own h = h
+own-fault-at image table place ZeroDivisor own h = h
+own-fault-at image table place NoSlot own h = h
+own-fault-at image table place NoTimer own h = h
+own-fault-at image table place BadBinding own h = h
+own-fault-at image table place BadTarget own h = absurd own
+own-fault-at image table place Unreachable own h = absurd own
+own-fault-at image table place DepthClash own h = absurd own
+own-fault-at image table place NoHalt own h = absurd own
+own-fault-at image table place OutOfMemory own h = absurd own
 
 module _ (image : Image) (place : ℕ) (instr : Instr) (next : ℕ) (come : PlainFrame)
     (old : PlainFrames) (budget depth : ℕ) (here : instr_at image.code place ≡ Some (instr, next))
     (was : old place ≡ Some come) (p : Passing image place budget depth old) where
-  joined_here : IsJoin image p.standing.table place place come.kinds
-  joined_here =
-      framed_some image p.standing.table place place (old place) come was
+  joined-here : IsJoin image p.standing.table place place come.kinds
+  joined-here =
+      framed-some image p.standing.table place place (old place) come was
       (p.standing.framed place (omega arith))
 
   abbrev arrives : Arrives image p.standing.table place
   arrives =
-      record { instr = instr; next = next; kinds = come.kinds; here = here; joined = joined_here }
+      record { instr = instr; next = next; kinds = come.kinds; here = here; joined = joined-here }
 
   stops : (fault : VerifyFault) → place < length image.code
       → IsFaultAt image p.standing.table place fault → FailsAt image fault place
@@ -213,24 +214,24 @@ module _ (image : Image) (place : ℕ) (instr : Instr) (next : ℕ) (come : Plai
           bad = w.1.bad;
         })
     | inr w ↦
-        (let most : next ≤ length image.code = (goes_forward image.code place instr next here).1 in
+        (let most : next ≤ length image.code = (goes-forward image.code place instr next here).1 in
         let least : length image.code ≤ next = w.1.past in
         subst (IsFaultAt image p.standing.table place) (sym w.0)
         (record {
           at = arrives;
           faultless = m.faultless;
           jumps = w.1.jumps;
-          leads = leads_join instr next next (inr (w.1.falls, refl));
+          leads = leads-join instr next next (inr (w.1.falls, refl));
           past = omega arith;
         }))
   ]
 
   collides : (c : Collides image instr next come old) → Clashes image p.standing.table place
   collides c =
-      let leads = leads_join instr next c.to c.leads in
-      let f : place < next = (goes_forward image.code place instr next here).0 in
-      let on : place < c.to = leads_on image.code place c.to instr next here leads in
-      let m = framed_some image p.standing.table place c.to (old c.to) c.clash.0 c.clash.1
+      let leads = leads-join instr next c.to c.leads in
+      let f : place < next = (goes-forward image.code place instr next here).0 in
+      let on : place < c.to = leads-on image.code place c.to instr next here leads in
+      let m = framed-some image p.standing.table place c.to (old c.to) c.clash.0 c.clash.1
       (p.standing.framed c.to (omega arith)) in
       record {
         at = arrives;
@@ -238,24 +239,24 @@ module _ (image : Image) (place : ℕ) (instr : Instr) (next : ℕ) (come : Plai
         faultless = c.faultless;
         effect =
             sym (ap (λ (types : List ElementaryType). effect types (length image.timers) instr
-            come.kinds) (types_are image)) ∙ c.effect;
+            come.kinds) (types-are image)) ∙ c.effect;
         targets =
-            λ to way. right_targets image.code p.number place instr next to p.numbered here c.right
+            λ to way. right-targets image.code p.number place instr next to p.numbered here c.right
             way;
         to = c.to;
         leads = leads;
         others = m.some.0;
         comes = m.some.1;
         unequal =
-            λ e. c.clash.2 (sym (within_length m.some.0 c.clash.0.kinds (m.above m.some.0 m.some.1))
+            λ e. c.clash.2 (sym (within-length m.some.0 c.clash.0.kinds (m.above m.some.0 m.some.1))
             ∙ e);
       }
 
-  pub fails_there : (fault : VerifyFault) → place < length image.code
+  pub fails-there : (fault : VerifyFault) → place < length image.code
       → FailsVisit image instr next come old fault → FailsAt image fault place
-  fails_there fault less f = elim f [
+  fails-there fault less f = elim f [
     | inl own ↦ stops fault less
-        (own_fault_at image p.standing.table place fault (own_of _ _ instr come.kinds fault own)
+        (own-fault-at image p.standing.table place fault (own-of _ _ instr come.kinds fault own)
         (arrives, own))
     | inr g ↦ elim g [
       | inl m ↦ stops fault less (misleads fault m)
@@ -266,65 +267,65 @@ module _ (image : Image) (place : ℕ) (instr : Instr) (next : ℕ) (come : Plai
 
 -- ---- the frame at a place does not matter to what its instruction does elsewhere
 
-where_beside : (P : ℕ → Type 0) (place : ℕ) (come : PlainFrame) (x : Option PlainFrame)
+where-beside : (P : ℕ → Type 0) (place : ℕ) (come : PlainFrame) (x : Option PlainFrame)
     (old new : PlainFrames) → (P place → ⊥) → ((to : ℕ) → ComesWhere (P to) come (old to) (new to))
     → (to : ℕ) → ComesWhere (P to) come (beside place x old to) (beside place x new to)
-where_beside P place come x old new not_here each to = elim (cases_eq to place) [
+where-beside P place come x old new not-here each to = elim (cases_eq to place) [
   | inl e ↦ inr (
-    (λ h. not_here (subst P e h)),
-    beside_here place to x new e ∙ sym (beside_here place to x old e),
+    (λ h. not-here (subst P e h)),
+    beside-here place to x new e ∙ sym (beside-here place to x old e),
   )
   | inr ne ↦ elim (each to) [
     | inl c ↦ inl (
       c.0,
       (
         c.1.0,
-        beside_other place to x new ne ∙ c.1.1,
-        subst (λ (o : Option PlainFrame). Grows come o c.1.0) (sym (beside_other place to x old ne))
+        beside-other place to x new ne ∙ c.1.1,
+        subst (λ (o : Option PlainFrame). Grows come o c.1.0) (sym (beside-other place to x old ne))
             c.1.2,
       ),
     )
-    | inr c ↦ inr (c.0, beside_other place to x new ne ∙ c.1 ∙ sym (beside_other place to x old ne))
+    | inr c ↦ inr (c.0, beside-other place to x new ne ∙ c.1 ∙ sym (beside-other place to x old ne))
   ]
 ]
 
-leads_off : (code : List ℕ) (place : ℕ) (instr : Instr) (next : ℕ)
+leads-off : (code : List ℕ) (place : ℕ) (instr : Instr) (next : ℕ)
     → instr_at code place ≡ Some (instr, next) → JumpsTo instr next place ⊎ GoesOn instr next place
     → ⊥
-leads_off code place instr next here h = let less : place < place =
-    leads_on code place place instr next here (leads_join instr next place h) in omega arith
+leads-off code place instr next here h = let less : place < place =
+    leads-on code place place instr next here (leads-join instr next place h) in omega arith
 
-visits_beside : (image : Image) (place : ℕ) (instr : Instr) (next : ℕ) (come : PlainFrame)
+visits-beside : (image : Image) (place : ℕ) (instr : Instr) (next : ℕ) (come : PlainFrame)
     (x : Option PlainFrame) (old new : PlainFrames) → instr_at image.code place ≡ Some (instr, next)
     → Visits image instr next come old new
     → Visits image instr next come (beside place x old) (beside place x new)
-visits_beside image place instr next come x old new here v = record {
+visits-beside image place instr next come x old new here v = record {
   gives = v.gives;
   faultless = v.faultless;
   effect = v.effect;
   right = v.right;
   mid = beside place x v.mid;
-  jumps = where_beside (JumpsTo instr next) place _ x old v.mid
-      (λ h. leads_off image.code place instr next here (inl h)) v.jumps;
-  falls = where_beside (GoesOn instr next) place _ x v.mid new
-      (λ h. leads_off image.code place instr next here (inr h)) v.falls;
+  jumps = where-beside (JumpsTo instr next) place _ x old v.mid
+      (λ h. leads-off image.code place instr next here (inl h)) v.jumps;
+  falls = where-beside (GoesOn instr next) place _ x v.mid new
+      (λ h. leads-off image.code place instr next here (inr h)) v.falls;
 }
 
-fails_beside : (image : Image) (place : ℕ) (instr : Instr) (next : ℕ) (come : PlainFrame)
+fails-beside : (image : Image) (place : ℕ) (instr : Instr) (next : ℕ) (come : PlainFrame)
     (x : Option PlainFrame) (old : PlainFrames) (fault : VerifyFault)
     → instr_at image.code place ≡ Some (instr, next) → FailsVisit image instr next come old fault
     → FailsVisit image instr next come (beside place x old) fault
-fails_beside image place instr next come x old fault here f = elim f [
+fails-beside image place instr next come x old fault here f = elim f [
   | inl own ↦ inl own
   | inr g ↦ elim g [
     | inl m ↦ inr (inl m)
     | inr c ↦
         (let d = c.1 in
         let on : place < d.to =
-        leads_on image.code place d.to instr next here (leads_join instr next d.to d.leads) in
+        leads-on image.code place d.to instr next here (leads-join instr next d.to d.leads) in
         let clash =
         subst (λ (o : Option PlainFrame). Clashing o d.gives)
-        (sym (beside_other place d.to x old (λ e. omega arith))) d.clash in
+        (sym (beside-other place d.to x old (λ e. omega arith))) d.clash in
         inr (inr (
           c.0,
           record {
@@ -341,10 +342,10 @@ fails_beside image place instr next come x old fault here f = elim f [
 ]
 
 -- What holds from a place on is told by the frames from there on.
-passing_same : (image : Image) (done budget depth : ℕ) (frames others : PlainFrames)
+passing-same : (image : Image) (done budget depth : ℕ) (frames others : PlainFrames)
     → ((q : ℕ) → done ≤ q → others q ≡ frames q) → Passing image done budget depth frames
     → Passing image done budget depth others
-passing_same image done budget depth frames others same p = record {
+passing-same image done budget depth frames others same p = record {
   number = p.number;
   numbered = p.numbered;
   within = p.within;
@@ -368,38 +369,39 @@ passing_same image done budget depth frames others same p = record {
 
 -- ---- as the code has it: the frame of the place beside those that are pending
 
-pub goes_over : (image : Image) (place : ℕ) (instr : Instr) (next : ℕ) (come : PlainFrame)
+pub goes-over : (image : Image) (place : ℕ) (instr : Instr) (next : ℕ) (come : PlainFrame)
     (behind : Option PlainFrame) (old new : PlainFrames) (budget depth : ℕ) (halts : Bool)
     → instr_at image.code place ≡ Some (instr, next) → IsTrue halts ↔ (instr ≡ Halt)
     → Visits image instr next come old (beside next behind new)
     → Passing image place budget depth (beside place (Some come) old)
-    → Passing image next (raised halts come.longest budget) (max (length come.kinds) depth)
+    → Passing image next (raised_budget halts come.longest budget) (max (length come.kinds) depth)
     (beside next behind new)
-goes_over image place instr next come behind old new budget depth halts here says v p =
-    let f : place < next = (goes_forward image.code place instr next here).0 in
-    passing_same image next (raised halts come.longest budget) (max (length come.kinds) depth)
+goes-over image place instr next come behind old new budget depth halts here says v p =
+    let f : place < next = (goes-forward image.code place instr next here).0 in
+    passing-same image next (raised_budget halts come.longest budget)
+    (max (length come.kinds) depth)
     (beside place (Some come) (beside next behind new)) (beside next behind new)
-    (λ q h. sym (beside_other place q (Some come) (beside next behind new) (λ e. omega arith)))
-    (passing_more image place instr next come (beside place (Some come) old)
+    (λ q h. sym (beside-other place q (Some come) (beside next behind new) (λ e. omega arith)))
+    (passing-more image place instr next come (beside place (Some come) old)
     (beside place (Some come) (beside next behind new)) budget depth here
-    (beside_here place place (Some come) old refl)
-    (visits_beside image place instr next come (Some come) old (beside next behind new) here v) p
+    (beside-here place place (Some come) old refl)
+    (visits-beside image place instr next come (Some come) old (beside next behind new) here v) p
     halts says)
 
-pub fails_over : (image : Image) (place : ℕ) (instr : Instr) (next : ℕ) (come : PlainFrame)
+pub fails-over : (image : Image) (place : ℕ) (instr : Instr) (next : ℕ) (come : PlainFrame)
     (old : PlainFrames) (budget depth : ℕ) (fault : VerifyFault)
     → instr_at image.code place ≡ Some (instr, next) → place < length image.code
     → FailsVisit image instr next come old fault
     → Passing image place budget depth (beside place (Some come) old)
     → FailsAt image fault place
-fails_over image place instr next come old budget depth fault here less f p =
-    fails_there image place instr next come (beside place (Some come) old) budget depth here
-    (beside_here place place (Some come) old refl) p fault less
-    (fails_beside image place instr next come (Some come) old fault here f)
+fails-over image place instr next come old budget depth fault here less f p =
+    fails-there image place instr next come (beside place (Some come) old) budget depth here
+    (beside-here place place (Some come) old refl) p fault less
+    (fails-beside image place instr next come (Some come) old fault here f)
 
 pub begins : (image : Image) (come : PlainFrame) (old : PlainFrames) → 0 < length image.code
     → come.kinds ≡ [] → come.longest ≡ 1 → ((q : ℕ) → old q ≡ None)
     → Passing image 0 0 0 (beside 0 (Some come) old)
 begins image come old some empty one none =
-    passing_first image (beside 0 (Some come) old) come some (beside_here 0 0 (Some come) old refl)
-    empty one (λ q ne. beside_other 0 q (Some come) old ne ∙ none q)
+    passing-first image (beside 0 (Some come) old) come some (beside-here 0 0 (Some come) old refl)
+    empty one (λ q ne. beside-other 0 q (Some come) old ne ∙ none q)

@@ -10,33 +10,33 @@ use Rattle.il_image.specs.Opcodes.{octet_of, opcode_of}
 use Rattle.il_image.specs.Reading.{instr_at}
 use Rattle.il_image.specs.Spelling.{opcode_of_instr, operand_of, spelling}
 use Rattle.il_image.specs.Values.{number_of, type_of}
-use Rattle.il_image.proofs.InstrLemmas.{opcode_back}
+use Rattle.il_image.proofs.InstrLemmas.{opcode-back}
 use Rattle.il_image.proofs.PlaceLemmas.{stands}
 use Rattle.il_image.specs.declared.opcode.Opcode.{Opcode}
 use Rattle.il_verify.specs.Sizes.{size_of_opcode}
-use Rattle.il_verify.proofs.EffectLemmas.{not_both, some_same}
+use Rattle.il_verify.proofs.EffectLemmas.{not-both, some-same}
 use Rattle.il_verify.proofs.OrderLemmas.{There}
 
-length_signed : (t : ElementaryType) (z : ℤ)
+length-signed : (t : ElementaryType) (z : ℤ)
     → length (signed_octets (size_of t) z) ≡ octet_count (size_of t)
-length_signed elementary.Bool z = refl
-length_signed elementary.Int z = refl
-length_signed elementary.Dint z = refl
-length_signed elementary.Lint z = refl
-length_signed elementary.Time z = refl
+length-signed elementary.Bool z = refl
+length-signed elementary.Int z = refl
+length-signed elementary.Dint z = refl
+length-signed elementary.Lint z = refl
+length-signed elementary.Time z = refl
 
-size_is : (i : Instr) → size_of_opcode (opcode_of_instr i) ≡ length (spelling i)
-size_is (Push v) = ap suc (sym (length_signed (type_of v) (number_of v)))
-size_is Halt = refl
-size_is Drop = refl
-size_is (Slot slot_use n) = refl
-size_is Not = refl
-size_is (Combine c) = refl
-size_is (Compute o w) = refl
-size_is (Compare c) = refl
-size_is (Widen w) = refl
-size_is (Jump when distance) = refl
-size_is (Timer timer_use n) = refl
+size-is : (i : Instr) → size_of_opcode (opcode_of_instr i) ≡ length (spelling i)
+size-is (Push v) = ap suc (sym (length-signed (type_of v) (number_of v)))
+size-is Halt = refl
+size-is Drop = refl
+size-is (Slot slot_use n) = refl
+size-is Not = refl
+size-is (Combine c) = refl
+size-is (Compute o w) = refl
+size-is (Compare c) = refl
+size-is (Widen w) = refl
+size-is (Jump when distance) = refl
+size-is (Timer timer_use n) = refl
 
 first_of : (code : List ℕ) (place x d : ℕ) (xs : List ℕ) → drop place code ≡ x ∷ xs
     → get_or code place d ≡ x
@@ -45,34 +45,34 @@ first_of [] (suc place) x d xs e = absurd cc
 first_of (y ∷ code) zero x d xs e = cc
 first_of (y ∷ code) (suc place) x d xs e = first_of code place x d xs e
 
-pub opcode_there : (code : List ℕ) (place d : ℕ) (i : Instr) (next : ℕ) → AreOctets code
+pub opcode-there : (code : List ℕ) (place d : ℕ) (i : Instr) (next : ℕ) → AreOctets code
     → instr_at code place ≡ Some (i, next)
     → opcode_of (get_or code place d) ≡ Some (opcode_of_instr i)
-opcode_there code place d i next fits e =
+opcode-there code place d i next fits e =
     let s = stands code place i next fits e in
     ap opcode_of (first_of code place (octet_of (opcode_of_instr i)) d
-    (operand_of i ++ drop next code) s.spelled) ∙ opcode_back (opcode_of_instr i)
+    (operand_of i ++ drop next code) s.spelled) ∙ opcode-back (opcode_of_instr i)
 
-pub next_there : (code : List ℕ) (place : ℕ) (i : Instr) (next : ℕ) → AreOctets code
+pub next-there : (code : List ℕ) (place : ℕ) (i : Instr) (next : ℕ) → AreOctets code
     → instr_at code place ≡ Some (i, next) → next ≡ place + size_of_opcode (opcode_of_instr i)
-next_there code place i next fits e = let s =
-    stands code place i next fits e in s.size ∙ ap (λ (n : ℕ). place + n) (sym (size_is i))
+next-there code place i next fits e = let s =
+    stands code place i next fits e in s.size ∙ ap (λ (n : ℕ). place + n) (sym (size-is i))
 
 -- An opcode was found there: the instruction's, and the next place is so many octets behind.
-pub next_by : (code : List ℕ) (place d : ℕ) (o : Opcode) (n : ℕ) (t : There code place)
+pub next-by : (code : List ℕ) (place d : ℕ) (o : Opcode) (n : ℕ) (t : There code place)
     → AreOctets code → opcode_of (get_or code place d) ≡ Some o → n ≡ size_of_opcode o
     → instr_at code place ≡ Some (t.instr, place + n)
-next_by code place d o n t fits e size =
+next-by code place d o n t fits e size =
     let same : opcode_of_instr t.instr ≡ o =
-    some_same (opcode_of_instr t.instr) o
-    (sym (opcode_there code place d t.instr t.next fits t.is) ∙ e) in
+    some-same (opcode_of_instr t.instr) o
+    (sym (opcode-there code place d t.instr t.next fits t.is) ∙ e) in
     let next : t.next ≡ place + n =
-    next_there code place t.instr t.next fits t.is
+    next-there code place t.instr t.next fits t.is
     ∙ ap (λ (k : ℕ). place + k) (ap size_of_opcode same ∙ sym size) in
     t.is ∙ ap (λ (m : ℕ). Some (t.instr, m)) next
 
-pub some_opcode : (code : List ℕ) (place d : ℕ) → There code place → AreOctets code
+pub some-opcode : (code : List ℕ) (place d : ℕ) → There code place → AreOctets code
     → opcode_of (get_or code place d) ≡ None → ⊥
-some_opcode code place d t fits e =
-    not_both (opcode_of (get_or code place d)) (opcode_of_instr t.instr) e
-    (opcode_there code place d t.instr t.next fits t.is)
+some-opcode code place d t fits e =
+    not-both (opcode_of (get_or code place d)) (opcode_of_instr t.instr) e
+    (opcode-there code place d t.instr t.next fits t.is)

@@ -11,64 +11,64 @@ use Rattle.il_image.specs.Images.{Image}
 use Rattle.il_image.specs.Kinds.{AreWithin}
 use Rattle.il_image.specs.Reading.{instr_at}
 use Rattle.il_image.specs.Tables.{IsPlace, LeadsTo, Table, place_of}
-use Rattle.il_image.proofs.PlaceLemmas.{goes_forward}
+use Rattle.il_image.proofs.PlaceLemmas.{goes-forward}
 use Rattle.il_verify.specs.Frames.{ComesWhere, GoesOn, Grows, LeadsRight, PlainFrame, PlainFrames, Visits, beside}
 use Rattle.il_verify.specs.Refusals.{Comes, IsFront, IsJoin, JumpsTo, Passes, after}
-use Rattle.il_verify.proofs.EffectLemmas.{not_both, some_same}
-use Rattle.il_verify.proofs.FrameLemmas.{grows_along}
-use Rattle.il_verify.proofs.JudgeLemmas.{types_are}
-use Rattle.il_verify.proofs.MapLemmas.{beside_here, beside_other}
-use Rattle.il_verify.proofs.OrderLemmas.{none_between, place_behind}
-use Rattle.il_verify.proofs.TableLemmas.{leads_forward, same_instr}
-use Rattle.il_verify.proofs.WithinLemmas.{all_within_along, within_length}
+use Rattle.il_verify.proofs.EffectLemmas.{not-both, some-same}
+use Rattle.il_verify.proofs.FrameLemmas.{grows-along}
+use Rattle.il_verify.proofs.JudgeLemmas.{types-are}
+use Rattle.il_verify.proofs.MapLemmas.{beside-here, beside-other}
+use Rattle.il_verify.proofs.OrderLemmas.{none-between, place-behind}
+use Rattle.il_verify.proofs.TableLemmas.{leads-forward, same-instr}
+use Rattle.il_verify.proofs.WithinLemmas.{all-within-along, within-length}
 
 -- ---- where an instruction leads
 
-pub leads_split : (i : Instr) (next to : ℕ) → LeadsTo i next to
+pub leads-split : (i : Instr) (next to : ℕ) → LeadsTo i next to
     → JumpsTo i next to ⊎ GoesOn i next to
-leads_split Halt next to h = absurd h
-leads_split (Jump Always distance) next to h = inl h
-leads_split (Jump IfTrue distance) next to h = elim h [ inl e ↦ inr (refl, e) | inr e ↦ inl e ]
-leads_split (Jump IfFalse distance) next to h = elim h [ inl e ↦ inr (refl, e) | inr e ↦ inl e ]
-leads_split (Push v) next to h = inr (refl, h)
-leads_split Drop next to h = inr (refl, h)
-leads_split (Slot slot_use n) next to h = inr (refl, h)
-leads_split Not next to h = inr (refl, h)
-leads_split (Combine c) next to h = inr (refl, h)
-leads_split (Compute o w) next to h = inr (refl, h)
-leads_split (Compare c) next to h = inr (refl, h)
-leads_split (Widen w) next to h = inr (refl, h)
-leads_split (Timer timer_use n) next to h = inr (refl, h)
+leads-split Halt next to h = absurd h
+leads-split (Jump Always distance) next to h = inl h
+leads-split (Jump IfTrue distance) next to h = elim h [ inl e ↦ inr (refl, e) | inr e ↦ inl e ]
+leads-split (Jump IfFalse distance) next to h = elim h [ inl e ↦ inr (refl, e) | inr e ↦ inl e ]
+leads-split (Push v) next to h = inr (refl, h)
+leads-split Drop next to h = inr (refl, h)
+leads-split (Slot slot_use n) next to h = inr (refl, h)
+leads-split Not next to h = inr (refl, h)
+leads-split (Combine c) next to h = inr (refl, h)
+leads-split (Compute o w) next to h = inr (refl, h)
+leads-split (Compare c) next to h = inr (refl, h)
+leads-split (Widen w) next to h = inr (refl, h)
+leads-split (Timer timer_use n) next to h = inr (refl, h)
 
-pub leads_join : (i : Instr) (next to : ℕ) → JumpsTo i next to ⊎ GoesOn i next to
+pub leads-join : (i : Instr) (next to : ℕ) → JumpsTo i next to ⊎ GoesOn i next to
     → LeadsTo i next to
-leads_join Halt next to h =
+leads-join Halt next to h =
     elim h [ inl e ↦ absurd e | inr g ↦ absurd (let no : false ≡ true = g.0 in cc) ]
-leads_join (Jump Always distance) next to h =
+leads-join (Jump Always distance) next to h =
     elim h [ inl e ↦ e | inr g ↦ absurd (let no : false ≡ true = g.0 in cc) ]
-leads_join (Jump IfTrue distance) next to h = elim h [ inl e ↦ inr e | inr g ↦ inl g.1 ]
-leads_join (Jump IfFalse distance) next to h = elim h [ inl e ↦ inr e | inr g ↦ inl g.1 ]
-leads_join (Push v) next to h = elim h [ inl e ↦ absurd e | inr g ↦ g.1 ]
-leads_join Drop next to h = elim h [ inl e ↦ absurd e | inr g ↦ g.1 ]
-leads_join (Slot slot_use n) next to h = elim h [ inl e ↦ absurd e | inr g ↦ g.1 ]
-leads_join Not next to h = elim h [ inl e ↦ absurd e | inr g ↦ g.1 ]
-leads_join (Combine c) next to h = elim h [ inl e ↦ absurd e | inr g ↦ g.1 ]
-leads_join (Compute o w) next to h = elim h [ inl e ↦ absurd e | inr g ↦ g.1 ]
-leads_join (Compare c) next to h = elim h [ inl e ↦ absurd e | inr g ↦ g.1 ]
-leads_join (Widen w) next to h = elim h [ inl e ↦ absurd e | inr g ↦ g.1 ]
-leads_join (Timer timer_use n) next to h = elim h [ inl e ↦ absurd e | inr g ↦ g.1 ]
+leads-join (Jump IfTrue distance) next to h = elim h [ inl e ↦ inr e | inr g ↦ inl g.1 ]
+leads-join (Jump IfFalse distance) next to h = elim h [ inl e ↦ inr e | inr g ↦ inl g.1 ]
+leads-join (Push v) next to h = elim h [ inl e ↦ absurd e | inr g ↦ g.1 ]
+leads-join Drop next to h = elim h [ inl e ↦ absurd e | inr g ↦ g.1 ]
+leads-join (Slot slot_use n) next to h = elim h [ inl e ↦ absurd e | inr g ↦ g.1 ]
+leads-join Not next to h = elim h [ inl e ↦ absurd e | inr g ↦ g.1 ]
+leads-join (Combine c) next to h = elim h [ inl e ↦ absurd e | inr g ↦ g.1 ]
+leads-join (Compute o w) next to h = elim h [ inl e ↦ absurd e | inr g ↦ g.1 ]
+leads-join (Compare c) next to h = elim h [ inl e ↦ absurd e | inr g ↦ g.1 ]
+leads-join (Widen w) next to h = elim h [ inl e ↦ absurd e | inr g ↦ g.1 ]
+leads-join (Timer timer_use n) next to h = elim h [ inl e ↦ absurd e | inr g ↦ g.1 ]
 
-comes_both : (P Q L : Type 0) (come : PlainFrame) (old mid new : Option PlainFrame) → (L → P ⊎ Q)
+comes-both : (P Q L : Type 0) (come : PlainFrame) (old mid new : Option PlainFrame) → (L → P ⊎ Q)
     → (P ⊎ Q → L) → ComesWhere P come old mid → ComesWhere Q come mid new
     → ComesWhere L come old new
-comes_both P Q L come old mid new split join h g = elim h [
+comes-both P Q L come old mid new split join h g = elim h [
   | inl a ↦ elim g [
     | inl b ↦ inl (
       join (inl a.0),
       (
         b.1.0,
         b.1.1,
-        grows_along come old a.1.0 b.1.0 a.1.2
+        grows-along come old a.1.0 b.1.0 a.1.2
             (subst (λ (o : Option PlainFrame). Grows come o b.1.0) a.1.1 b.1.2),
       ),
     )
@@ -90,26 +90,26 @@ pub spreads : (image : Image) (instr : Instr) (next : ℕ) (come : PlainFrame) (
     (v : Visits image instr next come old new) (to : ℕ)
     → ComesWhere (LeadsTo instr next to) (onward come v.gives) (old to) (new to)
 spreads image instr next come old new v to =
-    comes_both (JumpsTo instr next to) (GoesOn instr next to) (LeadsTo instr next to)
-    (onward come v.gives) (old to) (v.mid to) (new to) (leads_split instr next to)
-    (leads_join instr next to) (v.jumps to) (v.falls to)
+    comes-both (JumpsTo instr next to) (GoesOn instr next to) (LeadsTo instr next to)
+    (onward come v.gives) (old to) (v.mid to) (new to) (leads-split instr next to)
+    (leads-join instr next to) (v.jumps to) (v.falls to)
 
-pub effect_there : (image : Image) (instr : Instr) (next : ℕ) (come : PlainFrame)
+pub effect-there : (image : Image) (instr : Instr) (next : ℕ) (come : PlainFrame)
     (old new : PlainFrames) (v : Visits image instr next come old new)
     → after image instr come.kinds ≡ Some v.gives
-effect_there image instr next come old new v =
+effect-there image instr next come old new v =
     sym (ap (λ (types : List ElementaryType). effect types (length image.timers) instr come.kinds)
-    (types_are image)) ∙ v.effect
+    (types-are image)) ∙ v.effect
 
 -- where it leads rightly is a place
-pub right_targets : (code : List ℕ) (number place : ℕ) (instr : Instr) (next to : ℕ)
+pub right-targets : (code : List ℕ) (number place : ℕ) (instr : Instr) (next to : ℕ)
     → place_of code number ≡ Some place → instr_at code place ≡ Some (instr, next)
     → LeadsRight code instr next → LeadsTo instr next to → IsPlace code to
-right_targets code number place instr next to numbered here right leads =
-    elim (leads_split instr next to leads) [
+right-targets code number place instr next to numbered here right leads =
+    elim (leads-split instr next to leads) [
       | inl j ↦ right.jumps to j
       | inr g ↦ subst (IsPlace code) (sym g.1)
-          (right.falls g.0, (suc number, place_behind code number place instr next numbered here))
+          (right.falls g.0, (suc number, place-behind code number place instr next numbered here))
     ]
 
 -- ---- what comes to a place, in tables that agree before it
@@ -117,13 +117,13 @@ right_targets code number place instr next to numbered here right leads =
 abbrev SameBefore : ℕ → Table → Table → Type 0
 SameBefore done t u = (q : ℕ) → q < done → t q ≡ u q
 
-same_back : (done : ℕ) (t u : Table) → SameBefore done t u → SameBefore done u t
-same_back done t u h q less = sym (h q less)
+same-back : (done : ℕ) (t u : Table) → SameBefore done t u → SameBefore done u t
+same-back done t u h q less = sym (h q less)
 
-comes_keep : (image : Image) (done to : ℕ) (t u : Table) (kinds : List CellKind)
+comes-keep : (image : Image) (done to : ℕ) (t u : Table) (kinds : List CellKind)
     → SameBefore done t u
     → Comes image t done to kinds → Comes image u done to kinds
-comes_keep image done to t u kinds same c = elim c [
+comes-keep image done to t u kinds same c = elim c [
   | inl e ↦ inl e
   | inr d ↦ (let f = d.2 in
       inr (
@@ -141,14 +141,14 @@ comes_keep image done to t u kinds same c = elim c [
       ))
 ]
 
-join_keep : (image : Image) (done to : ℕ) (t u : Table) (kinds : List CellKind)
+join-keep : (image : Image) (done to : ℕ) (t u : Table) (kinds : List CellKind)
     → SameBefore done t u
     → IsJoin image t done to kinds → IsJoin image u done to kinds
-join_keep image done to t u kinds same m = record {
-  some = (m.some.0, comes_keep image done to t u m.some.0 same m.some.1);
+join-keep image done to t u kinds same m = record {
+  some = (m.some.0, comes-keep image done to t u m.some.0 same m.some.1);
   above = λ others c. m.above others
-      (comes_keep image done to u t others (same_back done t u same) c);
-  least = λ top h. m.least top (λ others c. h others (comes_keep image done to t u others same c));
+      (comes-keep image done to u t others (same-back done t u same) c);
+  least = λ top h. m.least top (λ others c. h others (comes-keep image done to t u others same c));
 }
 
 -- ---- what is framed
@@ -158,13 +158,13 @@ abbrev pub Framed : Image → Table → ℕ → ℕ → Option PlainFrame → Ty
 Framed image table done q None = (kinds : List CellKind) → Comes image table done q kinds → ⊥
 Framed image table done q (Some m) = IsJoin image table done q m.kinds
 
-pub framed_none : (image : Image) (table : Table) (done q : ℕ) (o : Option PlainFrame) → o ≡ None
+pub framed-none : (image : Image) (table : Table) (done q : ℕ) (o : Option PlainFrame) → o ≡ None
     → Framed image table done q o → (kinds : List CellKind) → Comes image table done q kinds → ⊥
-framed_none image table done q o e h = subst (Framed image table done q) e h
+framed-none image table done q o e h = subst (Framed image table done q) e h
 
-pub framed_some : (image : Image) (table : Table) (done q : ℕ) (o : Option PlainFrame)
+pub framed-some : (image : Image) (table : Table) (done q : ℕ) (o : Option PlainFrame)
     (m : PlainFrame) → o ≡ Some m → Framed image table done q o → IsJoin image table done q m.kinds
-framed_some image table done q o m e h = subst (Framed image table done q) e h
+framed-some image table done q o m e h = subst (Framed image table done q) e h
 
 -- a table up to a place, and the frames from there on
 pub record Standing (image : Image) (done : ℕ) (frames : PlainFrames) : Type 0 where
@@ -182,29 +182,29 @@ module _ (image : Image) (place : ℕ) (instr : Instr) (next : ℕ) (come : Plai
   table_more = beside place (Some come.kinds) s.table
 
   forward : place < next
-  forward = (goes_forward image.code place instr next here).0
+  forward = (goes-forward image.code place instr next here).0
 
   within : next ≤ length image.code
-  within = (goes_forward image.code place instr next here).1
+  within = (goes-forward image.code place instr next here).1
 
   is_place : IsPlace image.code place
   is_place = let f : place < next = forward in let w : next ≤ length image.code =
       within in (omega arith, (number, numbered))
 
   pub at_place : table_more place ≡ Some come.kinds
-  at_place = beside_here place place (Some come.kinds) s.table refl
+  at_place = beside-here place place (Some come.kinds) s.table refl
 
-  pub not_at : (q : ℕ) → (q ≡ place → ⊥) → table_more q ≡ s.table q
-  not_at q ne = beside_other place q (Some come.kinds) s.table ne
+  pub not-at : (q : ℕ) → (q ≡ place → ⊥) → table_more q ≡ s.table q
+  not-at q ne = beside-other place q (Some come.kinds) s.table ne
 
-  same_so_far : SameBefore place s.table table_more
-  same_so_far q less = sym (not_at q (λ e. omega arith))
+  same-so-far : SameBefore place s.table table_more
+  same-so-far q less = sym (not-at q (λ e. omega arith))
 
   effect_is : after image instr come.kinds ≡ Some v.gives
-  effect_is = effect_there image instr next come old new v
+  effect_is = effect-there image instr next come old new v
 
-  from_here : (q : ℕ) → LeadsTo instr next q → Comes image table_more next q v.gives
-  from_here q leads =
+  from-here : (q : ℕ) → LeadsTo instr next q → Comes image table_more next q v.gives
+  from-here q leads =
       inr (
         place,
         forward,
@@ -219,34 +219,34 @@ module _ (image : Image) (place : ℕ) (instr : Instr) (next : ℕ) (come : Plai
         },
       )
 
-  comes_more : (q : ℕ) (kinds : List CellKind) → Comes image s.table place q kinds
+  comes-more : (q : ℕ) (kinds : List CellKind) → Comes image s.table place q kinds
       → Comes image table_more next q kinds
-  comes_more q kinds c = elim (comes_keep image place q s.table table_more kinds same_so_far c) [
+  comes-more q kinds c = elim (comes-keep image place q s.table table_more kinds same-so-far c) [
     | inl e ↦ inl e
     | inr d ↦ (let less : d.0 < place = d.1 in let f : place < next = forward in
         inr (d.0, omega arith, d.2))
   ]
 
-  comes_split : (q : ℕ) (kinds : List CellKind) → Comes image table_more next q kinds
+  comes-split : (q : ℕ) (kinds : List CellKind) → Comes image table_more next q kinds
       → Comes image s.table place q kinds ⊎ (LeadsTo instr next q × (v.gives ≡ kinds))
-  comes_split q kinds c = elim c [
+  comes-split q kinds c = elim c [
     | inl e ↦ inl (inl e)
     | inr d ↦ (let f = d.2 in elim (cases_eq d.0 place) [
       | inl e ↦
-          (let same = same_instr image.code place f.instr instr f.next next
+          (let same = same-instr image.code place f.instr instr f.next next
           (ap (instr_at image.code) (sym e) ∙ f.here) here in
           let known : f.before ≡ come.kinds =
-          some_same f.before come.kinds (sym f.known ∙ ap table_more e ∙ at_place) in
+          some-same f.before come.kinds (sym f.known ∙ ap table_more e ∙ at_place) in
           let gives : Some kinds ≡ Some v.gives =
           sym f.gives ∙ ap (λ (j : Instr). after image j f.before) same.0
           ∙ ap (after image instr) known ∙ effect_is in
           inr (
             subst (λ (n : ℕ). LeadsTo instr n q) same.1
                 (subst (λ (j : Instr). LeadsTo j f.next q) same.0 f.leads),
-            sym (some_same kinds v.gives gives),
+            sym (some-same kinds v.gives gives),
           ))
       | inr ne ↦
-          (let known : s.table d.0 ≡ Some f.before = sym (not_at d.0 ne) ∙ f.known in
+          (let known : s.table d.0 ≡ Some f.before = sym (not-at d.0 ne) ∙ f.known in
           inl (inr (
             d.0,
             (s.front.only d.0 f.before known).0,
@@ -265,83 +265,83 @@ module _ (image : Image) (place : ℕ) (instr : Instr) (next : ℕ) (come : Plai
 
   -- ---- the frames behind the place
 
-  framed_before : (q : ℕ) → next ≤ q → Framed image s.table place q (old q)
-  framed_before q h = let f : place < next = forward in s.framed q (omega arith)
+  framed-before : (q : ℕ) → next ≤ q → Framed image s.table place q (old q)
+  framed-before q h = let f : place < next = forward in s.framed q (omega arith)
 
-  above_before : (q : ℕ) (others : List CellKind) (top : List CellKind) → next ≤ q
+  above-before : (q : ℕ) (others : List CellKind) (top : List CellKind) → next ≤ q
       → Comes image s.table place q others
       → ((m : PlainFrame) → old q ≡ Some m → AreWithin m.kinds top) → AreWithin others top
-  above_before q others top h c keeps = go (old q) refl
+  above-before q others top h c keeps = go (old q) refl
     where
       go : (o : Option PlainFrame) → old q ≡ o → AreWithin others top
-      go None e = absurd (framed_none image s.table place q (old q) e (framed_before q h) others c)
+      go None e = absurd (framed-none image s.table place q (old q) e (framed-before q h) others c)
       go (Some m) e =
-          all_within_along others m.kinds top
-          ((framed_some image s.table place q (old q) m e (framed_before q h)).above others c)
+          all-within-along others m.kinds top
+          ((framed-some image s.table place q (old q) m e (framed-before q h)).above others c)
           (keeps m e)
 
-  joined_new : (q : ℕ) (frame : PlainFrame) → next ≤ q → LeadsTo instr next q
+  joined-new : (q : ℕ) (frame : PlainFrame) → next ≤ q → LeadsTo instr next q
       → Grows (onward come v.gives) (old q) frame → IsJoin image table_more next q frame.kinds
-  joined_new q frame h leads grows = record {
-    some = (v.gives, from_here q leads);
-    above = λ others c. elim (comes_split q others c) [
-      | inl d ↦ above_before q others frame.kinds h d grows.keeps
+  joined-new q frame h leads grows = record {
+    some = (v.gives, from-here q leads);
+    above = λ others c. elim (comes-split q others c) [
+      | inl d ↦ above-before q others frame.kinds h d grows.keeps
       | inr d ↦ subst (λ (k : List CellKind). AreWithin k frame.kinds) d.1 grows.over
     ];
-    least = λ top all. grows.least top (all v.gives (from_here q leads))
-        (λ m is. (framed_some image s.table place q (old q) m is (framed_before q h)).least top
-        (λ others c. all others (comes_more q others c)));
+    least = λ top all. grows.least top (all v.gives (from-here q leads))
+        (λ m is. (framed-some image s.table place q (old q) m is (framed-before q h)).least top
+        (λ others c. all others (comes-more q others c)));
   }
 
-  framed_old : (q : ℕ) (o : Option PlainFrame) → (LeadsTo instr next q → ⊥)
+  framed-old : (q : ℕ) (o : Option PlainFrame) → (LeadsTo instr next q → ⊥)
       → Framed image s.table place q o → Framed image table_more next q o
-  framed_old q None not_here h =
-      λ kinds c. elim (comes_split q kinds c) [ inl d ↦ h kinds d | inr d ↦ not_here d.0 ]
-  framed_old q (Some m) not_here h = record {
-    some = (h.some.0, comes_more q h.some.0 h.some.1);
-    above = λ others c. elim (comes_split q others c)
-        [ inl d ↦ h.above others d | inr d ↦ absurd (not_here d.0) ];
-    least = λ top all. h.least top (λ others c. all others (comes_more q others c));
+  framed-old q None not-here h =
+      λ kinds c. elim (comes-split q kinds c) [ inl d ↦ h kinds d | inr d ↦ not-here d.0 ]
+  framed-old q (Some m) not-here h = record {
+    some = (h.some.0, comes-more q h.some.0 h.some.1);
+    above = λ others c. elim (comes-split q others c)
+        [ inl d ↦ h.above others d | inr d ↦ absurd (not-here d.0) ];
+    least = λ top all. h.least top (λ others c. all others (comes-more q others c));
   }
 
-  pub framed_more : (q : ℕ) → next ≤ q → Framed image table_more next q (new q)
-  framed_more q h = elim (spreads image instr next come old new v q) [
-    | inl c ↦ subst (Framed image table_more next q) (sym c.1.1) (joined_new q c.1.0 h c.0 c.1.2)
+  pub framed-more : (q : ℕ) → next ≤ q → Framed image table_more next q (new q)
+  framed-more q h = elim (spreads image instr next come old new v q) [
+    | inl c ↦ subst (Framed image table_more next q) (sym c.1.1) (joined-new q c.1.0 h c.0 c.1.2)
     | inr c ↦ subst (Framed image table_more next q) (sym c.1)
-        (framed_old q (old q) c.0 (framed_before q h))
+        (framed-old q (old q) c.0 (framed-before q h))
   ]
 
   targets : (to : ℕ) → LeadsTo instr next to → IsPlace image.code to
-  targets to leads = right_targets image.code number place instr next to numbered here v.right leads
+  targets to leads = right-targets image.code number place instr next to numbered here v.right leads
 
-  pub places_more : (q : ℕ) (m : PlainFrame) → next ≤ q → new q ≡ Some m → IsPlace image.code q
-  places_more q m h is = elim (spreads image instr next come old new v q) [
+  pub places-more : (q : ℕ) (m : PlainFrame) → next ≤ q → new q ≡ Some m → IsPlace image.code q
+  places-more q m h is = elim (spreads image instr next come old new v q) [
     | inl c ↦ targets q c.0
     | inr c ↦ (let f : place < next = forward in s.places q m (omega arith) (sym c.1 ∙ is))
   ]
 
   -- ---- the table up to the next place
 
-  joined_here : IsJoin image s.table place place come.kinds
-  joined_here =
-      framed_some image s.table place place (old place) come was (s.framed place (omega arith))
+  joined-here : IsJoin image s.table place place come.kinds
+  joined-here =
+      framed-some image s.table place place (old place) come was (s.framed place (omega arith))
 
-  depths_here : (to : ℕ) → LeadsTo instr next to → (others : List CellKind)
+  depths-here : (to : ℕ) → LeadsTo instr next to → (others : List CellKind)
       → Comes image table_more place to others → length others ≡ length v.gives
-  depths_here to leads others c = elim (spreads image instr next come old new v to) [
+  depths-here to leads others c = elim (spreads image instr next come old new v to) [
     | inl d ↦
-        (let n : next ≤ to = leads_forward instr next to leads in
+        (let n : next ≤ to = leads-forward instr next to leads in
         let theirs : AreWithin others d.1.0.kinds =
-        above_before to others d.1.0.kinds n
-        (comes_keep image place to table_more s.table others
-        (same_back place s.table table_more same_so_far) c) d.1.2.keeps in
-        within_length others d.1.0.kinds theirs
-        ∙ sym (within_length v.gives d.1.0.kinds d.1.2.over))
+        above-before to others d.1.0.kinds n
+        (comes-keep image place to table_more s.table others
+        (same-back place s.table table_more same-so-far) c) d.1.2.keeps in
+        within-length others d.1.0.kinds theirs
+        ∙ sym (within-length v.gives d.1.0.kinds d.1.2.over))
     | inr d ↦ absurd (d.0 leads)
   ]
 
-  passes_here : Passes image table_more place
-  passes_here =
+  passes-here : Passes image table_more place
+  passes-here =
       record {
         instr = instr;
         next = next;
@@ -352,57 +352,57 @@ module _ (image : Image) (place : ℕ) (instr : Instr) (next : ℕ) (come : Plai
         faultless = v.faultless;
         effect = effect_is;
         targets = targets;
-        depths = depths_here;
+        depths = depths-here;
       }
 
-  passes_before : (q : ℕ) → q < place → IsPlace image.code q → Passes image table_more q
-  passes_before q less is =
+  passes-before : (q : ℕ) → q < place → IsPlace image.code q → Passes image table_more q
+  passes-before q less is =
       let p = s.front.passes q less is in
-      let same : SameBefore q s.table table_more = λ r before. same_so_far r (omega arith) in
+      let same : SameBefore q s.table table_more = λ r before. same-so-far r (omega arith) in
       record {
         instr = p.instr;
         next = p.next;
         kinds = p.kinds;
         gives = p.gives;
         here = p.here;
-        known = sym (same_so_far q less) ∙ p.known;
+        known = sym (same-so-far q less) ∙ p.known;
         faultless = p.faultless;
         effect = p.effect;
         targets = p.targets;
         depths =
             λ to leads others c. p.depths to leads others
-            (comes_keep image q to table_more s.table others (same_back q s.table table_more same)
+            (comes-keep image q to table_more s.table others (same-back q s.table table_more same)
             c);
       }
 
-  pub front_more : IsFront image table_more next
-  front_more = record {
+  pub front-more : IsFront image table_more next
+  front-more = record {
     only = λ q kinds is. elim (cases_eq q place) [
       | inl e ↦ (let f : place < next = forward in
           (omega arith, subst (IsPlace image.code) (sym e) is_place))
-      | inr ne ↦ (let o = s.front.only q kinds (sym (not_at q ne) ∙ is) in
+      | inr ne ↦ (let o = s.front.only q kinds (sym (not-at q ne) ∙ is) in
           let less : q < place = o.0 in let f : place < next = forward in (omega arith, o.1))
     ];
     joined = λ q kinds is. elim (cases_eq q place) [
       | inl e ↦
           (let its : come.kinds ≡ kinds =
-          some_same come.kinds kinds (sym at_place ∙ ap table_more (sym e) ∙ is) in
+          some-same come.kinds kinds (sym at_place ∙ ap table_more (sym e) ∙ is) in
           let there : IsJoin image table_more place place kinds =
           subst (IsJoin image table_more place place) its
-          (join_keep image place place s.table table_more come.kinds same_so_far joined_here) in
+          (join-keep image place place s.table table_more come.kinds same-so-far joined-here) in
           subst (λ (p : ℕ). IsJoin image table_more p p kinds) (sym e) there)
       | inr ne ↦
-          (let known = sym (not_at q ne) ∙ is in
+          (let known = sym (not-at q ne) ∙ is in
           let less : q < place = (s.front.only q kinds known).0 in
-          join_keep image q q s.table table_more kinds (λ r before. same_so_far r (omega arith))
+          join-keep image q q s.table table_more kinds (λ r before. same-so-far r (omega arith))
           (s.front.joined q kinds known))
     ];
     passes = λ q less is. elim (cases_lt q place) [
-      | inl before ↦ passes_before q before is
+      | inl before ↦ passes-before q before is
       | inr after_it ↦ elim (cases_eq q place) [
-        | inl e ↦ subst (Passes image table_more) (sym e) passes_here
+        | inl e ↦ subst (Passes image table_more) (sym e) passes-here
         | inr ne ↦ absurd (let past : next ≤ q =
-            none_between image.code number is.1.0 place q instr next numbered here is.1.1
+            none-between image.code number is.1.0 place q instr next numbered here is.1.1
             (omega arith) in omega arith)
       ]
     ];
@@ -410,24 +410,24 @@ module _ (image : Image) (place : ℕ) (instr : Instr) (next : ℕ) (come : Plai
 
   abbrev pub standing_more : Standing image next new
   standing_more =
-      record { table = table_more; front = front_more; framed = framed_more; places = places_more }
+      record { table = table_more; front = front-more; framed = framed-more; places = places-more }
 
 -- ---- the first place alone is to come
 
-pub empty_front : (image : Image) → IsFront image (λ q. None) 0
-empty_front image = record {
+pub empty-front : (image : Image) → IsFront image (λ q. None) 0
+empty-front image = record {
   only = λ q kinds is. absurd cc;
   joined = λ q kinds is. absurd cc;
   passes = λ q less is. absurd (omega arith);
 }
 
-pub nothing_from : (image : Image) (q : ℕ) (kinds : List CellKind) → (q ≡ 0 → ⊥)
+pub nothing-from : (image : Image) (q : ℕ) (kinds : List CellKind) → (q ≡ 0 → ⊥)
     → Comes image (λ p. None) 0 q kinds → ⊥
-nothing_from image q kinds ne c =
+nothing-from image q kinds ne c =
     elim c [ inl e ↦ ne e.0 | inr d ↦ (let less : d.0 < 0 = d.1 in omega arith) ]
 
-pub joined_first : (image : Image) → IsJoin image (λ p. None) 0 0 []
-joined_first image = record {
+pub joined-first : (image : Image) → IsJoin image (λ p. None) 0 0 []
+joined-first image = record {
   some = ([], inl (refl, refl));
   above = λ others c. elim c [
     | inl e ↦ subst (λ (k : List CellKind). AreWithin k []) (sym e.1) tt
@@ -441,16 +441,16 @@ abbrev pub standing_first : (image : Image) (frames : PlainFrames) (come : Plain
     → ((q : ℕ) → (q ≡ 0 → ⊥) → frames q ≡ None) → Standing image 0 frames
 standing_first image frames come some is empty none = record {
   table = λ q. None;
-  front = empty_front image;
+  front = empty-front image;
   framed = λ q h. elim (cases_eq q 0) [
     | inl e ↦ subst (Framed image (λ p. None) 0 q) (sym (ap frames e ∙ is))
         (subst (λ (p : ℕ). IsJoin image (λ r. None) 0 p come.kinds) (sym e)
-        (subst (IsJoin image (λ r. None) 0 0) (sym empty) (joined_first image)))
+        (subst (IsJoin image (λ r. None) 0 0) (sym empty) (joined-first image)))
     | inr ne ↦ subst (Framed image (λ p. None) 0 q) (sym (none q ne))
-        (λ kinds c. nothing_from image q kinds ne c)
+        (λ kinds c. nothing-from image q kinds ne c)
   ];
   places = λ q m h here. elim (cases_eq q 0) [
     | inl e ↦ subst (IsPlace image.code) (sym e) (some, (0, refl))
-    | inr ne ↦ absurd (not_both (frames q) m (none q ne) here)
+    | inr ne ↦ absurd (not-both (frames q) m (none q ne) here)
   ];
 }

@@ -13,34 +13,34 @@ use Rattle.il_verify.specs.declared.slots.SlotType.{SlotType}
 use Rattle.il_verify.specs.Frames.{Clashing, Jumps, JumpsWrong, PlainFrame, PlainFrames, MarksPlaces}
 use Rattle.il_verify.specs.Judging.{fault_of}
 use Rattle.il_verify.specs.Slots.{slots_of, types_of}
-use Rattle.il_verify.proofs.EffectLemmas.{some_same}
-use Rattle.il_verify.proofs.WithinLemmas.{within_length}
+use Rattle.il_verify.proofs.EffectLemmas.{some-same}
+use Rattle.il_verify.proofs.WithinLemmas.{within-length}
 
-pub fault_there : (image : Image) (slots : List SlotType) (timers : ℕ) (instr : Instr)
+pub fault-there : (image : Image) (slots : List SlotType) (timers : ℕ) (instr : Instr)
     (kinds : List CellKind) (o : Option VerifyFault) → slots ≡ slots_of image
     → timers ≡ length image.timers → fault_of slots timers instr kinds ≡ o
     → fault_of (slots_of image) (length image.timers) instr kinds ≡ o
-fault_there image slots timers instr kinds o e f is =
+fault-there image slots timers instr kinds o e f is =
     sym (ap (λ (s : List SlotType). fault_of s timers instr kinds) e
     ∙ ap (λ (n : ℕ). fault_of (slots_of image) n instr kinds) f) ∙ is
 
-pub effect_so : (image : Image) (slots : List SlotType) (timers : ℕ) (instr : Instr)
+pub effect-so : (image : Image) (slots : List SlotType) (timers : ℕ) (instr : Instr)
     (kinds : List CellKind) (o : Option (List CellKind)) → slots ≡ slots_of image
     → timers ≡ length image.timers → effect (types_of slots) timers instr kinds ≡ o
     → effect (types_of (slots_of image)) (length image.timers) instr kinds ≡ o
-effect_so image slots timers instr kinds o e f is =
+effect-so image slots timers instr kinds o e f is =
     sym (ap (λ (s : List SlotType). effect (types_of s) timers instr kinds) e
     ∙ ap (λ (n : ℕ). effect (types_of (slots_of image)) n instr kinds) f) ∙ is
 
 -- A clash after the jump was one before it: what the jump brought has as many kinds.
-pub clash_before : (instr : Instr) (next : ℕ) (come : PlainFrame) (old mid : PlainFrames)
+pub clash-before : (instr : Instr) (next : ℕ) (come : PlainFrame) (old mid : PlainFrames)
     → Jumps instr next come old mid → Clashing (mid next) come.kinds
     → Clashing (old next) come.kinds
-clash_before instr next come old mid jumps clash = elim (jumps next) [
+clash-before instr next come old mid jumps clash = elim (jumps next) [
   | inl c ↦
-      absurd (let same : c.1.0 ≡ clash.0 = some_same c.1.0 clash.0 (sym c.1.1 ∙ clash.1) in
+      absurd (let same : c.1.0 ≡ clash.0 = some-same c.1.0 clash.0 (sym c.1.1 ∙ clash.1) in
       clash.2 (ap (λ (m : PlainFrame). length m.kinds) (sym same)
-      ∙ sym (within_length come.kinds c.1.0.kinds c.1.2.over)))
+      ∙ sym (within-length come.kinds c.1.0.kinds c.1.2.over)))
   | inr c ↦ (clash.0, sym c.1 ∙ clash.1, clash.2)
 ]
 

@@ -49,9 +49,9 @@ operands (Timer LoadOutput n) = 0
 operands (Timer LoadElapsed n) = 0
 
 -- the instruction that takes the same, but any divisor
-abbrev pub undivided : Instr → Instr
-undivided (Compute o w) = Compute Add w
-undivided other = other
+abbrev pub without_divisor : Instr → Instr
+without_divisor (Compute o w) = Compute Add w
+without_divisor other = other
 
 -- the kinds behind an instruction, where it is allowed on these
 abbrev pub effect_on : List SlotType → ℕ → List CellKind → Instr → Option (List CellKind)
@@ -67,7 +67,7 @@ unfit (Some with_any) (Some actual) = None
 -- the fault of the kinds that the instruction takes or looks at
 abbrev pub misfit : List SlotType → ℕ → Instr → List CellKind → Option VerifyFault
 misfit slots timers i kinds =
-    unfit (effect_on slots timers kinds (undivided i)) (effect_on slots timers kinds i)
+    unfit (effect_on slots timers kinds (without_divisor i)) (effect_on slots timers kinds i)
 
 -- what the contracts of the code's parts cite: a BOOL, and an operation of two numbers
 abbrev pub truth : CellKind

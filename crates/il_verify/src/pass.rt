@@ -43,7 +43,7 @@ fn is_halt(instr: Instr) -> bool
 
 // The budget after a place, which may be a HALT.
 fn raised(halts: bool, longest: u32, budget: u32) -> u32
-    ensures { result ≡ spec.raised halts longest budget }
+    ensures { result ≡ spec.raised_budget halts longest budget }
 {
     if halts { longest.max(budget) } else { budget }
 }

@@ -1,7 +1,7 @@
 use Rattle.std.proofs.Common.{◌≡◌, ◌+◌, length, pos, refl}
 use Rattle.bay_ber.specs.Writing.{element, element_length, integer_octets}
 use Rattle.bay_mms.specs.Tags.{int_tag}
-use Rattle.bay_assoc.proofs.FrontLemmas.{front_is}
+use Rattle.bay_assoc.proofs.FrontLemmas.{front-is}
 use Rattle.bay_assoc.proofs.front.front.Goals as goal
 
 pub returns-clause-text : goal.returns-clause-text
@@ -20,5 +20,5 @@ returns-clause-text c value counted =
       c.push.ensures.items,
       c.new-out.ensures,
     )
-    (front_is c.args.id c.args.count (c.id_length.result + c.element_length.result)
+    (front-is c.args.id c.args.count (c.id_length.result + c.element_length.result)
     c.element_length-listed.result value counted carried c.element_length-listed.ensures)

@@ -1,11 +1,11 @@
 use Rattle.std.proofs.Common.{arith}
-use Rattle.bay_assoc.proofs.FrontLemmas.{header_one, header_two, header_three}
+use Rattle.bay_assoc.proofs.FrontLemmas.{header-one, header-two, header-three}
 use Rattle.bay_assoc.proofs.front.push_header.Goals as goal
 
 pub returns-in-0-to-127-clause-text : goal.returns-in-0-to-127-clause-text
 returns-in-0-to-127-clause-text c =
     rw (c.push-in-0-to-127.ensures.items, c.push.ensures.items)
-    (header_one c.args.out.now.items c.args.identifier c.args.count (omega arith))
+    (header-one c.args.out.now.items c.args.identifier c.args.count (omega arith))
 
 pub returns-in-128-to-255-clause-text : goal.returns-in-128-to-255-clause-text
 returns-in-128-to-255-clause-text c =
@@ -13,7 +13,7 @@ returns-in-128-to-255-clause-text c =
       c.push-in-128-to-255-2.ensures.items,
       c.push-in-128-to-255.ensures.items,
       c.push.ensures.items,
-    ) (header_two c.args.out.now.items c.args.identifier c.args.count
+    ) (header-two c.args.out.now.items c.args.identifier c.args.count
     (omega arith) (omega arith))
 
 pub returns-in_default-clause-text : goal.returns-in_default-clause-text
@@ -24,5 +24,5 @@ returns-in_default-clause-text c =
       c.push-in_default.ensures.items,
       c.push.ensures.items,
     )
-    (header_three c.args.out.now.items c.args.identifier c.args.count (omega arith)
+    (header-three c.args.out.now.items c.args.identifier c.args.count (omega arith)
     (omega arith))

@@ -1,12 +1,12 @@
-use Rattle.bay_assoc.proofs.HearingBackLemmas.{heard_is_spelled}
-use Rattle.bay_assoc.proofs.HearingLemmas.{heard_so, one_way}
+use Rattle.bay_assoc.proofs.HearingBackLemmas.{heard-is-spelled}
+use Rattle.bay_assoc.proofs.HearingLemmas.{heard-so, one-way}
 use Rattle.bay_assoc.proofs.laws.one_hearing.Goals as goal
 
 pub returns-clause-heard : goal.returns-clause-heard
-returns-clause-heard c = heard_so
+returns-clause-heard c = heard-so
 
 pub returns-clause-one : goal.returns-clause-one
-returns-clause-one c = one_way
+returns-clause-one c = one-way
 
 pub returns-clause-spelled : goal.returns-clause-spelled
-returns-clause-spelled c = heard_is_spelled
+returns-clause-spelled c = heard-is-spelled

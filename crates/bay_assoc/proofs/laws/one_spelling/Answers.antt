@@ -1,15 +1,15 @@
-use Rattle.bay_assoc.proofs.SpduLemmas.{spdu_again}
-use Rattle.bay_assoc.proofs.ValueLemmas.{user_read, request_read, associate_read}
+use Rattle.bay_assoc.proofs.SpduLemmas.{spdu-again}
+use Rattle.bay_assoc.proofs.ValueLemmas.{user-read, request-read, associate-read}
 use Rattle.bay_assoc.proofs.laws.one_spelling.Goals as goal
 
 pub returns-clause-spdu : goal.returns-clause-spdu
-returns-clause-spdu c = spdu_again
+returns-clause-spdu c = spdu-again
 
 pub returns-clause-user : goal.returns-clause-user
-returns-clause-user c = user_read
+returns-clause-user c = user-read
 
 pub returns-clause-request : goal.returns-clause-request
-returns-clause-request c = request_read
+returns-clause-request c = request-read
 
 pub returns-clause-associate : goal.returns-clause-associate
-returns-clause-associate c = associate_read
+returns-clause-associate c = associate-read

@@ -1,7 +1,7 @@
 use Rattle.std.proofs.Common.{◌≡◌, ◌∙◌, Some, is_none, ap, option_map}
-use Rattle.bay_ber.proofs.SheetLemmas.{short_message}
+use Rattle.bay_ber.proofs.SheetLemmas.{short-message}
 use Rattle.bay_assoc.specs.Texts.{connected_text}
-use Rattle.bay_assoc.proofs.TextLemmas.{at_most_16, connected_short}
+use Rattle.bay_assoc.proofs.TextLemmas.{at_most_16, connected-short}
 use Rattle.bay_assoc.proofs.text.connected.Goals as goal
 
 pub finish_held-requires : goal.finish_held-requires
@@ -10,10 +10,10 @@ finish_held-requires c =
     connected_text (option_map (λ octets. octets.now) c.args.called) c.args.contexts.now
     c.args.accepted c.args.value.now in
     let few =
-    connected_short (option_map (λ octets. octets.now) c.args.called) c.args.contexts.now
+    connected-short (option_map (λ octets. octets.now) c.args.called) c.args.contexts.now
     c.args.accepted c.args.value.now
     (at_most_16 c.args.called c.requires.selector) c.requires.contexts c.requires.short in
-    ap is_none (short_message 560 text c.in_ok-writer.writer _ c.in_ok-writer.ensures
+    ap is_none (short-message 560 text c.in_ok-writer.writer _ c.in_ok-writer.ensures
     c.put_connected.ensures few)
 
 pub returns-clause-text : goal.returns-clause-text
@@ -22,11 +22,11 @@ returns-clause-text c =
     connected_text (option_map (λ octets. octets.now) c.args.called) c.args.contexts.now
     c.args.accepted c.args.value.now in
     let few =
-    connected_short (option_map (λ octets. octets.now) c.args.called) c.args.contexts.now
+    connected-short (option_map (λ octets. octets.now) c.args.called) c.args.contexts.now
     c.args.accepted c.args.value.now
     (at_most_16 c.args.called c.requires.selector) c.requires.contexts c.requires.short in
     let is : Some c.finish_held.result ≡ Some text =
-    c.finish_held.ensures ∙ short_message 560 text c.in_ok-writer.writer _ c.in_ok-writer.ensures
+    c.finish_held.ensures ∙ short-message 560 text c.in_ok-writer.writer _ c.in_ok-writer.ensures
     c.put_connected.ensures few in
     cc
 
@@ -36,11 +36,11 @@ returns-clause-few c =
     connected_text (option_map (λ octets. octets.now) c.args.called) c.args.contexts.now
     c.args.accepted c.args.value.now in
     let few =
-    connected_short (option_map (λ octets. octets.now) c.args.called) c.args.contexts.now
+    connected-short (option_map (λ octets. octets.now) c.args.called) c.args.contexts.now
     c.args.accepted c.args.value.now
     (at_most_16 c.args.called c.requires.selector) c.requires.contexts c.requires.short in
     let is : Some c.finish_held.result ≡ Some text =
-    c.finish_held.ensures ∙ short_message 560 text c.in_ok-writer.writer _ c.in_ok-writer.ensures
+    c.finish_held.ensures ∙ short-message 560 text c.in_ok-writer.writer _ c.in_ok-writer.ensures
     c.put_connected.ensures few in
     let same : c.finish_held.result ≡ text = cc in
     rw same few

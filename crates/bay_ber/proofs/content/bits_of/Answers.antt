@@ -1,19 +1,19 @@
-use Rattle.bay_ber.proofs.ContentLemmas.{whole_content, bits_only, bits_err, bits_exact}
+use Rattle.bay_ber.proofs.ContentLemmas.{whole-content, bits-only, bits-err, bits-exact}
 use Rattle.bay_ber.proofs.content.bits_of.Goals as goal
 
 pub returns-in-len1-up-clause-only : goal.returns-in-len1-up-clause-only
 returns-in-len1-up-clause-only c =
-    bits_only _ _ _ c.bits_behind.result
-    (whole_content c.args.content.now c.in-len1-up.len_at_least) c.bits_behind.ensures.ok
+    bits-only _ _ _ c.bits_behind.result
+    (whole-content c.args.content.now c.in-len1-up.len_at_least) c.bits_behind.ensures.ok
     c.bits_behind.ensures.err
 
 pub returns-in-len1-up-clause-err : goal.returns-in-len1-up-clause-err
 returns-in-len1-up-clause-err c =
-    bits_err _ _ _ c.bits_behind.result (whole_content c.args.content.now c.in-len1-up.len_at_least)
+    bits-err _ _ _ c.bits_behind.result (whole-content c.args.content.now c.in-len1-up.len_at_least)
     c.bits_behind.ensures.err
 
 pub returns-in-len1-up-clause-exact : goal.returns-in-len1-up-clause-exact
 returns-in-len1-up-clause-exact c =
-    bits_exact _ _ _ c.bits_behind.result
-    (whole_content c.args.content.now c.in-len1-up.len_at_least) c.bits_behind.ensures.ok
+    bits-exact _ _ _ c.bits_behind.result
+    (whole-content c.args.content.now c.in-len1-up.len_at_least) c.bits_behind.ensures.ok
     c.bits_behind.ensures.err

@@ -4,7 +4,7 @@ use Rattle.toml.specs.View.{table_view, items_view}
 use Rattle.bay_config.specs.Section.{tables_of}
 use Rattle.bay_config.specs.Bay.{name_in}
 use Rattle.bay_config.proofs.NameLemmas.{name_check}
-use Rattle.bay_config.proofs.ListLemmas.{after, read_all, turn_none, turn_some, turn_refused}
+use Rattle.bay_config.proofs.ListLemmas.{after, read_all, turn-none, turn-some, turn-refused}
 use Rattle.bay_config.proofs.names.names_from.Goals.{in-Some+in_ok-name+in_ok-push, in_default}
 use Rattle.bay_config.proofs.names.names_from.Goals as goal
 
@@ -17,7 +17,7 @@ returns-in_err-name c =
       | inl m ↦ inl m
       | inr read ↦
           inr (c.loop-i.invariant
-          ∙ turn_refused (name_check c.args.which) (name_in c.args.which) vs c.loop-i.i
+          ∙ turn-refused (name_check c.args.which) (name_in c.args.which) vs c.loop-i.i
           c.index-values-i.result c.loop-i.names.items (table_view c.in-Some.table.now)
           c.in_err-name.field-0.0 h c.index-values-i.is c.in-Some.ensures read)
     ])
@@ -32,7 +32,7 @@ loop-i-preserved c =
     elim c.match-as_table.branch [
       | in-Some+in_ok-name+in_ok-push w ↦
           c.loop-i.invariant
-          ∙ turn_some (name_check c.args.which) (name_in c.args.which) vs i v done
+          ∙ turn-some (name_check c.args.which) (name_in c.args.which) vs i v done
           (table_view w.in-Some.table.now) w.in_ok-name.name h c.index-values-i.is
           w.in-Some.ensures w.in_ok-name.ensures
           ∙ ap (λ d. after d (read_all (name_check c.args.which) (name_in c.args.which)
@@ -40,7 +40,7 @@ loop-i-preserved c =
           (sym (ap (λ s. s.items) w.names-is ∙ w.in_ok-push.ensures.items))
       | in_default w ↦
           c.loop-i.invariant
-          ∙ turn_none (name_check c.args.which) (name_in c.args.which) vs i v done h
+          ∙ turn-none (name_check c.args.which) (name_in c.args.which) vs i v done h
           c.index-values-i.is w.in_default.ensures
           ∙ ap (λ s. after s.items
           (read_all (name_check c.args.which) (name_in c.args.which)

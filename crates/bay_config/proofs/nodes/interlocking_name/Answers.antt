@@ -1,7 +1,7 @@
 use Rattle.std.proofs.Common.{rules}
-use Rattle.bay_config.proofs.NamedLemmas.{names_interlocking}
+use Rattle.bay_config.proofs.NamedLemmas.{names-interlocking}
 use Rattle.bay_config.proofs.nodes.interlocking_name.Goals as goal
 
 pub returns : goal.returns
 returns c =
-    names_interlocking c.args.bay.now c.args.place c.in_ok-name.name c.requires (search rules)
+    names-interlocking c.args.bay.now c.args.place c.in_ok-name.name c.requires (search rules)

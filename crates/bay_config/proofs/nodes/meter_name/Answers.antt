@@ -1,6 +1,6 @@
 use Rattle.std.proofs.Common.{rules}
-use Rattle.bay_config.proofs.NamedLemmas.{names_meter}
+use Rattle.bay_config.proofs.NamedLemmas.{names-meter}
 use Rattle.bay_config.proofs.nodes.meter_name.Goals as goal
 
 pub returns : goal.returns
-returns c = names_meter c.args.bay.now c.args.place c.in_ok-name.name c.requires (search rules)
+returns c = names-meter c.args.bay.now c.args.place c.in_ok-name.name c.requires (search rules)

@@ -1,5 +1,5 @@
 use Rattle.std.proofs.Common.{◌∙◌, ap, get_or, rules}
-use Rattle.bay_config.proofs.NamedLemmas.{get-at, names_position}
+use Rattle.bay_config.proofs.NamedLemmas.{get-at, names-position}
 use Rattle.bay_config.proofs.nodes.node_name.Goals as goal
 
 pub returns : goal.returns
@@ -8,5 +8,5 @@ returns c =
     let at =
     c.index-switches-place.is
     ∙ ap (λ ss. get_or ss c.args.place s) c.as_slice-switches.ensures in
-    names_position c.args.bay.now c.args.place s c.in_ok-name.name
+    names-position c.args.bay.now c.args.place s c.in_ok-name.name
     (get-at c.args.bay.now.switches c.args.place s c.requires at) (search rules)

@@ -1,20 +1,20 @@
 use Rattle.std.proofs.Common.{rules}
 use Rattle.toml.specs.View.{table_view}
-use Rattle.bay_config.proofs.BayLemmas.{by_parts}
-use Rattle.bay_config.proofs.LawLemmas.{bay_is_sound}
+use Rattle.bay_config.proofs.BayLemmas.{by-parts}
+use Rattle.bay_config.proofs.LawLemmas.{bay-is-sound}
 use Rattle.bay_config.proofs.read.bay_from.Goals as goal
 
 pub returns-in_err-sections-clause-read : goal.returns-in_err-sections-clause-read
-returns-in_err-sections-clause-read c = rw (by_parts (table_view c.args.file.now)) (search rules)
+returns-in_err-sections-clause-read c = rw (by-parts (table_view c.args.file.now)) (search rules)
 
 pub returns-in_err-lists-clause-read : goal.returns-in_err-lists-clause-read
-returns-in_err-lists-clause-read c = rw (by_parts (table_view c.args.file.now)) (search rules)
+returns-in_err-lists-clause-read c = rw (by-parts (table_view c.args.file.now)) (search rules)
 
 pub returns-clause-read : goal.returns-clause-read
 returns-clause-read c =
-    rw (by_parts (table_view c.args.file.now), c.bay_with.ensures) (search rules)
+    rw (by-parts (table_view c.args.file.now), c.bay_with.ensures) (search rules)
 
 pub returns-clause-sound : goal.returns-clause-sound
 returns-clause-sound c =
-    bay_is_sound (table_view c.args.file.now) _
-    (rw (by_parts (table_view c.args.file.now), c.bay_with.ensures) (search rules))
+    bay-is-sound (table_view c.args.file.now) _
+    (rw (by-parts (table_view c.args.file.now), c.bay_with.ensures) (search rules))

@@ -4,7 +4,7 @@ use Rattle.toml.specs.View.{table_view, items_view}
 use Rattle.bay_config.specs.Section.{tables_of}
 use Rattle.bay_config.specs.Switch.{switch_in}
 use Rattle.bay_config.proofs.SwitchLemmas.{switch_check}
-use Rattle.bay_config.proofs.ListLemmas.{after, read_all, turn_none, turn_some, turn_refused}
+use Rattle.bay_config.proofs.ListLemmas.{after, read_all, turn-none, turn-some, turn-refused}
 use Rattle.bay_config.proofs.switches.switches_from.Goals.{in-Some+in_ok-switch+in_ok-push, in_default}
 use Rattle.bay_config.proofs.switches.switches_from.Goals as goal
 
@@ -17,7 +17,7 @@ returns-in_err-switch c =
       | inl m ↦ inl m
       | inr read ↦
           inr (c.loop-i.invariant
-          ∙ turn_refused switch_check switch_in vs c.loop-i.i c.index-values-i.result
+          ∙ turn-refused switch_check switch_in vs c.loop-i.i c.index-values-i.result
           c.loop-i.switches.items (table_view c.in-Some.table.now) c.in_err-switch.field-0.0 h
           c.index-values-i.is c.in-Some.ensures read)
     ])
@@ -32,14 +32,14 @@ loop-i-preserved c =
     elim c.match-as_table.branch [
       | in-Some+in_ok-switch+in_ok-push w ↦
           c.loop-i.invariant
-          ∙ turn_some switch_check switch_in vs i v done (table_view w.in-Some.table.now)
+          ∙ turn-some switch_check switch_in vs i v done (table_view w.in-Some.table.now)
           w.in_ok-switch.switch h c.index-values-i.is w.in-Some.ensures w.in_ok-switch.ensures
           ∙ ap (λ d. after d (read_all switch_check switch_in
           (tables_of (items_view (drop (i + 1) vs)))))
           (sym (ap (λ s. s.items) w.switches-is ∙ w.in_ok-push.ensures.items))
       | in_default w ↦
           c.loop-i.invariant
-          ∙ turn_none switch_check switch_in vs i v done h c.index-values-i.is w.in_default.ensures
+          ∙ turn-none switch_check switch_in vs i v done h c.index-values-i.is w.in_default.ensures
           ∙ ap (λ s. after s.items
           (read_all switch_check switch_in (tables_of (items_view (drop (i + 1) vs)))))
           (sym w.switches-is)

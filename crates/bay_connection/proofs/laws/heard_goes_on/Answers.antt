@@ -1,8 +1,8 @@
-use Rattle.bay_connection.proofs.GoingLemmas.{heard_going, nothing_going}
+use Rattle.bay_connection.proofs.GoingLemmas.{heard-going, nothing-going}
 use Rattle.bay_connection.proofs.laws.heard_goes_on.Goals as goal
 
 pub returns-clause-quiet : goal.returns-clause-quiet
-returns-clause-quiet c = nothing_going
+returns-clause-quiet c = nothing-going
 
 pub returns-clause-heard : goal.returns-clause-heard
-returns-clause-heard c = heard_going
+returns-clause-heard c = heard-going

@@ -8,7 +8,7 @@ use Rattle.bay_process.proofs.ToldLemmas.{none-told}
 use Rattle.bay_process.specs.Controls.{HaveSelected}
 use Rattle.bay_process.specs.Layout.{Layout, layout_of, meters_of, switches_of}
 use Rattle.bay_process.specs.declared.switch.BoundSwitch.{BoundSwitch}
-use Rattle.bay_services.specs.Bay.{shown}
+use Rattle.bay_services.specs.Bay.{rows_shown}
 use Rattle.bay_services.specs.Bay as services
 use Rattle.bay_services.specs.Places.{ArePlaced}
 use Rattle.bay_tree.specs.declared.row.Row.{Row}
@@ -93,9 +93,9 @@ returns c =
     c.args.writes.now _ c.in_ok-bound.bound.switches.items named sized taken did.of_switches in
     let count : c.len.result ≡ length bay.switches =
     omega (arith, c.len.ensures, c.in_ok-bound.bound.switches.ok, f.sized) in
-    let shows : c.shown_rows.new.tree ≡ shown None (length bay.switches) bay.rows =
-    c.in_ok-control_rows.ensures.rows ∙ ap (λ n. shown None n c.in_ok-bound.bound.tree) count
-    ∙ ap (shown None (length bay.switches))
+    let shows : c.shown_rows.new.tree ≡ rows_shown None (length bay.switches) bay.rows =
+    c.in_ok-control_rows.ensures.rows ∙ ap (λ n. rows_shown None n c.in_ok-bound.bound.tree) count
+    ∙ ap (rows_shown None (length bay.switches))
     (did.tree ∙ rw c.deref_mut.ensures.value at c.take_items-rows.ensures.value) in
     let seen : Bay → services.Bay =
     λ b. record {
@@ -117,7 +117,7 @@ returns c =
           record (seen bay) { switches = bay.switches; rows = rs } in b) shows
           ∙ ap (λ (cs : control.State). let b : services.Bay = record (seen bay) {
             switches = bay.switches;
-            rows = shown None (length bay.switches) bay.rows;
+            rows = rows_shown None (length bay.switches) bay.rows;
             controls = cs;
           } in b) (rw c.deref-2.ensures at c.new-controls.ensures);
       age = ap (λ (b : Bay). b.scan_max_age_ms) c.into_inner-domain.ensures

@@ -3,7 +3,7 @@ use Rattle.std.proofs.lemmas.Result.{err_from_is_err_and}
 use Rattle.il_image.specs.Images.{Image}
 use Rattle.il_check.specs.Program.{Checked}
 use Rattle.il_check.specs.ProgramViews.{checked_view}
-use Rattle.il_check.proofs.TypedLemmas.{typed_of}
+use Rattle.il_check.proofs.TypedLemmas.{typed-of}
 use Rattle.il_compile.specs.Correct.{DoesTheText}
 use Rattle.il_verify.specs.Verdicts.{IsVerified}
 use Rattle.il_laws.proofs.Fits.{verified}
@@ -19,12 +19,13 @@ returns-in_err-verified-clause-device c =
     let program : Checked = checked_view c.args.typed in
     let fits : IsVerified bay.points c.in_ok-image.image =
     verified bay.points c.requires.checked.0 program c.requires.checked.1
-    (typed_of bay.points c.requires.checked.0 program c.requires.checked.1) c.in_ok-image.image
+    (typed-of bay.points c.requires.checked.0 program c.requires.checked.1) c.in_ok-image.image
     c.in_ok-image.ensures.image in
     let p = err_from_is_err_and c.from_residual-in_err-verified.result
     c.from_residual-in_err-verified.ensures.1 in
     rw (p.1, p.2)
-    (inl (only-memory _ (λ m. c.in_err-verified.ensures.exact m (rw (c.as_slice.ensures, c.deref.ensures) fits))))
+    (inl (only-memory _ (λ m. c.in_err-verified.ensures.exact m
+    (rw (c.as_slice.ensures, c.deref.ensures) fits))))
 
 pub returns-clause-runs : goal.returns-clause-runs
 returns-clause-runs c =

@@ -1,11 +1,11 @@
-use Rattle.il_image.specs.Decoding.{decoded}
+use Rattle.il_image.specs.Decoding.{image_spelled}
 use Rattle.bay_device.proofs.IdleLemmas.{image-loaded, image-timed, loaded-idle}
 use Rattle.bay_device.proofs.TravelLemmas.{bay-travels}
 use Rattle.bay_device.proofs.load.load_image.Goals as goal
 
 pub returns-clause-loaded : goal.returns-clause-loaded
 returns-clause-loaded c =
-    image-loaded c.in_ok-boxed.boxed.value (decoded c.args.image.now) c.load_octets.result
+    image-loaded c.in_ok-boxed.boxed.value (image_spelled c.args.image.now) c.load_octets.result
     c.load_octets.ensures.ok
 
 pub returns-clause-idle : goal.returns-clause-idle
@@ -13,7 +13,7 @@ returns-clause-idle c = loaded-idle c.load_octets.result (returns-clause-loaded 
 
 pub returns-clause-timed : goal.returns-clause-timed
 returns-clause-timed c =
-    image-timed c.in_ok-boxed.boxed.value (decoded c.args.image.now) c.load_octets.result
+    image-timed c.in_ok-boxed.boxed.value (image_spelled c.args.image.now) c.load_octets.result
     (rw c.in_ok-boxed.ensures.ok
     (bay-travels c.args.bay.now c.in_ok-read.read c.in_ok-read.ensures.read))
     c.load_octets.ensures.ok

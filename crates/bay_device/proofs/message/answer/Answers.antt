@@ -1,6 +1,6 @@
 use Rattle.std.proofs.Common.{◌++◌, map, ap, ◌∙◌}
 use Rattle.bay_connection.specs.Talk.{Terms, sending, terms_of}
-use Rattle.bay_services.specs.Answers.{Answered, answered}
+use Rattle.bay_services.specs.Answers.{Answered, pdu_answer}
 use Rattle.bay_services.specs.Views.{bay_view}
 use Rattle.bay_device.specs.Device.{State, bay_of}
 use Rattle.bay_device.specs.Hearing.{due_if, later_due, sent_on}
@@ -60,7 +60,7 @@ returns-clause-ok c connections =
     let s : State = state_view connections d in
     let a = c.args.client.association in
     let terms : Terms = terms_of c.args.connection.now.talk in
-    let x : Answered = answered c.args.client c.args.connection.now.pdu (bay_of s) in
+    let x : Answered = pdu_answer c.args.client c.args.connection.now.pdu (bay_of s) in
     let answered-as = rw c.pdu.ensures at c.in_ok-answer.ensures.ok in
     let did = c.in_ok-due.ensures in
     answered-done a terms x s c.args.made.now.sent.items c.reply.new.made.sent.items

@@ -2,7 +2,7 @@ use Rattle.std.proofs.Common.{◌≡◌, Bool, ℕ, length, take, ap, ◌∙◌,
 use Rattle.bay_assoc.specs.Hears.{association_terms}
 use Rattle.bay_connection.specs.Talk.{Terms, terms_of}
 use Rattle.bay_control.specs.Decisions as control
-use Rattle.bay_services.specs.Answers.{answered}
+use Rattle.bay_services.specs.Answers.{pdu_answer}
 use Rattle.bay_services.specs.Views.{bay_view}
 use Rattle.bay_services.specs.declared.client.Client.{Client}
 use Rattle.bay_device.specs.Device.{State, bay_of}
@@ -22,7 +22,8 @@ invariant_of-state c =
       metered = rw did.layout d.metered;
       told_stands =
           told-with (bay_view d.bay) (bay_view c.restore.new.self)
-          (control.restored c.standing-before.result d.bay.controls) d.told d.told_stands did.after;
+          (control.with_standing c.standing-before.result d.bay.controls) d.told d.told_stands
+          did.after;
       told_sized = rw did.switches d.told_sized;
       tabled = rw did.switches d.tabled;
       typed = d.typed;
@@ -62,12 +63,12 @@ returns-else-is_err-clause-ok c =
     let s : State = state_view connections d in
     ok connections
     ∙ ap (λ (n : ℕ). answered_with a terms
-    (answered (let x : Client =
+    (pdu_answer (let x : Client =
     record { association = a; size = n; now = c.args.now; fresh = c.is_fresh.result } in x) pdu
     (bay_of s)) (done_of s c.args.made.now))
     (size-is (association_terms talk.phase) c.pdu_size.result c.requires c.pdu_size.ensures.size)
     ∙ ap (λ (f : Bool). answered_with a terms
-    (answered (let x : Client =
+    (pdu_answer (let x : Client =
     record {
       association = a;
       size = size_of (association_terms talk.phase);

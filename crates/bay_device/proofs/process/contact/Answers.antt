@@ -4,7 +4,7 @@ use Rattle.bay_process.specs.Layout.{layout_of, switches_of}
 use Rattle.bay_process.specs.Values.{rows_after_contact, tells}
 use Rattle.bay_services.specs.Views.{bay_view}
 use Rattle.bay_services.proofs.ViewLemmas.{there}
-use Rattle.bay_services.proofs.PlaceLemmas.{rows_kept}
+use Rattle.bay_services.proofs.PlaceLemmas.{rows-kept}
 use Rattle.bay_device.proofs.ApartLemmas.{shows-contact}
 use Rattle.bay_device.proofs.ProcessLemmas.{named-there}
 use Rattle.bay_device.proofs.process.contact.Goals as goal
@@ -30,7 +30,7 @@ invariant_of-bay c =
     (d.placed k bound here).named in
     record {
       placed = rw did.layout d.placed;
-      controlled = rows_kept _ d.tree d.control_rows (sym did.layout) d.controlled;
+      controlled = rows-kept _ d.tree d.control_rows (sym did.layout) d.controlled;
       sized = d.sized;
       shows = rw written (shows-contact d.controls (length (switches_of d.switches))
           (switches_of d.switches) k bound.switch c.args.position c.args.now d.tree d.shows);

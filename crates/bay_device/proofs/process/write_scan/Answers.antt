@@ -1,7 +1,7 @@
 use Rattle.std.proofs.Common.{◌≡◌, sym, length}
 use Rattle.bay_process.specs.Layout.{layout_of, switches_of}
 use Rattle.bay_process.specs.Scans.{outputs_put}
-use Rattle.bay_services.proofs.PlaceLemmas.{rows_kept}
+use Rattle.bay_services.proofs.PlaceLemmas.{rows-kept}
 use Rattle.bay_device.proofs.ApartLemmas.{shows-scan}
 use Rattle.bay_device.proofs.process.write_scan.Goals as goal
 
@@ -17,7 +17,7 @@ invariant_of-bay c =
     rw c.as_slice.ensures at did.rows in
     record {
       placed = rw did.layout d.placed;
-      controlled = rows_kept _ d.tree d.control_rows (sym did.layout) d.controlled;
+      controlled = rows-kept _ d.tree d.control_rows (sym did.layout) d.controlled;
       sized = d.sized;
       shows = rw written (shows-scan d.controls (length (switches_of d.switches)) (layout_of d.tree)
           c.args.outputs.now c.args.now d.switches d.tree c.requires.interlocked d.shows);

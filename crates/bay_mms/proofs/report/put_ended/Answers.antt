@@ -1,7 +1,7 @@
 use Rattle.std.proofs.Common.{◌∙◌, List, ℕ, ap}
-use Rattle.bay_ber.specs.Sheets.{put}
+use Rattle.bay_ber.specs.Sheets.{sheet_with}
 use Rattle.bay_mms.specs.Reports.{variable_text, item_name, operate_text}
-use Rattle.bay_mms.proofs.ReportLemmas.{reported, ended_is}
+use Rattle.bay_mms.proofs.ReportLemmas.{reported, ended-is}
 use Rattle.bay_mms.proofs.report.put_ended.Goals as goal
 
 pub returns : goal.returns
@@ -17,5 +17,5 @@ returns c =
     c.open-results.ensures.start
     (rw c.context_constructed-3.ensures at c.open-results.ensures.tag)
     c.put_operate.ensures c.close.ensures c.close-2.ensures c.close-3.ensures
-    ∙ ap (λ (t : List ℕ). put c.args.writer.now t)
-    (ended_is c.args.domain.now c.args.item.now c.args.operate.now)
+    ∙ ap (λ (t : List ℕ). sheet_with c.args.writer.now t)
+    (ended-is c.args.domain.now c.args.item.now c.args.operate.now)

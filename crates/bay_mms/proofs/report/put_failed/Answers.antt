@@ -1,6 +1,6 @@
 use Rattle.std.proofs.Common.{◌∙◌, ◌++◌, List, ℕ, ap}
-use Rattle.bay_ber.specs.Sheets.{put}
-use Rattle.bay_ber.proofs.SheetLemmas.{put_twice}
+use Rattle.bay_ber.specs.Sheets.{sheet_with}
+use Rattle.bay_ber.proofs.SheetLemmas.{put-twice}
 use Rattle.bay_mms.specs.Reports.{variable_text, failure_name, item_name, failure_data, operate_text}
 use Rattle.bay_mms.proofs.ReportLemmas.{reported, failed_is}
 use Rattle.bay_mms.proofs.report.put_failed.Goals as goal
@@ -17,8 +17,8 @@ returns c =
     (rw c.context_constructed-2.ensures at c.open-information.ensures.tag) c.put_both_list.ensures
     c.open-results.ensures.start
     (rw c.context_constructed-3.ensures at c.open-results.ensures.tag)
-    (put_twice c.open-results.new.self c.put_failure.new.writer _ (failure_data c.args.failure.now)
+    (put-twice c.open-results.new.self c.put_failure.new.writer _ (failure_data c.args.failure.now)
     (operate_text c.args.operate.now) c.put_failure.ensures c.put_operate.ensures) c.close.ensures
     c.close-2.ensures c.close-3.ensures
-    ∙ ap (λ (t : List ℕ). put c.args.writer.now t)
+    ∙ ap (λ (t : List ℕ). sheet_with c.args.writer.now t)
     (failed_is c.args.failure.now c.args.domain.now c.args.item.now c.args.operate.now)

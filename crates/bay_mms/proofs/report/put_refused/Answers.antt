@@ -1,7 +1,7 @@
 use Rattle.std.proofs.Common.{◌∙◌, List, ℕ, ap}
-use Rattle.bay_ber.specs.Sheets.{put}
+use Rattle.bay_ber.specs.Sheets.{sheet_with}
 use Rattle.bay_mms.specs.Reports.{variable_text, failure_name, failure_data}
-use Rattle.bay_mms.proofs.ReportLemmas.{reported, refused_is}
+use Rattle.bay_mms.proofs.ReportLemmas.{reported, refused-is}
 use Rattle.bay_mms.proofs.report.put_refused.Goals as goal
 
 pub returns : goal.returns
@@ -18,4 +18,4 @@ returns c =
     c.open-results.ensures.start
     (rw c.context_constructed-3.ensures at c.open-results.ensures.tag)
     c.put_failure.ensures c.close.ensures c.close-2.ensures c.close-3.ensures
-    ∙ ap (λ (t : List ℕ). put c.args.writer.now t) (refused_is c.args.failure.now)
+    ∙ ap (λ (t : List ℕ). sheet_with c.args.writer.now t) (refused-is c.args.failure.now)

@@ -1,11 +1,11 @@
 use Rattle.std.proofs.Common.{arith}
 use Rattle.bay_ber.proofs.ReadLemmas.{IsBytes}
-use Rattle.bay_mms.proofs.AnswerLemmas.{answer_is, memory_taken}
+use Rattle.bay_mms.proofs.AnswerLemmas.{answer-is, memory-taken}
 use Rattle.bay_mms.proofs.request.read_request.Goals as goal
 
 pub returns : goal.returns
 returns c =
     let octets = c.args.octets.now in
     let bytes : IsBytes octets = λ i. omega (arith, c.type_inv.octets i) in
-    answer_is octets c.answer_to.result bytes c.answer_to.ensures.asked
-    (λ e. memory_taken octets bytes (c.answer_to.ensures.memory e))
+    answer-is octets c.answer_to.result bytes c.answer_to.ensures.asked
+    (λ e. memory-taken octets bytes (c.answer_to.ensures.memory e))

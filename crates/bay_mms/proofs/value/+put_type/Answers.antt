@@ -1,19 +1,19 @@
 use Rattle.std.proofs.Common.{◌∙◌, [], ◌∷◌, ◌++◌, refl, sym}
-use Rattle.bay_ber.specs.Sheets.{put}
+use Rattle.bay_ber.specs.Sheets.{sheet_with}
 use Rattle.bay_ber.specs.Writing.{element}
-use Rattle.bay_ber.proofs.SheetLemmas.{put-put, put_twice, open_value, long_value, is_open-put}
+use Rattle.bay_ber.proofs.SheetLemmas.{put-put, put-twice, open-value, long-value, is_open-put}
 use Rattle.bay_tree.specs.Names.{word_of}
 use Rattle.bay_tree.specs.Rows.{name_at}
 use Rattle.bay_mms.specs.Tags.{context, constructed, sequence}
 use Rattle.bay_mms.specs.Types.{type_text}
 use Rattle.bay_mms.specs.Nodes.{type_at}
-use Rattle.bay_mms.proofs.NodeLemmas.{nodes_types_text, component_text, parts_at, written_first, written_more, written_end, structure_type}
+use Rattle.bay_mms.proofs.NodeLemmas.{nodes_types_text, component_text, parts_at, written-first, written-more, written-end, structure-type}
 use Rattle.bay_mms.proofs.value.+put_type.Goals as goal
 
 pub loop-next-init : goal.loop-next-init
 loop-next-init t c =
-    written_first c.args.tree.now c.args.handle nodes_types_text 0xA1
-    (put c.args.writer.now (0xA2 ∷ 0 ∷ [])) _ c.below-next.result
+    written-first c.args.tree.now c.args.handle nodes_types_text 0xA1
+    (sheet_with c.args.writer.now (0xA2 ∷ 0 ∷ [])) _ c.below-next.result
     (rw (
       c.context_constructed-in-None.ensures,
       c.open-structure.ensures.tag,
@@ -23,7 +23,7 @@ loop-next-init t c =
 
 pub close-requires : goal.close-requires
 close-requires t c =
-    open_value c.octets.new.self _ _ (constructed 1) c.open-inner.result
+    open-value c.octets.new.self _ _ (constructed 1) c.open-inner.result
     (type_text (type_at c.args.tree.now c.in-Some-next.part)) c.open-inner.ensures.start
     (rw c.context_constructed-in-Some-next.ensures at c.open-inner.ensures.tag) c.put_type.ensures
 
@@ -33,12 +33,12 @@ close-requires-in-Some-next t c =
     let part = c.in-Some-next.part in
     let name = element (context 0) (word_of (name_at rows part)) in
     let type = type_text (type_at rows part) in
-    open_value c.loop-next.writer _ _ sequence c.open-component.result
+    open-value c.loop-next.writer _ _ sequence c.open-component.result
     (name ++ element (constructed 1) type) c.open-component.ensures.start
     (rw c.sequence.ensures at c.open-component.ensures.tag)
-    (put_twice c.open-component.new.self c.octets.new.self _ name (element (constructed 1) type)
+    (put-twice c.open-component.new.self c.octets.new.self _ name (element (constructed 1) type)
     (rw (c.context.ensures, c.as_bytes.ensures.value, c.word.ensures.word) at c.octets.ensures)
-    (long_value c.octets.new.self _ _ _ (constructed 1) c.open-inner.result type
+    (long-value c.octets.new.self _ _ _ (constructed 1) c.open-inner.result type
     c.open-inner.ensures.start
     (rw c.context_constructed-in-Some-next.ensures at c.open-inner.ensures.tag) c.put_type.ensures
     c.close.ensures))
@@ -49,15 +49,15 @@ loop-next-preserved t c =
     let part = c.in-Some-next.part in
     let name = element (context 0) (word_of (name_at rows part)) in
     let type = type_text (type_at rows part) in
-    written_more rows c.args.handle part nodes_types_text 0xA1
-    (put c.args.writer.now (0xA2 ∷ 0 ∷ [])) c.loop-next.writer _ (component_text rows part)
+    written-more rows c.args.handle part nodes_types_text 0xA1
+    (sheet_with c.args.writer.now (0xA2 ∷ 0 ∷ [])) c.loop-next.writer _ (component_text rows part)
     c.beside-next.result refl (rw c.in-Some-next.is at c.loop-next.invariant)
-    (long_value c.loop-next.writer _ _ _ sequence c.open-component.result
+    (long-value c.loop-next.writer _ _ _ sequence c.open-component.result
     (name ++ element (constructed 1) type) c.open-component.ensures.start
     (rw c.sequence.ensures at c.open-component.ensures.tag)
-    (put_twice c.open-component.new.self c.octets.new.self _ name (element (constructed 1) type)
+    (put-twice c.open-component.new.self c.octets.new.self _ name (element (constructed 1) type)
     (rw (c.context.ensures, c.as_bytes.ensures.value, c.word.ensures.word) at c.octets.ensures)
-    (long_value c.octets.new.self _ _ _ (constructed 1) c.open-inner.result type
+    (long-value c.octets.new.self _ _ _ (constructed 1) c.open-inner.result type
     c.open-inner.ensures.start
     (rw c.context_constructed-in-Some-next.ensures at c.open-inner.ensures.tag) c.put_type.ensures
     c.close.ensures))
@@ -66,9 +66,9 @@ loop-next-preserved t c =
 
 pub close-requires-in-None : goal.close-requires-in-None
 close-requires-in-None t c =
-    let front = put c.args.writer.now (0xA2 ∷ 0 ∷ []) in
+    let front = sheet_with c.args.writer.now (0xA2 ∷ 0 ∷ []) in
     let parts = nodes_types_text (parts_at c.args.tree.now c.args.handle) in
-    rw (written_end c.args.tree.now c.args.handle nodes_types_text 0xA1 front c.loop-next.writer
+    rw (written-end c.args.tree.now c.args.handle nodes_types_text 0xA1 front c.loop-next.writer
     refl (rw c.in_default.is at c.loop-next.invariant))
     (is_open-put front c.open-components.result 0xA1 parts
     (rw (c.open-structure.ensures.tag, c.context_constructed.ensures) at
@@ -76,30 +76,30 @@ close-requires-in-None t c =
 
 pub close-requires-in-None-2 : goal.close-requires-in-None-2
 close-requires-in-None-2 t c =
-    let front = put c.args.writer.now (0xA2 ∷ 0 ∷ []) in
+    let front = sheet_with c.args.writer.now (0xA2 ∷ 0 ∷ []) in
     let parts = nodes_types_text (parts_at c.args.tree.now c.args.handle) in
-    open_value c.args.writer.now front _ (constructed 2) c.open-structure.result
+    open-value c.args.writer.now front _ (constructed 2) c.open-structure.result
     (element (constructed 1) parts) c.open-structure.ensures.start refl
-    (long_value front (put front (0xA1 ∷ 0 ∷ [])) c.loop-next.writer _ (constructed 1)
+    (long-value front (sheet_with front (0xA1 ∷ 0 ∷ [])) c.loop-next.writer _ (constructed 1)
     c.open-components.result parts
     (rw (c.open-structure.ensures.tag, c.context_constructed.ensures) at
     c.open-components.ensures.start) refl
-    (written_end c.args.tree.now c.args.handle nodes_types_text 0xA1 front c.loop-next.writer
+    (written-end c.args.tree.now c.args.handle nodes_types_text 0xA1 front c.loop-next.writer
     refl (rw c.in_default.is at c.loop-next.invariant)
     ∙ sym (put-put front (0xA1 ∷ 0 ∷ []) parts)) c.close-in-None.ensures)
 
 pub returns-in_default : goal.returns-in_default
 returns-in_default t c =
-    let front = put c.args.writer.now (0xA2 ∷ 0 ∷ []) in
+    let front = sheet_with c.args.writer.now (0xA2 ∷ 0 ∷ []) in
     let parts = nodes_types_text (parts_at c.args.tree.now c.args.handle) in
-    rw (structure_type c.args.tree.now c.args.handle (sym c.in-None.ensures.value))
-    (long_value c.args.writer.now front c.close-in-None.new.self _ (constructed 2)
+    rw (structure-type c.args.tree.now c.args.handle (sym c.in-None.ensures.value))
+    (long-value c.args.writer.now front c.close-in-None.new.self _ (constructed 2)
     c.open-structure.result (element (constructed 1) parts) c.open-structure.ensures.start refl
-    (long_value front (put front (0xA1 ∷ 0 ∷ [])) c.loop-next.writer _ (constructed 1)
+    (long-value front (sheet_with front (0xA1 ∷ 0 ∷ [])) c.loop-next.writer _ (constructed 1)
     c.open-components.result parts
     (rw (c.open-structure.ensures.tag, c.context_constructed.ensures) at
     c.open-components.ensures.start) refl
-    (written_end c.args.tree.now c.args.handle nodes_types_text 0xA1 front c.loop-next.writer
+    (written-end c.args.tree.now c.args.handle nodes_types_text 0xA1 front c.loop-next.writer
     refl (rw c.in_default.is at c.loop-next.invariant)
     ∙ sym (put-put front (0xA1 ∷ 0 ∷ []) parts)) c.close-in-None.ensures)
     c.close-in-None-2.ensures)

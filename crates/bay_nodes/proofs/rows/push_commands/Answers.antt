@@ -1,7 +1,7 @@
 use Rattle.std.proofs.Common.{codes}
 use Rattle.bay_nodes.specs.Node.{rows_of, operation}
 use Rattle.bay_nodes.specs.NodeRows.{group_row}
-use Rattle.bay_nodes.proofs.NodeLemmas.{two_groups}
+use Rattle.bay_nodes.proofs.NodeLemmas.{two-groups}
 use Rattle.bay_nodes.proofs.rows.push_commands.Goals as goal
 
 pub returns-in_ok-push_table-in-Direct-2 : goal.returns-in_ok-push_table-in-Direct-2
@@ -13,7 +13,7 @@ returns-in_ok-push_table-in-Direct-2 c =
       c.in_ok-push_table-in-Direct.ensures,
     )
     (rw (c.group_table.ensures n, c.operate_table.ensures n)
-    (two_groups c.args.node.now c.args.rows.now.items group_row
+    (two-groups c.args.node.now c.args.rows.now.items group_row
     (rows_of (codes "$CO$Pos") (operation (codes "Oper")))))
 
 pub returns-in-Sbo : goal.returns-in-Sbo

@@ -1,7 +1,7 @@
 use Rattle.std.proofs.Common.{◌++◌, ◌∷◌, ◌∙◌, None, codes, ap}
 use Rattle.bay_nodes.specs.Node.{row}
 use Rattle.bay_nodes.specs.NodeRows.{table_rows}
-use Rattle.bay_nodes.proofs.NodeLemmas.{device_appended}
+use Rattle.bay_nodes.proofs.NodeLemmas.{device-appended}
 use Rattle.bay_nodes.proofs.rows.push_device.Goals as goal
 
 pub returns : goal.returns
@@ -11,5 +11,5 @@ returns c =
     c.in_ok-push_node-2.ensures
     ∙ ap (λ rs. rs ++ row (codes "LPHD1") None ∷ table_rows n (codes "LPHD1") t)
     c.in_ok-push_node.ensures
-    ∙ device_appended n c.args.rows.now.items c.device_table.result.now t (c.device_table.ensures n)
+    ∙ device-appended n c.args.rows.now.items c.device_table.result.now t (c.device_table.ensures n)
     (c.physical_table.ensures n)

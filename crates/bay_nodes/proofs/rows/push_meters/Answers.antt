@@ -1,13 +1,13 @@
 use Rattle.std.proofs.Common.{◌+◌, ◌++◌, drop, codes, arith, refl, ap, sym, ◌∙◌}
 use Rattle.bay_nodes.specs.Node.{meter_node, meter_parts, node_name}
-use Rattle.bay_nodes.proofs.NodeLemmas.{numbered_from, alike_turn}
+use Rattle.bay_nodes.proofs.NodeLemmas.{numbered_from, alike-turn}
 use Rattle.bay_nodes.proofs.rows.push_meters.Goals as goal
 
 pub loop-i-preserved : goal.loop-i-preserved
 loop-i-preserved c =
     let ts = c.args.meters.now in
     c.loop-i.invariant
-    ∙ alike_turn meter_node (λ n. record { name = node_name (codes "MMXU") n; parts = meter_parts })
+    ∙ alike-turn meter_node (λ n. record { name = node_name (codes "MMXU") n; parts = meter_parts })
     ts c.loop-i.i c.loop-i.rows.items (omega arith) (λ t. refl)
     ∙ ap (λ rows. rows ++ numbered_from meter_node (c.loop-i.i + 1 + 1) (drop (c.loop-i.i + 1) ts))
     (sym c.in_ok-push_meter.ensures)

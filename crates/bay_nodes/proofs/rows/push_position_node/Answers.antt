@@ -1,4 +1,4 @@
-use Rattle.bay_nodes.proofs.NodeLemmas.{position_appended}
+use Rattle.bay_nodes.proofs.NodeLemmas.{position-appended}
 use Rattle.bay_nodes.proofs.rows.push_position_node.Goals as goal
 
 pub returns : goal.returns
@@ -11,4 +11,4 @@ returns c =
       c.in_ok-push_row.ensures,
     )
     (rw (c.position_table.ensures n, c.type_table.ensures n, c.position_model_table.ensures n)
-    (position_appended c.args.rows.now.items c.args.node.now c.args.kind))
+    (position-appended c.args.rows.now.items c.args.node.now c.args.kind))

@@ -1,5 +1,5 @@
 use Rattle.std.proofs.Common.{arith, sym, ◌∙◌}
-use Rattle.bay_nodes.proofs.NodeLemmas.{position_turn, position_passed}
+use Rattle.bay_nodes.proofs.NodeLemmas.{position-turn, position-passed}
 use Rattle.bay_nodes.proofs.rows.push_positions.Goals.{then-is_of+in_ok-push_position, else-is_of}
 use Rattle.bay_nodes.proofs.rows.push_positions.Goals as goal
 
@@ -15,14 +15,14 @@ loop-switch-preserved c =
         omega arith,
         rw (w.rows-is, w.number-is, w.in_ok-push_position.ensures)
             (c.loop-switch.invariant.1
-            ∙ position_turn c.args.breakers ss i n s done (omega arith) c.switch-item.is
+            ∙ position-turn c.args.breakers ss i n s done (omega arith) c.switch-item.is
             (sym c.is_of.ensures ∙ w.if-is_of.true)),
       )
       | else-is_of w ↦ (
         omega arith,
         rw (w.rows-is, w.number-is)
             (c.loop-switch.invariant.1
-            ∙ position_passed c.args.breakers ss i n s done (omega arith) c.switch-item.is
+            ∙ position-passed c.args.breakers ss i n s done (omega arith) c.switch-item.is
             (sym c.is_of.ensures ∙ w.if-is_of.false)),
       )
     ]

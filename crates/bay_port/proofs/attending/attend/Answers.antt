@@ -4,7 +4,8 @@ use Rattle.bay_port.proofs.attending.attend.Goals as goal
 
 pub returns-in-Leaving : goal.returns-in-Leaving
 returns-in-Leaving g c =
-    attends-leaving _ _ _ _ c.args.link.now _ _ (sym c.standing.ensures ∙ c.in-Leaving.is) c.leave.ensures
+    attends-leaving _ _ _ _ c.args.link.now _ _ (sym c.standing.ensures ∙ c.in-Leaving.is)
+    c.leave.ensures
 
 pub returns-in-Ok : goal.returns-in-Ok
 returns-in-Ok g c =

@@ -3,7 +3,7 @@ use Rattle.std.proofs.lemmas.Bool.Decides.{nat_tests}
 use Rattle.bay_io.proofs.SentLemmas.{Puts-nil}
 use Rattle.bay_report.specs.TextLines.{lines_of}
 use Rattle.bay_report.proofs.PieceLemmas.{lines-cut}
-use Rattle.bay_report.proofs.ReportLemmas.{nil_from_length}
+use Rattle.bay_report.proofs.ReportLemmas.{nil-from-length}
 use Rattle.bay_replay.proofs.ProgressLemmas.{Progress-cut, Progress-fault, Progress-last, Progress-start, Progress-step, no-lines}
 use Rattle.bay_replay.proofs.replay.replay_device.Goals as goal
 
@@ -47,5 +47,5 @@ pub returns : goal.returns
 returns g c =
     let zero : length c.loop-rest.rest.now ≡ 0 = grind (arith, nat_tests) in
     Progress-last c.loop-rest.invariant.progress c.finish-2.new.writer 0 c.finish-2.result
-    (no-lines _ _ _ (ap lines_of (nil_from_length c.loop-rest.rest.now zero))) (Puts-nil _)
+    (no-lines _ _ _ (ap lines_of (nil-from-length c.loop-rest.rest.now zero))) (Puts-nil _)
     c.finish-2.ensures.finishes c.finish-2.ensures.status

@@ -3,7 +3,7 @@ use Rattle.std.proofs.lemmas.Bool.Decides.{nat_tests}
 use Rattle.hex.specs.Hex.{encode_lower, lower_digits}
 use Rattle.bay_io.proofs.SentLemmas.{Rest-end, Rest-start, Rest-step}
 use Rattle.bay_report.proofs.HexLemmas.{encode-append, encode-nil}
-use Rattle.bay_report.proofs.ReportLemmas.{nil_from_length}
+use Rattle.bay_report.proofs.ReportLemmas.{nil-from-length}
 use Rattle.bay_report.proofs.lines.put_digits.Goals as goal
 
 pub loop-rest-init : goal.loop-rest-init
@@ -23,4 +23,4 @@ pub returns : goal.returns
 returns g c =
     let zero : length c.loop-rest.rest.now ≡ 0 = grind (arith, nat_tests) in
     Rest-end c.loop-rest.invariant.progress
-    (ap encode_lower (nil_from_length c.loop-rest.rest.now zero) ∙ encode-nil)
+    (ap encode_lower (nil-from-length c.loop-rest.rest.now zero) ∙ encode-nil)

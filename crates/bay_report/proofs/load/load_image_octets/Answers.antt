@@ -1,7 +1,7 @@
 use Rattle.std.proofs.Common.{◌≡◌, true, false, Err, ap}
 use Rattle.std.proofs.lemmas.Str.{is_utf8-from_IsUtf8}
 use Rattle.std.specs.Str.{is_utf8}
-use Rattle.bay_trace.proofs.WordLemmas.{is_utf8_false}
+use Rattle.bay_trace.proofs.WordLemmas.{is-utf8-false}
 use Rattle.bay_report.proofs.load.load_image_octets.Goals as goal
 
 pub returns-in-Ok-clause-ok : goal.returns-in-Ok-clause-ok
@@ -19,5 +19,5 @@ returns-in-Ok-clause-refused c =
 pub returns-in-Err-clause-refused : goal.returns-in-Err-clause-refused
 returns-in-Err-clause-refused c =
     let bad : is_utf8 c.args.bay.now ≡ false =
-    is_utf8_false c.args.bay.now c.in-Err.ensures.cases.0 in
+    is-utf8-false c.args.bay.now c.in-Err.ensures.cases.0 in
     λ known. rw bad (ap Err c.from.ensures)

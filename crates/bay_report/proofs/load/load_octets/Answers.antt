@@ -1,7 +1,7 @@
 use Rattle.std.proofs.Common.{◌≡◌, true, false, Err, ap, sym, inr}
 use Rattle.std.proofs.lemmas.Str.{is_utf8-from_IsUtf8}
 use Rattle.std.specs.Str.{is_utf8}
-use Rattle.bay_trace.proofs.WordLemmas.{is_utf8_false}
+use Rattle.bay_trace.proofs.WordLemmas.{is-utf8-false}
 use Rattle.bay_report.proofs.load.load_octets.Goals as goal
 
 pub returns-in-Ok-clause-device : goal.returns-in-Ok-clause-device
@@ -13,5 +13,5 @@ returns-in-Ok-clause-device c =
 pub returns-in-Err-clause-device : goal.returns-in-Err-clause-device
 returns-in-Err-clause-device c =
     let bad : is_utf8 c.args.bay.now ≡ false =
-    is_utf8_false c.args.bay.now c.in-Err.ensures.cases.0 in
+    is-utf8-false c.args.bay.now c.in-Err.ensures.cases.0 in
     inr (rw bad (ap Err (sym c.from.ensures)))

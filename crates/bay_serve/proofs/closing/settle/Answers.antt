@@ -1,4 +1,4 @@
-use Rattle.bay_serve.specs.Turns.{settled, settling}
+use Rattle.bay_serve.specs.Turns.{after_settling, settling}
 use Rattle.bay_serve.proofs.closing.settle.Goals as goal
 
 pub returns-clause-talks : goal.returns-clause-talks
@@ -6,5 +6,5 @@ unfolding settling
 returns-clause-talks g c = c.settle_some.ensures.talks
 
 pub returns-clause-after : goal.returns-clause-after
-unfolding settled
+unfolding after_settling
 returns-clause-after g c = c.settle_some.ensures.after

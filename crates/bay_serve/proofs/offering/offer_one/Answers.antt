@@ -1,14 +1,14 @@
 use Rattle.std.proofs.Common.{◌≡◌, ap, refl, true, false, rules}
 use Rattle.bay_serve.specs.Standings.{is_leaving}
 use Rattle.bay_serve.specs.Turns.{turning, is_up, standing_of}
-use Rattle.bay_serve.proofs.PartLemmas.{Offers-as, turning-as, offers_not, offers_leaving, offers_cut, offers_kept}
+use Rattle.bay_serve.proofs.PartLemmas.{Offers-as, turning-as, offers-not, offers-leaving, offers-cut, offers-kept}
 use Rattle.bay_serve.proofs.offering.offer_one.Goals as goal
 
 pub returns-then-is_leaving : goal.returns-then-is_leaving
 returns-then-is_leaving g c =
     let leaves : is_leaving (standing_of c.args.place (turning c.args.server.now c.args.notes.now))
     ≡ true = search rules in
-    offers_leaving _ _ _ _ _ _ _ _ _ _ leaves
+    offers-leaving _ _ _ _ _ _ _ _ _ _ leaves
     (Offers-as _ _ _ _ _ _ _ _ _ c.offer.ensures.offers c.queue.ensures refl) c.close.ensures
     (turning-as _ _ _ _ c.clear.ensures c.part.ensures)
 
@@ -18,7 +18,7 @@ returns-then-not-is_open g c =
     ≡ false = search rules in
     let down : is_up c.args.place (turning c.args.server.now c.args.notes.now) ≡ false =
     search rules in
-    offers_not _ _ _ _ _ leaves down
+    offers-not _ _ _ _ _ leaves down
 
 pub returns-then-offered : goal.returns-then-offered
 returns-then-offered g c =
@@ -26,7 +26,7 @@ returns-then-offered g c =
     ≡ false = search rules in
     let up : is_up c.args.place (turning c.args.server.now c.args.notes.now) ≡ true =
     search rules in
-    offers_cut _ _ _ _ _ _ _ _ _ _ _ leaves up
+    offers-cut _ _ _ _ _ _ _ _ _ _ _ leaves up
     (Offers-as _ _ _ _ _ _ _ _ _ c.offer-offered.ensures.offers c.queue-2.ensures
     c.if-offered.true) c.cut_off.ensures.call c.cut_off.ensures.after c.settle.ensures.talks
     c.settle.ensures.after
@@ -37,6 +37,6 @@ returns-else-offered g c =
     ≡ false = search rules in
     let up : is_up c.args.place (turning c.args.server.now c.args.notes.now) ≡ true =
     search rules in
-    offers_kept _ _ _ _ _ _ _ _ leaves up
+    offers-kept _ _ _ _ _ _ _ _ leaves up
     (Offers-as _ _ _ _ _ _ _ _ _ c.offer-offered.ensures.offers c.queue-2.ensures
     c.if-offered.false) (ap (λ s. turning s c.args.notes.now) c.drop_front.ensures)

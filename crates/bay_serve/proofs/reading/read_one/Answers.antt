@@ -1,28 +1,28 @@
 use Rattle.std.proofs.Common.{◌≡◌, ◌+◌, true, false, rules, ap, ◌∙◌}
 use Rattle.bay_device.specs.declared.event.Event.TheVariants.{Close}
-use Rattle.bay_serve.specs.Turns.{Noted, is_up, stepped, turning}
-use Rattle.bay_serve.proofs.PartLemmas.{heard_as, heard_broken, reads_not, reads_octets, reads_silence, reads_over, reads_broken}
+use Rattle.bay_serve.specs.Turns.{Noted, is_up, after_event, turning}
+use Rattle.bay_serve.proofs.PartLemmas.{heard-as, heard-broken, reads-not, reads-octets, reads-silence, reads-over, reads-broken}
 use Rattle.bay_serve.proofs.reading.read_one.Goals as goal
 
 pub returns-then-not-is_open-clause-goes : goal.returns-then-not-is_open-clause-goes
 returns-then-not-is_open-clause-goes g c =
     let down : is_up c.args.place (turning c.args.server.now c.args.notes.now) ≡ false =
     search rules in
-    reads_not _ _ _ _ _ down
+    reads-not _ _ _ _ _ down
 
 pub returns-in-Ok-Bytes-clause-goes : goal.returns-in-Ok-Bytes-clause-goes
 returns-in-Ok-Bytes-clause-goes g c =
     let up : is_up c.args.place (turning c.args.server.now c.args.notes.now) ≡ true =
     search rules in
-    reads_octets _ _ _ _ _ _ _ _ _ _ _ up
-    (heard_as _ _ _ _ c.in-Ok-Bytes.is c.in-Ok-Bytes.field-0-is) c.read.ensures.call
+    reads-octets _ _ _ _ _ _ _ _ _ _ _ up
+    (heard-as _ _ _ _ c.in-Ok-Bytes.is c.in-Ok-Bytes.field-0-is) c.read.ensures.call
     c.take_in.ensures.takes c.settle.ensures.talks c.settle.ensures.after
 
 pub returns-in-Ok-Nothing-clause-goes : goal.returns-in-Ok-Nothing-clause-goes
 returns-in-Ok-Nothing-clause-goes g c =
     let up : is_up c.args.place (turning c.args.server.now c.args.notes.now) ≡ true =
     search rules in
-    reads_silence _ _ _ _ _ _ _ up (heard_as _ _ _ _ c.in-Ok-Nothing.is c.in-Ok-Nothing.field-0-is)
+    reads-silence _ _ _ _ _ _ _ up (heard-as _ _ _ _ c.in-Ok-Nothing.is c.in-Ok-Nothing.field-0-is)
     c.read.ensures.call
 
 pub returns-in-Ok-End-clause-goes : goal.returns-in-Ok-End-clause-goes
@@ -33,15 +33,15 @@ returns-in-Ok-End-clause-goes g c =
     let place = c.args.place in
     let hung =
     c.step_quietly.ensures.after
-    ∙ ap (λ (n : Noted). stepped now (Close (place + 1)) (turning c.args.server.now n))
+    ∙ ap (λ (n : Noted). after_event now (Close (place + 1)) (turning c.args.server.now n))
     c.leave.ensures in
-    reads_over _ _ _ _ _ _ _ _ _ _ up (heard_as _ _ _ _ c.in-Ok-End.is c.in-Ok-End.field-0-is)
+    reads-over _ _ _ _ _ _ _ _ _ _ up (heard-as _ _ _ _ c.in-Ok-End.is c.in-Ok-End.field-0-is)
     c.read.ensures.call hung c.settle-in-Ok-End.ensures.talks c.settle-in-Ok-End.ensures.after
 
 pub returns-in-Err-clause-goes : goal.returns-in-Err-clause-goes
 returns-in-Err-clause-goes g c =
     let up : is_up c.args.place (turning c.args.server.now c.args.notes.now) ≡ true =
     search rules in
-    reads_broken _ _ _ _ _ _ _ _ _ _ _ up (heard_broken _ _ _ c.in-Err.is) c.read.ensures.call
+    reads-broken _ _ _ _ _ _ _ _ _ _ _ up (heard-broken _ _ _ c.in-Err.is) c.read.ensures.call
     c.cut_off.ensures.call c.cut_off.ensures.after c.settle-in-Err.ensures.talks
     c.settle-in-Err.ensures.after

@@ -1,13 +1,13 @@
 use Rattle.std.proofs.Common.{◌≡◌, ap, rules}
 use Rattle.bay_serve.specs.Turns.{moment_at, turning}
-use Rattle.bay_serve.proofs.PartLemmas.{serves_as, serves_with}
+use Rattle.bay_serve.proofs.PartLemmas.{serves-as, serves-with}
 use Rattle.bay_serve.proofs.turn.serve_turn.Goals as goal
 
 pub returns-clause-ok : goal.returns-clause-ok
 returns-clause-ok g c =
     let now : c.max-now.result ≡ moment_at c.args.clock c.args.server.now = search rules in
-    serves_as _ _ _ _ _ _ _ _ _ _
-    (serves_with _ _ _ _ _ _ _ _ _ _ _ _ _ _ _ _ _ _
+    serves-as _ _ _ _ _ _ _ _ _ _
+    (serves-with _ _ _ _ _ _ _ _ _ _ _ _ _ _ _ _ _ _
     (ap (turning c.args.server.now) c.in-Ok.ensures) c.accept_one.ensures.goes
     c.read_each.ensures
     c.tell_line.ensures.talks c.tell_line.ensures.after c.scan.ensures.talks c.scan.ensures.after

@@ -2,7 +2,7 @@ use Rattle.std.proofs.Common.{ap, sym, ◌∙◌}
 use Rattle.bay_serve.specs.Turns.{turn_calls}
 use Rattle.bay_serve_laws.specs.Events.{HasNoOctets}
 use Rattle.bay_serve_laws.specs.Faults.{tells_failure}
-use Rattle.bay_serve_laws.proofs.BlameLemmas.{counts, only_failed}
+use Rattle.bay_serve_laws.proofs.BlameLemmas.{counts, only-failed}
 use Rattle.bay_serve_laws.proofs.PartLemmas.{Part-turn}
 use Rattle.bay_serve_laws.proofs.laws.a_told_failure_is_counted.Goals as goal
 
@@ -11,4 +11,4 @@ returns g c = λ old new now line before after turn serves told h.
     let calls = turn_calls now line serves.script before in
     let whole = Part-turn (HasNoOctets line) now line serves.script before (λ q. q) in
     counts g.L.Link.does g.L.Link.failures old calls new serves.talks h
-    (only_failed calls (whole.blames (sym (ap tells_failure serves.closed) ∙ told)))
+    (only-failed calls (whole.blames (sym (ap tells_failure serves.closed) ∙ told)))

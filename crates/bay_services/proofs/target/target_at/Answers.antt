@@ -2,7 +2,7 @@ use Rattle.std.proofs.Common.{◌≡◌, ◌<◌, ◌-◌, suc, ◌+◌, length,
 use Rattle.std.proofs.lemmas.Option.{slice_get-get_or}
 use Rattle.bay_tree.specs.Rows.{name_at}
 use Rattle.bay_services.specs.Targets.{part_at}
-use Rattle.bay_services.proofs.PlaceLemmas.{part_named, target_here, target_later}
+use Rattle.bay_services.proofs.PlaceLemmas.{part-named, target-here, target-later}
 use Rattle.bay_services.proofs.target.target_at.Goals as goal
 
 pub returns-in-Some : goal.returns-in-Some
@@ -17,10 +17,10 @@ returns-in-Some c =
     ∙ ap Some (sym c.index-rows-switch.is) in
     let names = c.requires.named k c.index-rows-switch.result here in
     let is : part_at k name ≡ Some c.in-Some.part =
-    sym (part_named tree k _ c.args.handle names c.requires.found) ∙ sym c.part_at.ensures
+    sym (part-named tree k _ c.args.handle names c.requires.found) ∙ sym c.part_at.ensures
     ∙ c.in-Some.is in
     sym (c.loop-switch.invariant
-    ∙ target_here k (length rows - k) name c.in-Some.part (omega arith) is)
+    ∙ target-here k (length rows - k) name c.in-Some.part (omega arith) is)
 
 pub loop-switch-preserved : goal.loop-switch-preserved
 loop-switch-preserved c =
@@ -34,7 +34,7 @@ loop-switch-preserved c =
     ∙ ap Some (sym c.index-rows-switch.is) in
     let names = c.requires.named k c.index-rows-switch.result here in
     let is : part_at k name ≡ None =
-    sym (part_named tree k _ c.args.handle names c.requires.found) ∙ sym c.part_at.ensures
+    sym (part-named tree k _ c.args.handle names c.requires.found) ∙ sym c.part_at.ensures
     ∙ c.in_default.is in
     let one : length rows - k ≡ suc (length rows - (k + 1)) = omega arith in
-    c.loop-switch.invariant ∙ target_later k (length rows - k) (length rows - (k + 1)) name one is
+    c.loop-switch.invariant ∙ target-later k (length rows - k) (length rows - (k + 1)) name one is

@@ -3,7 +3,7 @@ use Rattle.il_text.specs.Views.{entry_of}
 use Rattle.il_text.specs.declared.program.Item.{Item, Block}
 use Rattle.il_text.specs.declared.program.Operator.TheVariants.{And}
 use Rattle.bay_tests.specs.FirstLine.{are_first}
-use Rattle.bay_tests.proofs.FirstLineLemmas.{around_items}
+use Rattle.bay_tests.proofs.FirstLineLemmas.{around-items}
 use Rattle.bay_tests.proofs.by_hand.around.Goals as goal
 
 pub returns : goal.returns
@@ -14,4 +14,4 @@ returns c =
     ∙ ap (λ (xs : List Item). xs ++ Block 1 And false c.args.items 1 ∷ [])
     (c.in_ok-push.ensures.items
     ∙ ap (λ (xs : List Item). xs ++ c.load.result ∷ []) c.new-outer.ensures.items)))
-    (around_items And false c.load.result c.args.items _ c.load.ensures c.requires)
+    (around-items And false c.load.result c.args.items _ c.load.ensures c.requires)

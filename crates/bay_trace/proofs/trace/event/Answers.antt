@@ -4,7 +4,7 @@ use Rattle.std.proofs.lemmas.Slice.Eq.{strip_prefix_is}
 use Rattle.std.specs.List.{slice_split}
 use Rattle.std.specs.Str.{bytes_eq}
 use Rattle.bay_trace.specs.Trace.{event_of, is_space}
-use Rattle.bay_trace.proofs.VerbLemmas.{differs, no_verb}
+use Rattle.bay_trace.proofs.VerbLemmas.{differs, no-verb}
 use Rattle.bay_trace.proofs.trace.event.Goals as goal
 
 pub returns-in-Some-strip_prefix-2 : goal.returns-in-Some-strip_prefix-2
@@ -36,5 +36,5 @@ returns c =
     let other : bytes_eq c.args.text.now (codes "scan") ≡ false =
     ap (λ t. bytes_eq c.args.text.now t) (sym c.as_slice.ensures) ∙ sym c.eq.ensures
     ∙ c.if-eq.false in
-    c.talk.ensures ∙ sym (no_verb c.args.text.now no_contact no_input no_measure
+    c.talk.ensures ∙ sym (no-verb c.args.text.now no_contact no_input no_measure
     (differs c.args.text.now (codes "scan") other))

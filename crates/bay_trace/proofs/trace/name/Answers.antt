@@ -4,7 +4,7 @@ use Rattle.std.specs.List.{list_all}
 use Rattle.std.specs.Str.{IsUtf8}
 use Rattle.std.proofs.lemmas.Iterator.{YieldsList-from_slice}
 use Rattle.std.proofs.lemmas.Iterator.Search.{all_from_yields_List}
-use Rattle.bay_trace.proofs.TextLemmas.{plain_text}
+use Rattle.bay_trace.proofs.TextLemmas.{plain-text}
 use Rattle.bay_trace.proofs.WordLemmas.{name_of-text, name_of-no_text}
 use Rattle.bay_trace.proofs.trace.name.Goals as goal
 
@@ -14,7 +14,7 @@ from_utf8_unchecked-requires c =
     let all : c.all.result ≡ list_all is_ascii word =
     all_from_yields_List is_ascii _ _ c.all.result c.all.ensures.ran
     (YieldsList-from_slice word cc) (λ x b q k. search (rules, tests)) in
-    plain_text word (sym all ∙ c.if-all.true)
+    plain-text word (sym all ∙ c.if-all.true)
 
 pub returns-then-all : goal.returns-then-all
 returns-then-all c =

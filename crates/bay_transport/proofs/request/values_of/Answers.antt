@@ -1,22 +1,22 @@
 use Rattle.std.proofs.Common.{ℕ, ◌≡◌, ◌≤◌, ◌+◌, ◌-◌, length, take, drop, get_or, refl, ap, arith}
 use Rattle.std.specs.Option.{option_copied}
-use Rattle.bay_transport.proofs.RequestLemmas.{keeps_none, one_alone, value_past, keeps_found}
+use Rattle.bay_transport.proofs.RequestLemmas.{keeps-none, one-alone, value-past, keeps-found}
 use Rattle.bay_transport.proofs.request.values_of.Goals as goal
 
 pub returns-then-octets-at-lt2-clause-err : goal.returns-then-octets-at-lt2-clause-err
 returns-then-octets-at-lt2-clause-err c = (
   refl,
-  keeps_none 192 c.args.octets.now (drop c.loop-at.at c.args.octets.now)
+  keeps-none 192 c.args.octets.now (drop c.loop-at.at c.args.octets.now)
       (option_copied c.loop-at.values.size) c.loop-at.invariant.size
-      (one_alone c.args.octets.now c.loop-at.at c.loop-at-test.true c.if-octets-at-lt2.true),
+      (one-alone c.args.octets.now c.loop-at.at c.loop-at-test.true c.if-octets-at-lt2.true),
 )
 
 pub returns-then-octets-at-clause-err : goal.returns-then-octets-at-clause-err
 returns-then-octets-at-clause-err c = (
   refl,
-  keeps_none 192 c.args.octets.now (drop c.loop-at.at c.args.octets.now)
+  keeps-none 192 c.args.octets.now (drop c.loop-at.at c.args.octets.now)
       (option_copied c.loop-at.values.size) c.loop-at.invariant.size
-      (value_past c.args.octets.now c.loop-at.at (get_or c.args.octets.now (c.loop-at.at + 1) 0)
+      (value-past c.args.octets.now c.loop-at.at (get_or c.args.octets.now (c.loop-at.at + 1) 0)
       (omega arith) refl c.if-octets-at.true),
 )
 
@@ -32,12 +32,12 @@ loop-at-preserved c =
     ap (λ (n : ℕ). take n (drop (c.loop-at.at + 2) octets)) same in
     record {
       within = omega arith;
-      size = keeps_found 192 octets c.loop-at.at _ _ _ _ within fits refl value c.found_then.ensures
+      size = keeps-found 192 octets c.loop-at.at _ _ _ _ within fits refl value c.found_then.ensures
           c.loop-at.invariant.size;
       called =
-          keeps_found 194 octets c.loop-at.at _ _ _ _ within fits refl value
+          keeps-found 194 octets c.loop-at.at _ _ _ _ within fits refl value
           c.found_then-in-loop-at.ensures c.loop-at.invariant.called;
       calling =
-          keeps_found 193 octets c.loop-at.at _ _ _ _ within fits refl value
+          keeps-found 193 octets c.loop-at.at _ _ _ _ within fits refl value
           c.found_then-in-loop-at-2.ensures c.loop-at.invariant.calling;
     }

@@ -2,7 +2,7 @@ use Rattle.std.proofs.Common.{◌≡◌, None, [], sym, ap, ◌∙◌}
 use Rattle.std.proofs.lemmas.List.{get_or_default}
 use Rattle.bay_tree.specs.declared.row.Row.{Row}
 use Rattle.bay_tree.specs.Rows.{name_at, place_of}
-use Rattle.bay_tree.proofs.TreeLemmas.{first_is, none_is}
+use Rattle.bay_tree.proofs.TreeLemmas.{first-is, none-is}
 use Rattle.bay_tree.proofs.search.is_first.Goals as goal
 
 pub returns-in-Some : goal.returns-in-Some
@@ -13,7 +13,7 @@ returns-in-Some c =
     (record { name = []; leaf = None }) c.requires.within in
     let named : c.as_str.result.now ≡ name_at rows c.args.place =
     c.as_str.ensures ∙ ap (λ (r : Row). r.name) row in
-    first_is _ c.in-Some.first.now c.args.place
+    first-is _ c.in-Some.first.now c.args.place
     (sym (ap (place_of rows) named) ∙ sym (c.requires.indexed c.as_str.result.now)
     ∙ sym c.in-Some.ensures.value)
 
@@ -25,5 +25,5 @@ returns-in-None c =
     (record { name = []; leaf = None }) c.requires.within in
     let named : c.as_str.result.now ≡ name_at rows c.args.place =
     c.as_str.ensures ∙ ap (λ (r : Row). r.name) row in
-    none_is _ c.args.place (sym (ap (place_of rows) named)
+    none-is _ c.args.place (sym (ap (place_of rows) named)
     ∙ sym (c.requires.indexed c.as_str.result.now) ∙ sym c.in-None.ensures.value)

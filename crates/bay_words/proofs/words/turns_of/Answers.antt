@@ -4,13 +4,13 @@ use Rattle.bay_words.proofs.JobLemmas.{parsed-number, unparsed-number}
 use Rattle.bay_words.proofs.words.turns_of.Goals as goal
 
 pub returns : goal.returns
-returns c = by_answer c.ok.result refl
+returns c = by-answer c.ok.result refl
   where
-    by_answer : (o : Option ℕ) → c.ok.result ≡ o
+    by-answer : (o : Option ℕ) → c.ok.result ≡ o
         → c.ok.result ≡ number_of 0 4294967295 c.args.value.now
-    by_answer None is =
+    by-answer None is =
         is ∙ sym (unparsed-number 32 0 4294967295 c.args.value.now c.parse.result
         c.parse.ensures.value.0 refl (sym c.ok.ensures.value ∙ is))
-    by_answer (Some n) is =
+    by-answer (Some n) is =
         is ∙ sym (parsed-number 32 0 4294967295 c.args.value.now c.parse.result
         c.parse.ensures.value.0 refl (omega arith) n (sym c.ok.ensures.value ∙ is) (omega arith))

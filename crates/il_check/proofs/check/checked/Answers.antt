@@ -2,8 +2,8 @@ use Rattle.std.proofs.Common.{inr, map, Ok, ap, sym, ◌∙◌}
 use Rattle.il_text.specs.Views.{plain_program}
 use Rattle.il_check.specs.ProgramViews.{item_view, checked_view}
 use Rattle.il_check.specs.declared.names.Names.{Names}
-use Rattle.il_check.proofs.CheckedLemmas.{IsRead, is_read, refused, passed, apart_names}
-use Rattle.il_check.proofs.TypedLemmas.{typed_of}
+use Rattle.il_check.proofs.CheckedLemmas.{IsRead, is_read, refused, passed, apart-names}
+use Rattle.il_check.proofs.TypedLemmas.{typed-of}
 use Rattle.il_check.proofs.check.checked.Goals as goal
 
 pub of_parts-requires : goal.of_parts-requires
@@ -26,9 +26,9 @@ of_parts-requires c =
     c.in_ok-labels.labels names _ _ read c.in-None.is in
     record {
       checked = (c.args.points.now, plain_program c.args.program.now, was);
-      apart = apart_names c.args.points.now (plain_program c.args.program.now)
+      apart = apart-names c.args.points.now (plain_program c.args.program.now)
           c.in_ok-declared.declared c.in_ok-labels.labels names _ _ read c.in-None.is;
-      typed = typed_of c.args.points.now (plain_program c.args.program.now) _ was;
+      typed = typed-of c.args.points.now (plain_program c.args.program.now) _ was;
     }
 
 pub returns-in-Some-clause-checked : goal.returns-in-Some-clause-checked

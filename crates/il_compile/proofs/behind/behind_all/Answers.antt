@@ -3,16 +3,16 @@ use Rattle.il_image.specs.Images.{Each}
 use Rattle.il_check.specs.ProgramViews.{item_view}
 use Rattle.il_check.specs.declared.typed.TypedItem.{TypedItem}
 use Rattle.il_compile.specs.Behind.{IsSettled, IsSpellable}
-use Rattle.il_compile.proofs.BehindLemmas.{one_back, each_drop, bounded, none_left}
+use Rattle.il_compile.proofs.BehindLemmas.{one-back, each-drop, bounded, none-left}
 use Rattle.il_compile.proofs.behind.behind_all.Goals as goal
 
 pub put_item-requires-clause-spellable : goal.put_item-requires-clause-spellable
 put_item-requires-clause-spellable c =
     let items : List TypedItem = c.args.items.now in
-    let e = one_back items c.loop-at.at c.index-items-at.result c.loop-at-test.true
+    let e = one-back items c.loop-at.at c.index-items-at.result c.loop-at-test.true
     c.loop-at.invariant.within c.index-items-at.is in
     let each =
-    each_drop (IsSpellable c.args.externals) item_view (c.loop-at.at - 1) items c.requires in
+    each-drop (IsSpellable c.args.externals) item_view (c.loop-at.at - 1) items c.requires in
     (subst (λ (l : List TypedItem). Each (IsSpellable c.args.externals) (map item_view l)) e each).0
 
 pub put_item-requires-clause-bounded : goal.put_item-requires-clause-bounded
@@ -24,7 +24,7 @@ pub loop-at-preserved : goal.loop-at-preserved
 loop-at-preserved c =
     let items : List TypedItem = c.args.items.now in
     let within = c.loop-at.invariant.within in
-    let e = one_back items c.loop-at.at c.index-items-at.result c.loop-at-test.true within
+    let e = one-back items c.loop-at.at c.index-items-at.result c.loop-at-test.true within
     c.index-items-at.is in
     let put =
     c.in_ok-put_item.ensures (map item_view (drop c.loop-at.at items))
@@ -41,6 +41,6 @@ loop-at-init c =
       within = omega arith;
       settled =
           subst (λ (l : List TypedItem). IsSettled c.args.externals (map item_view l)
-          c.new-behind.result) (sym (none_left c.args.items.now))
+          c.new-behind.result) (sym (none-left c.args.items.now))
           (c.new-behind.ensures c.args.externals);
     }

@@ -1,5 +1,5 @@
 use Rattle.std.proofs.Common.{◌∙◌, arith}
-use Rattle.il_compile.proofs.BehindLemmas.{one_before, one_counted}
+use Rattle.il_compile.proofs.BehindLemmas.{one-before, one-counted}
 use Rattle.il_compile.proofs.behind.put_before.Goals as goal
 
 pub loop-instr-preserved : goal.loop-instr-preserved
@@ -10,10 +10,10 @@ loop-instr-preserved c =
     record {
       bounded = omega (arith, c.bounded_sum-all.ensures);
       counted =
-          one_counted c.loop-instr.line.items c.pop.new.self.items c.in-Some.instr c.loop-instr.all
+          one-counted c.loop-instr.line.items c.pop.new.self.items c.in-Some.instr c.loop-instr.all
           c.bounded_sum-all.result c.octets_of.result line c.octets_of.ensures
           c.bounded_sum-all.ensures at.bounded ∙ at.counted;
       before =
-          one_before c.loop-instr.line.items c.pop.new.self.items c.loop-instr.behind.items
+          one-before c.loop-instr.line.items c.pop.new.self.items c.loop-instr.behind.items
           c.push.new.self.items c.in-Some.instr line grown ∙ at.before;
     }

@@ -4,14 +4,14 @@ use Rattle.il_check.specs.Program.{Checked}
 use Rattle.il_check.specs.ProgramViews.{checked_view}
 use Rattle.il_compile.specs.Behind.{IsSettled}
 use Rattle.il_compile.specs.Compiled.{point_of}
-use Rattle.il_compile.proofs.CompiledLemmas.{given, is_image, same_code, same_image, short_enough, too_long}
-use Rattle.il_compile.proofs.Spellable.{all_spellable}
+use Rattle.il_compile.proofs.CompiledLemmas.{given, is-image, same-code, same-image, short-enough, too_long}
+use Rattle.il_compile.proofs.Spellable.{all-spellable}
 use Rattle.il_compile.proofs.compile.compiled.Goals as goal
 
 pub behind_all-requires : goal.behind_all-requires
 behind_all-requires c =
     rw (c.externals.ensures, c.items.ensures.value)
-    (all_spellable (checked_view c.args.program.now) c.items.ensures.sound.typed)
+    (all-spellable (checked_view c.args.program.now) c.items.ensures.sound.typed)
 
 pub returns-then-size-gt-MAX_OCTETS-clause-image : goal.returns-then-size-gt-MAX_OCTETS-clause-image
 returns-then-size-gt-MAX_OCTETS-clause-image c =
@@ -27,16 +27,16 @@ new-requires-5 c =
     let settled : IsSettled (length p.externals) p.items c.in_ok-behind.behind =
     rw⁻¹ (c.externals.ensures, c.items.ensures.value) c.in_ok-behind.ensures in
     let short =
-    short_enough p c.head_size.result (c.head_size.result + 3 + c.in_ok-behind.behind.octets)
+    short-enough p c.head_size.result (c.head_size.result + 3 + c.in_ok-behind.behind.octets)
     c.in_ok-behind.behind settled c.head_size.ensures.value refl c.if-size-gt-MAX_OCTETS.false
     in
-    let same = same_image p c.new.result c.new-2.result c.new-3.result c.new-4.result
+    let same = same-image p c.new.result c.new-2.result c.new-3.result c.new-4.result
     (c.new.ensures ∙ c.in_ok-points.ensures ∙ ap (map point_of) c.externals-2.ensures)
     (c.new-2.ensures ∙ c.in_ok-variables.ensures ∙ ap (map (λ v. v.initial)) c.variables.ensures)
     (c.new-3.ensures ∙ c.in_ok-timers.ensures ∙ ap (map (λ t. t.kind)) c.timers.ensures)
-    (c.new-4.ensures ∙ same_code p c.in_ok-behind.behind c.in_ok-code.code.items settled short
+    (c.new-4.ensures ∙ same-code p c.in_ok-behind.behind c.in_ok-code.code.items settled short
     c.in_ok-code.ensures) in
-    subst IsImage (sym same) (is_image p c.items.ensures.sound.typed short)
+    subst IsImage (sym same) (is-image p c.items.ensures.sound.typed short)
 
 pub returns-clause-image : goal.returns-clause-image
 returns-clause-image c =
@@ -44,13 +44,13 @@ returns-clause-image c =
     let settled : IsSettled (length p.externals) p.items c.in_ok-behind.behind =
     rw⁻¹ (c.externals.ensures, c.items.ensures.value) c.in_ok-behind.ensures in
     let short =
-    short_enough p c.head_size.result (c.head_size.result + 3 + c.in_ok-behind.behind.octets)
+    short-enough p c.head_size.result (c.head_size.result + 3 + c.in_ok-behind.behind.octets)
     c.in_ok-behind.behind settled c.head_size.ensures.value refl c.if-size-gt-MAX_OCTETS.false
     in
-    let same = same_image p c.new.result c.new-2.result c.new-3.result c.new-4.result
+    let same = same-image p c.new.result c.new-2.result c.new-3.result c.new-4.result
     (c.new.ensures ∙ c.in_ok-points.ensures ∙ ap (map point_of) c.externals-2.ensures)
     (c.new-2.ensures ∙ c.in_ok-variables.ensures ∙ ap (map (λ v. v.initial)) c.variables.ensures)
     (c.new-3.ensures ∙ c.in_ok-timers.ensures ∙ ap (map (λ t. t.kind)) c.timers.ensures)
-    (c.new-4.ensures ∙ same_code p c.in_ok-behind.behind c.in_ok-code.code.items settled short
+    (c.new-4.ensures ∙ same-code p c.in_ok-behind.behind c.in_ok-code.code.items settled short
     c.in_ok-code.ensures) in
     given p short ∙ ap (λ i. Ok i) (sym (c.new-5.ensures ∙ same))

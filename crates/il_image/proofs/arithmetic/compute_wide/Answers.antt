@@ -1,7 +1,7 @@
 use Rattle.std.proofs.Common.{ap, arith}
 use Rattle.std.proofs.lemmas.Int.{to_z-of_z}
-use Rattle.il_image.specs.Arithmetic.{wrapped}
-use Rattle.il_image.proofs.WrapLemmas.{wrap-sum, wrap-difference, wrap-product, wrap-quotient, rest_is}
+use Rattle.il_image.specs.Arithmetic.{wrap_to}
+use Rattle.il_image.proofs.WrapLemmas.{wrap-sum, wrap-difference, wrap-product, wrap-quotient, rest-is}
 use Rattle.il_image.proofs.arithmetic.compute_wide.Goals as goal
 
 pub returns-in-Add : goal.returns-in-Add
@@ -22,5 +22,5 @@ returns-in-Div c = λ w. let e = wrap-quotient w c.args.first c.args.second c.ra
     rw c.in-Div.is (grind (arith, to_z-of_z, e))
 
 pub returns-in-Mod : goal.returns-in-Mod
-returns-in-Mod c = λ w. let e = ap (wrapped w) (rest_is c.args.first c.args.second) in
+returns-in-Mod c = λ w. let e = ap (wrap_to w) (rest-is c.args.first c.args.second) in
     rw c.in-Mod.is (grind (arith, to_z-of_z, e))

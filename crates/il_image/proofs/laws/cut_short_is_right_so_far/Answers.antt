@@ -1,5 +1,5 @@
-use Rattle.il_image.proofs.CutLemmas.{right_so_far}
+use Rattle.il_image.proofs.CutLemmas.{right-so-far}
 use Rattle.il_image.proofs.laws.cut_short_is_right_so_far.Goals as goal
 
 pub returns : goal.returns
-returns c = right_so_far
+returns c = right-so-far

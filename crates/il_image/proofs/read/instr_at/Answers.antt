@@ -1,16 +1,16 @@
 use Rattle.std.proofs.Common.{sym}
-use Rattle.il_image.proofs.PlaceLemmas.{found_forward, from_place, none_past_end}
+use Rattle.il_image.proofs.PlaceLemmas.{found-forward, from-place, none-past-end}
 use Rattle.il_image.proofs.read.instr_at.Goals as goal
 
 pub returns-then-offset-code-clause-value : goal.returns-then-offset-code-clause-value
 returns-then-offset-code-clause-value c =
-    sym (none_past_end c.args.code.now c.args.offset c.if-offset-code.true)
+    sym (none-past-end c.args.code.now c.args.offset c.if-offset-code.true)
 
 pub returns-clause-value : goal.returns-clause-value
 returns-clause-value c =
-    from_place c.args.code.now c.args.offset c.first_of.result c.first_of.ensures
+    from-place c.args.code.now c.args.offset c.first_of.result c.first_of.ensures
 
 pub returns-clause-forward : goal.returns-clause-forward
 returns-clause-forward c =
-    found_forward c.args.code.now c.args.offset c.first_of.result
-    (from_place c.args.code.now c.args.offset c.first_of.result c.first_of.ensures)
+    found-forward c.args.code.now c.args.offset c.first_of.result
+    (from-place c.args.code.now c.args.offset c.first_of.result c.first_of.ensures)

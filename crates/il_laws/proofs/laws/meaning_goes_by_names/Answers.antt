@@ -1,5 +1,5 @@
-use Rattle.il_laws.proofs.ByNamesLemmas.{goes_by_names}
+use Rattle.il_laws.proofs.ByNamesLemmas.{goes-by-names}
 use Rattle.il_laws.proofs.laws.meaning_goes_by_names.Goals as goal
 
 pub returns : goal.returns
-returns l = goes_by_names
+returns l = goes-by-names

@@ -1,29 +1,29 @@
 use Rattle.std.proofs.Common.{sym, ◌∙◌, arith}
-use Rattle.il_scan.proofs.FetchLemmas.{fetched, no_opcode, place_within, whole_operand}
+use Rattle.il_scan.proofs.FetchLemmas.{fetched, no-opcode, place-within, whole-operand}
 use Rattle.il_scan.proofs.fetch.fetch.Goals as goal
 
 pub bounds-code-place : goal.bounds-code-place
 bounds-code-place c =
-    place_within c.args.code.now c.args.place (λ k. (c.type_inv.code k).fits) c.requires
+    place-within c.args.code.now c.args.place (λ k. (c.type_inv.code k).fits) c.requires
 
 pub overflow_add-place : goal.overflow_add-place
 overflow_add-place c = let h =
-    place_within c.args.code.now c.args.place (λ k. (c.type_inv.code k).fits) c.requires in
+    place-within c.args.code.now c.args.place (λ k. (c.type_inv.code k).fits) c.requires in
     omega arith
 
 pub operand-requires-clause-whole : goal.operand-requires-clause-whole
 operand-requires-clause-whole c =
-    whole_operand c.args.code.now c.args.place (λ k. (c.type_inv.code k).fits) c.requires
+    whole-operand c.args.code.now c.args.place (λ k. (c.type_inv.code k).fits) c.requires
     c.in-Some.opcode (sym c.of.ensures ∙ c.in-Some.is)
 
 pub operand-requires-clause-within : goal.operand-requires-clause-within
 operand-requires-clause-within c = let h =
-    place_within c.args.code.now c.args.place (λ k. (c.type_inv.code k).fits) c.requires in
+    place-within c.args.code.now c.args.place (λ k. (c.type_inv.code k).fits) c.requires in
     omega arith
 
 pub unreachable-requires : goal.unreachable-requires
 unreachable-requires c =
-    no_opcode c.args.code.now c.args.place (λ k. (c.type_inv.code k).fits) c.requires
+    no-opcode c.args.code.now c.args.place (λ k. (c.type_inv.code k).fits) c.requires
     (sym c.of.ensures ∙ c.in-None.is)
 
 pub returns-clause-value : goal.returns-clause-value

@@ -5,12 +5,12 @@ use Rattle.bay_base.specs.declared.types.TimerKind.{TimerKind}
 use Rattle.il_image.specs.Timers.{first_state}
 use Rattle.il_scan.specs.PointPlaces.{read_places, write_places}
 use Rattle.il_scan.specs.PointPlaces.{writable_count}
-use Rattle.il_scan.proofs.ScanLemmas.{first_held, held_at_first}
+use Rattle.il_scan.proofs.ScanLemmas.{first-held, held-at-first}
 use Rattle.il_scan.proofs.machine.memory_of.Goals as goal
 
 pub returns-clause-first : goal.returns-clause-first
 returns-clause-first c =
-    first_held c.args.image.now c.timers.ensures.kept c.in_ok-slots.slots.items
+    first-held c.args.image.now c.timers.ensures.kept c.in_ok-slots.slots.items
     c.in_ok-timers.timers.items c.in_ok-slots.ensures.ok
     (c.in_ok-timers.ensures.ok
     ∙ ap (λ (kinds : List TimerKind). map first_state kinds) c.timers.ensures.value)
@@ -18,7 +18,7 @@ returns-clause-first c =
 pub returns-clause-kept : goal.returns-clause-kept
 returns-clause-kept c = record {
   held =
-      held_at_first c.args.image.now c.timers.ensures.kept c.in_ok-slots.slots.items
+      held-at-first c.args.image.now c.timers.ensures.kept c.in_ok-slots.slots.items
       c.in_ok-timers.timers.items c.in_ok-slots.ensures.ok
       (c.in_ok-timers.ensures.ok
       ∙ ap (λ (kinds : List TimerKind). map first_state kinds) c.timers.ensures.value);

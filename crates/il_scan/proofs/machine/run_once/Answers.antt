@@ -5,16 +5,16 @@ use Rattle.il_image.specs.declared.value.Value.{Value}
 use Rattle.il_scan.specs.Places.{output_value}
 use Rattle.il_scan.specs.PointPlaces.{AllBelow}
 use Rattle.il_scan.specs.Scans.{Scans, read_only, type_of_point}
-use Rattle.il_scan.specs.Scans.{held}
-use Rattle.il_scan.proofs.PlaceLemmas.{are_values, outputs_placed, so_many_writes, types_of, writes_below}
-use Rattle.il_scan.proofs.ScanLemmas.{points_words}
-use Rattle.il_scan.proofs.SlotLemmas.{held_points, outputs_are}
+use Rattle.il_scan.specs.Scans.{held_of}
+use Rattle.il_scan.proofs.PlaceLemmas.{are-values, outputs-placed, so-many-writes, types_of, writes-below}
+use Rattle.il_scan.proofs.ScanLemmas.{points-words}
+use Rattle.il_scan.proofs.SlotLemmas.{held-points, outputs_are}
 use Rattle.il_scan.proofs.machine.run_once.Goals as goal
 
 pub invariant_of-inputs : goal.invariant_of-inputs
 invariant_of-inputs c =
     record {
-      are = are_values (map type_of_point (read_only c.args.image.now.points))
+      are = are-values (map type_of_point (read_only c.args.image.now.points))
           c.args.inputs.now c.requires.inputs;
     }
 
@@ -25,20 +25,20 @@ run_points-steps-requires-clause-types c =
 
 pub give_outputs-requires-clause-words : goal.give_outputs-requires-clause-words
 give_outputs-requires-clause-words c =
-    points_words c.args.image.now c.points.result.now c.points.ensures.value
+    points-words c.args.image.now c.points.result.now c.points.ensures.value
     c.run_points-steps.new.slots c.run_points-steps.new.timers c.run_points-steps.ensures.held
 
 pub give_outputs-requires-clause-within : goal.give_outputs-requires-clause-within
 give_outputs-requires-clause-within c =
     let image = c.args.image.now in
-    let below = writes_below (length image.points) 0 image.points (omega arith) in
+    let below = writes-below (length image.points) 0 image.points (omega arith) in
     rw c.points.ensures.value
     (subst (AllBelow (length image.points))
     (sym (c.as_slice-2.ensures.value ∙ c.requires.kept.written)) below)
 
 pub give_outputs-requires-clause-room : goal.give_outputs-requires-clause-room
 give_outputs-requires-clause-room c =
-    c.requires.kept.room ∙ so_many_writes 0 c.args.image.now.points
+    c.requires.kept.room ∙ so-many-writes 0 c.args.image.now.points
     ∙ sym (ap (λ (ns : List ℕ). length ns)
     (c.as_slice-2.ensures.value ∙ c.requires.kept.written))
 
@@ -47,15 +47,15 @@ returns-clause-scans c =
     let image = c.args.image.now in
     let new = c.run_points-steps.new.slots in
     let enough =
-    held_points image new c.run_points-steps.new.timers c.run_points-steps.ensures.held in
+    held-points image new c.run_points-steps.new.timers c.run_points-steps.ensures.held in
     let given =
     c.give_outputs.ensures ∙ ap
     (λ (ps : List ImagePoint). map (output_value ps new) c.as_slice-2.result.now)
     c.points.ensures.value
     ∙ ap (λ (ns : List ℕ). map (output_value image.points new) ns)
     (c.as_slice-2.ensures.value ∙ c.requires.kept.written)
-    ∙ outputs_placed image.points new enough
+    ∙ outputs-placed image.points new enough
     ∙ outputs_are image.points (map type_of image.variables) new in
-    subst (λ (os : List Value). Scans (held image c.args.slots.now c.args.timers.now)
-    c.args.inputs.now c.args.now (held image new c.run_points-steps.new.timers)
+    subst (λ (os : List Value). Scans (held_of image c.args.slots.now c.args.timers.now)
+    c.args.inputs.now c.args.now (held_of image new c.run_points-steps.new.timers)
     c.run_points-steps.result os) (sym given) c.run_points-steps.ensures.scans

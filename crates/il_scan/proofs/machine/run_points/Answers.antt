@@ -3,48 +3,48 @@ use Rattle.bay_base.specs.declared.types.ElementaryType.{ElementaryType}
 use Rattle.il_image.specs.Values.{type_of}
 use Rattle.il_scan.specs.PointPlaces.{AllBelow}
 use Rattle.il_scan.specs.Words.{AreTyped, words_of}
-use Rattle.il_scan.proofs.PlaceLemmas.{inputs_taken, reads_below, so_many_types}
-use Rattle.il_scan.proofs.ScanLemmas.{held_taken, scanned}
-use Rattle.il_scan.proofs.SlotLemmas.{held_points, outputs_are}
+use Rattle.il_scan.proofs.PlaceLemmas.{inputs-taken, reads_below, so-many-types}
+use Rattle.il_scan.proofs.ScanLemmas.{held-taken, scanned}
+use Rattle.il_scan.proofs.SlotLemmas.{held-points, outputs_are}
 use Rattle.il_scan.proofs.machine.run_points.Goals as goal
 
 pub read_inputs-requires-clause-within : goal.read_inputs-requires-clause-within
 read_inputs-requires-clause-within g c =
     let image = c.args.image.now in
-    let few = held_points image c.args.slots.now c.args.timers.now c.requires.held in
+    let few = held-points image c.args.slots.now c.args.timers.now c.requires.held in
     subst (AllBelow (length c.args.slots.now)) (sym c.requires.read)
     (reads_below (length c.args.slots.now) 0 image.points (omega (arith, few)))
 
 pub read_inputs-requires-clause-sized : goal.read_inputs-requires-clause-sized
 read_inputs-requires-clause-sized g c =
     ap (λ (ts : List ElementaryType). length ts) c.requires.types
-    ∙ so_many_types 0 c.args.image.now.points
+    ∙ so-many-types 0 c.args.image.now.points
     ∙ sym (ap (λ (ns : List ℕ). length ns) c.requires.read)
 
 pub run-requires-clause-held : goal.run-requires-clause-held
 run-requires-clause-held g c =
     let image = c.args.image.now in
     let values = g.I.Inputs.values c.args.inputs.now in
-    let few = held_points image c.args.slots.now c.args.timers.now c.requires.held in
+    let few = held-points image c.args.slots.now c.args.timers.now c.requires.held in
     let are =
     subst (λ (ts : List ElementaryType). AreTyped ts values) c.requires.types
     c.read_inputs.ensures.typed in
     let taken =
-    inputs_taken image.points c.args.reads.now (words_of values) c.args.slots.now
+    inputs-taken image.points c.args.reads.now (words_of values) c.args.slots.now
     c.read_inputs.new.slots few c.requires.read c.read_inputs.ensures.slots in
-    held_taken image image.points refl values c.args.now c.args.slots.now c.args.timers.now
+    held-taken image image.points refl values c.args.now c.args.slots.now c.args.timers.now
     c.requires.held are c.read_inputs.new.slots taken
 
 pub returns-clause-scans : goal.returns-clause-scans
 returns-clause-scans g c =
     let image = c.args.image.now in
     let values = g.I.Inputs.values c.args.inputs.now in
-    let few = held_points image c.args.slots.now c.args.timers.now c.requires.held in
+    let few = held-points image c.args.slots.now c.args.timers.now c.requires.held in
     let are =
     subst (λ (ts : List ElementaryType). AreTyped ts values) c.requires.types
     c.read_inputs.ensures.typed in
     let taken =
-    inputs_taken image.points c.args.reads.now (words_of values) c.args.slots.now
+    inputs-taken image.points c.args.reads.now (words_of values) c.args.slots.now
     c.read_inputs.new.slots few c.requires.read c.read_inputs.ensures.slots in
     scanned image image.points refl values c.args.now c.args.slots.now c.args.timers.now
     c.requires.held are c.read_inputs.new.slots taken

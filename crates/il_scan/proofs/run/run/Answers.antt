@@ -2,7 +2,7 @@ use Rattle.std.proofs.Common.{◌<◌, List, ℕ, ℤ, length, subst, sym, ap, a
 use Rattle.il_image.specs.Octets.{AreOctets}
 use Rattle.il_scan.specs.Standing.{first_state}
 use Rattle.il_scan.specs.Working.{words}
-use Rattle.il_scan.proofs.RunLemmas.{Comes, comes_next, forward, run_ends, starts}
+use Rattle.il_scan.proofs.RunLemmas.{Comes, comes-next, forward, run-ends, starts}
 use Rattle.il_scan.proofs.run.run.Goals as goal
 
 pub loop-next-init : goal.loop-next-init
@@ -28,12 +28,12 @@ pub loop-next-preserved : goal.loop-next-preserved
 loop-next-preserved c =
     let i = c.loop-next.invariant in
     let first = first_state c.args.image.now c.args.slots.now c.args.timers.now in
-    comes_next c.args.image.now c.args.now first c.loop-next.place c.loop-next.steps _ i
+    comes-next c.args.image.now c.args.now first c.loop-next.place c.loop-next.steps _ i
     c.turn.ensures.within c.in-Some.next _ (c.in-Some.ensures.turns i.state i.stands)
 
 pub returns : goal.returns
 returns c =
     let i = c.loop-next.invariant in
-    run_ends c.args.image.now c.args.now c.args.slots.now c.args.timers.now c.loop-next.place
+    run-ends c.args.image.now c.args.now c.args.slots.now c.args.timers.now c.loop-next.place
     c.loop-next.steps _ i c.turn.ensures.within c.requires.safe c.requires.held _
     (c.in_default.ensures.turns i.state i.stands)

@@ -3,13 +3,13 @@ use Rattle.std.specs.Prelude.{IsSome, List, ℕ}
 use Rattle.il_image.specs.Octets.{AreOctets}
 use Rattle.il_image.specs.Reading.{instr_at}
 use Rattle.il_scan.specs.Working.{words}
-use Rattle.il_scan.proofs.TurnLemmas.{ready_at, some_at, turned_at}
+use Rattle.il_scan.proofs.TurnLemmas.{ready-at, some-at, turned-at}
 use Rattle.il_scan.proofs.run.turn.Goals as goal
 
 pub fetch-instr-requires : goal.fetch-instr-requires
 fetch-instr-requires c =
     subst (λ (code : List ℕ). IsSome (instr_at code c.args.place)) (sym c.requires.code)
-    (some_at c.args._image.now c.args.now c.args.place
+    (some-at c.args._image.now c.args.now c.args.place
     (words c.args.stack.now c.args.slots.now c.args.timers.now) c.requires.stands.0
     c.requires.stands.1)
 
@@ -19,7 +19,7 @@ act-requires-clause-ready c =
     ap (λ (code : List ℕ). instr_at code c.args.place) (sym c.requires.code)
     ∙ c.fetch-instr.ensures.value in
     let octets = subst AreOctets c.requires.code (λ k. (c.type_inv.code k).fits) in
-    ready_at c.args._image.now c.args.now c.args.place
+    ready-at c.args._image.now c.args.now c.args.place
     (words c.args.stack.now c.args.slots.now c.args.timers.now) c.requires.stands.0
     c.requires.stands.1 c.fetch-instr.result here octets
 
@@ -29,7 +29,7 @@ returns-clause-turns c = λ s stands.
     ap (λ (code : List ℕ). instr_at code c.args.place) (sym c.requires.code)
     ∙ c.fetch-instr.ensures.value in
     let octets = subst AreOctets c.requires.code (λ k. (c.type_inv.code k).fits) in
-    turned_at c.args._image.now c.args.now c.args.place
+    turned-at c.args._image.now c.args.now c.args.place
     (words c.args.stack.now c.args.slots.now c.args.timers.now) s stands c.fetch-instr.result
     here octets
     c.act.result (words c.act.new.stack c.act.new.slots c.act.new.timers) c.act.ensures.to

@@ -1,14 +1,14 @@
 use Rattle.std.proofs.Common.{arith, rules}
-use Rattle.il_scan.proofs.PlaceLemmas.{few_words, output_there}
+use Rattle.il_scan.proofs.PlaceLemmas.{few-words, output-there}
 use Rattle.il_scan.proofs.slots.is_output_true.Goals as goal
 
 pub bounds-slots-place : goal.bounds-slots-place
 bounds-slots-place c =
-    omega (arith, few_words c.args.points.now c.args.slots.now c.requires.words, c.requires.within)
+    omega (arith, few-words c.args.points.now c.args.slots.now c.requires.words, c.requires.within)
 
 pub returns : goal.returns
 returns c =
     let there =
-    output_there c.args.points.now c.args.slots.now c.args.place c.index-points-place.result
+    output-there c.args.points.now c.args.slots.now c.args.place c.index-points-place.result
     c.requires.within c.index-points-place.is in
     search (rules, there, c.index-points-place.is)

@@ -1,5 +1,5 @@
-use Rattle.il_text.proofs.FinishLemmas.{one_derived}
+use Rattle.il_text.proofs.FinishLemmas.{one-derived}
 use Rattle.il_text.proofs.laws.one_program_is_derived.Goals as goal
 
 pub returns : goal.returns
-returns c = one_derived
+returns c = one-derived

@@ -1,8 +1,8 @@
 use Rattle.std.proofs.Common.{◌≡◌, ◌<◌, ◌≤◌, List, ℕ, Bool, length, slice_index, slice_range, sym, ap, ◌∙◌, subst}
 use Rattle.il_text.specs.Characters.{is_blank, begins_word}
 use Rattle.il_text.specs.Symbols.{is_line_end, mark_of, word}
-use Rattle.il_text.proofs.PieceLemmas.{boundary_after}
-use Rattle.il_text.proofs.LexemeLemmas.{first_of_range, piece_blank, piece_line_end, piece_word, piece_mark, piece_none}
+use Rattle.il_text.proofs.PieceLemmas.{boundary-after}
+use Rattle.il_text.proofs.LexemeLemmas.{first-of-range, piece-blank, piece-line-end, piece-word, piece-mark, piece-none}
 use Rattle.il_text.proofs.lexeme.lexeme_at.Goals as goal
 
 -- what a test of the octets says of the text's piece
@@ -10,7 +10,7 @@ tested : (f : ℕ → Bool) (text bytes : List ℕ) (s e : ℕ) (r b : Bool) →
     → bytes ≡ text
     → r ≡ f (slice_index bytes s) → r ≡ b → f (slice_index (slice_range text s e) 0) ≡ b
 tested f text bytes s e r b h w same is was =
-    ap f (first_of_range text s e h w ∙ sym (ap (λ (bs : List ℕ). slice_index bs s) same)) ∙ sym is
+    ap f (first-of-range text s e h w ∙ sym (ap (λ (bs : List ℕ). slice_index bs s) same)) ∙ sym is
     ∙ was
 
 pub range-requires-clause-end_boundary : goal.range-requires-clause-end_boundary
@@ -18,12 +18,12 @@ range-requires-clause-end_boundary c =
     let ascii =
     subst (λ (bs : List ℕ). slice_index bs c.args.start < 128) c.as_bytes-bytes.ensures.value
     (c.begins_word.ensures.ascii c.if-begins_word.true) in
-    boundary_after c.args.text.now c.args.start c.args.end c.utf8.text c.requires.after
+    boundary-after c.args.text.now c.args.start c.args.end c.utf8.text c.requires.after
     c.requires.within (c.requires.ascii ascii)
 
 pub returns-then-is_blank : goal.returns-then-is_blank
 returns-then-is_blank c =
-    sym (piece_blank _ (tested is_blank c.args.text.now _ c.args.start c.args.end _ _
+    sym (piece-blank _ (tested is_blank c.args.text.now _ c.args.start c.args.end _ _
     c.requires.after c.requires.within c.as_bytes-bytes.ensures.value c.is_blank.ensures
     c.if-is_blank.true))
 
@@ -32,7 +32,7 @@ returns-then-is_line_end c =
     let line_end =
     sym (ap (λ (bs : List ℕ). is_line_end (slice_range bs c.args.start c.args.end))
     c.as_bytes-bytes.ensures.value) ∙ sym c.is_line_end.ensures ∙ c.if-is_line_end.true in
-    sym (piece_line_end _
+    sym (piece-line-end _
     (tested is_blank c.args.text.now _ c.args.start c.args.end _ _ c.requires.after
     c.requires.within c.as_bytes-bytes.ensures.value c.is_blank.ensures c.if-is_blank.false)
     line_end)
@@ -42,7 +42,7 @@ returns-then-begins_word c =
     let line_end =
     sym (ap (λ (bs : List ℕ). is_line_end (slice_range bs c.args.start c.args.end))
     c.as_bytes-bytes.ensures.value) ∙ sym c.is_line_end.ensures ∙ c.if-is_line_end.false in
-    c.word_lexeme.ensures ∙ ap word c.range.ensures.value ∙ sym (piece_word _
+    c.word_lexeme.ensures ∙ ap word c.range.ensures.value ∙ sym (piece-word _
     (tested is_blank c.args.text.now _ c.args.start c.args.end _ _ c.requires.after
     c.requires.within c.as_bytes-bytes.ensures.value c.is_blank.ensures c.if-is_blank.false)
     line_end
@@ -55,7 +55,7 @@ returns-in-Some c =
     let line_end =
     sym (ap (λ (bs : List ℕ). is_line_end (slice_range bs c.args.start c.args.end))
     c.as_bytes-bytes.ensures.value) ∙ sym c.is_line_end.ensures ∙ c.if-is_line_end.false in
-    sym (piece_mark _ _
+    sym (piece-mark _ _
     (tested is_blank c.args.text.now _ c.args.start c.args.end _ _ c.requires.after
     c.requires.within c.as_bytes-bytes.ensures.value c.is_blank.ensures c.if-is_blank.false)
     line_end
@@ -70,7 +70,7 @@ returns-in-None c =
     let line_end =
     sym (ap (λ (bs : List ℕ). is_line_end (slice_range bs c.args.start c.args.end))
     c.as_bytes-bytes.ensures.value) ∙ sym c.is_line_end.ensures ∙ c.if-is_line_end.false in
-    sym (piece_none _
+    sym (piece-none _
     (tested is_blank c.args.text.now _ c.args.start c.args.end _ _ c.requires.after
     c.requires.within c.as_bytes-bytes.ensures.value c.is_blank.ensures c.if-is_blank.false)
     line_end

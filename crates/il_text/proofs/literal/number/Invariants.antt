@@ -1,12 +1,12 @@
 use Rattle.std.proofs.Common.{◌≡◌, ◌^◌, ◌-◌, ◌≤◌, drop}
 use Rattle.il_text.specs.Literals.{number}
-use Rattle.il_text.specs.Runs.{capped}
+use Rattle.il_text.specs.Runs.{capped_number}
 use Rattle.il_text.proofs.LiteralLemmas.{number_from}
 use Rattle.il_text.proofs.literal.number.Given as goal
 
 abbrev pub invariant-loop-byte : goal.invariant-loop-byte
 invariant-loop-byte l = record {
-  same : capped (number l.radix l.digits)
+  same : capped_number (number l.radix l.digits)
       ≡ number_from l.radix l.wanted l.value (drop l.byte-index l.digits);
   small : l.value ≤ 2 ^ 64 - 1;
 }

@@ -1,9 +1,9 @@
 use Rattle.std.proofs.Common.{◌≡◌, ℕ, List, Some, None, true, false, option_map, take, drop, sym, refl, ap, ◌∙◌}
 use Rattle.bay_base.specs.Names.{same_name}
 use Rattle.il_text.specs.Literals.{number_len, unit_len, number_of_part}
-use Rattle.il_text.specs.Runs.{capped}
-use Rattle.il_text.specs.Durations.{seen}
-use Rattle.il_text.proofs.DurationLemmas.{part_other, part_bad, part_more}
+use Rattle.il_text.specs.Runs.{capped_number}
+use Rattle.il_text.specs.Durations.{duration_view}
+use Rattle.il_text.proofs.DurationLemmas.{part-other, part-bad, part-more}
 use Rattle.il_text.proofs.literal.part.Goals as goal
 
 pub returns-then-not-same_letters : goal.returns-then-not-same_letters
@@ -15,8 +15,8 @@ returns-then-not-same_letters c = λ before e.
     let other : same_name (take (unit_len r) (drop (number_len r) r)) c.args.unit.now ≡ false =
     sym (c.same_letters.ensures ∙ ap (λ (w : List ℕ). same_name w c.args.unit.now) letters)
     ∙ c.if-not-same_letters.true in
-    part_other before (seen c.in_ok-duration.duration) c.args.unit.now c.args.factor
-    (e ∙ ap (option_map seen) c.in_ok-duration.was) other
+    part-other before (duration_view c.in_ok-duration.duration) c.args.unit.now c.args.factor
+    (e ∙ ap (option_map duration_view) c.in_ok-duration.was) other
 
 pub returns-in_err-number : goal.returns-in_err-number
 returns-in_err-number c = λ before e.
@@ -29,14 +29,14 @@ returns-in_err-number c = λ before e.
     ∙ c.if-not-same_letters.false in
     let digits : c.split_at.result.0.now ≡ take (number_len r) r =
     c.split_at.ensures.front ∙ rw c.number_len.ensures.len refl in
-    let bad : capped (number_of_part c.in_ok-duration.duration.begun (take (number_len r) r))
+    let bad : capped_number (number_of_part c.in_ok-duration.duration.begun (take (number_len r) r))
     ≡ None =
     sym (c.part_number.ensures
-    ∙ ap (λ (w : List ℕ). capped (number_of_part c.in_ok-duration.duration.begun w)) digits)
+    ∙ ap (λ (w : List ℕ). capped_number (number_of_part c.in_ok-duration.duration.begun w)) digits)
     ∙ c.in_err-number.was in
-    part_bad before (seen c.in_ok-duration.duration) c.args.unit.now c.args.factor
-    (e ∙ ap (option_map seen) c.in_ok-duration.was) same bad
-    ∙ sym (ap (option_map seen) c.from_residual-in_err-number.ensures)
+    part-bad before (duration_view c.in_ok-duration.duration) c.args.unit.now c.args.factor
+    (e ∙ ap (option_map duration_view) c.in_ok-duration.was) same bad
+    ∙ sym (ap (option_map duration_view) c.from_residual-in_err-number.ensures)
 
 pub returns : goal.returns
 returns c = λ before e.
@@ -52,12 +52,14 @@ returns c = λ before e.
     ∙ c.if-not-same_letters.false in
     let digits : c.split_at.result.0.now ≡ take (number_len r) r =
     c.split_at.ensures.front ∙ rw c.number_len.ensures.len refl in
-    let number : capped (number_of_part c.in_ok-duration.duration.begun (take (number_len r) r))
+    let number : capped_number
+    (number_of_part c.in_ok-duration.duration.begun (take (number_len r) r))
     ≡ Some c.in_ok-number.number =
     sym (c.part_number.ensures
-    ∙ ap (λ (w : List ℕ). capped (number_of_part c.in_ok-duration.duration.begun w)) digits)
+    ∙ ap (λ (w : List ℕ). capped_number (number_of_part c.in_ok-duration.duration.begun w)) digits)
     ∙ c.in_ok-number.was in
     rw (rest, c.add_capped.ensures)
-    (part_more before (seen c.in_ok-duration.duration) c.args.unit.now c.args.factor
-    c.in_ok-number.number c.requires.some (e ∙ ap (option_map seen) c.in_ok-duration.was) same
+    (part-more before (duration_view c.in_ok-duration.duration) c.args.unit.now c.args.factor
+    c.in_ok-number.number c.requires.some (e ∙ ap (option_map duration_view) c.in_ok-duration.was)
+    same
     number)

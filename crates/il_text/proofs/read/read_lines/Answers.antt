@@ -1,17 +1,17 @@
 use Rattle.std.proofs.Common.{◌≤◌, length, sym, ◌∙◌, refl}
 use Rattle.std.proofs.lemmas.Result.{err_from_is_err_and}
 use Rattle.il_text.specs.ListingViews.{reached_of, read_of}
-use Rattle.il_text.specs.Reading.{listed}
+use Rattle.il_text.specs.Reading.{program_made}
 use Rattle.il_text.specs.TokenViews.{symbols_of}
-use Rattle.il_text.proofs.ReadLemmas.{program_start, text_end}
-use Rattle.il_text.proofs.UniqueLemmas.{items_rise}
+use Rattle.il_text.proofs.ReadLemmas.{program-start, text-end}
+use Rattle.il_text.proofs.UniqueLemmas.{items-rise}
 use Rattle.il_text.proofs.read.read_lines.Goals as goal
 
 pub loop-reader-init : goal.loop-reader-init
 loop-reader-init c = record {
   same = refl;
   left = rw c.new.ensures.items
-      (program_start c.args.text.now _ _ c.last_line_of.ensures c.new-2.ensures);
+      (program-start c.args.text.now _ _ c.last_line_of.ensures c.new-2.ensures);
 }
 
 pub returns-in_err-step-clause-refused : goal.returns-in_err-step-clause-refused
@@ -27,7 +27,7 @@ returns-in_err-finish-clause-refused c =
     c.from_residual-in_err-finish.ensures.1 in
     rw (p.1, p.2)
     (λ m. sym c.loop-reader.invariant.left
-    ∙ text_end r.last (read_of r.listing) r.line (symbols_of r.tokens.items) r.text.now
+    ∙ text-end r.last (read_of r.listing) r.line (symbols_of r.tokens.items) r.text.now
     r.in_comment r.at end ∙ c.in_err-finish.ensures.refused m)
 
 pub returns-clause-ok : goal.returns-clause-ok
@@ -35,7 +35,7 @@ returns-clause-ok c =
     let r = c.loop-reader.reader in
     let end : length r.text.now ≤ r.at = rw c.loop-reader.invariant.same c.loop-reader-test.false in
     sym c.loop-reader.invariant.left
-    ∙ text_end r.last (read_of r.listing) r.line (symbols_of r.tokens.items) r.text.now
+    ∙ text-end r.last (read_of r.listing) r.line (symbols_of r.tokens.items) r.text.now
     r.in_comment r.at end ∙ c.in_ok-finish.ensures.ok
 
 pub invariant_of-result : goal.invariant_of-result
@@ -44,8 +44,8 @@ invariant_of-result c =
     let end : length r.text.now ≤ r.at = rw c.loop-reader.invariant.same c.loop-reader-test.false in
     record {
       rising =
-          items_rise c.args.text.now (listed (reached_of c.finish.new.self.listing))
+          items-rise c.args.text.now (program_made (reached_of c.finish.new.self.listing))
           (sym c.loop-reader.invariant.left
-          ∙ text_end r.last (read_of r.listing) r.line (symbols_of r.tokens.items) r.text.now
+          ∙ text-end r.last (read_of r.listing) r.line (symbols_of r.tokens.items) r.text.now
           r.in_comment r.at end ∙ c.in_ok-finish.ensures.ok);
     }

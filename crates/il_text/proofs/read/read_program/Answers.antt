@@ -3,17 +3,17 @@ use Rattle.std.proofs.lemmas.Bool.{eqb-true}
 use Rattle.std.proofs.lemmas.Result.{err_from_is_err_and}
 use Rattle.il_text.specs.Listing.{PlainProgram}
 use Rattle.il_text.specs.Forms.{parts_of}
-use Rattle.il_text.specs.Pieces.{blanked, pieces}
+use Rattle.il_text.specs.Pieces.{without_comments, pieces}
 use Rattle.il_text.specs.Places.{last_line}
 use Rattle.il_text.specs.Reading.{lines, tokens_of, after_line, reading, program_of}
 use Rattle.il_text.specs.Steps.{steps}
-use Rattle.il_text.specs.Symbols.{cut}
+use Rattle.il_text.specs.Symbols.{pieces_of}
 use Rattle.il_text.specs.Texts.{ReadsAs}
 use Rattle.il_text.specs.Views.{plain_program}
 use Rattle.il_text.specs.declared.fault.TextFault.{TextFault}
 use Rattle.il_text.specs.declared.fault.TextFault.TheVariants.{BadLine}
-use Rattle.il_text.proofs.TextLemmas.{text_reads}
-use Rattle.il_text.proofs.UniqueLemmas.{items_rise}
+use Rattle.il_text.proofs.TextLemmas.{text-reads}
+use Rattle.il_text.proofs.UniqueLemmas.{items-rise}
 use Rattle.il_text.proofs.read.read_program.Goals as goal
 
 no_octets : (octets : List ℕ) → length octets ≡ 0 → octets ≡ []
@@ -21,13 +21,13 @@ no_octets [] e = refl
 no_octets (octet ∷ octets) e = absurd (omega (arith, e))
 
 nothing_read : program_of [] ≡ Err (BadLine 1)
-unfolding program_of reading last_line lines cut blanked pieces tokens_of after_line parts_of steps
+unfolding program_of reading last_line lines pieces_of without_comments pieces tokens_of after_line parts_of steps
 nothing_read = refl
 
 pub returns-then-is_empty-clause-refused : goal.returns-then-is_empty-clause-refused
 returns-then-is_empty-clause-refused c =
     let reads : ReadsAs [] (Err (BadLine 1)) =
-    subst (λ (x : Result PlainProgram TextFault). ReadsAs [] x) nothing_read (text_reads []) in
+    subst (λ (x : Result PlainProgram TextFault). ReadsAs [] x) nothing_read (text-reads []) in
     λ m. subst (λ (text : List ℕ). ReadsAs text (Err (BadLine 1)))
     (sym (no_octets c.args.text.now
     (eqb-true (length c.args.text.now) 0 (sym c.is_empty.ensures ∙ c.if-is_empty.true)))) reads
@@ -37,13 +37,13 @@ returns-in_err-program-clause-refused c =
     let p = err_from_is_err_and c.from_residual.result c.from_residual.ensures.1 in
     rw (p.1, p.2)
     (λ m. subst (λ (x : Result PlainProgram TextFault). ReadsAs c.args.text.now x)
-    (c.in_err-program.ensures.refused m) (text_reads c.args.text.now))
+    (c.in_err-program.ensures.refused m) (text-reads c.args.text.now))
 
 pub returns-clause-ok : goal.returns-clause-ok
 returns-clause-ok c =
     subst (λ (x : Result PlainProgram TextFault). ReadsAs c.args.text.now x)
-    c.in_ok-program.ensures.ok (text_reads c.args.text.now)
+    c.in_ok-program.ensures.ok (text-reads c.args.text.now)
 
 pub returns-clause-lines : goal.returns-clause-lines
 returns-clause-lines c =
-    items_rise c.args.text.now (plain_program c.in_ok-program.program) c.in_ok-program.ensures.ok
+    items-rise c.args.text.now (plain_program c.in_ok-program.program) c.in_ok-program.ensures.ok

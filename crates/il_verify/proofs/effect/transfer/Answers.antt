@@ -2,13 +2,13 @@ use Rattle.std.proofs.Common.{◌<◌, ◌≤◌, ◌∙◌, arith, length, reve
 use Rattle.il_verify.specs.Judging.{operands}
 use Rattle.std.proofs.lemmas.List.{length-reverse}
 use Rattle.std.proofs.lemmas.Result.{err_from_is_err_and}
-use Rattle.il_verify.proofs.JudgeLemmas.{allowed_faultless, misfit_fault, missing_fault, room_fault, write_fault}
+use Rattle.il_verify.proofs.JudgeLemmas.{allowed-faultless, misfit-fault, missing-fault, room-fault, write-fault}
 use Rattle.il_verify.proofs.effect.transfer.Goals as goal
 
 pub returns-in_err-find_named-clause-err : goal.returns-in_err-find_named-clause-err
 returns-in_err-find_named-clause-err c =
     let p = err_from_is_err_and c.from_residual.result c.from_residual.ensures.1 in
-    rw (p.1, p.2) (missing_fault c.args.slots.now c.args.timers c.args.instr
+    rw (p.1, p.2) (missing-fault c.args.slots.now c.args.timers c.args.instr
     (reverse c.args.kinds.now.items) _ c.in_err-find_named.ensures)
 
 pub returns-in_err-apply-clause-err : goal.returns-in_err-apply-clause-err
@@ -17,13 +17,13 @@ returns-in_err-apply-clause-err c =
     c.from_residual-in_err-apply.ensures.1 in
     let many : operands c.args.instr ≤ length (reverse c.args.kinds.now.items) =
     rw (length-reverse c.args.kinds.now.items) (omega arith) in
-    rw (p.1, p.2) (misfit_fault c.args.slots.now c.args.timers c.args.instr
+    rw (p.1, p.2) (misfit-fault c.args.slots.now c.args.timers c.args.instr
     (reverse c.args.kinds.now.items) _ c.in_ok-find_named.ensures many
     c.in_err-apply.ensures.err)
 
 pub returns-then-writes_read_only-clause-err : goal.returns-then-writes_read_only-clause-err
 returns-then-writes_read_only-clause-err c =
-    write_fault c.args.slots.now c.args.timers c.args.instr (reverse c.args.kinds.now.items)
+    write-fault c.args.slots.now c.args.timers c.args.instr (reverse c.args.kinds.now.items)
     (reverse c.apply.new.kinds.items) c.in_ok-apply.ensures.ok
     (sym c.writes_read_only.ensures ∙ c.if-writes_read_only.true)
 
@@ -31,7 +31,7 @@ pub returns-then-len-gt32-clause-err : goal.returns-then-len-gt32-clause-err
 returns-then-len-gt32-clause-err c =
     let many : 32 < length (reverse c.apply.new.kinds.items) =
     rw (length-reverse c.apply.new.kinds.items) (omega arith) in
-    room_fault c.args.slots.now c.args.timers c.args.instr (reverse c.args.kinds.now.items)
+    room-fault c.args.slots.now c.args.timers c.args.instr (reverse c.args.kinds.now.items)
     (reverse c.apply.new.kinds.items) c.in_ok-apply.ensures.ok
     (sym c.writes_read_only.ensures ∙ c.if-writes_read_only.false) many
 
@@ -39,6 +39,6 @@ pub returns-clause-faultless : goal.returns-clause-faultless
 returns-clause-faultless c =
     let room : length (reverse c.apply.new.kinds.items) ≤ 32 =
     rw (length-reverse c.apply.new.kinds.items) (omega arith) in
-    allowed_faultless c.args.slots.now c.args.timers c.args.instr (reverse c.args.kinds.now.items)
+    allowed-faultless c.args.slots.now c.args.timers c.args.instr (reverse c.args.kinds.now.items)
     (reverse c.apply.new.kinds.items) c.in_ok-apply.ensures.ok
     (sym c.writes_read_only.ensures ∙ c.if-writes_read_only.false) room

@@ -3,7 +3,7 @@ use Rattle.std.specs.Prelude.{option_map}
 use Rattle.std.proofs.lemmas.Result.{on_ok_weaker}
 use Rattle.il_verify.specs.declared.frame.Frame.{Frame}
 use Rattle.il_verify.specs.Frames.{Grows, plain_frame}
-use Rattle.il_verify.proofs.FrameLemmas.{begun_grows, clash_of, if_err_weaker, plain}
+use Rattle.il_verify.proofs.FrameLemmas.{begun-grows, clash-of, if_err_weaker, plain}
 use Rattle.il_verify.proofs.frame.arrive.Goals as goal
 
 pub returns-in-Some-clause-ok : goal.returns-in-Some-clause-ok
@@ -20,13 +20,13 @@ returns-in-Some-clause-ok c =
 pub returns-in-Some-clause-err : goal.returns-in-Some-clause-err
 returns-in-Some-clause-err c =
     if_err_weaker c.join_frame.result _ _
-    (λ f h. (h.0, clash_of c.args.slot.now c.in-Some.frame c.args.kinds.now c.in-Some.is h.1))
+    (λ f h. (h.0, clash-of c.args.slot.now c.in-Some.frame c.args.kinds.now c.in-Some.is h.1))
     c.join_frame.ensures.err
 
 pub returns-clause-ok : goal.returns-clause-ok
 returns-clause-ok c = (
   record { kinds = c.copy_of.result; longest = c.args.longest },
   refl,
-  begun_grows c.args.slot.now c.args.kinds.now c.copy_of.result.items c.args.longest
+  begun-grows c.args.slot.now c.args.kinds.now c.copy_of.result.items c.args.longest
       c.in_default.is c.copy_of.ensures,
 )

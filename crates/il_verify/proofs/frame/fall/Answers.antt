@@ -3,24 +3,24 @@ use Rattle.std.specs.Prelude.{option_map}
 use Rattle.il_image.specs.declared.kind.CellKind.{CellKind}
 use Rattle.il_verify.specs.declared.frame.Frame.{Frame}
 use Rattle.il_verify.specs.Frames.{Clashing, Grows, plain_frame}
-use Rattle.il_verify.proofs.FrameLemmas.{begun_grows, clash_of, plain}
-use Rattle.il_verify.proofs.MapLemmas.{clash_at, falls_to, stays_so}
+use Rattle.il_verify.proofs.FrameLemmas.{begun-grows, clash-of, plain}
+use Rattle.il_verify.proofs.MapLemmas.{clash-at, falls-to, stays-so}
 use Rattle.il_verify.proofs.frame.fall.Goals as goal
 
 pub returns-then-not-goes_on-clause-ok : goal.returns-then-not-goes_on-clause-ok
 returns-then-not-goes_on-clause-ok c =
-    stays_so c.args.instr c.args.next (plain_frame c.args.frame) c.args.pending.now.items
+    stays-so c.args.instr c.args.next (plain_frame c.args.frame) c.args.pending.now.items
     c.taken-old.new.pending.items c.taken-old.result
     (sym c.goes_on.ensures ∙ c.if-not-goes_on.true) c.taken-old.ensures.value
     c.taken-old.ensures.others
 
 pub returns-in-None-clause-ok : goal.returns-in-None-clause-ok
 returns-in-None-clause-ok c =
-    falls_to c.args.instr c.args.next (plain_frame c.args.frame) c.args.pending.now.items
+    falls-to c.args.instr c.args.next (plain_frame c.args.frame) c.args.pending.now.items
     c.taken-old.new.pending.items c.taken-old.result (plain_frame c.args.frame)
     (sym c.goes_on.ensures ∙ c.if-not-goes_on.false) c.taken-old.ensures.value
     c.taken-old.ensures.others
-    (begun_grows c.taken-old.result c.args.frame.kinds.items c.args.frame.kinds.items
+    (begun-grows c.taken-old.result c.args.frame.kinds.items c.args.frame.kinds.items
     c.args.frame.longest c.in-None.is refl)
 
 pub returns-in-Ok-clause-ok : goal.returns-in-Ok-clause-ok
@@ -30,7 +30,7 @@ returns-in-Ok-clause-ok c =
     subst (λ (kinds : List CellKind). Grows (plain kinds c.args.frame.longest)
     (Some (plain_frame c.in-Some.other)) (plain_frame c.join_frame.new.frame))
     c.as_slice.ensures.value c.in-Ok.ensures.ok in
-    falls_to c.args.instr c.args.next come c.args.pending.now.items c.taken-old.new.pending.items
+    falls-to c.args.instr c.args.next come c.args.pending.now.items c.taken-old.new.pending.items
     c.taken-old.result (plain_frame c.join_frame.new.frame)
     (sym c.goes_on.ensures ∙ c.if-not-goes_on.false) c.taken-old.ensures.value
     c.taken-old.ensures.others
@@ -41,14 +41,14 @@ pub returns-in-Err-clause-err : goal.returns-in-Err-clause-err
 returns-in-Err-clause-err c =
     let h = c.in-Err.ensures.err in
     let clash =
-    clash_of c.taken-old.result c.in-Some.other c.as_slice.result.now c.in-Some.is h.1 in
+    clash-of c.taken-old.result c.in-Some.other c.as_slice.result.now c.in-Some.is h.1 in
     let there =
     subst (λ (kinds : List CellKind). Clashing (option_map plain_frame c.taken-old.result)
     (reverse kinds)) c.as_slice.ensures.value clash in (
       h.0,
       (
         sym c.goes_on.ensures ∙ c.if-not-goes_on.false,
-        clash_at c.args.pending.now.items c.args.next c.taken-old.result
+        clash-at c.args.pending.now.items c.args.next c.taken-old.result
             (reverse c.args.frame.kinds.items) c.taken-old.ensures.value there,
       ),
     )

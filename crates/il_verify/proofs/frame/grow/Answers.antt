@@ -1,7 +1,7 @@
 use Rattle.std.proofs.Common.{List, Option, None, [], ◌∷◌, ap, length, length-append, arith, ◌∙◌}
 use Rattle.il_verify.specs.declared.frame.Frame.{Frame}
 use Rattle.il_verify.specs.Frames.{plain_frames}
-use Rattle.il_verify.proofs.MapLemmas.{one_more}
+use Rattle.il_verify.proofs.MapLemmas.{one-more}
 use Rattle.il_verify.proofs.frame.grow.Goals as goal
 
 pub loop-preserved : goal.loop-preserved
@@ -14,5 +14,5 @@ loop-preserved c = record {
         c.loop.invariant.counted,
       );
   same = λ q. ap (λ (l : List (Option Frame)). plain_frames l q) c.in_ok-push.ensures.items
-      ∙ one_more c.loop.pending.items q ∙ c.loop.invariant.same q;
+      ∙ one-more c.loop.pending.items q ∙ c.loop.invariant.same q;
 }

@@ -1,7 +1,7 @@
 use Rattle.std.proofs.Common.{refl, reverse}
 use Rattle.std.proofs.lemmas.Result.{on_ok_weaker}
 use Rattle.il_verify.proofs.FrameLemmas.{if_err_weaker, plain}
-use Rattle.il_verify.proofs.MapLemmas.{clash_at, pended, slot_at}
+use Rattle.il_verify.proofs.MapLemmas.{clash-at, pended, slot_at}
 use Rattle.il_verify.proofs.frame.pend.Goals as goal
 
 pub returns-clause-ok : goal.returns-clause-ok
@@ -22,6 +22,6 @@ returns-clause-err c =
     if_err_weaker c.arrive.result _ _
     (λ f h. (
       h.0,
-      clash_at old c.args.place c.index_mut.result.now (reverse c.args.kinds.now) was h.1,
+      clash-at old c.args.place c.index_mut.result.now (reverse c.args.kinds.now) was h.1,
     ))
     c.arrive.ensures.err

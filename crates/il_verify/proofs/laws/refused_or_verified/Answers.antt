@@ -1,6 +1,6 @@
-use Rattle.il_verify.proofs.TableLemmas.{refused_unsafe}
+use Rattle.il_verify.proofs.TableLemmas.{refused-unsafe}
 use Rattle.il_verify.proofs.laws.refused_or_verified.Goals as goal
 
 pub returns : goal.returns
 returns c points image fault place refused v =
-    refused_unsafe points image fault place refused v.fits v.safe
+    refused-unsafe points image fault place refused v.fits v.safe

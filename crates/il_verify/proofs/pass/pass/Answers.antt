@@ -4,10 +4,10 @@ use Rattle.std.proofs.lemmas.List.{length-reverse}
 use Rattle.il_image.specs.Reading.{instr_at}
 use Rattle.il_verify.specs.declared.frame.Frame.{Frame}
 use Rattle.il_verify.specs.Frames.{beside, plain_frame, plain_frames}
-use Rattle.il_verify.specs.Passing.{raised}
-use Rattle.il_verify.proofs.MapLemmas.{beside_here}
-use Rattle.il_verify.proofs.OrderLemmas.{always_there}
-use Rattle.il_verify.proofs.PassLemmas.{Passing, begins, fails_over, fails_unreached, goes_over, here_short, measured}
+use Rattle.il_verify.specs.Passing.{raised_budget}
+use Rattle.il_verify.proofs.MapLemmas.{beside-here}
+use Rattle.il_verify.proofs.OrderLemmas.{always-there}
+use Rattle.il_verify.proofs.PassLemmas.{Passing, begins, fails-over, fails-unreached, goes-over, here-short, measured}
 use Rattle.il_verify.proofs.pass.pass.Goals as goal
 
 pub loop-place-init : goal.loop-place-init
@@ -30,10 +30,10 @@ returns-in_default-clause-err c =
     subst (λ (code : List ℕ). place < length code) c.code-code.ensures.value
     c.loop-place-test.true in
     let none : frames place ≡ None =
-    beside_here place place (option_map plain_frame c.loop-place.frame)
+    beside-here place place (option_map plain_frame c.loop-place.frame)
     (plain_frames c.loop-place.pending.items) refl
     ∙ ap (option_map plain_frame) c.in_default.is in
-    fails_unreached image place c.loop-place.budget c.loop-place.depth frames
+    fails-unreached image place c.loop-place.budget c.loop-place.depth frames
     c.loop-place.invariant.passing less none
 
 pub unreachable-requires : goal.unreachable-requires
@@ -47,7 +47,7 @@ unreachable-requires c =
     let none : instr_at image.code place ≡ None =
     subst (λ (code : List ℕ). instr_at code place ≡ None) c.code-code.ensures.value
     (sym c.instr_at.ensures.value ∙ c.in_default-instr_at.is) in
-    always_there image.code c.requires.format.code i.number place i.numbered less none
+    always-there image.code c.requires.format.code i.number place i.numbered less none
 
 pub overflow_cast-len : goal.overflow_cast-len
 overflow_cast-len c =
@@ -58,10 +58,10 @@ overflow_cast-len c =
     beside place (option_map plain_frame c.loop-place.frame)
     (plain_frames c.loop-place.pending.items) in
     let is : frames place ≡ Some come =
-    beside_here place place (option_map plain_frame c.loop-place.frame)
+    beside-here place place (option_map plain_frame c.loop-place.frame)
     (plain_frames c.loop-place.pending.items) refl ∙ ap (option_map plain_frame) c.in-Some.is in
     let short : length come.kinds ≤ 32 =
-    (here_short image place c.loop-place.budget c.loop-place.depth frames come
+    (here-short image place c.loop-place.budget c.loop-place.depth frames come
     c.loop-place.invariant.passing is).1 in
     let size : length come.kinds ≡ length c.in-Some.here.kinds.items =
     length-reverse c.in-Some.here.kinds.items in
@@ -77,10 +77,10 @@ visit-requires-clause-few c =
     beside place (option_map plain_frame c.loop-place.frame)
     (plain_frames c.loop-place.pending.items) in
     let is : frames place ≡ Some come =
-    beside_here place place (option_map plain_frame c.loop-place.frame)
+    beside-here place place (option_map plain_frame c.loop-place.frame)
     (plain_frames c.loop-place.pending.items) refl ∙ ap (option_map plain_frame) c.in-Some.is in
     let short : length come.kinds ≤ 32 =
-    (here_short image place c.loop-place.budget c.loop-place.depth frames come
+    (here-short image place c.loop-place.budget c.loop-place.depth frames come
     c.loop-place.invariant.passing is).1 in
     let size : length come.kinds ≡ length c.in-Some.here.kinds.items =
     length-reverse c.in-Some.here.kinds.items in
@@ -95,10 +95,10 @@ visit-requires-clause-short c =
     beside place (option_map plain_frame c.loop-place.frame)
     (plain_frames c.loop-place.pending.items) in
     let is : frames place ≡ Some come =
-    beside_here place place (option_map plain_frame c.loop-place.frame)
+    beside-here place place (option_map plain_frame c.loop-place.frame)
     (plain_frames c.loop-place.pending.items) refl ∙ ap (option_map plain_frame) c.in-Some.is in
     let short : come.longest ≤ place + 1 =
-    (here_short image place c.loop-place.budget c.loop-place.depth frames come
+    (here-short image place c.loop-place.budget c.loop-place.depth frames come
     c.loop-place.invariant.passing is).0 in
     let less : place < length image.code =
     subst (λ (code : List ℕ). place < length code) c.code-code.ensures.value
@@ -121,7 +121,7 @@ returns-in-Err-clause-err c =
     (sym c.in-Some-instr_at.ensures.value) in
     let p = subst (λ (o : Option Frame). Passing image place c.loop-place.budget c.loop-place.depth
     (beside place (option_map plain_frame o) old)) c.in-Some.is c.loop-place.invariant.passing in
-    fails_over image place c.in-Some-instr_at.instr c.in-Some-instr_at.next come old
+    fails-over image place c.in-Some-instr_at.instr c.in-Some-instr_at.next come old
     c.loop-place.budget c.loop-place.depth c.in-Err.fault here less c.in-Err.ensures.err p
 
 pub loop-place-preserved : goal.loop-place-preserved
@@ -139,7 +139,7 @@ loop-place-preserved c =
     let p = subst (λ (o : Option Frame). Passing image place c.loop-place.budget c.loop-place.depth
     (beside place (option_map plain_frame o) old)) c.in-Some.is c.loop-place.invariant.passing in
     let goes =
-    goes_over image place c.in-Some-instr_at.instr next come behind old new c.loop-place.budget
+    goes-over image place c.in-Some-instr_at.instr next come behind old new c.loop-place.budget
     c.loop-place.depth c.is_halt.result here c.is_halt.ensures c.in-Ok.ensures.ok p in
     let size : length come.kinds ≡ length c.in-Some.here.kinds.items =
     length-reverse c.in-Some.here.kinds.items in
@@ -152,7 +152,7 @@ loop-place-preserved c =
           subst (λ (n : ℕ). Passing image next n c.max-depth.result (beside next behind new))
           (sym c.raised-budget.ensures)
           (subst (λ (n : ℕ). Passing image next
-          (raised c.is_halt.result come.longest c.loop-place.budget)
+          (raised_budget c.is_halt.result come.longest c.loop-place.budget)
           n (beside next behind new)) (sym depth) goes);
       room = omega (arith, c.loop-place.invariant.room, c.in-Ok.ensures.size);
     }

@@ -1,7 +1,7 @@
 use Rattle.std.proofs.Common.{ℕ, List, ◌+◌, reverse, refl, subst, ◌∙◌, None, Some, inr}
 use Rattle.il_image.specs.declared.kind.CellKind.{CellKind}
 use Rattle.il_verify.specs.Frames.{Jumps, LeadsRight, PlainFrame, plain_frames}
-use Rattle.il_verify.proofs.VisitLemmas.{clash_before, effect_so, fault_there}
+use Rattle.il_verify.proofs.VisitLemmas.{clash-before, effect-so, fault-there}
 use Rattle.il_verify.proofs.visit.visit.Goals as goal
 
 pub returns-in-Err-fall-clause-err : goal.returns-in-Err-fall-clause-err
@@ -23,16 +23,16 @@ returns-in-Err-fall-clause-err c =
       record {
         gives = gives;
         faultless =
-            fault_there image c.as_slice.result.now c.args.plan.now.timers c.args.instr kinds None
+            fault-there image c.as_slice.result.now c.args.plan.now.timers c.args.instr kinds None
             slots c.requires.plan.timers c.in-Ok.ensures.faultless;
         effect =
-            effect_so image c.as_slice.result.now c.args.plan.now.timers c.args.instr kinds
+            effect-so image c.as_slice.result.now c.args.plan.now.timers c.args.instr kinds
             (Some gives) slots c.requires.plan.timers c.in-Ok.ensures.ok;
         right = subst (λ (code : List ℕ). LeadsRight code c.args.instr c.args.next)
             c.code.ensures.value c.in-Ok-check_targets.ensures.ok;
         to = c.args.next;
         leads = inr (h.1.0, refl);
-        clash = clash_before c.args.instr c.args.next come old mid jumps h.1.1;
+        clash = clash-before c.args.instr c.args.next come old mid jumps h.1.1;
       },
     ))
 
@@ -47,10 +47,10 @@ returns-clause-ok c =
     record {
       gives = gives;
       faultless =
-          fault_there image c.as_slice.result.now c.args.plan.now.timers c.args.instr kinds None
+          fault-there image c.as_slice.result.now c.args.plan.now.timers c.args.instr kinds None
           slots c.requires.plan.timers c.in-Ok.ensures.faultless;
       effect =
-          effect_so image c.as_slice.result.now c.args.plan.now.timers c.args.instr kinds
+          effect-so image c.as_slice.result.now c.args.plan.now.timers c.args.instr kinds
           (Some gives) slots c.requires.plan.timers c.in-Ok.ensures.ok;
       right = subst (λ (code : List ℕ). LeadsRight code c.args.instr c.args.next)
           c.code.ensures.value c.in-Ok-check_targets.ensures.ok;

@@ -2,8 +2,8 @@ use Rattle.std.proofs.Common.{◌≡◌, ℕ, List, refl, sym, ap, subst, ◌∙
 use Rattle.std.proofs.lemmas.Result.{err_from_is_err_and}
 use Rattle.bay_ber.specs.Reading.{Begins}
 use Rattle.bay_ber.specs.Values.{values_in}
-use Rattle.bay_ber.proofs.ValueLemmas.{not_empty}
-use Rattle.bay_ber.proofs.ListingLemmas.{nothing_more, values_step, values_stop}
+use Rattle.bay_ber.proofs.ValueLemmas.{not-empty}
+use Rattle.bay_ber.proofs.ListingLemmas.{nothing-more, values-step, values-stop}
 use Rattle.bay_ber.proofs.values.Values.next_value.Goals as goal
 
 pub returns-in_err-tlv-clause-next : goal.returns-in_err-tlv-clause-next
@@ -12,7 +12,7 @@ returns-in_err-tlv-clause-next c =
     let left : c.self.inside.rest.now ≡ c.args.self.now = c.self.view_is in
     rw p.1 (
       refl,
-      λ e. not_empty c.self.inside.rest.now c.if-is_empty.ensures (left ∙ e),
+      λ e. not-empty c.self.inside.rest.now c.if-is_empty.ensures (left ∙ e),
       λ s. c.in_err-tlv.ensures.only s.0
           (subst (λ (octets : List ℕ). Begins octets s.0) (sym left) s.1),
     )
@@ -20,18 +20,18 @@ returns-in_err-tlv-clause-next c =
 pub returns-then-is_empty-clause-exact : goal.returns-then-is_empty-clause-exact
 returns-then-is_empty-clause-exact c =
     let left : c.self.inside.rest.now ≡ c.args.self.now = c.self.view_is in
-    ap values_in (sym left) ∙ nothing_more c.self.inside.rest.now c.if-is_empty.ensures
+    ap values_in (sym left) ∙ nothing-more c.self.inside.rest.now c.if-is_empty.ensures
 
 pub returns-in_err-tlv-clause-exact : goal.returns-in_err-tlv-clause-exact
 returns-in_err-tlv-clause-exact c =
     let p = err_from_is_err_and c.from_residual.result c.from_residual.ensures.1 in
     let left : c.self.inside.rest.now ≡ c.args.self.now = c.self.view_is in
     rw p.1 (ap values_in (sym left)
-    ∙ values_stop c.self.inside.rest.now c.in_err-tlv.field-0.0
-    (not_empty c.self.inside.rest.now c.if-is_empty.ensures) c.in_err-tlv.ensures.exact)
+    ∙ values-stop c.self.inside.rest.now c.in_err-tlv.field-0.0
+    (not-empty c.self.inside.rest.now c.if-is_empty.ensures) c.in_err-tlv.ensures.exact)
 
 pub returns-clause-exact : goal.returns-clause-exact
 returns-clause-exact c =
     let left : c.self.inside.rest.now ≡ c.args.self.now = c.self.view_is in
-    ap values_in (sym left) ∙ values_step c.self.inside.rest.now _
-    (not_empty c.self.inside.rest.now c.if-is_empty.ensures) c.in_ok-tlv.ensures.exact
+    ap values_in (sym left) ∙ values-step c.self.inside.rest.now _
+    (not-empty c.self.inside.rest.now c.if-is_empty.ensures) c.in_ok-tlv.ensures.exact

@@ -1,14 +1,14 @@
 use Rattle.std.proofs.Common.{◌∙◌, length, ap, arith}
 use Rattle.std.proofs.lemmas.List.{length-append}
-use Rattle.bay_ber.proofs.WriterLemmas.{over_put, past_put, fits_put}
+use Rattle.bay_ber.proofs.WriterLemmas.{over-put, past-put, fits-put}
 use Rattle.bay_ber.proofs.writer.Writer.append.Goals as goal
 
 pub returns-then-self : goal.returns-then-self
-returns-then-self c = over_put c.self.inside _ _ c.self.view_is c.if-self.true
+returns-then-self c = over-put c.self.inside _ _ c.self.view_is c.if-self.true
 
 pub returns-then-self-len : goal.returns-then-self-len
 returns-then-self-len c =
-    past_put c.self.inside _ _ c.self.view_is c.if-self.false c.self.invariant.front
+    past-put c.self.inside _ _ c.self.view_is c.if-self.false c.self.invariant.front
     c.self.invariant.within (omega arith)
 
 pub extend-requires : goal.extend-requires
@@ -28,5 +28,5 @@ invariant_of-self-2 c =
 
 pub returns : goal.returns
 returns c =
-    fits_put c.self.inside _ _ _ c.self.view_is c.if-self.false c.self.invariant.front
+    fits-put c.self.inside _ _ _ c.self.view_is c.if-self.false c.self.invariant.front
     c.self.invariant.within (omega arith) c.extend.ensures.items

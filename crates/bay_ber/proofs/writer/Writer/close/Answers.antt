@@ -1,10 +1,10 @@
 use Rattle.std.proofs.Common.{◌+◌, ◌-◌, ◌≤◌, length, ap, arith}
 use Rattle.bay_ber.specs.Writing.{length_octets}
-use Rattle.bay_ber.proofs.WriterLemmas.{over_closed, past_closed, fits_closed, is_open, length-in_place}
+use Rattle.bay_ber.proofs.WriterLemmas.{over-closed, past-closed, fits-closed, is_open, length-in_place}
 use Rattle.bay_ber.proofs.writer.Writer.close.Goals as goal
 
 pub returns-then-self : goal.returns-then-self
-returns-then-self c = over_closed c.self.inside _ _ c.self.view_is c.if-self.true
+returns-then-self c = over-closed c.self.inside _ _ c.self.view_is c.if-self.true
 
 pub overflow_add-count : goal.overflow_add-count
 overflow_add-count c =
@@ -20,7 +20,7 @@ overflow_sub-count c =
 
 pub returns-then-self-len : goal.returns-then-self-len
 returns-then-self-len c =
-    past_closed c.self.inside _ _ _ _ c.self.view_is c.if-self.false
+    past-closed c.self.inside _ _ _ _ c.self.view_is c.if-self.false
     (is_open c.self.inside _ _ c.self.view_is c.if-self.false c.requires) c.self.invariant.within
     (omega arith) c.octets_more.ensures.more (omega arith)
 
@@ -55,7 +55,7 @@ invariant_of-self-2 c =
 
 pub returns : goal.returns
 returns c =
-    fits_closed c.self.inside _ _ _ _ _ _ c.self.view_is c.if-self.false
+    fits-closed c.self.inside _ _ _ _ _ _ c.self.view_is c.if-self.false
     (is_open c.self.inside _ _ c.self.view_is c.if-self.false c.requires) c.self.invariant.within
     (omega arith) c.octets_more.ensures.more (omega arith) (omega arith)
     c.write_length.ensures.items

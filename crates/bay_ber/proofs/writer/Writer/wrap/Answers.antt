@@ -1,29 +1,29 @@
 use Rattle.std.proofs.Common.{ap, refl, arith}
 use Rattle.bay_ber.specs.Sheets.{Sheet}
-use Rattle.bay_ber.proofs.SheetLemmas.{head_few, is_headed, length-element, past_wrapped, fits_wrapped}
+use Rattle.bay_ber.proofs.SheetLemmas.{head-few, is-headed, length-element, past-wrapped, fits-wrapped}
 use Rattle.bay_ber.proofs.writer.Writer.wrap.Goals as goal
 
 pub returns-then-self-size-clause-message : goal.returns-then-self-size-clause-message
 returns-then-self-size-clause-message c =
     let octets = c.in-Some.octets.now in
     let same = ap (λ (s : Sheet). s.limit) c.self.view_is in
-    past_wrapped c.args.self.now _ c.args.tag octets c.in-Some.ensures refl
+    past-wrapped c.args.self.now _ c.args.tag octets c.in-Some.ensures refl
     (omega (arith, same, length-element c.args.tag octets))
 
 pub returns-then-self-size-2-clause-message : goal.returns-then-self-size-2-clause-message
 returns-then-self-size-2-clause-message c =
     let octets = c.in-Some.octets.now in
     let same = ap (λ (s : Sheet). s.limit) c.self.view_is in
-    past_wrapped c.args.self.now _ c.args.tag octets c.in-Some.ensures refl
+    past-wrapped c.args.self.now _ c.args.tag octets c.in-Some.ensures refl
     (omega (arith, same, c.octets_more.ensures.more, length-element c.args.tag octets))
 
 pub returns-clause-message : goal.returns-clause-message
 returns-clause-message c =
     let octets = c.in-Some.octets.now in
     let same = ap (λ (s : Sheet). s.limit) c.self.view_is in
-    fits_wrapped c.args.self.now _ c.args.tag octets c.in-Some.ensures
+    fits-wrapped c.args.self.now _ c.args.tag octets c.in-Some.ensures
     (omega (arith, same, c.octets_more.ensures.more, length-element c.args.tag octets))
-    (is_headed c.args.self.now _ c.args.tag _ octets c.in-Some.ensures refl c.head.ensures)
+    (is-headed c.args.self.now _ c.args.tag _ octets c.in-Some.ensures refl c.head.ensures)
 
 pub returns-clause-few : goal.returns-clause-few
-returns-clause-few c = head_few c.args.self.now _ _ _ c.head.ensures
+returns-clause-few c = head-few c.args.self.now _ _ _ c.head.ensures

@@ -1,19 +1,19 @@
 use Rattle.std.proofs.Common.{◌∙◌, sym, ap}
-use Rattle.bay_connection.specs.Talk.{closed}
+use Rattle.bay_connection.specs.Talk.{talk_over}
 use Rattle.bay_connection.specs.Feeding.{indication_of}
 use Rattle.bay_connection.specs.Line.{talk_of, client_of}
-use Rattle.bay_connection.proofs.FeedingLemmas.{is_ready, fed_got, fed_fault}
-use Rattle.bay_connection.proofs.HearingLemmas.{number_is}
+use Rattle.bay_connection.proofs.FeedingLemmas.{is-ready, fed-got, fed-fault}
+use Rattle.bay_connection.proofs.HearingLemmas.{number-is}
 use Rattle.bay_connection.proofs.line.Line.feed.Goals as goal
 
 pub heard-requires-clause-ready : goal.heard-requires-clause-ready
 heard-requires-clause-ready c =
-    is_ready (talk_of c.args.self.now) c.feed.new.self c.in-Ok.fed.got c.args.piece.now
+    is-ready (talk_of c.args.self.now) c.feed.new.self c.in-Ok.fed.got c.args.piece.now
     c.in-Ok.fed.used c.requires.joined c.in-Ok.ensures.fed c.in-Ok.ensures.after
 
 pub returns-in_ok-heard-in-Ok-clause-fed : goal.returns-in_ok-heard-in-Ok-clause-fed
 returns-in_ok-heard-in-Ok-clause-fed c =
-    let f = fed_got (talk_of c.args.self.now) c.feed.new.self c.in-Ok.fed.got c.args.piece.now
+    let f = fed-got (talk_of c.args.self.now) c.feed.new.self c.in-Ok.fed.got c.args.piece.now
     c.in-Ok.fed.used (indication_of c.in_ok-heard-in-Ok.heard (client_of c.heard.new.self))
     (talk_of c.heard.new.self) c.requires.joined c.in-Ok.ensures.fed c.in-Ok.ensures.after
     c.in_ok-heard-in-Ok.ensures.told in
@@ -21,7 +21,7 @@ returns-in_ok-heard-in-Ok-clause-fed c =
 
 pub returns-in_ok-heard-in-Ok-clause-left : goal.returns-in_ok-heard-in-Ok-clause-left
 returns-in_ok-heard-in-Ok-clause-left c =
-    let f = fed_got (talk_of c.args.self.now) c.feed.new.self c.in-Ok.fed.got c.args.piece.now
+    let f = fed-got (talk_of c.args.self.now) c.feed.new.self c.in-Ok.fed.got c.args.piece.now
     c.in-Ok.fed.used (indication_of c.in_ok-heard-in-Ok.heard (client_of c.heard.new.self))
     (talk_of c.heard.new.self) c.requires.joined c.in-Ok.ensures.fed c.in-Ok.ensures.after
     c.in_ok-heard-in-Ok.ensures.told in
@@ -30,15 +30,15 @@ returns-in_ok-heard-in-Ok-clause-left c =
 pub returns-in_ok-code-in-Err-clause-fed : goal.returns-in_ok-code-in-Err-clause-fed
 returns-in_ok-code-in-Err-clause-fed c =
     let code = c.in_ok-code-in-Err.code in
-    let f = fed_fault (talk_of c.args.self.now) c.args.piece.now c.in-Err.fault code
+    let f = fed-fault (talk_of c.args.self.now) c.args.piece.now c.in-Err.fault code
     c.requires.joined c.in-Err.ensures.refused
-    (sym c.code.ensures ∙ number_is c.code.result code _ c.in_ok-code-in-Err.ensures.value) in
+    (sym c.code.ensures ∙ number-is c.code.result code _ c.in_ok-code-in-Err.ensures.value) in
     f.fed
 
 pub returns-in_ok-code-in-Err-clause-left : goal.returns-in_ok-code-in-Err-clause-left
 returns-in_ok-code-in-Err-clause-left c =
     let code = c.in_ok-code-in-Err.code in
-    let f = fed_fault (talk_of c.args.self.now) c.args.piece.now c.in-Err.fault code
+    let f = fed-fault (talk_of c.args.self.now) c.args.piece.now c.in-Err.fault code
     c.requires.joined c.in-Err.ensures.refused
-    (sym c.code.ensures ∙ number_is c.code.result code _ c.in_ok-code-in-Err.ensures.value) in
-    c.close.ensures.closed ∙ ap closed c.in-Err.ensures.broken ∙ f.left
+    (sym c.code.ensures ∙ number-is c.code.result code _ c.in_ok-code-in-Err.ensures.value) in
+    c.close.ensures.closed ∙ ap talk_over c.in-Err.ensures.broken ∙ f.left

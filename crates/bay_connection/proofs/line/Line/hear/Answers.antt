@@ -1,9 +1,9 @@
 use Rattle.std.proofs.Common.{◌≡◌, length, Ok, ap, arith}
 use Rattle.std.proofs.lemmas.List.{length-append}
-use Rattle.bay_transport.specs.Feeding.{agreed}
+use Rattle.bay_transport.specs.Feeding.{size_agreed}
 use Rattle.bay_assoc.specs.Hearing.{mms, hearing}
-use Rattle.bay_connection.proofs.FeedingLemmas.{sized_joined}
-use Rattle.bay_connection.proofs.HearingLemmas.{hears_pdu, last_part}
+use Rattle.bay_connection.proofs.FeedingLemmas.{sized-joined}
+use Rattle.bay_connection.proofs.HearingLemmas.{hears-pdu, last-part}
 use Rattle.bay_connection.proofs.line.Line.hear.Goals as goal
 
 pub returns-in_ok-frames-in-Ok-Answer-clause-kept
@@ -11,7 +11,7 @@ pub returns-in_ok-frames-in-Ok-Answer-clause-kept
 returns-in_ok-frames-in-Ok-Answer-clause-kept c =
     record {
       within = omega (arith, c.requires.nothing);
-      joined = sized_joined (record
+      joined = sized-joined (record
           { stream = c.args.self.now.transport.stream; phase = c.on_tsdu.new.self })
           c.requires.agreed;
     }
@@ -22,7 +22,7 @@ returns-in-Ok-Mms-clause-kept c =
     record {
       within = omega (arith, ap length last.1, length-append last.0 c.in-Ok-Mms.pdu.now);
       joined =
-          sized_joined
+          sized-joined
           (record { stream = c.args.self.now.transport.stream; phase = c.on_tsdu.new.self })
           c.requires.agreed;
     }
@@ -34,8 +34,8 @@ returns-in-Ok-Mms-clause-told c =
     let h : hearing c.args.self.now.assoc tsdu ≡ Ok (mms pdu, c.on_tsdu.new.self) =
     rw (c.in-Ok-Mms.field-0-is, c.shown-tsdu.ensures) at c.in-Ok-Mms.ensures.heard in
     let last = rw (c.in-Ok-Mms.field-0-is, c.shown-tsdu.ensures) at c.in-Ok-Mms.ensures.last in
-    rw (last_part tsdu last.0 pdu last.1)
-    (hears_pdu c.args.self.now.transport.stream (agreed c.args.self.now.transport.stream)
+    rw (last-part tsdu last.0 pdu last.1)
+    (hears-pdu c.args.self.now.transport.stream (size_agreed c.args.self.now.transport.stream)
     c.args.self.now.assoc c.on_tsdu.new.self tsdu pdu h)
 
 pub returns-in-Ok-Mms-clause-open : goal.returns-in-Ok-Mms-clause-open

@@ -1,6 +1,6 @@
 use Rattle.std.proofs.Common.{Result, Ok, Err, OnOk, arith}
 use Rattle.bay_connection.specs.Line.{talk_of}
-use Rattle.bay_connection.proofs.FeedingLemmas.{sized_joined}
+use Rattle.bay_connection.proofs.FeedingLemmas.{sized-joined}
 use Rattle.bay_connection.proofs.line.Line.heard.Goals as goal
 
 holds : {X E P : Type 0} (r : Result X E) → P → OnOk r P
@@ -11,5 +11,5 @@ pub returns-in-Answer-clause-kept : goal.returns-in-Answer-clause-kept
 returns-in-Answer-clause-kept c =
     holds c.answer.result (record {
       within = omega (arith, c.requires.nothing);
-      joined = sized_joined (talk_of c.args.self.now) (rw c.in-Answer.is at c.requires.ready);
+      joined = sized-joined (talk_of c.args.self.now) (rw c.in-Answer.is at c.requires.ready);
     })

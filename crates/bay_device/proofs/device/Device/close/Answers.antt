@@ -1,6 +1,6 @@
 use Rattle.std.proofs.Common.{◌≡◌, ℕ, Option, Some, Ok, Result, subst, ap, sym, ◌∙◌}
 use Rattle.bay_device.specs.Device.{State}
-use Rattle.bay_device.specs.Outcomes.{Outcome, close_outcome, closed, connection_at, place_of}
+use Rattle.bay_device.specs.Outcomes.{Outcome, close_outcome, without_connection, connection_at, place_of}
 use Rattle.bay_device.specs.StateView.{state_view}
 use Rattle.bay_device.specs.Steps.{IsOutcome, quiet_answer}
 use Rattle.bay_device.specs.declared.event.Sent.{Sent}
@@ -27,8 +27,11 @@ returns c =
     (record {
       answered =
           ap (λ (x : Step). let r : Result Step StepFault = Ok x in r) c.quiet.ensures
-          ∙ ap (λ (o : Option Sent). quiet_answer (Ok o)) (rw c.deref_mut.ensures.value at c.advance-ended.ensures.sent cs)
+          ∙ ap (λ (o : Option Sent). quiet_answer (Ok o))
+          (rw c.deref_mut.ensures.value at c.advance-ended.ensures.sent cs)
           ∙ sym (ap (λ (o : Outcome). o.answer) whole);
-      left = c.drop_connection.ensures ∙ ap (closed a) (rw c.deref_mut.ensures.value at c.advance-ended.ensures.after cs)
+      left = c.drop_connection.ensures
+          ∙ ap (without_connection a)
+          (rw c.deref_mut.ensures.value at c.advance-ended.ensures.after cs)
           ∙ sym (ap (λ (o : Outcome). o.after) whole);
     })

@@ -33,7 +33,8 @@ returns c talk is_open =
     ap (λ (o : Option ℕ). connection_at o s) c.requires.here in
     let same : own ≡ talk =
     same-talk own talk (connection_at (place_of a) s)
-    (sym (ap talk_in c.in-Some.is) ∙ (rw c.deref_mut.ensures.value at c.take.ensures.value) ∙ sym at) here in
+    (sym (ap talk_in c.in-Some.is) ∙ (rw c.deref_mut.ensures.value at c.take.ensures.value)
+    ∙ sym at) here in
     let comes : ComesTo now a own octets (done_of s c.new-made.result) why
     (done_of t c.drain.new.made) =
     ended-at c.drain.result (λ (xs : List (Option Talk)) (w : Option Why). ComesTo now a own octets

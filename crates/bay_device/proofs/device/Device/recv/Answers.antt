@@ -1,6 +1,6 @@
 use Rattle.std.proofs.Common.{◌≡◌, ◌<◌, ℕ, [], length, Option, Some, Ok, Result, subst, ap, sym, ◌∙◌, arith}
 use Rattle.std.proofs.lemmas.Bool.Decides.{nat_tests}
-use Rattle.bay_device.specs.Device.{State, advanced, ended_at}
+use Rattle.bay_device.specs.Device.{State, device_at, ended_at}
 use Rattle.bay_device.specs.Outcomes.{connection_at, place_of}
 use Rattle.bay_device.specs.StateView.{state_view}
 use Rattle.bay_device.specs.Steps.{HearsFrom, Receives, quiet_answer}
@@ -25,7 +25,7 @@ returns-then-is_empty c =
     let none : octets ≡ [] =
     no-octets octets (grind (arith, nat_tests, c.is_empty.ensures, c.if-is_empty.true)) in
     let told : Option Sent → Result Step StepFault = λ o. quiet_answer (Ok o) in
-    let whole : Receives now a [] s (told (ended_at now s)) (advanced now s) =
+    let whole : Receives now a [] s (told (ended_at now s)) (device_at now s) =
     received-none now a s talk.0 some in
     let new = rw c.deref_mut.ensures.value at c.advance-ended.ensures.after cs in
     let answered : (let r : Result Step StepFault = Ok c.quiet.result in r)
@@ -59,9 +59,9 @@ returns c =
     ap (λ (o : Option ℕ). connection_at o (state_view cs c.advance-ended.new.self)) here
     ∙ talk.1 in
     let heard = c.hear.ensures talk.0 still in
-    let own : HearsFrom now a octets (ended_at now s) (advanced now s) talk.0 c.hear.result
+    let own : HearsFrom now a octets (ended_at now s) (device_at now s) talk.0 c.hear.result
     c.hear.new.self =
-    subst (λ (o : Option Sent). HearsFrom now a octets o (advanced now s) talk.0 c.hear.result
+    subst (λ (o : Option Sent). HearsFrom now a octets o (device_at now s) talk.0 c.hear.result
     c.hear.new.self) (rw c.deref_mut.ensures.value at c.advance-ended.ensures.sent cs)
     (subst (λ (t : State). HearsFrom now a octets c.advance-ended.result t talk.0 c.hear.result
     c.hear.new.self) after heard) in

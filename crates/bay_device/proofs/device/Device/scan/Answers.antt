@@ -1,6 +1,6 @@
 use Rattle.std.proofs.Common.{ℕ, [], List, Option, Some, None, Ok, Result, subst, ap, ◌∙◌}
 use Rattle.bay_services.specs.declared.answer.Command.{Command}
-use Rattle.bay_device.specs.Device.{State, advanced, ended_at, ran_at, scanned}
+use Rattle.bay_device.specs.Device.{State, device_at, ended_at, ran_at, after_scan}
 use Rattle.bay_device.specs.Meaning.{Halts}
 use Rattle.bay_device.specs.Outcomes.{scan_outcome}
 use Rattle.bay_device.specs.StateView.{state_view}
@@ -40,14 +40,16 @@ returns-clause-gives c =
           ∙ ap (λ (xs : List Command). told (ended_at now s) [] xs c.scan-steps.result)
           (c.new-4.ensures ∙ c.new-3.ensures.items)
           ∙ ap (told (ended_at now s) [] [])
-          ((rw c.deref_mut-2.ensures.value at c.scan-steps.ensures.steps cs) ∙ ap (λ (t : State). (ran_at now t).steps) after);
-      left = (rw c.deref_mut-2.ensures.value at c.scan-steps.ensures.after cs) ∙ ap (scanned now) after;
+          ((rw c.deref_mut-2.ensures.value at c.scan-steps.ensures.steps cs)
+          ∙ ap (λ (t : State). (ran_at now t).steps) after);
+      left = (rw c.deref_mut-2.ensures.value at c.scan-steps.ensures.after cs)
+          ∙ ap (after_scan now) after;
     })
 
 pub returns-clause-halts : goal.returns-clause-halts
 returns-clause-halts c =
     let now = c.args.now in
     let cs = c.self.inside.connections.value in
-    subst (λ (t : State). Halts now (advanced now t)) c.self.view_is
+    subst (λ (t : State). Halts now (device_at now t)) c.self.view_is
     (subst (Halts now) (rw c.deref_mut.ensures.value at c.advance-ended.ensures.after cs)
     (rw c.deref_mut-2.ensures.value at c.scan-steps.ensures.halts cs))

@@ -12,7 +12,7 @@ invariant_of-self c =
       metered = rw did.layout d.metered;
       told_stands =
           told-with (bay_view d.bay) (bay_view c.advance-over.new.self)
-          (control.advanced c.args.now d.bay.controls) d.told d.told_stands did.after;
+          (control.controls_at c.args.now d.bay.controls) d.told d.told_stands did.after;
       told_sized = rw did.switches d.told_sized;
       tabled = rw did.switches d.tabled;
       typed = d.typed;
@@ -27,7 +27,7 @@ invariant_of-self-in-None c =
       metered = rw did.layout d.metered;
       told_stands =
           told-with (bay_view d.bay) (bay_view c.advance-over.new.self)
-          (control.advanced c.args.now d.bay.controls) d.told d.told_stands did.after;
+          (control.controls_at c.args.now d.bay.controls) d.told d.told_stands did.after;
       told_sized = rw did.switches d.told_sized;
       tabled = rw did.switches d.tabled;
       typed = d.typed;

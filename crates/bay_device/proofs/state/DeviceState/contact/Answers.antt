@@ -1,5 +1,5 @@
 use Rattle.std.proofs.Common.{◌≡◌, ◌<◌, [], length, slice_get, Option, Ok, ap, sym, ◌∙◌, arith}
-use Rattle.bay_device.specs.Device.{State, advanced, contact_taken, ended_at, reached_at}
+use Rattle.bay_device.specs.Device.{State, device_at, contact_taken, ended_at, reached_at}
 use Rattle.bay_device.specs.Outcomes.{Outcome, contact_outcome, or_else}
 use Rattle.bay_device.specs.StateView.{state_view}
 use Rattle.bay_device.specs.Steps.{quiet_answer}
@@ -29,7 +29,7 @@ returns c connections =
     let own = ap (λ (t : State). slice_get t.switches k) after ∙ here.1 in
     let took = c.take_contact-reached.ensures.after connections here.0 own in
     let told : c.or_else.result
-    ≡ or_else (ended_at c.args.now s) (reached_at k c.args.position (advanced c.args.now s)) =
+    ≡ or_else (ended_at c.args.now s) (reached_at k c.args.position (device_at c.args.now s)) =
     c.or_else.ensures
     ∙ ap (λ (o : Option Sent). or_else o c.take_contact-reached.result)
     (c.advance-over.ensures.sent connections)

@@ -12,7 +12,8 @@ invariant_of-self c =
       metered = rw did.layout d.metered;
       told_stands =
           told-with (bay_view d.bay) (bay_view c.drop_owner.new.self)
-          (control.dropped c.args.association d.bay.controls) d.told d.told_stands did.after;
+          (control.without_association c.args.association d.bay.controls) d.told d.told_stands
+          did.after;
       told_sized = rw did.switches d.told_sized;
       tabled = rw did.switches d.tabled;
       typed = d.typed;

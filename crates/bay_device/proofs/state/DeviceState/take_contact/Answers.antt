@@ -4,7 +4,7 @@ use Rattle.bay_process.specs.Layout.{layout_of, switches_of}
 use Rattle.bay_process.proofs.ToldLemmas.{told-kept, keeps-contact}
 use Rattle.bay_tree.specs.declared.row.Row.{Row}
 use Rattle.bay_services.specs.Bay.{Bay}
-use Rattle.bay_device.specs.Device.{reached}
+use Rattle.bay_device.specs.Device.{reached_report}
 use Rattle.bay_device.specs.declared.event.Sent.{Sent}
 use Rattle.bay_device.proofs.ProcessLemmas.{switch-there}
 use Rattle.bay_device.proofs.state.DeviceState.take_contact.Goals as goal
@@ -61,7 +61,7 @@ returns-then-reach-clause-sent c connections =
     sym (ap (λ (b : Bay). is_done c.args.switch c.args.position b.controls.execution)
     (c.contact-changed.ensures.after s.0 s.1)) ∙ sym c.reach.ensures.done ∙ c.if-reach.true in
     c.reached.ensures.sent ∙ sym
-    (ap (λ (b : Bool). let o : Option Sent = cond b (reached d.due) None in o) done)
+    (ap (λ (b : Bool). let o : Option Sent = cond b (reached_report d.due) None in o) done)
 
 pub returns-else-reach-clause-sent : goal.returns-else-reach-clause-sent
 returns-else-reach-clause-sent c connections =
@@ -70,4 +70,4 @@ returns-else-reach-clause-sent c connections =
     let done : is_done c.args.switch c.args.position d.bay.controls.execution ≡ false =
     sym (ap (λ (b : Bay). is_done c.args.switch c.args.position b.controls.execution)
     (c.contact-changed.ensures.after s.0 s.1)) ∙ sym c.reach.ensures.done ∙ c.if-reach.false in
-    sym (ap (λ (b : Bool). let o : Option Sent = cond b (reached d.due) None in o) done)
+    sym (ap (λ (b : Bool). let o : Option Sent = cond b (reached_report d.due) None in o) done)

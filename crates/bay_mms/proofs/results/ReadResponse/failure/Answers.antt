@@ -1,18 +1,18 @@
-use Rattle.bay_mms.proofs.ResponseLemmas.{adds_held, holds_held, size_held}
+use Rattle.bay_mms.proofs.ResponseLemmas.{adds-held, holds-held, size-held}
 use Rattle.bay_mms.proofs.results.ReadResponse.failure.Goals as goal
 
 pub invariant_of-self : goal.invariant_of-self
 invariant_of-self c =
-    holds_held c.held.result c.self.inside.results _ _ _ c.self.invariant c.put_result.ensures
+    holds-held c.held.result c.self.inside.results _ _ _ c.self.invariant c.put_result.ensures
     c.held.ensures
 
 pub returns-clause-added : goal.returns-clause-added
 returns-clause-added c =
     rw (← c.self.view_is)
-    (adds_held c.held.result c.self.inside.results _ _ _ c.self.invariant c.put_result.ensures
+    (adds-held c.held.result c.self.inside.results _ _ _ c.self.invariant c.put_result.ensures
     c.held.ensures)
 
 pub returns-clause-size : goal.returns-clause-size
 returns-clause-size c =
     rw (← c.self.view_is)
-    (size_held c.held.result c.self.inside.results _ _ _ c.put_result.ensures c.held.ensures)
+    (size-held c.held.result c.self.inside.results _ _ _ c.put_result.ensures c.held.ensures)

@@ -3,7 +3,7 @@ use Rattle.bay_base.specs.Exact.{Gives}
 use Rattle.bay_mms.specs.Tags.{int_tag}
 use Rattle.bay_mms.specs.Writing.{or_long}
 use Rattle.bay_mms.specs.declared.fault.EncodeFault.TheVariants.{OutOfMemory}
-use Rattle.bay_mms.proofs.ResponseLemmas.{number_few, response_is}
+use Rattle.bay_mms.proofs.ResponseLemmas.{number-few, response-is}
 use Rattle.bay_mms.proofs.results.ReadResponse.finish.Goals as goal
 
 pub wrap-requires-3-clause-room : goal.wrap-requires-3-clause-room
@@ -13,7 +13,7 @@ wrap-requires-3-clause-room c =
       arith,
       c.wrap.ensures.few,
       c.wrap-2.ensures.few,
-      number_few c.wrap-2.new.self _ int_tag (pos c.args.id) c.front_id.ensures,
+      number-few c.wrap-2.new.self _ int_tag (pos c.args.id) c.front_id.ensures,
     )
 
 pub returns : goal.returns
@@ -22,7 +22,7 @@ returns c =
     subst
     (λ (m : Option (List ℕ)). Gives OutOfMemory (λ (octets : List ℕ). octets)
     c.finish.result (or_long m))
-    (response_is c.args.id c.self.inside.results c.wrap.new.self c.wrap-2.new.self
+    (response-is c.args.id c.self.inside.results c.wrap.new.self c.wrap-2.new.self
     c.front_id.new.writer c.wrap-3.new.self c.self.invariant c.wrap.ensures.limit
     (rw c.context_constructed.ensures at c.wrap.ensures.message) c.wrap-2.ensures.limit
     (rw c.context_constructed-2.ensures at c.wrap-2.ensures.message) c.front_id.ensures

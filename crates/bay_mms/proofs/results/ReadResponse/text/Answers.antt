@@ -1,19 +1,19 @@
-use Rattle.bay_mms.proofs.ResponseLemmas.{adds_held, holds_held, size_held}
+use Rattle.bay_mms.proofs.ResponseLemmas.{adds-held, holds-held, size-held}
 use Rattle.bay_mms.proofs.results.ReadResponse.text.Goals as goal
 
 pub invariant_of-self : goal.invariant_of-self
 invariant_of-self c =
-    holds_held c.held.result c.self.inside.results _ _ _ c.self.invariant
+    holds-held c.held.result c.self.inside.results _ _ _ c.self.invariant
     (rw (c.context.ensures, c.as_bytes.ensures.value) at c.octets.ensures) c.held.ensures
 
 pub returns-clause-added : goal.returns-clause-added
 returns-clause-added c =
     rw (← c.self.view_is)
-    (adds_held c.held.result c.self.inside.results _ _ _ c.self.invariant
+    (adds-held c.held.result c.self.inside.results _ _ _ c.self.invariant
     (rw (c.context.ensures, c.as_bytes.ensures.value) at c.octets.ensures) c.held.ensures)
 
 pub returns-clause-size : goal.returns-clause-size
 returns-clause-size c =
     rw (← c.self.view_is)
-    (size_held c.held.result c.self.inside.results _ _ _
+    (size-held c.held.result c.self.inside.results _ _ _
     (rw (c.context.ensures, c.as_bytes.ensures.value) at c.octets.ensures) c.held.ensures)

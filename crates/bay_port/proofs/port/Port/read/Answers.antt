@@ -1,7 +1,7 @@
 use Rattle.std.proofs.Common.{◌≡◌, ◌≤◌, ◌+◌, nat_le, true, take, length, arith, rules}
 use Rattle.std.proofs.lemmas.List.{length-take}
 use Rattle.bay_lines.specs.Fronts.{front}
-use Rattle.bay_serve.specs.Calls.{Called, Octets, heard}
+use Rattle.bay_serve.specs.Calls.{Called, Octets, heard_of}
 use Rattle.bay_port.specs.Fit.{is_waiting}
 use Rattle.bay_port.specs.Ports.{PortData}
 use Rattle.bay_port.proofs.AttendLemmas.{reads-some}
@@ -12,10 +12,10 @@ returns-in-Ok-Bytes g c =
     let before : PortData = c.args.self.now in
     let octets = take c.in-Ok-Bytes.count c.read.new.room in
     let waits : is_waiting (front before.kept) ≡ true = search rules in
-    let is : heard c.read.result c.read.new.room ≡ Octets octets = search rules in
+    let is : heard_of c.read.result c.read.new.room ≡ Octets octets = search rules in
     let few : length octets ≤ 4096 =
     omega (arith, length-take c.in-Ok-Bytes.count c.read.new.room) in
     let fits : c.put.result ≡ nat_le (length before.kept + length octets) 4352 = search rules in
     reads-some (Called g.L.Link.does g.L.Link.failures) c.args.link.now c.read.new.self
-    before _ octets (heard c.read.result c.read.new.room) c.put.result waits is
+    before _ octets (heard_of c.read.result c.read.new.room) c.put.result waits is
     c.read.ensures.call few fits (search rules)

@@ -2,10 +2,10 @@ use Rattle.std.proofs.Common.{◌≡◌, map, ap, sym, true, is_ok, ◌∙◌}
 use Rattle.bay_mms.specs.RequestViews.{naming}
 use Rattle.bay_mms.specs.Responses.{error_text}
 use Rattle.bay_mms.specs.declared.response.ErrorClass.TheVariants.{Resource}
-use Rattle.bay_services.specs.Answers.{said}
+use Rattle.bay_services.specs.Answers.{plain_answer}
 use Rattle.bay_services.specs.Reads.{nothing_read, read_all}
 use Rattle.bay_services.specs.Views.{bay_view}
-use Rattle.bay_services.proofs.ReplyLemmas.{done, read_fits, read_over, said_as}
+use Rattle.bay_services.proofs.ReplyLemmas.{done, read-fits, read-over, said_as}
 use Rattle.bay_services.proofs.bay.ServedBay.read.Goals as goal
 
 pub returns-in-Some-clause-ok : goal.returns-in-Some-clause-ok
@@ -17,7 +17,7 @@ returns-in-Some-clause-ok c =
     let after =
     done c.read_response-response.result _ made c.read_response-response.ensures.after in
     said_as c.said.result _ _ _ c.said.ensures
-    (read_fits c.args.client c.args.id old (bay_view c.read_response-response.new.self) r
+    (read-fits c.args.client c.args.id old (bay_view c.read_response-response.new.self) r
     c.in-Some.pdu c.in_ok-pdu.field-0
     (c.in_ok-pdu.ensures.pdu c.args.client.size _ c.read_response-response.ensures.response)
     c.in-Some.is after)
@@ -30,7 +30,7 @@ returns-in-None-clause-ok c =
     c.restore.ensures.after ∙ c.read_response-response.ensures.back c.standing-before.result
     ∙ c.standing-before.ensures.own in
     said_as c.failed.result _ _ _ c.failed.ensures
-    (read_over c.args.client c.args.id old r c.in_ok-pdu.field-0
+    (read-over c.args.client c.args.id old r c.in_ok-pdu.field-0
     (c.in_ok-pdu.ensures.pdu c.args.client.size _ c.read_response-response.ensures.response)
     c.in-None.is
-    ∙ ap (said (error_text c.args.id Resource)) (sym back))
+    ∙ ap (plain_answer (error_text c.args.id Resource)) (sym back))

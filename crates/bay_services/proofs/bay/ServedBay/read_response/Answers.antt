@@ -4,7 +4,7 @@ use Rattle.bay_mms.specs.RequestViews.{naming}
 use Rattle.bay_mms.specs.Responses.{read_text}
 use Rattle.bay_services.specs.Reads.{nothing_read, read_all}
 use Rattle.bay_services.specs.Views.{bay_view}
-use Rattle.bay_services.proofs.ReplyLemmas.{fault_told, response_more}
+use Rattle.bay_services.proofs.ReplyLemmas.{fault-told, response-more}
 use Rattle.bay_services.proofs.bay.ServedBay.read_response.Goals as goal
 
 pub returns-in_err-read_all-clause-response : goal.returns-in_err-read_all-clause-response
@@ -14,7 +14,7 @@ returns-in_err-read_all-clause-response c =
     let results =
     (read_all c.args.client (map naming c.args.names.now)
     (nothing_read (bay_view c.args.self.now))).results in
-    rw (p.1, p.2) (fault_told c.in_err-read_all.field-0.0 c.args.client.size
+    rw (p.1, p.2) (fault-told c.in_err-read_all.field-0.0 c.args.client.size
     (read_text c.args.id results)
     (λ is. let long = rw c.in_ok-response.ensures at c.in_err-read_all.ensures.long is in
-    omega (arith, response_more c.args.id results, long)))
+    omega (arith, response-more c.args.id results, long)))

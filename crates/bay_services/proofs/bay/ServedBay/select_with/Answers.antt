@@ -1,5 +1,5 @@
 use Rattle.std.proofs.Common.{refl, sym}
-use Rattle.bay_services.proofs.PlaceLemmas.{rows_kept}
+use Rattle.bay_services.proofs.PlaceLemmas.{rows-kept}
 use Rattle.bay_services.proofs.DecisionLemmas.{decided, shows, undone}
 use Rattle.bay_services.proofs.bay.ServedBay.select_with.Goals as goal
 
@@ -12,7 +12,7 @@ invariant_of-self c =
     record {
       placed = rw c.show_selection.ensures.layout d.placed;
       controlled =
-          rows_kept _ d.tree d.control_rows (sym c.show_selection.ensures.layout) d.controlled;
+          rows-kept _ d.tree d.control_rows (sym c.show_selection.ensures.layout) d.controlled;
       sized = d.sized;
       shows = shows c.select_with-answer.new.self _ _ _ _ d.sized c.show_selection.ensures.rows;
     }

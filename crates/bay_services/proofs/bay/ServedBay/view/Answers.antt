@@ -1,6 +1,6 @@
 use Rattle.std.proofs.Common.{◌∙◌, refl, get_or}
 use Rattle.bay_process.specs.Layout.{switches_of}
-use Rattle.bay_services.proofs.ViewLemmas.{there, seen_position, seen_opening, seen_closing}
+use Rattle.bay_services.proofs.ViewLemmas.{there, seen-position, seen-opening, seen-closing}
 use Rattle.bay_services.proofs.bay.ServedBay.view.Goals as goal
 
 pub position_at-requires : goal.position_at-requires
@@ -33,9 +33,9 @@ returns c =
     there d.switches c.as_slice.result.now k c.index-as_slice-switch.result c.as_slice.ensures
     c.requires in
     let named = (d.placed k bound here).named in
-    let p = seen_position d.switches d.tree k bound c.position_at.result here named
+    let p = seen-position d.switches d.tree k bound c.position_at.result here named
     c.position_at.ensures in
-    let o = c.is_truth.ensures.value ∙ seen_opening (switches_of d.switches) d.tree k bound named in
+    let o = c.is_truth.ensures.value ∙ seen-opening (switches_of d.switches) d.tree k bound named in
     let x = c.is_truth-2.ensures.value
-    ∙ seen_closing (switches_of d.switches) d.tree k bound named in
+    ∙ seen-closing (switches_of d.switches) d.tree k bound named in
     rw (p, o, x) refl

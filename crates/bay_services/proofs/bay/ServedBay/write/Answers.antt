@@ -3,10 +3,10 @@ use Rattle.bay_mms.specs.RequestViews.{naming}
 use Rattle.bay_mms.specs.Views.{data_in}
 use Rattle.bay_mms.specs.Responses.{error_text}
 use Rattle.bay_mms.specs.declared.response.ErrorClass.TheVariants.{Resource}
-use Rattle.bay_services.specs.Answers.{said, write_done}
+use Rattle.bay_services.specs.Answers.{plain_answer, write_done}
 use Rattle.bay_services.specs.Views.{bay_view, writing}
 use Rattle.bay_services.specs.Writes.{nothing_written, write_all}
-use Rattle.bay_services.proofs.ReplyLemmas.{said_as, write_over}
+use Rattle.bay_services.proofs.ReplyLemmas.{said_as, write-over}
 use Rattle.bay_services.proofs.bay.ServedBay.write.Goals as goal
 
 pub returns-in-None-clause-ok : goal.returns-in-None-clause-ok
@@ -23,6 +23,6 @@ returns-in-None-clause-ok c =
     c.in_ok-write_all.ensures.ok in
     said_as c.failed.result _ _ _ c.failed.ensures
     (ap (write_done c.args.client c.args.id old) (sym ok)
-    ∙ write_over c.args.client c.args.id old made c.in_ok-pdu.field-0
+    ∙ write-over c.args.client c.args.id old made c.in_ok-pdu.field-0
     (c.in_ok-pdu.ensures.pdu c.args.client.size _ c.finish.ensures) c.in-None.is
-    ∙ ap (said (error_text c.args.id Resource)) (sym back))
+    ∙ ap (plain_answer (error_text c.args.id Resource)) (sym back))

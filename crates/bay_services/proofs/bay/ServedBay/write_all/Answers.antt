@@ -4,7 +4,7 @@ use Rattle.std.proofs.Math.ListN.{drop_of_length-le}
 use Rattle.bay_mms.specs.RequestViews.{naming}
 use Rattle.bay_mms.specs.Views.{data_in}
 use Rattle.bay_services.specs.Views.{writing}
-use Rattle.bay_services.proofs.WriteLemmas.{none_left}
+use Rattle.bay_services.proofs.WriteLemmas.{none-left}
 use Rattle.bay_services.proofs.bay.ServedBay.write_all.Goals as goal
 
 pub returns-clause-ok : goal.returns-clause-ok
@@ -19,4 +19,4 @@ returns-clause-ok c =
       | inr ge ↦ inl (ap (map naming) (drop_of_length-le names ge))
     ] in
     sym (c.loop-i.invariant.ok
-    ∙ none_left c.args.client _ _ (writing c.loop-i.self c.loop-i.written) left)
+    ∙ none-left c.args.client _ _ (writing c.loop-i.self c.loop-i.written) left)

@@ -1,15 +1,15 @@
 use Rattle.std.proofs.Common.{◌≡◌, Ok, refl, ap, sym, ◌∙◌}
 use Rattle.bay_control.specs.Decisions.{select_with_outcome}
-use Rattle.bay_mms.specs.ControlViews.{cancelling, operating, seen}
+use Rattle.bay_mms.specs.ControlViews.{cancelling, operating, result_view}
 use Rattle.bay_mms.specs.Controls.{operate_in}
 use Rattle.bay_mms.specs.Views.{datum_of}
 use Rattle.bay_tree.specs.Rows.{name_at}
 use Rattle.bay_control.specs.declared.request.Ask.{Ask}
 use Rattle.bay_services.specs.Views.{bay_view, writing}
-use Rattle.bay_services.specs.Writes.{select_with_asked, decided}
-use Rattle.bay_services.proofs.PlaceLemmas.{name_kept}
+use Rattle.bay_services.specs.Writes.{select_with_asked, after_decision}
+use Rattle.bay_services.proofs.PlaceLemmas.{name-kept}
 use Rattle.bay_services.proofs.ReplyLemmas.{both}
-use Rattle.bay_services.proofs.WriteLemmas.{put_down}
+use Rattle.bay_services.proofs.WriteLemmas.{put-down}
 use Rattle.bay_services.proofs.bay.ServedBay.write_select_with.Goals as goal
 
 pub returns-clause-ok : goal.returns-clause-ok
@@ -21,16 +21,16 @@ returns-clause-ok c =
     let new = c.select_with-answer.new.self in
     let w = writing d c.args.written.now in
     let read : operate_in (datum_of c.args.given.now) ≡ Ok (operating c.in-Ok.operate) =
-    sym c.operate_of.ensures ∙ ap (seen operating) c.in-Ok.is in
+    sym c.operate_of.ensures ∙ ap (result_view operating) c.in-Ok.is in
     let control = (operating c.in-Ok.operate).control in
     let o = select_with_outcome a.association k c.ask_of.result a.now d.controls in
     both c.put_decision.result _ _ _ c.put_decision.ensures.response c.put_decision.ensures.reports
-    (λ has told. put_down a k item (name_at new.tree c.args.part.row) control
+    (λ has told. put-down a k item (name_at new.tree c.args.part.row) control
     (cancelling c.control_of.result) w o (bay_view new) c.select_with-answer.result _ _ _ _
     c.select_with-answer.ensures.after refl c.select_with-answer.ensures.answer
-    (name_kept new.tree d.tree c.args.part.row c.select_with-answer.ensures.layout)
+    (name-kept new.tree d.tree c.args.part.row c.select_with-answer.ensures.layout)
     c.control_of.ensures has told (ap (λ (v : _). v.items) c.put_decision.ensures.commands)
     c.put_decision.ensures.ending
-    ∙ ap (λ (x : Ask). decided a k item control
+    ∙ ap (λ (x : Ask). after_decision a k item control
     (select_with_outcome a.association k x a.now d.controls) w) c.ask_of.ensures
     ∙ sym (ap (select_with_asked a k item w) read))

@@ -1,5 +1,5 @@
 use Rattle.std.proofs.Common.{◌≡◌, ◌-◌, ◌≤◌, [], length, take}
-use Rattle.bay_transport.specs.Doings.{run}
+use Rattle.bay_transport.specs.Doings.{run_of}
 use Rattle.bay_transport.specs.Assembly.{left_of, IsSound}
 use Rattle.bay_transport.proofs.assembly.Assembly.advance.Given as goal
 
@@ -8,7 +8,7 @@ invariant-loop-used l =
     (l.used ≤ length l.piece)
     × IsSound l.self
     × (l.self.number ≡ l.initial.self.number)
-    × (run l.initial.self.number (left_of l.initial.self) (take l.used l.piece)
+    × (run_of l.initial.self.number (left_of l.initial.self) (take l.used l.piece)
     ≡ record { doings = []; left = left_of l.self })
     × (l.self.shown.items ≡ l.initial.self.shown.items)
 

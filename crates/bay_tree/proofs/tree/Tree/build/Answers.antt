@@ -1,6 +1,6 @@
 use Rattle.std.proofs.Common.{rules, ◌≡◌, List, length, map, ap, sym, subst, ◌∙◌, arith}
 use Rattle.bay_tree.specs.declared.row.Row.{Row}
-use Rattle.bay_tree.specs.Arena.{AreTexts, IsLinked, rows_of, unlinked}
+use Rattle.bay_tree.specs.Arena.{AreTexts, IsLinked, rows_of, unlinked_node}
 use Rattle.bay_tree.specs.Rows.{IsTree, place_of}
 use Rattle.bay_tree.proofs.ArenaLemmas.{rows_of-unlinked, written}
 use Rattle.bay_tree.proofs.LinkLemmas.{length-rows_of}
@@ -8,7 +8,7 @@ use Rattle.bay_tree.proofs.tree.Tree.build.Goals as goal
 
 pub link-requires-clause-tree : goal.link-requires-clause-tree
 link-requires-clause-tree c =
-    let made : c.deref_mut.result.now ≡ map unlinked c.args.rows.items =
+    let made : c.deref_mut.result.now ≡ map unlinked_node c.args.rows.items =
     c.deref_mut.ensures.value ∙ c.in_ok-nodes.ensures in
     let rows : rows_of c.deref_mut.result.now ≡ c.args.rows.items =
     ap rows_of made ∙ rows_of-unlinked c.args.rows.items in
@@ -16,15 +16,15 @@ link-requires-clause-tree c =
 
 pub link-requires-clause-unlinked : goal.link-requires-clause-unlinked
 link-requires-clause-unlinked c =
-    let made : c.deref_mut.result.now ≡ map unlinked c.args.rows.items =
+    let made : c.deref_mut.result.now ≡ map unlinked_node c.args.rows.items =
     c.deref_mut.ensures.value ∙ c.in_ok-nodes.ensures in
     let rows : rows_of c.deref_mut.result.now ≡ c.args.rows.items =
     ap rows_of made ∙ rows_of-unlinked c.args.rows.items in
-    made ∙ ap (map unlinked) (sym rows)
+    made ∙ ap (map unlinked_node) (sym rows)
 
 pub link-requires-clause-indexed : goal.link-requires-clause-indexed
 link-requires-clause-indexed c = λ name.
-    let made : c.deref_mut.result.now ≡ map unlinked c.args.rows.items =
+    let made : c.deref_mut.result.now ≡ map unlinked_node c.args.rows.items =
     c.deref_mut.ensures.value ∙ c.in_ok-nodes.ensures in
     let rows : rows_of c.deref_mut.result.now ≡ c.args.rows.items =
     ap rows_of made ∙ rows_of-unlinked c.args.rows.items in
@@ -35,7 +35,7 @@ pub invariant_of-result : goal.invariant_of-result
 invariant_of-result c =
     let old = c.deref_mut.result.now in
     let new = c.link.new.nodes in
-    let made : old ≡ map unlinked c.args.rows.items =
+    let made : old ≡ map unlinked_node c.args.rows.items =
     c.deref_mut.ensures.value ∙ c.in_ok-nodes.ensures in
     let rows : rows_of old ≡ c.args.rows.items =
     ap rows_of made ∙ rows_of-unlinked c.args.rows.items in
@@ -61,7 +61,7 @@ pub returns : goal.returns
 returns c =
     let old = c.deref_mut.result.now in
     let new = c.link.new.nodes in
-    let made : old ≡ map unlinked c.args.rows.items =
+    let made : old ≡ map unlinked_node c.args.rows.items =
     c.deref_mut.ensures.value ∙ c.in_ok-nodes.ensures in
     let rows : rows_of old ≡ c.args.rows.items =
     ap rows_of made ∙ rows_of-unlinked c.args.rows.items in

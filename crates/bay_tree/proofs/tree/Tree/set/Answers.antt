@@ -9,7 +9,7 @@ use Rattle.bay_tree.specs.LeafTypes.{leaf_type_of}
 use Rattle.bay_tree.specs.Rows.{leaf_type_at, name_at, names_of, leaf_types_of, with_leaf}
 use Rattle.bay_tree.proofs.ArenaLemmas.{IsArena-set, with_leaf-set}
 use Rattle.bay_tree.proofs.NamedLemmas.{with_leaf-named}
-use Rattle.bay_tree.proofs.RowLemmas.{leaf_from_type}
+use Rattle.bay_tree.proofs.RowLemmas.{leaf-from-type}
 use Rattle.bay_tree.proofs.tree.Tree.set.Goals as goal
 
 abbrev node : goal.After-self-1 → Node
@@ -49,7 +49,7 @@ put c = with_leaf-set c.self.inside.nodes.items c.handle.inside.index (node c) c
 pub invariant_of-self : goal.invariant_of-self
 invariant_of-self c =
     IsArena-set c.self.inside.nodes.items c.self.inside.index c.handle.inside.index (node c)
-    (within c) (leaf_from_type (rows_of c.self.inside.nodes.items) c.handle.inside.index _
+    (within c) (leaf-from-type (rows_of c.self.inside.nodes.items) c.handle.inside.index _
     (leaf_type c))
     (ap (λ (n : Node). n.name) (same c)) (ap (λ (n : Node). n.below) (same c))
     (ap (λ (n : Node). n.beside) (same c)) c.self.invariant

@@ -3,28 +3,28 @@ use Rattle.std.specs.Option.{option_to_list}
 use Rattle.std.specs.Result.{IfOk}
 use Rattle.il_text.specs.Listing as text
 use Rattle.il_text.specs.Views.{entry_of}
-use Rattle.il_text.proofs.ListingLemmas.{view_label, view_instruction, view_block}
-use Rattle.il_check.specs.Faults.{noted}
+use Rattle.il_text.proofs.ListingLemmas.{view-label, view_instruction, view-block}
+use Rattle.il_check.specs.Faults.{first_fault_of}
 use Rattle.il_check.specs.NamesView.{names_of}
 use Rattle.il_check.specs.Program.{Entry}
 use Rattle.il_check.specs.ProgramViews.{entry_view}
 use Rattle.il_check.specs.WellTyped.{closing_faults, entry_left, type_behind}
 use Rattle.il_check.proofs.NotedLemmas.{noted-after}
-use Rattle.il_check.proofs.WalkLemmas.{deep_found, looked_found, entries-more, entries-left}
+use Rattle.il_check.proofs.WalkLemmas.{deep-found, looked-found, entries-more, entries-left}
 use Rattle.il_check.proofs.walk.Judge.+entries.Goals as goal
 
 pub block-returns-clause-found : goal.block-returns-clause-found
 block-returns-clause-found t c =
-    looked_found _ _ c.args.context.room c.args.parenthesis.line _ _ c.if-context-eq0.false
+    looked-found _ _ c.args.context.room c.args.parenthesis.line _ _ c.if-context-eq0.false
     (noted-after _ _ _ _ _ _ _ c.note_opening-self.ensures c.in_ok-inner.ensures.found
     (c.note_closing-self.ensures
-    ∙ ap (λ k. noted c.entries.new.self.found
+    ∙ ap (λ k. first_fault_of c.entries.new.self.found
     (closing_faults c.args.context.is_reached c.args.parenthesis.end c.args.parenthesis.operator
     c.args.parenthesis.negated k c.args.kind)) c.in_ok-inner.ensures.kind))
 
 pub block-returns-then-context-eq0-clause-found : goal.block-returns-then-context-eq0-clause-found
 block-returns-then-context-eq0-clause-found t c =
-    deep_found _ _ _ c.args.context.room c.args.parenthesis.line _ _ c.if-context-eq0.true
+    deep-found _ _ _ c.args.context.room c.args.parenthesis.line _ _ c.if-context-eq0.true
     c.note_opening-self.ensures c.note_if-self.ensures
 
 pub entries-loop-item-preserved : goal.entries-loop-item-preserved
@@ -50,13 +50,13 @@ entries-returns-clause-left t c =
     c.loop-item.invariant
 
 pub entry-returns-in-Label-clause-kind : goal.entry-returns-in-Label-clause-kind
-entry-returns-in-Label-clause-kind t c = grind (arith, view_label)
+entry-returns-in-Label-clause-kind t c = grind (arith, view-label)
 
 pub entry-returns-in-Label-clause-left : goal.entry-returns-in-Label-clause-left
-entry-returns-in-Label-clause-left t c = grind (arith, view_label, append-nil)
+entry-returns-in-Label-clause-left t c = grind (arith, view-label, append-nil)
 
 pub entry-returns-in-Label-clause-found : goal.entry-returns-in-Label-clause-found
-entry-returns-in-Label-clause-found t c = grind (arith, view_label)
+entry-returns-in-Label-clause-found t c = grind (arith, view-label)
 
 pub entry-returns-in-Instruction-clause-kind : goal.entry-returns-in-Instruction-clause-kind
 entry-returns-in-Instruction-clause-kind t c =
@@ -82,12 +82,12 @@ entry-returns-in-Instruction-clause-found t c = grind (arith, view_instruction)
 
 pub entry-returns-in_ok-entry-in-Block-clause-kind
     : goal.entry-returns-in_ok-entry-in-Block-clause-kind
-entry-returns-in_ok-entry-in-Block-clause-kind t c = grind (arith, view_block)
+entry-returns-in_ok-entry-in-Block-clause-kind t c = grind (arith, view-block)
 
 pub entry-returns-in_ok-entry-in-Block-clause-left
     : goal.entry-returns-in_ok-entry-in-Block-clause-left
-entry-returns-in_ok-entry-in-Block-clause-left t c = grind (arith, view_block)
+entry-returns-in_ok-entry-in-Block-clause-left t c = grind (arith, view-block)
 
 pub entry-returns-in_ok-entry-in-Block-clause-found
     : goal.entry-returns-in_ok-entry-in-Block-clause-found
-entry-returns-in_ok-entry-in-Block-clause-found t c = grind (arith, view_block)
+entry-returns-in_ok-entry-in-Block-clause-found t c = grind (arith, view-block)

@@ -6,7 +6,7 @@ use Rattle.il_check.specs.Program.{transfer}
 use Rattle.il_check.specs.declared.typed.Transfer.TheVariants as go
 use Rattle.il_compile.specs.Code.{octets_before}
 use Rattle.il_compile.specs.Senses.{when_of}
-use Rattle.il_compile.proofs.BehindLemmas.{on_success, put_leap, to_label}
+use Rattle.il_compile.proofs.BehindLemmas.{on_success, put-leap, to-label}
 use Rattle.il_compile.proofs.behind.Behind.put_jump.Goals as goal
 
 pub returns : goal.returns
@@ -14,7 +14,7 @@ returns c n is settled =
     on_success c.settle.result c.settle.ensures.counted c.settle.ensures.before
     c.settle.ensures.empty c.settle.ensures.places
     (λ counted before empty places.
-    put_leap n (transfer (go.Jump c.args.condition c.args.label)) is _
+    put-leap n (transfer (go.Jump c.args.condition c.args.label)) is _
     (Jump (when_of c.args.condition) (octets_before n c.args.label is)) c.args.self.now
     c.put.new.code.items c.settle.new.self settled refl refl refl (λ l. refl)
     (λ short.
@@ -23,7 +23,7 @@ returns c n is settled =
     let d : c.min-distance.result ≡ octets_before n c.args.label is =
     c.min-distance.ensures ∙ ap (λ k. min k 0xFFFF)
     (c.saturating_sub.ensures ∙ ap (λ k. c.args.self.now.octets - k) place)
-    ∙ to_label n c.args.label c.args.self.now.octets is c.args.self.now.instrs.items
+    ∙ to-label n c.args.label c.args.self.now.octets is c.args.self.now.instrs.items
     (get nat_eq c.args.self.now.places) settled.behind short in
     ap (λ w. Jump w c.min-distance.result) c.when_of.ensures
     ∙ ap (Jump (when_of c.args.condition)) d))

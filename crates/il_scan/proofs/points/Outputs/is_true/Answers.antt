@@ -2,18 +2,18 @@ use Rattle.std.proofs.Common.{◌≤◌, List, length, slice_get, sym, ap, ◌�
 use Rattle.std.proofs.lemmas.Bool.Decides.{nat_tests}
 use Rattle.il_image.specs.declared.value.Value.{Value}
 use Rattle.il_scan.specs.Places.{is_true, output_value}
-use Rattle.il_scan.proofs.PlaceLemmas.{below_at, mapped_at, mapped_none}
+use Rattle.il_scan.proofs.PlaceLemmas.{below-at, mapped-at, mapped-none}
 use Rattle.il_scan.proofs.points.Outputs.is_true.Goals as goal
 
 pub is_output_true-requires-clause-within : goal.is_output_true-requires-clause-within
 is_output_true-requires-clause-within c =
-    below_at (length c.self.inside.points.now) c.self.inside.writes.now c.args.place
+    below-at (length c.self.inside.points.now) c.self.inside.writes.now c.args.place
     c.self.invariant.1 c.if-place-self.true
 
 pub returns-then-place-self : goal.returns-then-place-self
 returns-then-place-self c =
     let f = output_value c.self.inside.points.now c.self.inside.slots.now in
-    let there = mapped_at f c.self.inside.writes.now c.args.place c.if-place-self.true in
+    let there = mapped-at f c.self.inside.writes.now c.args.place c.if-place-self.true in
     c.is_output_true.ensures
     ∙ ap is_true (sym there
     ∙ ap (λ (vs : List Value). slice_get vs c.args.place) c.self.view_is)
@@ -23,4 +23,4 @@ returns-else-place-self c =
     let f = output_value c.self.inside.points.now c.self.inside.slots.now in
     let past : length c.self.inside.writes.now ≤ c.args.place = grind (arith, nat_tests) in
     sym (ap is_true (ap (λ (vs : List Value). slice_get vs c.args.place) (sym c.self.view_is)
-    ∙ mapped_none f c.self.inside.writes.now c.args.place past))
+    ∙ mapped-none f c.self.inside.writes.now c.args.place past))

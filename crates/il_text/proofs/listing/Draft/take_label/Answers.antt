@@ -1,9 +1,9 @@
 use Rattle.std.proofs.Common.{arith}
 use Rattle.std.proofs.lemmas.List.{map-append}
 use Rattle.il_text.specs.Steps.{step}
-use Rattle.il_text.proofs.ListingLemmas.{view_label}
+use Rattle.il_text.proofs.ListingLemmas.{view-label}
 use Rattle.il_text.proofs.listing.Draft.take_label.Goals as goal
 
 pub returns-clause-ok : goal.returns-clause-ok
 unfolding step
-returns-clause-ok c = grind (arith, view_label, map-append)
+returns-clause-ok c = grind (arith, view-label, map-append)

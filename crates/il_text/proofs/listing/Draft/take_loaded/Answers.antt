@@ -1,16 +1,16 @@
 use Rattle.std.proofs.Common.{◌∙◌}
 use Rattle.std.proofs.lemmas.Result.{err_from_is_err_and}
-use Rattle.il_text.proofs.ListingLemmas.{steps_one, steps_more}
+use Rattle.il_text.proofs.ListingLemmas.{steps-one, steps-more}
 use Rattle.il_text.proofs.listing.Draft.take_loaded.Goals as goal
 
 pub returns-in_err-take_acting-clause-none : goal.returns-in_err-take_acting-clause-none
 returns-in_err-take_acting-clause-none c =
     let p = err_from_is_err_and c.from_residual-in_err-take_acting.result
     c.from_residual-in_err-take_acting.ensures.1 in
-    rw (p.1, p.2) (λ m. steps_more _ _ _ _ _ c.in_ok-take_entering.ensures.ok ∙ steps_one _ _ _
+    rw (p.1, p.2) (λ m. steps-more _ _ _ _ _ c.in_ok-take_entering.ensures.ok ∙ steps-one _ _ _
     ∙ c.in_err-take_acting.ensures.none m)
 
 pub returns-clause-ok : goal.returns-clause-ok
 returns-clause-ok c =
-    steps_more _ _ _ _ _ c.in_ok-take_entering.ensures.ok ∙ steps_one _ _ _
+    steps-more _ _ _ _ _ c.in_ok-take_entering.ensures.ok ∙ steps-one _ _ _
     ∙ c.in_ok-take_acting.ensures.ok

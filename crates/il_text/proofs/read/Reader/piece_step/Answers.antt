@@ -3,7 +3,7 @@ use Rattle.std.proofs.lemmas.List.{map-append}
 use Rattle.il_text.specs.ListingViews.{read_of}
 use Rattle.il_text.specs.Runs.{IsPiece}
 use Rattle.il_text.specs.TokenViews.{symbols_of}
-use Rattle.il_text.proofs.ReadLemmas.{step_ended, step_blank, step_token, step_dropped, step_bad_literal}
+use Rattle.il_text.proofs.ReadLemmas.{step-ended, step-blank, step-token, step-dropped, step-bad-literal}
 use Rattle.il_text.proofs.read.Reader.piece_step.Goals as goal
 
 pub returns-in-LineEnd-clause-ok : goal.returns-in-LineEnd-clause-ok
@@ -12,7 +12,7 @@ returns-in-LineEnd-clause-ok c =
     let piece =
     subst (λ (bs : List ℕ). IsPiece bs old.at c.piece_end-end.result) c.as_bytes.ensures.value
     c.piece_end-end.ensures.piece in
-    rw (sym (step_ended old.last (read_of old.listing) old.line (symbols_of old.tokens.items)
+    rw (sym (step-ended old.last (read_of old.listing) old.line (symbols_of old.tokens.items)
     old.text.now old.in_comment old.at _ c.requires.outside piece c.in-LineEnd.ensures)) at
     c.end_line.ensures.ok
 
@@ -22,18 +22,18 @@ returns-in-LineEnd-clause-refused c =
     let piece =
     subst (λ (bs : List ℕ). IsPiece bs old.at c.piece_end-end.result) c.as_bytes.ensures.value
     c.piece_end-end.ensures.piece in
-    rw (sym (step_ended old.last (read_of old.listing) old.line (symbols_of old.tokens.items)
+    rw (sym (step-ended old.last (read_of old.listing) old.line (symbols_of old.tokens.items)
     old.text.now old.in_comment old.at _ c.requires.outside piece c.in-LineEnd.ensures)) at
     c.end_line.ensures.refused
 
 pub returns-in-Blank-clause-ok : goal.returns-in-Blank-clause-ok
-returns-in-Blank-clause-ok c = grind (arith, step_blank)
+returns-in-Blank-clause-ok c = grind (arith, step-blank)
 
 pub returns-in_ok-push-in-Token-clause-ok : goal.returns-in_ok-push-in-Token-clause-ok
-returns-in_ok-push-in-Token-clause-ok c = grind (arith, step_token, map-append)
+returns-in_ok-push-in-Token-clause-ok c = grind (arith, step-token, map-append)
 
 pub returns-else-not-is_hopeless-clause-ok : goal.returns-else-not-is_hopeless-clause-ok
-returns-else-not-is_hopeless-clause-ok c = grind (arith, step_dropped)
+returns-else-not-is_hopeless-clause-ok c = grind (arith, step-dropped)
 
 pub returns-in-BadLiteral-clause-refused : goal.returns-in-BadLiteral-clause-refused
-returns-in-BadLiteral-clause-refused c = grind (arith, step_bad_literal)
+returns-in-BadLiteral-clause-refused c = grind (arith, step-bad-literal)
