@@ -39,6 +39,7 @@ use bay_config::read::read_bay;
 use bay_control::controls::Controls;
 use bay_process::bind::falses;
 use bay_process::controls::{ControlRows, control_rows};
+use bay_mms::names::NameTexts;
 use bay_process::meter::BoundMeter;
 use bay_process::parts::{bound_rows, node_names, wired_machine};
 use bay_process::values::ToldValues;
@@ -103,6 +104,7 @@ fn bound_bay(alloc: Global, mut bay: Box<Bay>, writes: &[Source]) -> Result<Boun
     let switches = take_items(alloc, &mut bay.switches);
     let mut bound = bound_rows(alloc, rows, switches, bay.meters.as_slice(), &nodes, writes)?;
     let control_rows = shown_rows(alloc, &mut bound.tree, bound.switches.len())?;
+    let names = NameTexts::of_tree(alloc, &bound.tree)?;
     let Bay {
         domain,
         vendor,
@@ -119,6 +121,7 @@ fn bound_bay(alloc: Global, mut bay: Box<Bay>, writes: &[Source]) -> Result<Boun
             model,
             revision,
             tree: bound.tree,
+            names,
             switches: Listing::new(bound.switches),
             control_rows,
             controls,

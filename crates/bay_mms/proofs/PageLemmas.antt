@@ -1,19 +1,19 @@
 -- How many names a page has.
-use Rattle.std.proofs.Common.{◌≡◌, ℕ, zero, suc, pos, ◌+◌, ◌-◌, ◌<◌, ◌≤◌, ◌⊎◌, min, Bool, true, false, cond, ltb, leb, Option, Some, None, IfSome, List, [], ◌∷◌, ◌++◌, length, take, drop, refl, sym, ap, subst, ◌∙◌, arith, inl, inr}
+use Rattle.std.proofs.Common.{get_or, take-append-drop, take-add, ◌≡◌, ℕ, zero, suc, pos, ◌+◌, ◌-◌, ◌<◌, ◌≤◌, ◌⊎◌, min, Bool, true, false, cond, ltb, Option, Some, None, List, [], ◌∷◌, ◌++◌, length, take, drop, refl, sym, ap, subst, ◌∙◌, arith, inl, inr}
 use Rattle.std.proofs.lemmas.Bool.{cases_lt, lt-ltb, le-ltb, le-leb, lt-leb, leb-true}
 use Rattle.std.proofs.lemmas.Bool.Decides.{nat_tests}
-use Rattle.std.specs.Prelude.{IsTrue}
-use Rattle.std.proofs.lemmas.List.{append_assoc, append-nil, length-append, length-drop, drop_more, drop_all}
+use Rattle.std.proofs.lemmas.List.{append_assoc, length-append, length-drop, length-map, drop-map, drop_more, drop_all}
+use Rattle.std.proofs.Math.Seq.{drop-append_seam, take-append_seam}
 use Rattle.bay_ber.specs.Writing.{element, element_length, integer_octets, octets_needed}
-use Rattle.bay_ber.specs.Sheets.{Sheet, sheet_with, within}
-use Rattle.bay_ber.proofs.SheetLemmas.{put_nil, put-put, fits as fits_limit}
-use Rattle.bay_ber.proofs.SizeLemmas.{length-element-is, length-integer_octets}
+use Rattle.bay_ber.specs.Sheets.{Sheet, behind, empty, message, sheet_with, within}
+use Rattle.bay_ber.proofs.SheetLemmas.{put-put, fits as fits_limit}
+use Rattle.bay_ber.proofs.SizeLemmas.{length-integer_octets}
 use Rattle.bay_tree.specs.declared.row.Row.{Row}
-use Rattle.bay_tree.specs.Rows.{IsHandle, name_at, names_of}
+use Rattle.bay_tree.specs.Rows.{name_at, names_of}
 use Rattle.bay_tree.specs.Order.{place_if}
 use Rattle.bay_mms.specs.Tags.{visible_tag}
 use Rattle.bay_mms.specs.Responses.{names_text, page_text}
-use Rattle.bay_mms.specs.Pages.{greatest, fits, page_count, first_page, names_from, page_length}
+use Rattle.bay_mms.specs.Pages.{AreEnds, NamesText, begin_at, ends_from, names_from, text_of_names, greatest, fits, page_count, first_page, length_of_page, page_length, response_of_texts}
 use Rattle.bay_mms.proofs.ResponseLemmas.{page-is}
 
 -- ---- the greatest that passes
@@ -95,81 +95,13 @@ taken-le (suc j) (suc k) (name ∷ names) le =
       length-append (element visible_tag name) (names_text (take k names)),
     )
 
--- ---- whether a page has room
+-- so many of the names from a place on are none, or have room
+abbrev pub Fits : List ℕ → ℕ → ℕ → ℕ → ℕ → Type 0
+Fits ends id size start count =
+    (count ≡ 0) ⊎ (length_of_page id (begin_at ends (start + count) - begin_at ends start) ≤ size)
 
-named-length : (taken : ℕ) (name : List ℕ)
-    → taken + length (element visible_tag name) ≡ taken + element_length (length name)
-named-length taken name = ap (λ (n : ℕ). taken + n) (length-element-is visible_tag name)
+-- ---- the names from a row on
 
--- a page is no shorter than its names
-pub longer-than : (id taken size : ℕ) (name : List ℕ) → size < taken + element_length (length name)
-    → page_length id (taken + length (element visible_tag name)) ≤ size → ⊥
-longer-than id taken size name long le =
-    let more = page-length-more id (taken + length (element visible_tag name)) in
-    let is = named-length taken name in
-    omega arith
-
-pub longer-name : (id taken size : ℕ) (name : List ℕ) → size < length name
-    → page_length id (taken + length (element visible_tag name)) ≤ size → ⊥
-longer-name id taken size name long le = let more =
-    more-than (length name) in longer-than id taken size name (omega arith) le
-
--- a name that has room is no longer than the page
-pub name-within : (id taken size : ℕ) (name : List ℕ)
-    → page_length id (taken + length (element visible_tag name)) ≤ size → length name ≤ size
-name-within id taken size name room =
-    elim (cases_lt size (length name)) [
-      | inl long ↦ absurd (longer-name id taken size name long room)
-      | inr le ↦ le
-    ]
-
-pub room-is : (id taken names : ℕ) (name : List ℕ) → names ≡ taken + element_length (length name)
-    → page_length id names ≡ page_length id (taken + length (element visible_tag name))
-room-is id taken names name is = ap (page_length id) (is ∙ sym (named-length taken name))
-
-pub room-iff : (id taken names found most size : ℕ) (name : List ℕ)
-    → names ≡ taken + element_length (length name) → found ≡ page_length id names → most ≡ size
-    → (IsTrue (leb found most) → page_length id (taken + length (element visible_tag name)) ≤ size)
-    × (page_length id (taken + length (element visible_tag name)) ≤ size
-    → IsTrue (leb found most))
-room-iff id taken names found most size name n f m =
-    let is : found ≡ page_length id (taken + length (element visible_tag name)) =
-    f ∙ room-is id taken names name n in (
-      λ e. let le : found ≤ most = leb-true found most e in
-          subst (λ (k : ℕ). k ≤ size) is (omega arith),
-      λ le. le-leb found most
-          (let le' : found ≤ size = subst (λ (k : ℕ). k ≤ size) (sym is) le in omega arith),
-    )
-
--- ---- the names that are listed
-
--- So many of the names from a row on are listed, take so many octets, and fit; the others are those
--- from the next row on.
-pub record Listed (rows : List Row) (first : Option ℕ) (id size : ℕ) (old writer : Sheet)
-    (taken count : ℕ) (next : Option ℕ) : Type 0 where
-  pub is : writer ≡ sheet_with old (names_text (take count (names_from rows first)))
-  pub long : taken ≡ length (names_text (take count (names_from rows first)))
-  pub rest : names_from rows next ≡ drop count (names_from rows first)
-  pub few : count ≤ 100
-  pub within : count ≤ length (names_from rows first)
-  pub fit : (count ≡ 0) ⊎ (page_length id (length (names_text (take count (names_from rows first))))
-      ≤ size)
-  pub there : IfSome next (IsHandle rows)
-
-pub listed-first : (rows : List Row) (first : Option ℕ) (id size : ℕ) (old : Sheet)
-    → IfSome first (IsHandle rows) → Listed rows first id size old old 0 0 first
-listed-first rows first id size old there =
-    record {
-      is = sym (put_nil old);
-      long = refl;
-      rest = refl;
-      few = omega arith;
-      within = omega arith;
-      fit = inl refl;
-      there = there;
-    }
-
--- the names from a row on
 from-row : (rows : List Row) (place : ℕ) → place < length rows
     → names_from rows (Some place) ≡ name_at rows place ∷ names_of (drop (place + 1) rows)
 from-row rows place here =
@@ -184,105 +116,133 @@ from-place rows place =
           (sym (ap names_of (drop_all place rows past)))
     ]
 
--- one name more
-pub record Another (names : List (List ℕ)) (count : ℕ) (name : List ℕ) (rest : List (List ℕ))
-    : Type 0 where
-  pub taken : take (suc count) names ≡ take count names ++ name ∷ []
-  pub left : drop (suc count) names ≡ rest
-  pub less : count < length names
+names-next : (rows : List Row) (row : ℕ) (next : Option ℕ) → row < length rows
+    → next ≡ place_if rows (row + 1)
+    → names_from rows (Some row) ≡ name_at rows row ∷ names_from rows next
+names-next rows row next here is =
+    from-row rows row here ∙ ap (λ (ns : List (List ℕ)). name_at rows row ∷ ns)
+    (sym (from-place rows (row + 1)) ∙ ap (names_from rows) (sym is))
 
-another : (names : List (List ℕ)) (count : ℕ) (name : List ℕ) (rest : List (List ℕ))
-    → drop count names ≡ name ∷ rest → Another names count name rest
-another [] zero name rest e = absurd cc
-another [] (suc count) name rest e = absurd cc
-another (x ∷ xs) zero name rest e =
-    let first : x ≡ name = cc in
-    let later : xs ≡ rest = cc in
-    record { taken = ap (λ (n : List ℕ). n ∷ []) first; left = later; less = omega arith }
-another (x ∷ xs) (suc count) name rest e =
-    let more = another xs count name rest e in
+pub put-next : (rows : List Row) (row : ℕ) (next : Option ℕ) (now new : Sheet) → row < length rows
+    → next ≡ place_if rows (row + 1)
+    → new ≡ sheet_with now (element visible_tag (name_at rows row))
+    → sheet_with new (names_text (names_from rows next))
+    ≡ sheet_with now (names_text (names_from rows (Some row)))
+put-next rows row next now new here at is =
+    ap (λ (s : Sheet). sheet_with s (names_text (names_from rows next))) is
+    ∙ put-put now (element visible_tag (name_at rows row)) (names_text (names_from rows next))
+    ∙ ap (λ (ns : List (List ℕ)). sheet_with now (names_text ns))
+    (sym (names-next rows row next here at))
+
+pub ends-next : (rows : List Row) (row : ℕ) (next : Option ℕ) (ends new : List ℕ) (end more : ℕ)
+    → row < length rows → next ≡ place_if rows (row + 1) → new ≡ ends ++ (more ∷ [])
+    → more ≡ end + length (element visible_tag (name_at rows row))
+    → new ++ ends_from more (names_from rows next)
+    ≡ ends ++ ends_from end (names_from rows (Some row))
+ends-next rows row next ends new end more here at is size =
+    ap (λ (xs : List ℕ). xs ++ ends_from more (names_from rows next)) is
+    ∙ append_assoc ends (more ∷ []) (ends_from more (names_from rows next))
+    ∙ ap (λ (n : ℕ). ends ++ (n ∷ ends_from n (names_from rows next))) size
+    ∙ ap (λ (ns : List (List ℕ)). ends ++ ends_from end ns)
+    (sym (names-next rows row next here at))
+
+-- what an empty writer holds behind a text is the text
+held-if : (b : Bool) (text octets : List ℕ) → behind [] (cond b None (Some text)) ≡ Some octets
+    → octets ≡ text
+held-if true text octets e = absurd cc
+held-if false text octets e = cc
+
+pub message-held : (limit : ℕ) (text octets : List ℕ) (start now : Sheet) → start ≡ empty limit
+    → now ≡ sheet_with start text → message now ≡ Some octets → octets ≡ text
+unfolding sheet_with message
+message-held limit text octets start now first last is =
+    held-if (ltb (limit - 0) (length text)) text octets (rw (last, first) at is)
+
+-- ---- where names begin
+
+end-at : (names : List (List ℕ)) (start k : ℕ) → k < length names
+    → get_or (ends_from start names) k 0 ≡ start + length (names_text (take (suc k) names))
+end-at [] start k lt = absurd (omega arith)
+end-at (name ∷ names) start zero lt =
+    omega (arith, length-append (element visible_tag name) [])
+end-at (name ∷ names) start (suc k) lt =
+    let later = end-at names (start + length (element visible_tag name)) k (omega arith) in
+    omega (
+      arith,
+      later,
+      length-append (element visible_tag name) (names_text (take (suc k) names)),
+    )
+
+none-more : (n : ℕ) → 0 + n ≡ n
+none-more n = omega arith
+
+pub begin-is : (names : List (List ℕ)) (k : ℕ) → k ≤ length names
+    → begin_at (ends_from 0 names) k ≡ length (names_text (take k names))
+begin-is names zero le = refl
+begin-is names (suc k) le = end-at names 0 k (omega arith) ∙ none-more _
+
+pub length-ends : (start : ℕ) (names : List (List ℕ))
+    → length (ends_from start names) ≡ length names
+length-ends start [] = refl
+length-ends start (name ∷ names) =
+    ap suc (length-ends (start + length (element visible_tag name)) names)
+
+-- of names from a place on
+text-split : (names : List (List ℕ)) (start : ℕ)
+    → names_text names ≡ names_text (take start names) ++ names_text (drop start names)
+text-split names start =
+    ap names_text (sym (take-append-drop start names))
+    ∙ names_text-append (take start names) (drop start names)
+
+text-front : (names : List (List ℕ)) (start count : ℕ)
+    → length (names_text (take (start + count) names))
+    ≡ length (names_text (take start names)) + length (names_text (take count (drop start names)))
+text-front names start count =
+    ap (λ (ns : List (List ℕ)). length (names_text ns)) (take-add start count names)
+    ∙ ap length (names_text-append (take start names) (take count (drop start names)))
+    ∙ length-append (names_text (take start names)) (names_text (take count (drop start names)))
+
+pub texts-are : (names : List (List ℕ)) (start count from to : ℕ)
+    → from ≡ length (names_text (take start names))
+    → to ≡ length (names_text (take (start + count) names))
+    → take (to - from) (drop from (names_text names)) ≡ names_text (take count (drop start names))
+texts-are names start count from to is_from is_to =
+    let some : List ℕ = names_text (take count (drop start names)) in
+    let size : to - from ≡ length some = omega (arith, text-front names start count) in
+    let rest : drop from (names_text names) ≡ names_text (drop start names) =
+    rw is_from (ap (drop (length (names_text (take start names)))) (text-split names start)
+    ∙ drop-append_seam (names_text (take start names)) (names_text (drop start names))) in
+    rw (size, rest) (ap (take (length some)) (text-split (drop start names) count)
+    ∙ take-append_seam some (names_text (drop count (drop start names))))
+
+pub sliced : (names : List (List ℕ)) (n : NamesText) (start count from to : ℕ)
+    → n ≡ text_of_names names → start + count ≤ length n.ends → from ≡ begin_at n.ends start
+    → to ≡ begin_at n.ends (start + count)
+    → take (to - from) (drop from n.octets) ≡ names_text (take count (drop start names))
+sliced names n start count from to is few f t =
+    let e : n.ends ≡ ends_from 0 names = ap (λ (m : NamesText). m.ends) is in
+    let o : n.octets ≡ names_text names = ap (λ (m : NamesText). m.octets) is in
+    let long : length n.ends ≡ length names = ap length e ∙ length-ends 0 names in
+    rw o (texts-are names start count from to
+    (f ∙ ap (λ (x : List ℕ). begin_at x start) e ∙ begin-is names start (omega arith))
+    (t ∙ ap (λ (x : List ℕ). begin_at x (start + count)) e
+    ∙ begin-is names (start + count) (omega arith)))
+
+pub are-ends : (names : List (List ℕ))
+    → AreEnds (ends_from 0 names) (length (names_text names))
+are-ends names =
     record {
-      taken = ap (λ (ns : List (List ℕ)). x ∷ ns) more.taken;
-      left = more.left;
-      less = (let less = more.less in omega arith);
+      rise = λ a b le few. rw (
+        begin-is names a (omega (arith, length-ends 0 names)),
+        begin-is names b (omega (arith, length-ends 0 names)),
+      ) (taken-le a b names le);
+      within = λ k few. rw (begin-is names k (omega (arith, length-ends 0 names)))
+          (omega (
+            arith,
+            ap length (text-split names k),
+            length-append (names_text (take k names)) (names_text (drop k names)),
+          ));
     }
-
-more-text : (names : List (List ℕ)) (count : ℕ) (name : List ℕ) (rest : List (List ℕ))
-    → Another names count name rest
-    → names_text (take (suc count) names)
-    ≡ names_text (take count names) ++ element visible_tag name
-more-text names count name rest a =
-    ap names_text a.taken ∙ names_text-append (take count names) (name ∷ [])
-    ∙ ap (λ (t : List ℕ). names_text (take count names) ++ t)
-    (append-nil (element visible_tag name))
-
--- the names that fit have no more octets than the page
-fitting : (names : List (List ℕ)) (id size count : ℕ)
-    → (count ≡ 0) ⊎ (page_length id (length (names_text (take count names))) ≤ size)
-    → length (names_text (take count names)) ≤ size
-fitting names id size count (inl none) =
-    subst (λ (n : ℕ). length (names_text (take n names)) ≤ size) (sym none) (omega arith)
-fitting names id size count (inr le) = let more =
-    page-length-more id (length (names_text (take count names))) in omega arith
-
--- how many octets the names that are listed take
-pub taken-few : (rows : List Row) (first : Option ℕ) (id size : ℕ) (old writer : Sheet)
-    (taken count : ℕ) (next : Option ℕ) → Listed rows first id size old writer taken count next
-    → taken ≤ size
-taken-few rows first id size old writer taken count next l =
-    let few = fitting (names_from rows first) id size count l.fit in
-    let long = l.long in
-    omega arith
-
--- and with the next one
-pub room-at : (rows : List Row) (first : Option ℕ) (id size : ℕ) (old writer : Sheet)
-    (taken count row : ℕ) (name : List ℕ) → name ≡ name_at rows row
-    → Listed rows first id size old writer taken count (Some row)
-    → taken + length (element visible_tag name)
-    ≡ length (names_text (take count (names_from rows first)))
-    + length (element visible_tag (name_at rows row))
-room-at rows first id size old writer taken count row name n l = rw (l.long, n) refl
-
-pub more-few : (id taken size : ℕ) (name : List ℕ)
-    → page_length id (taken + length (element visible_tag name)) ≤ size
-    → taken + element_length (length name) ≤ size
-more-few id taken size name room =
-    let more = page-length-more id (taken + length (element visible_tag name)) in
-    let is = named-length taken name in
-    omega arith
-
-pub listed-more : (rows : List Row) (first : Option ℕ) (id size : ℕ) (old writer new : Sheet)
-    (taken more count row : ℕ) → Listed rows first id size old writer taken count (Some row)
-    → count < 100 → new ≡ sheet_with writer (element visible_tag (name_at rows row))
-    → more ≡ taken + element_length (length (name_at rows row))
-    → page_length id (length (names_text (take count (names_from rows first)))
-    + length (element visible_tag (name_at rows row))) ≤ size
-    → (next : Option ℕ) → next ≡ place_if rows (row + 1) → IfSome next (IsHandle rows)
-    → Listed rows first id size old new more (count + 1) next
-listed-more rows first id size old writer new taken more count row l less added counted room next is
-    there =
-    let names : List (List ℕ) = names_from rows first in
-    let name : List ℕ = name_at rows row in
-    let a = another names count name (names_of (drop (row + 1) rows))
-    (sym l.rest ∙ from-row rows row l.there) in
-    let text = more-text names count name (names_of (drop (row + 1) rows)) a in
-    let long : length (names_text (take (suc count) names))
-    ≡ length (names_text (take count names)) + length (element visible_tag name) =
-    ap length text ∙ length-append (names_text (take count names)) (element visible_tag name) in
-    let same : suc count ≡ count + 1 = omega arith in
-    let was = l.long in
-    let size-is = length-element-is visible_tag name in
-    subst (λ (n : ℕ). Listed rows first id size old new more n next) same (record {
-      is = added ∙ ap (λ (s : Sheet). sheet_with s (element visible_tag name)) l.is
-          ∙ put-put old (names_text (take count names)) (element visible_tag name)
-          ∙ ap (λ (t : List ℕ). sheet_with old t) (sym text);
-      long = omega arith;
-      rest = ap (names_from rows) is ∙ from-place rows (row + 1) ∙ sym a.left;
-      few = omega arith;
-      within = (let more = a.less in omega arith);
-      fit = inr (subst (λ (n : ℕ). page_length id n ≤ size) (sym long) room);
-      there = there;
-    })
 
 -- ---- the page that is listed
 
@@ -307,55 +267,68 @@ passes names id size count (inl none) = inl none
 passes names id size count (inr le) = inr (test-yes id size (take count names) le)
 
 -- the page where no row is left, and where there is no room for the next
-pub page-all : (rows : List Row) (first : Option ℕ) (id size : ℕ) (old writer : Sheet)
-    (taken count : ℕ) → Listed rows first id size old writer taken count None
-    → (page_count id size (names_from rows first) ≡ count)
-    × (ltb count (length (names_from rows first)) ≡ false)
-page-all rows first id size old writer taken count l =
-    let names : List (List ℕ) = names_from rows first in
-    let none : 0 ≡ length names - count = ap length l.rest ∙ length-drop count names in
-    let few = l.few in
-    let within = l.within in (
-      greatest-is (λ n. fits id size (take n names)) (min 100 (length names)) count (omega arith)
-          (passes names id size count l.fit) (λ k lt le. absurd (omega arith)),
-      le-ltb count (length names) (omega arith),
-    )
+-- The names from a place on, of which so many fit, and no more: as many as a page may have, or
+-- those behind which the next does not fit.
+pub counted-names : (names : List (List ℕ)) (ends : List ℕ) (id head size start most count : ℕ)
+    → ends ≡ ends_from 0 names → head ≡ element_length (length (integer_octets (pos id)))
+    → start ≤ length ends → most ≡ min 100 (length ends - start) → count ≤ most
+    → Fits ends head size start count
+    → (count ≡ most) ⊎ (length_of_page head
+    (begin_at ends (start + (count + 1)) - begin_at ends start) ≤ size → ⊥)
+    → count ≡ page_count id size (drop start names)
+counted-names names ends id head size start most count are head-is start-in max few fit full =
+    let rest : List (List ℕ) = drop start names in
+    let all : length ends ≡ length names = ap length are ∙ length-ends 0 names in
+    let left : length rest ≡ length names - start = length-drop start names in
+    let long : (k : ℕ) → k ≤ length names - start
+    → begin_at ends (start + k) - begin_at ends start ≡ length (names_text (take k rest)) =
+    λ k le. rw (are, begin-is names (start + k) (omega arith), begin-is names start (omega arith))
+    (omega (arith, text-front names start k)) in
+    sym (greatest-is (λ n. fits id size (take n rest)) (min 100 (length rest)) count (omega arith)
+    (elim fit [
+      | inl none ↦ inl none
+      | inr le ↦ inr (test-yes id size (take count rest)
+          (rw head-is at (subst (λ (n : ℕ). length_of_page head n ≤ size)
+          (long count (omega arith)) le)))
+    ])
+    (λ k lt le. elim full [
+      | inl last ↦ absurd (omega arith)
+      | inr over ↦ test-no id size (take k rest) (λ room. over
+          (let same : start + (count + 1) ≡ start + suc count = omega arith in
+          rw (same, long (suc count) (omega arith), head-is)
+          (let more = page-length-le id (length (names_text (take (suc count) rest)))
+          (length (names_text (take k rest))) (taken-le (suc count) k rest (omega arith)) in
+          omega arith)))
+    ]))
 
-cut_at : (names : List (List ℕ)) (id size count : ℕ) (name : List ℕ) (rest : List (List ℕ))
-    → Another names count name rest
-    → (count ≡ 100) ⊎ (page_length id
-    (length (names_text (take count names)) + length (element visible_tag name)) ≤ size → ⊥)
-    → (k : ℕ) → count < k → k ≤ min 100 (length names) → fits id size (take k names) ≡ false
-cut_at names id size count name rest a (inl all) k lt le = absurd (omega arith)
-cut_at names id size count name rest a (inr full) k lt le =
-    let long : length (names_text (take (suc count) names))
-    ≡ length (names_text (take count names)) + length (element visible_tag name) =
-    ap length (more-text names count name rest a)
-    ∙ length-append (names_text (take count names)) (element visible_tag name) in
-    let more = taken-le (suc count) k names (omega arith) in
-    test-no id size (take k names)
-    (λ fit. full (subst (λ (n : ℕ). page_length id n ≤ size) long
-    (let less = page-length-le id (length (names_text (take (suc count) names)))
-    (length (names_text (take k names))) more in omega arith)))
+pub within-ends : (rows : List Row) (n : NamesText) (start : ℕ)
+    → n ≡ text_of_names (names_of rows) → start ≤ length rows → start ≤ length n.ends
+within-ends rows n start is within =
+    let long : length n.ends ≡ length rows =
+    ap (λ (m : NamesText). length m.ends) is ∙ length-ends 0 (names_of rows)
+    ∙ length-map rows (λ (r : Row). r.name) in
+    omega arith
 
-pub page-cut : (rows : List Row) (first : Option ℕ) (id size : ℕ) (old writer : Sheet)
-    (taken count row : ℕ) → Listed rows first id size old writer taken count (Some row)
-    → (count ≡ 100) ⊎ (page_length id
-    (length (names_text (take count (names_from rows first)))
-    + length (element visible_tag (name_at rows row))) ≤ size → ⊥)
-    → (page_count id size (names_from rows first) ≡ count)
-    × (ltb count (length (names_from rows first)) ≡ true)
-page-cut rows first id size old writer taken count row l full =
-    let names : List (List ℕ) = names_from rows first in
-    let rest : List (List ℕ) = names_of (drop (row + 1) rows) in
-    let a = another names count (name_at rows row) rest (sym l.rest ∙ from-row rows row l.there) in
-    let few = l.few in
-    let less = a.less in (
-      greatest-is (λ n. fits id size (take n names)) (min 100 (length names)) count (omega arith)
-          (passes names id size count l.fit)
-          (cut_at names id size count (name_at rows row) rest a full),
-      lt-ltb count (length names) less,
-    )
+-- the response with the texts of the names that a page has is the page
+pub page-texts : (rows after : List Row) (n : NamesText) (id size start count : ℕ)
+    (texts : List ℕ) (more : Bool) → n ≡ text_of_names (names_of rows) → drop start rows ≡ after
+    → count ≡ page_count id size (drop start (names_of rows))
+    → texts ≡ names_text (take count (drop start (names_of rows)))
+    → more ≡ ltb count (length n.ends - start)
+    → response_of_texts id texts more ≡ first_page id size (names_of after)
+page-texts rows after n id size start count texts more is begins many texts-is more-is =
+    let names : List (List ℕ) = drop start (names_of rows) in
+    let same : names ≡ names_of after =
+    drop-map (λ (r : Row). r.name) start rows ∙ ap names_of begins in
+    let long : length n.ends - start ≡ length names =
+    ap (λ (m : NamesText). length m.ends - start) is
+    ∙ ap (λ (k : ℕ). k - start) (length-ends 0 (names_of rows))
+    ∙ sym (length-drop start (names_of rows)) in
+    ap (λ (t : List ℕ). response_of_texts id t more) texts-is
+    ∙ ap (λ (b : Bool). response_of_texts id (names_text (take count names)) b)
+    (more-is ∙ ap (ltb count) long)
+    ∙ ap (λ (k : ℕ). response_of_texts id (names_text (take k names)) (ltb k (length names))) many
+    ∙ ap (first_page id size) same
 
 -- ---- how long a page is
 

@@ -1,9 +1,10 @@
 -- Pages of names (ISO 9506-2, GetNameList-Response).
-use Rattle.std.specs.Prelude.{ℕ, zero, suc, pos, ◌+◌, min, Bool, false, Option, Some, None, List, [], length, take, drop, nat_lt, nat_le, if◌then◌else◌}
-use Rattle.bay_ber.specs.Writing.{element_length, integer_octets}
+use Rattle.std.specs.Prelude.{ℕ, zero, suc, pos, ◌+◌, ◌≤◌, min, Bool, false, Option, Some, None, List, [], ◌∷◌, ◌++◌, length, take, drop, get_or, nat_lt, nat_le, if◌then◌else◌}
+use Rattle.bay_ber.specs.Writing.{element, element_length, integer_octets, truth_octets}
 use Rattle.bay_tree.specs.declared.row.Row.{Row}
 use Rattle.bay_tree.specs.Rows.{names_of}
-use Rattle.bay_mms.specs.Responses.{page_text}
+use Rattle.bay_mms.specs.Responses.{confirmed_response, names_text, page_text}
+use Rattle.bay_mms.specs.Tags.{constructed, context, visible_tag}
 
 -- the greatest number, up to a bound, that passes a test; 0 where none does
 unfoldable pub greatest : (ℕ → Bool) → ℕ → ℕ
@@ -26,13 +27,45 @@ first_page id size names =
 
 -- ---- for the code
 
+-- where each name ends in the text of all that begins at a place
+abbrev pub ends_from : ℕ → List (List ℕ) → List ℕ
+ends_from start [] = []
+ends_from start (name ∷ names) =
+    (start + length (element visible_tag name))
+    ∷ ends_from (start + length (element visible_tag name)) names
+
+-- names as a response lists them, one behind another, and where each ends
+pub record NamesText : Type 0 where
+  pub octets : List ℕ
+  pub ends : List ℕ
+
+abbrev pub text_of_names : List (List ℕ) → NamesText
+text_of_names names = record { octets = names_text names; ends = ends_from 0 names }
+
+-- where the names from a place on begin, by where each ends
+abbrev pub begin_at : List ℕ → ℕ → ℕ
+begin_at ends zero = 0
+begin_at ends (suc place) = get_or ends place 0
+
+-- each name ends behind the one before, and none behind the text
+pub record AreEnds (ends : List ℕ) (count : ℕ) : Type 0 where
+  pub rise : (a b : ℕ) → a ≤ b → b ≤ length ends → begin_at ends a ≤ begin_at ends b
+  pub within : (place : ℕ) → place ≤ length ends → begin_at ends place ≤ count
+
 -- the names from the row at a place on
 abbrev pub names_from : List Row → Option ℕ → List (List ℕ)
 names_from rows None = []
 names_from rows (Some place) = names_of (drop place rows)
 
--- how many octets a response has whose names take so many
+-- the response that lists names of these texts
+abbrev pub response_of_texts : ℕ → List ℕ → Bool → List ℕ
+response_of_texts id texts more =
+    confirmed_response id (element (constructed 1)
+    (element (constructed 0) texts ++ element (context 1) (truth_octets more)))
+
+-- how many octets a response has whose invoke id and names take so many
+abbrev pub length_of_page : ℕ → ℕ → ℕ
+length_of_page id names = element_length (id + element_length (element_length names + 3))
+
 abbrev pub page_length : ℕ → ℕ → ℕ
-page_length id names =
-    element_length (element_length (length (integer_octets (pos id)))
-    + element_length (element_length names + 3))
+page_length id names = length_of_page (element_length (length (integer_octets (pos id)))) names

@@ -4,9 +4,9 @@
 // `request`: what a client asks, read from octets. `data`: data and types as trees. `value`: those
 // of a row of the tree, written as they stand. `control`: what data ask of a control. `response`:
 // responses and their texts, and `results` those to reads and writes. `report`: the reports of
-// controls. `page`: how long a page of names is. `fault`: why nothing is read or written. `laws`:
-// what is written is read back. Within the crate `service`, `access`, `received` and `initiate`
-// read the parts of requests.
+// controls. `names`: the texts of a tree's names. `page`: pages of them. `fault`: why nothing is
+// read or written. `laws`: what is written is read back. Within the crate `service`, `access`,
+// `received` and `initiate` read the parts of requests.
 #![tactic(auto)]
 
 mod access;
@@ -16,6 +16,7 @@ pub mod fault;
 mod initiate;
 pub mod laws;
 mod leaf;
+pub mod names;
 pub mod page;
 mod put;
 mod received;

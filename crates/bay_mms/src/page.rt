@@ -1,139 +1,105 @@
-// Pages of names, written straight from the tree (ISO 9506-2, GetNameList).
-ghost use Rattle.std.specs.Prelude.{Err, ◌≡◌, ◌^◌, ◌+◌, ◌<◌, ◌≤◌, ◌↔◌, pos, IsTrue, IfOk, IfSome, length, take, nat_lt};
+// Pages of names (ISO 9506-2, GetNameList).
+ghost use Rattle.std.specs.Prelude.{Err, ◌≡◌, ◌^◌, ◌+◌, ◌<◌, ◌≤◌, ◌↔◌, List, ℕ, drop, pos, IsTrue, IfOk, length, take, nat_lt};
 ghost use Rattle.std.specs.Option.{option_copied};
 ghost use Rattle.bay_ber.specs.Sheets.{sheet_with};
-ghost use Rattle.bay_ber.specs.Writing.{element, integer_octets};
+ghost use Rattle.bay_ber.specs.Writing.{integer_octets};
+ghost use Rattle.bay_ber.specs.Writing as ber;
 ghost use Rattle.bay_tree.specs.Page.{rows_after, IsUnknown};
-ghost use Rattle.bay_tree.specs.Rows.{IsHandle, names_of};
-ghost use Rattle.bay_mms.specs.Pages.{page_count, first_page, names_from};
+ghost use Rattle.bay_tree.specs.Rows.{names_of};
+ghost use Rattle.bay_mms.specs.Pages.{page_count, first_page, text_of_names};
 ghost use Rattle.bay_mms.specs.Pages as spec;
-ghost use Rattle.bay_mms.specs.Responses.{names_text};
-ghost use Rattle.bay_mms.specs.Tags.{visible_tag};
 
+use crate::names::NameTexts;
 use crate::response::put_id;
 use bay_ber::outgoing::Outgoing;
 use bay_ber::tag::Tag;
 use bay_ber::writer::{Writer, element_length, integer_length};
 use bay_tree::fault::NamesFault;
-use bay_tree::tree::{Handle, Tree};
+use bay_tree::tree::Tree;
 use std::alloc::Global;
 
 // A page has at most so many names.
 const NAMES_MAX: usize = 100;
 
-// How many octets the content of an invoke id has.
-fn id_length(id: u32) -> usize
-    ensures value { result ≡ length (integer_octets (pos id)) }
-    ensures few { result ≤ 8 }
+// How many octets an invoke id has as a value.
+fn id_length(id: u32) -> u32
+    ensures value { result ≡ ber.element_length (length (integer_octets (pos id))) }
+    ensures few { result ≤ 10 }
 {
-    integer_length(i64::from(id))
+    element_length(integer_length(i64::from(id)) as u32) as u32
 }
 
-// How many octets the response has whose names take so many.
+// How many octets the response has whose invoke id and names take so many.
 fn page_length(id: u32, names: u32) -> u64
-    requires { names < 2 ^ 31 }
-    ensures { result ≡ spec.page_length id names }
+    requires id { id ≤ 10 }
+    requires names { names < 2 ^ 31 }
+    ensures { result ≡ spec.length_of_page id names }
 {
     let list = element_length(names);
     let service = element_length((list + 3) as u32);
-    let id = element_length(id_length(id) as u32);
-    element_length((id + service) as u32)
+    element_length(id + service as u32)
 }
 
-// Whether a page whose names take so many octets has room for a name more.
-fn has_room(id: u32, taken: usize, name: &str, size: u32) -> bool
+// Whether names of so many octets fit a page, where the invoke id takes so many.
+fn has_room(id: u32, names: usize, size: u32) -> bool
+    requires id { id ≤ 10 }
     requires size { size < 2 ^ 31 }
-    requires taken { taken ≤ size }
-    ensures { IsTrue result ↔
-        (spec.page_length id (taken + length (element visible_tag name.now)) ≤ size) }
+    ensures { IsTrue result ↔ (spec.length_of_page id names ≤ size) }
 {
-    if name.len() > size as usize {
-        return false;
-    }
-    let names = taken as u64 + element_length(name.len() as u32);
-    if names > u64::from(size) {
-        return false;
-    }
-    page_length(id, names as u32) <= u64::from(size)
+    names <= size as usize && page_length(id, names as u32) <= u64::from(size)
 }
 
-// Writes the names from a row on for which the page has room, and tells whether more follow.
-fn put_fitting(writer: &mut Writer, tree: &Tree, first: Option<Handle>, id: u32, size: u32) -> bool
-    requires there { IfSome first (IsHandle tree.now) }
+// How many of the names from a place on a page has.
+fn fitting(names: &NameTexts, start: usize, id: u32, size: u32) -> usize
     requires size { size < 2 ^ 31 }
-    ensures names { let names = names_from tree.now first in
-        writer.new ≡ sheet_with writer.old (names_text (take (page_count id size names) names)) }
-    ensures more { let names = names_from tree.now first in
-        result ≡ nat_lt (page_count id size names) (length names) }
+    requires within { start ≤ length names.now.ends }
+    ensures within { start + result ≤ length names.now.ends }
+    ensures count { (texts : List (List ℕ)) → names.now ≡ text_of_names texts
+        → result ≡ page_count id size (drop start texts) }
 {
-    let mut taken = 0;
+    let head = id_length(id);
+    let most = (names.count() - start).min(NAMES_MAX);
     let mut count = 0;
-    let mut next = first;
-    while let Some(row) = next {
-        let name = tree.name(row);
-        if count == NAMES_MAX {
-            return true;
+    while count < most {
+        if !has_room(head, names.size(start, count + 1), size) {
+            return count;
         }
-        if !has_room(id, taken, name, size) {
-            return true;
-        }
-        writer.octets(Tag::universal(26), name.as_bytes());
-        taken += element_length(name.len() as u32) as usize;
         count += 1;
-        next = tree.next(row);
     }
-    false
+    count
 }
 
-// Writes the content of a page, from a row on.
+// Writes the response that lists names of these texts.
 #[tactic(auto, using(bay_ber::proofs::SheetLemmas::sheet_rules))]
-fn put_page(writer: &mut Writer, tree: &Tree, first: Option<Handle>, id: u32, size: u32)
-    requires there { IfSome first (IsHandle tree.now) }
-    requires size { size < 2 ^ 31 }
-    ensures { writer.new ≡ sheet_with writer.old (first_page id size (names_from tree.now first)) }
+fn put_page(writer: &mut Writer, id: u32, texts: &[u8], more: bool)
+    ensures { writer.new ≡ sheet_with writer.old (spec.response_of_texts id texts.now more) }
 {
     let start = writer.open(Tag::context_constructed(1));
     put_id(writer, id);
     let service = writer.open(Tag::context_constructed(1));
     let list = writer.open(Tag::context_constructed(0));
-    let more = put_fitting(writer, tree, first, id, size);
+    writer.append(texts);
     writer.close(list);
     writer.boolean(Tag::context(1), more);
     writer.close(service);
     writer.close(start);
 }
 
-// The row behind the row of a name, or the first of all.
-fn first_after(tree: &Tree, after: Option<&[u8]>) -> Result<Option<Handle>, NamesFault>
-    ensures names { IfOk result
-        (λ first. names_from tree.now first
-        ≡ names_of (rows_after tree.now (option_copied after.entry))) }
-    ensures there { IfOk result (λ first. IfSome first (IsHandle tree.now)) }
-    ensures unknown { (result ≡ Err NamesFault.NoSuchName)
-        ↔ IsUnknown tree.now (option_copied after.entry) }
-{
-    let name = match after {
-        None => return Ok(tree.first()),
-        Some(name) => name,
-    };
-    match tree.find_octets(name) {
-        Ok(row) => Ok(tree.next(row)),
-        Err(_) => Err(NamesFault::NoSuchName),
-    }
-}
-
 /// The response, under an invoke id, that lists the names behind a name, or from the first on: as
 /// many as fit a PDU of this size, and at most 100; and whether more follow. NoSuchName where no
-/// row has the name. It has at most as many octets as its size says.
+/// row has the name. It has at most as many octets as its size says. The texts are those of the
+/// tree's names.
 pub fn write_page(
     alloc: Global,
     id: u32,
     tree: &Tree,
+    names: &NameTexts,
     after: Option<&[u8]>,
     size: u32,
 ) -> Result<Outgoing, NamesFault>
     requires some { 256 ≤ size }
     requires size { size < 2 ^ 31 }
+    requires texts { names.now ≡ text_of_names (names_of tree.now) }
     ensures page { IfOk result
         (λ octets. octets
         ≡ first_page id size (names_of (rows_after tree.now (option_copied after.entry)))) }
@@ -141,8 +107,10 @@ pub fn write_page(
         ↔ IsUnknown tree.now (option_copied after.entry) }
     ensures short { IfOk result (λ octets. length octets ≤ size) }
 {
-    let first = first_after(tree, after)?;
+    let start = tree.place_after(after)?;
     let mut writer = Writer::new(alloc, size)?;
-    put_page(&mut writer, tree, first, id, size);
+    let count = fitting(names, start, id, size);
+    let more = count < names.count() - start;
+    put_page(&mut writer, id, names.texts(start, count), more);
     Ok(writer.finish_held())
 }

@@ -1,5 +1,6 @@
 // What clients see of a bay and do to it.
 ghost use Rattle.std.specs.Prelude.{◌≡◌, length};
+ghost use Rattle.bay_mms.specs.Pages.{text_of_names};
 ghost use Rattle.bay_process.specs.Controls.{AreAllControlRows};
 ghost use Rattle.bay_process.specs.Layout.{layout_of, switches_of};
 ghost use Rattle.bay_services.specs.Bay.{ShowSelection};
@@ -8,6 +9,7 @@ ghost use Rattle.bay_services.specs.Places.{ArePlaced};
 use bay_base::listing::Listing;
 use bay_base::text::Text;
 use bay_control::controls::Controls;
+use bay_mms::names::NameTexts;
 use bay_process::controls::ControlRows;
 use bay_process::switch::BoundSwitch;
 use bay_tree::tree::Tree;
@@ -22,11 +24,14 @@ pub struct ServedBay {
     pub model: Text,
     pub revision: Text,
     pub tree: Tree,
+    /// The texts of the names of the tree's rows, which never change.
+    pub names: NameTexts,
     /// The switches, in the order of the bay file.
     pub switches: Listing<BoundSwitch>,
     /// Where the values of their controls stand, in the same order.
     pub control_rows: Listing<ControlRows>,
     pub controls: Controls,
+    ghost listed: { names ≡ text_of_names (layout_of tree).names },
     ghost placed: { ArePlaced (layout_of tree) switches },
     ghost controlled: { AreAllControlRows tree control_rows },
     ghost sized: { length control_rows ≡ length (switches_of switches) },

@@ -110,7 +110,7 @@ impl ServedBay {
             (text_within client.size
             (variable_names client id (bay_view self.now) (option_copied after.entry))) }
     {
-        match write_page(alloc, id, &self.tree, after, client.size) {
+        match write_page(alloc, id, &self.tree, &self.names, after, client.size) {
             Ok(page) => Ok(page),
             Err(NamesFault::NoSuchName) => write_unknown(alloc, client, id),
             Err(NamesFault::OutOfMemory) => Err(EncodeFault::OutOfMemory),

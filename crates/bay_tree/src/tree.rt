@@ -5,7 +5,7 @@ ghost use Rattle.bay_tree.specs.Names.{IsNamed, parent_of, word_of};
 ghost use Rattle.bay_tree.specs.Rows.{IsTree, IsHandle, place_of, name_at, leaf_at, leaf_of, leaf_type_at, names_of, leaf_types_of, with_leaf, with_leaf_of, first_below_from, first_below, next_beside, places_below, places_behind, places_since};
 ghost use Rattle.bay_tree.specs.LeafTypes.{leaf_type_of};
 ghost use Rattle.bay_tree.specs.Order.{place_if};
-ghost use Rattle.bay_tree.specs.Page.{page_after, IsUnknown};
+ghost use Rattle.bay_tree.specs.Page.{page_after, rows_after, IsUnknown};
 ghost use Rattle.bay_tree.specs.Page as spec;
 
 use crate::fault::{NamesFault, TreeFault};
@@ -283,6 +283,27 @@ impl Tree {
         };
         match self.find_octets(name) {
             Ok(row) => self.names_after(Some(self.name(row)), count),
+            Err(_) => Err(NamesFault::NoSuchName),
+        }
+    }
+
+    /// The place of the first row behind the row of a name, which is given as octets; without a
+    /// name that of the first row. NoSuchName where no row has the name.
+    pub fn place_after(&self, after: Option<&[u8]>) -> Result<usize, NamesFault>
+        ensures rows { IfOk result
+            (λ start. drop start self.now ≡ rows_after self.now (option_copied after.entry)) }
+        ensures within { IfOk result (λ start. start ≤ length self.now) }
+        ensures unknown { (result ≡ Err NamesFault.NoSuchName)
+            ↔ IsUnknown self.now (option_copied after.entry) }
+    {
+        let name = match after {
+            None => return Ok(0),
+            Some(name) => name,
+        };
+        // That the rows are as many as nodes is known of the tree's parts alone.
+        let _ = &self.nodes;
+        match self.find_octets(name) {
+            Ok(row) => Ok(row.index + 1),
             Err(_) => Err(NamesFault::NoSuchName),
         }
     }

@@ -7,6 +7,7 @@ use anyhow::{Context, Result, bail};
 use bay_base::listing::Listing;
 use bay_base::text::Text;
 use bay_mms::data::{data_of, type_spec_of};
+use bay_mms::names::NameTexts;
 use bay_mms::page::write_page;
 use bay_mms::value::{write_type, write_value};
 use bay_tree::leaf::{Dbpos, Leaf, Quality};
@@ -105,7 +106,8 @@ fn check_names(
     requires some { 256 ≤ page.1 }
     requires few { page.1 ≤ 1000000 }
 {
-    match write_page(alloc, page.0, tree, after, page.1) {
+    let names = NameTexts::of_tree(alloc, tree)?;
+    match write_page(alloc, page.0, tree, &names, after, page.1) {
         Ok(written) => check_written(alloc, written.as_slice(), octets),
         Err(fault) if fault.code() == Some(40) => check_text("unknown", octets),
         Err(_) => bail!("out of memory"),

@@ -69,6 +69,7 @@ invariant_of-result c =
       ap (λ (bs : List BoundSwitch). length (switches_of bs)) c.new.ensures ∙ ap length f.switches,
     ) in
     record {
+      listed = c.in_ok-names.ensures;
       placed =
           subst (λ (l : Layout). ArePlaced l c.new.result) (sym c.in_ok-control_rows.ensures.layout)
           (subst (ArePlaced layout) (sym c.new.ensures) placed);

@@ -29,6 +29,7 @@ invariant_of-bay c =
     did.rows ∙ ap (λ (n : SwitchNames). rows_after_contact n c.args.position c.args.now d.tree)
     (d.placed k bound here).named in
     record {
+      listed = rw did.layout d.listed;
       placed = rw did.layout d.placed;
       controlled = rows-kept _ d.tree d.control_rows (sym did.layout) d.controlled;
       sized = d.sized;

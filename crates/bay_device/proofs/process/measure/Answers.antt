@@ -30,6 +30,7 @@ invariant_of-bay c =
     d.tree =
     rows ∙ ap (λ (n : StatusNames). rows_after_measure n c.args.value c.args.now d.tree) named in
     record {
+      listed = rw did.layout d.listed;
       placed = rw did.layout d.placed;
       controlled = rows-kept _ d.tree d.control_rows (sym did.layout) d.controlled;
       sized = d.sized;

@@ -16,6 +16,7 @@ invariant_of-bay c =
     ≡ outputs_put (layout_of d.tree) d.switches c.args.outputs.now c.args.now d.tree =
     rw c.as_slice.ensures at did.rows in
     record {
+      listed = rw did.layout d.listed;
       placed = rw did.layout d.placed;
       controlled = rows-kept _ d.tree d.control_rows (sym did.layout) d.controlled;
       sized = d.sized;

@@ -1,33 +1,48 @@
-use Rattle.std.proofs.Common.{◌≡◌, ◌∙◌, Some, is_none, ap}
+use Rattle.std.proofs.Common.{◌≡◌, ℕ, ◌-◌, ltb, Some, is_none, ap, ◌∙◌}
+use Rattle.std.specs.Option.{option_copied}
+use Rattle.bay_ber.specs.Sheets.{message, sheet_with}
 use Rattle.bay_ber.proofs.SheetLemmas.{short-message}
-use Rattle.bay_mms.specs.Pages.{first_page, names_from}
-use Rattle.bay_mms.proofs.PageLemmas.{first-page-short}
+use Rattle.bay_tree.specs.Page.{rows_after}
+use Rattle.bay_tree.specs.Rows.{names_of}
+use Rattle.bay_mms.specs.Pages.{first_page}
+use Rattle.bay_mms.proofs.PageLemmas.{first-page-short, page-texts, within-ends}
 use Rattle.bay_mms.proofs.page.write_page.Goals as goal
 
+pub fitting-count-requires-clause-within : goal.fitting-count-requires-clause-within
+fitting-count-requires-clause-within c =
+    within-ends c.args.tree.now c.args.names.now c.in_ok-start.start c.requires.texts
+    c.in_ok-start.ensures.within
+
+-- the page is held
+held : (c : goal.After-put_page) → message c.put_page.new.writer
+    ≡ Some (first_page c.args.id c.args.size
+    (names_of (rows_after c.args.tree.now (option_copied c.args.after))))
+held c =
+    let names = names_of c.args.tree.now in
+    let rows = rows_after c.args.tree.now (option_copied c.args.after) in
+    let is = page-texts c.args.tree.now rows c.args.names.now c.args.id c.args.size
+    c.in_ok-start.start c.fitting-count.result c.texts.result.now _ c.requires.texts
+    c.in_ok-start.ensures.rows (c.fitting-count.ensures.count names c.requires.texts)
+    (c.texts.ensures names c.requires.texts)
+    (ap (λ (k : ℕ). ltb c.fitting-count.result (k - c.in_ok-start.start)) c.count.ensures) in
+    short-message c.args.size _ c.in_ok-writer.writer _ c.in_ok-writer.ensures
+    (c.put_page.ensures ∙ ap (sheet_with c.in_ok-writer.writer) is)
+    (first-page-short c.args.id c.args.size (names_of rows) c.requires.some)
+
 pub finish_held-requires : goal.finish_held-requires
-finish_held-requires c =
-    let names = names_from c.args.tree.now c.in_ok-first.first in
-    ap is_none (short-message c.args.size (first_page c.args.id c.args.size names)
-    c.in_ok-writer.writer _ c.in_ok-writer.ensures c.put_page.ensures
-    (first-page-short c.args.id c.args.size names c.requires.some))
+finish_held-requires c = ap is_none (held c)
 
 pub returns-clause-page : goal.returns-clause-page
 returns-clause-page c =
-    let names = names_from c.args.tree.now c.in_ok-first.first in
-    let page = first_page c.args.id c.args.size names in
-    let is : Some c.finish_held.result ≡ Some page =
-    c.finish_held.ensures ∙ short-message c.args.size page c.in_ok-writer.writer _
-    c.in_ok-writer.ensures c.put_page.ensures
-    (first-page-short c.args.id c.args.size names c.requires.some) in
-    rw (← c.in_ok-first.ensures.names) cc
+    let page = first_page c.args.id c.args.size
+    (names_of (rows_after c.args.tree.now (option_copied c.args.after))) in
+    let is : Some c.finish_held.result ≡ Some page = c.finish_held.ensures ∙ held c.before in
+    cc
 
 pub returns-clause-short : goal.returns-clause-short
 returns-clause-short c =
-    let names = names_from c.args.tree.now c.in_ok-first.first in
-    let page = first_page c.args.id c.args.size names in
-    let is : Some c.finish_held.result ≡ Some page =
-    c.finish_held.ensures ∙ short-message c.args.size page c.in_ok-writer.writer _
-    c.in_ok-writer.ensures c.put_page.ensures
-    (first-page-short c.args.id c.args.size names c.requires.some) in
-    let same : c.finish_held.result ≡ page = cc in
-    rw same (first-page-short c.args.id c.args.size names c.requires.some)
+    let rows = rows_after c.args.tree.now (option_copied c.args.after) in
+    let is : Some c.finish_held.result ≡ Some (first_page c.args.id c.args.size (names_of rows)) =
+    c.finish_held.ensures ∙ held c.before in
+    let same : c.finish_held.result ≡ first_page c.args.id c.args.size (names_of rows) = cc in
+    rw same (first-page-short c.args.id c.args.size (names_of rows) c.requires.some)

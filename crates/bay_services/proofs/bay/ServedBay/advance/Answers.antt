@@ -10,6 +10,7 @@ pub invariant_of-self-2 : goal.invariant_of-self-2
 invariant_of-self-2 c =
     let d = c.args.self.now in
     record {
+      listed = rw c.show_selection.ensures.layout d.listed;
       placed = rw c.show_selection.ensures.layout d.placed;
       controlled =
           rows-kept _ d.tree d.control_rows (sym c.show_selection.ensures.layout) d.controlled;

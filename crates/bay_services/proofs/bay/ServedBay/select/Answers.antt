@@ -10,6 +10,7 @@ pub invariant_of-self : goal.invariant_of-self
 invariant_of-self c =
     let d = c.args.self.now in
     record {
+      listed = rw c.show_selection.ensures.layout d.listed;
       placed = rw c.show_selection.ensures.layout d.placed;
       controlled =
           rows-kept _ d.tree d.control_rows (sym c.show_selection.ensures.layout) d.controlled;
