@@ -29,13 +29,12 @@ use Rattle.il_image.specs.Reading.{Read, instr_from, known_value, known_opcode, 
 use Rattle.il_image.specs.Spelling.{spelling}
 use Rattle.il_image.specs.Values.{default_value}
 use Rattle.il_image.proofs.CodeLemmas.{fault-step, less}
-use Rattle.il_image.proofs.LocalLemmas.{again, local-instr}
-use Rattle.il_image.proofs.EndLemmas.{EndsIn, Few, IsAll, all-told, are-more, are-none, few-told, join-octets, ok-is, through}
+use Rattle.il_image.proofs.EndLemmas.{EndsIn, Few, IsAll, all-told, are-more, are-none, few-told, join-octets, known-never, pass}
 use Rattle.il_image.proofs.InstrLemmas.{behind-octets}
 use Rattle.il_image.proofs.PlaceLemmas.{spelled-so}
 use Rattle.il_image.proofs.ReadLemmas.{take_octets, took-number}
-use Rattle.il_image.proofs.SteadyLemmas.{err-same, steady-instr, steady-number}
-use Rattle.il_image.proofs.ShortLemmas.{behind-number, Never, copies, copies-fit, copies-size, err-mapped, known-never, number-short, take-all, taken-short, value-few}
+use Rattle.il_image.proofs.SoundLemmas.{again, err-same, ok-is, sound-instr, sound-number}
+use Rattle.il_image.proofs.ShortLemmas.{behind-number, copies, copies-fit, copies-size, err-mapped, number-completes, take-all, taken-short, value-few}
 
 -- ---- code
 
@@ -87,15 +86,13 @@ code-cut version (suc n) (x ∷ octets) le fits e =
               ∙ sym (append_assoc (spelling i) c.done c.cut);
           whole =
               fault-step version (spelling i ++ c.done) i c.done
-              (again (instr_from version) (spelling i) i (steady-instr version) (x ∷ octets) rest
-              fits
-              (local-instr version (x ∷ octets) i rest is)
+              (again (spelling i) i (sound-instr version) (x ∷ octets) rest fits is
               (λ front good is. (spelled-so version front i [] good is).1) c.done) ∙ c.whole;
           some = c.some;
           short = c.short;
           on = λ more h.
               fault-step version (x ∷ octets ++ more) i (rest ++ more)
-              (ok-is (instr_from version) (steady-instr version) (x ∷ octets) more i rest is)
+              (ok-is (sound-instr version) (x ∷ octets) more i rest is)
               ∙ c.on more h;
         }
 
@@ -117,7 +114,7 @@ code-whole version (suc n) (x ∷ octets) more le e h =
     go on (Ok (i, rest)) is e =
         let fewer = less version (x ∷ octets) i rest is in
         fault-step version (x ∷ octets ++ more) i (rest ++ more)
-        (ok-is (instr_from version) (steady-instr version) (x ∷ octets) more i rest is)
+        (ok-is (sound-instr version) (x ∷ octets) more i rest is)
         ∙ on rest (omega arith) e
 
 -- An instruction of the version has the part's first octet, and more octets.
@@ -371,7 +368,7 @@ module _ (version : Version) (n : ℕ) (octets : List ℕ) (fits : AreOctets oct
           ap (λ (xs : List ℕ). code_fault version (length xs) xs)
           (sym (append_assoc c.cut f.octets (copies 1 k)))
           ∙ fault-step version ((c.cut ++ f.octets) ++ copies 1 k) f.is.0 (copies 1 k)
-          (ok-is (instr_from version) (steady-instr version) (c.cut ++ f.octets) (copies 1 k)
+          (ok-is (sound-instr version) (c.cut ++ f.octets) (copies 1 k)
           f.is.0 [] f.is.1) ∙ halts version k in
           code-reads version n octets more
           (join-octets f.octets (copies 1 k) f.fits (copies-fit 1 k (omega arith))) size
@@ -460,22 +457,18 @@ pub code-short : (version : Version) (octets : List ℕ) → AreOctets octets
     ⊎ CodeCut version octets
 unfolding code_at
 code-short version octets fits e =
-    elim (through number_at (λ n octets. code_of_length version n octets) Any steady-number Never
-    (λ n rest. Past version n rest ⊎ Part version n rest) octets (λ f. inl (number-short octets f))
-    (code-start version)
+    elim (pass _ sound-number (λ n rest. Past version n rest ⊎ Part version n rest) octets
+    (number-completes.short octets) (code-start version)
     (λ n rest is f. length-of-code version n rest (behind-number octets n rest fits is) f) e) [
       | inl a ↦ inl a
-      | inr c ↦ elim c [
-        | inl d ↦ absurd d
-        | inr d ↦ inr (
-            let took = took-number octets d.0.0 d.0.1 d.1 in
-            let small : d.0.0 < 2 ^ 16 = took.1 fits in
-            record {
-              size = d.0.0;
-              small = omega arith;
-              rest = d.0.1;
-              parts = took.0.parts ∙ ap (λ (ys : List ℕ). ys ++ d.0.1) (took.0.is fits);
-              is = d.2;
-            })
-      ]
+      | inr d ↦ inr (
+          let took = took-number octets d.0.0 d.0.1 d.1 in
+          let small : d.0.0 < 2 ^ 16 = took.1 fits in
+          record {
+            size = d.0.0;
+            small = omega arith;
+            rest = d.0.1;
+            parts = took.0.parts ∙ ap (λ (ys : List ℕ). ys ++ d.0.1) (took.0.is fits);
+            is = d.2;
+          })
     ]

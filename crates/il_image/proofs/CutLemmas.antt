@@ -12,17 +12,16 @@ use Rattle.il_image.specs.declared.opcode.Version.{Version}
 use Rattle.il_image.specs.declared.opcode.Version.TheVariants.{One, Two}
 use Rattle.il_image.specs.declared.value.Value.{Value}
 use Rattle.il_image.specs.Cuts.{EndsInInstr, EndsInValue, HasOthers, IsImageOf, IsRightSoFar}
-use Rattle.il_image.specs.Decoding.{behind, code_at, code_fault, code_of_length, counted_at, image_spelled, items_at, point_at, timer_at, variable_at, version_at}
+use Rattle.il_image.specs.Decoding.{behind, code_at, code_fault, counted_at, image_spelled, items_at, point_at, timer_at, variable_at, version_at}
 use Rattle.il_image.specs.Images.{HasName, Image, IsValue, count_and_items, each_spelled, image_octets, mark, point_octets, timer_octets, variable_octets, version_octet}
 use Rattle.il_image.specs.Octets.{AreOctets, number_octets}
-use Rattle.il_image.specs.Reading.{Read, number_at}
-use Rattle.il_image.proofs.LocalLemmas.{Local, again, local-counted, local-point, local-timer, local-variable}
-use Rattle.il_image.proofs.EndLemmas.{Empty, Ends, EndsIn, are-more, are-none, ends-here, join-octets, through}
+use Rattle.il_image.specs.Reading.{Read}
+use Rattle.il_image.proofs.EndLemmas.{Ends, EndsIn, Never, are-more, are-none, ends-here, join-octets, ok-start, pass, through}
 use Rattle.il_image.proofs.InstrLemmas.{behind-octets}
 use Rattle.il_image.proofs.ReadLemmas.{back-number, took-number}
-use Rattle.il_image.proofs.SteadyLemmas.{Steady, steady-counted, steady-items, steady-number, steady-point, steady-timer, steady-variable, steady-version}
-use Rattle.il_image.proofs.TookLemmas.{IsKind, Takes, took-counted, took-mark, took-point, took-timer, took-variable, took-version}
-use Rattle.il_image.proofs.ShortLemmas.{behind-number, Never, NeverBehind, NoValue, err-mapped, number-short, ok-more, ok-start, point-short, take-all, timer-short, timer-start, variable-short, variable-start, version-short}
+use Rattle.il_image.proofs.SoundLemmas.{Sound, again, sound-counted, sound-items, sound-number, sound-point, sound-timer, sound-variable, sound-version}
+use Rattle.il_image.proofs.TookLemmas.{IsKind, Takes, TookCounted, took-counted, took-mark, took-point, took-timer, took-variable, took-version}
+use Rattle.il_image.proofs.ShortLemmas.{behind-number, NoValue, err-mapped, number-completes, point-completes, take-all, timer-completes, variable-short, variable-start, version-completes}
 use Rattle.il_image.proofs.CodeCuts.{Any, CodeCut, code-short, code-start}
 
 -- ---- so many items
@@ -50,25 +49,35 @@ record InCounted {A : Type 0} (spell : A → List ℕ) (item : List ℕ → Read
   is : C cut
   reads : (more : List ℕ) → counted_at item (count_and_items spell xs ++ more) ≡ Ok (xs, more)
 
-module _ {A : Type 0} (spell : A → List ℕ) (P : A → Type 0) (C : List ℕ → Type 0)
-    (item : List ℕ → Read A) (takes : Takes spell P item) (s : Steady item) (l : Local item)
-    (start : Ends item [])
-    (short : (octets : List ℕ) → AreOctets octets → item octets ≡ Err Truncated
-    → Ends item octets ⊎ C octets) where
+-- Items are read of their spelling, whatever follows it.
+abbrev ReadsAll : {A : Type 0} → (A → List ℕ) → (List ℕ → Read A) → List A → Type 0
+ReadsAll {A} spell item xs =
+    (more : List ℕ) → counted_at item (count_and_items spell xs ++ more) ≡ Ok (xs, more)
+
+-- An item that is read and spelled so; and what is cut short within one is completed, or is this.
+record Item {A : Type 0} (spell : A → List ℕ) (P : A → Type 0) (C : List ℕ → Type 0)
+    (item : List ℕ → Read A) : Type 0 where
+  takes : Takes spell P item
+  sound : Sound item
+  start : Ends item []
+  short : (octets : List ℕ) → AreOctets octets → item octets ≡ Err Truncated
+      → Ends item octets ⊎ C octets
+
+module _ {A : Type 0} {spell : A → List ℕ} {P : A → Type 0} {C : List ℕ → Type 0}
+    {item : List ℕ → Read A} (i : Item spell P C item) where
   items-start : (n : ℕ) → Ends (items_at item n) []
-  items-start zero = ok-start []
+  items-start zero = ok-start
   items-start (suc n) =
-      ends-here item (λ x octets. items_at item n octets >>= (λ xs. Ok (x ∷ xs.0, xs.1))) Empty s []
-      start (λ x. ends-here (items_at item n) (λ xs octets. Ok (x ∷ xs, octets)) Empty
-      (steady-items item s n) [] (items-start n) (λ xs. ok-start (x ∷ xs)))
+      ends-here _ i.sound [] i.start
+      (λ x. ends-here _ (sound-items i.sound n) [] (items-start n) (λ xs. ok-start))
 
   more-items : (n : ℕ) (octets : List ℕ) (x : A) (rest : List ℕ) → AreOctets octets
       → item octets ≡ Ok (x, rest) → InItem spell item C n rest → InItem spell item C (suc n) octets
   more-items n octets x rest fits e c =
-      let took = takes octets x rest fits e in
+      let took = i.takes octets x rest fits e in
       let less_than = c.few in
-      let one = again item (spell x) x s octets rest fits (l octets x rest e)
-      (λ front good is. (takes front x [] good is).parts) in
+      let one = again (spell x) x i.sound octets rest fits e
+      (λ front good is. (i.takes front x [] good is).parts) in
       record {
         xs = x ∷ c.xs;
         cut = c.cut;
@@ -88,16 +97,13 @@ module _ {A : Type 0} (spell : A → List ℕ) (P : A → Type 0) (C : List ℕ 
       → Ends (items_at item n) octets ⊎ InItem spell item C n octets
   items-short zero octets fits e = absurd cc
   items-short (suc n) octets fits e =
-      elim (through item (λ x octets. items_at item n octets >>= (λ xs. Ok (x ∷ xs.0, xs.1))) Empty
-      s
-      C (λ x rest. InItem spell item C n rest) octets (short octets fits)
-      (λ x. ends-here (items_at item n) (λ xs octets. Ok (x ∷ xs, octets)) Empty
-      (steady-items item s n) [] (items-start n) (λ xs. ok-start (x ∷ xs)))
-      (λ x rest is f. elim (through (items_at item n) (λ xs octets. Ok (x ∷ xs, octets)) Empty
-      (steady-items item s n) (λ rest. InItem spell item C n rest) NeverBehind rest
+      elim (through _ i.sound C (λ x rest. InItem spell item C n rest) octets (i.short octets fits)
+      (λ x. ends-here _ (sound-items i.sound n) [] (items-start n) (λ xs. ok-start))
+      (λ x rest is f. elim (through _ (sound-items i.sound n)
+      (λ rest. InItem spell item C n rest) (λ xs rest. ⊥) rest
       (items-short n rest (behind-octets (spell x) rest
-      (subst AreOctets (takes octets x rest fits is).parts fits)))
-      (λ xs. ok-start (x ∷ xs)) (λ xs rest is f. inl (ok-more (x ∷ xs) rest f)) f) [
+      (subst AreOctets (i.takes octets x rest fits is).parts fits)))
+      (λ xs. ok-start) (λ xs rest is f. absurd cc) f) [
         | inl a ↦ inl a
         | inr c ↦ inr (elim c [ inl d ↦ d | inr n ↦ absurd n.2 ])
       ]) e) [
@@ -116,41 +122,85 @@ module _ {A : Type 0} (spell : A → List ℕ) (P : A → Type 0) (C : List ℕ 
       ]
 
   counted-start : Ends (counted_at item) []
-  counted-start =
-      ends-here number_at (λ n octets. items_at item n octets) Empty steady-number []
-      (number-short [] refl) items-start
+  counted-start = ends-here _ sound-number [] number-completes.start items-start
 
   counted-short : (octets : List ℕ) → AreOctets octets → counted_at item octets ≡ Err Truncated
       → Ends (counted_at item) octets ⊎ InCounted spell item C octets
   counted-short octets fits e =
-      elim (through number_at (λ n octets. items_at item n octets) Empty steady-number Never
-      (λ n rest. InItem spell item C n rest) octets (λ f. inl (number-short octets f)) items-start
+      elim (pass _ sound-number (λ n rest. InItem spell item C n rest) octets
+      (number-completes.short octets) items-start
       (λ n rest is f. items-short n rest (behind-number octets n rest fits is) f) e) [
         | inl a ↦ inl a
-        | inr c ↦ elim c [
-          | inl d ↦ absurd d
-          | inr d ↦ inr (
-              let took = took-number octets d.0.0 d.0.1 d.1 in
-              let small : d.0.0 < 2 ^ 16 = took.1 fits in
-              let i = d.2 in
-              record {
-                n = d.0.0;
-                small = omega arith;
-                xs = i.xs;
-                cut = i.cut;
-                parts = took.0.parts ∙ ap (λ (ys : List ℕ). ys ++ d.0.1) (took.0.is fits)
-                    ∙ ap (λ (ys : List ℕ). number_octets d.0.0 ++ ys) i.parts;
-                few = i.few;
-                is = i.is;
-                reads = λ more. (let few = i.few in
-                    rw (
-                      append_assoc (number_octets (length i.xs)) (each_spelled spell i.xs) more,
-                      back-number (length i.xs) (each_spelled spell i.xs ++ more) (omega arith),
-                    )
-                    (i.reads more));
-              })
-        ]
+        | inr d ↦ inr (
+            let took = took-number octets d.0.0 d.0.1 d.1 in
+            let small : d.0.0 < 2 ^ 16 = took.1 fits in
+            let i = d.2 in
+            let few = i.few in
+            record {
+              n = d.0.0;
+              small = omega arith;
+              xs = i.xs;
+              cut = i.cut;
+              parts = took.0.parts ∙ ap (λ (ys : List ℕ). ys ++ d.0.1) (took.0.is fits)
+                  ∙ ap (λ (ys : List ℕ). number_octets d.0.0 ++ ys) i.parts;
+              few = i.few;
+              is = i.is;
+              reads = λ more. rw (
+                append_assoc (number_octets (length i.xs)) (each_spelled spell i.xs) more,
+                back-number (length i.xs) (each_spelled spell i.xs ++ more) (omega arith),
+              ) (i.reads more);
+            })
       ]
+
+  counted-took : (octets : List ℕ) (xs : List A) (rest : List ℕ) → AreOctets octets
+      → counted_at item octets ≡ Ok (xs, rest) → TookCounted spell P octets xs rest
+  counted-took = took-counted spell P item i.takes
+
+  behind-counted : (octets : List ℕ) (xs : List A) (rest : List ℕ) → AreOctets octets
+      → counted_at item octets ≡ Ok (xs, rest) → AreOctets rest
+  behind-counted octets xs rest fits e =
+      behind-octets (count_and_items spell xs) rest
+      (subst AreOctets (counted-took octets xs rest fits e).parts fits)
+
+  reads-all : (octets : List ℕ) (xs : List A) (rest : List ℕ) → AreOctets octets
+      → counted_at item octets ≡ Ok (xs, rest) → ReadsAll spell item xs
+  reads-all octets xs rest fits e =
+      again (count_and_items spell xs) xs (sound-counted i.sound) octets rest fits e
+      (λ front good is. (counted-took front xs [] good is).parts)
+
+counted-whole : {A : Type 0} {spell : A → List ℕ} {P : A → Type 0} {item : List ℕ → Read A}
+    → Item spell P Never item → (octets : List ℕ) → AreOctets octets
+    → counted_at item octets ≡ Err Truncated → Ends (counted_at item) octets
+counted-whole i octets fits e = elim (counted-short i octets fits e) [
+  | inl a ↦ a
+  | inr c ↦ absurd c.is
+]
+
+point-item : (version : Version) → Item point_octets HasName Never (point_at version)
+point-item version = record {
+  takes = took-point version;
+  sound = sound-point version;
+  start = (point-completes version).start;
+  short = λ octets fits e. inl ((point-completes version).short octets e);
+}
+
+variable-item : (version : Version)
+    → Item (variable_octets version) IsValue (NoValue version) (variable_at version)
+variable-item version = record {
+  takes = took-variable version;
+  sound = sound-variable version;
+  start = variable-start version;
+  short = variable-short version;
+}
+
+timer-item : (version : Version)
+    → Item (timer_octets version) IsKind Never (timer_at version)
+timer-item version = record {
+  takes = took-timer version;
+  sound = sound-timer version;
+  start = (timer-completes version).start;
+  short = λ octets fits e. inl ((timer-completes version).short octets e);
+}
 
 -- ---- the image
 
@@ -205,59 +255,29 @@ abbrev PointsCut : Version → List ℕ → Type 0
 PointsCut version octets = (points : List ImagePoint × List ℕ)
     × (counted_at (point_at version) octets ≡ Ok points) × VariablesCut version points.1
 
--- a part that is completed always, and what stands behind it
-only : {A : Type 0} (C D : List ℕ → Type 0) (X : A → List ℕ → Type 0) (item : List ℕ → Read A)
-    (octets : List ℕ) → (C octets → ⊥)
-    → (D octets ⊎ (C octets ⊎ ((r : A × List ℕ) × (item octets ≡ Ok r) × X r.0 r.1)))
-    → D octets ⊎ ((r : A × List ℕ) × (item octets ≡ Ok r) × X r.0 r.1)
-only C D X item octets never (inl a) = inl a
-only C D X item octets never (inr (inl c)) = absurd (never c)
-only C D X item octets never (inr (inr c)) = inr c
-
 module _ (version : Version) where
-  points-steady : Steady (counted_at (point_at version))
-  points-steady = steady-counted (point_at version) (steady-point version)
-
-  variables-steady : Steady (counted_at (variable_at version))
-  variables-steady = steady-counted (variable_at version) (steady-variable version)
-
-  timers-steady : Steady (counted_at (timer_at version))
-  timers-steady = steady-counted (timer_at version) (steady-timer version)
-
-  point-start : Ends (point_at version) []
-  unfolding point_at
-  point-start = point-short version [] refl
-
   code-none : (p : List ImagePoint) (v : List Value) (t : List TimerKind)
       → EndsIn (code_image version p v t) Any []
   unfolding code_at
   code-none p v t =
       ends-mapped (code_at version) (image_of p v t) []
-      (ends-here number_at (λ n octets. code_of_length version n octets) Any steady-number []
-      (number-short [] refl) (code-start version))
+      (ends-here _ sound-number [] number-completes.start (code-start version))
 
   timers-none : (p : List ImagePoint) (v : List Value)
       → EndsIn (timers_image version p v) Any []
   timers-none p v =
-      ends-here (counted_at (timer_at version)) (code_image version p v) Any timers-steady []
-      (counted-start (timer_octets version) IsKind Never (timer_at version) (took-timer version)
-      (steady-timer version) (local-timer version) (timer-start version)
-      (λ octets good f. inl (timer-short version octets f))) (code-none p v)
+      ends-here _ (sound-counted (sound-timer version)) [] (counted-start (timer-item version))
+      (code-none p v)
 
   variables-none : (p : List ImagePoint) → EndsIn (variables_image version p) Any []
   variables-none p =
-      ends-here (counted_at (variable_at version)) (timers_image version p) Any variables-steady []
-      (counted-start (variable_octets version) IsValue (NoValue version) (variable_at version)
-      (took-variable version) (steady-variable version) (local-variable version)
-      (variable-start version)
-      (variable-short version)) (timers-none p)
+      ends-here _ (sound-counted (sound-variable version)) []
+      (counted-start (variable-item version)) (timers-none p)
 
   points-none : EndsIn (points_image version) Any []
   points-none =
-      ends-here (counted_at (point_at version)) (variables_image version) Any points-steady []
-      (counted-start point_octets HasName Never (point_at version) (took-point version)
-      (steady-point version) (local-point version) point-start
-      (λ octets good f. inl (point-short version octets f))) variables-none
+      ends-here _ (sound-counted (sound-point version)) [] (counted-start (point-item version))
+      variables-none
 
   code-cuts : (p : List ImagePoint) (v : List Value) (t : List TimerKind) (octets : List ℕ)
       → AreOctets octets → code_image version p v t octets ≡ Err Truncated
@@ -272,50 +292,29 @@ module _ (version : Version) where
       → timers_image version p v octets ≡ Err Truncated
       → EndsIn (timers_image version p v) Any octets ⊎ TimersCut version octets
   timers-cut p v octets fits e =
-      only (InCounted (timer_octets version) (timer_at version) Never)
-      (EndsIn (timers_image version p v) Any) (λ t rest. CodeCut version rest)
-      (counted_at (timer_at version)) octets (λ c. c.is)
-      (through (counted_at (timer_at version)) (code_image version p v) Any timers-steady
-      (InCounted (timer_octets version) (timer_at version) Never) (λ t rest. CodeCut version rest)
-      octets
-      (counted-short (timer_octets version) IsKind Never (timer_at version) (took-timer version)
-      (steady-timer version) (local-timer version) (timer-start version)
-      (λ octets good f. inl (timer-short version octets f)) octets fits) (code-none p v)
+      pass _ (sound-counted (sound-timer version)) (λ t rest. CodeCut version rest) octets
+      (counted-whole (timer-item version) octets fits) (code-none p v)
       (λ t rest is. code-cuts p v t rest
-      (behind-octets (count_and_items (timer_octets version) t) rest
-      (subst AreOctets (took-counted (timer_octets version) IsKind (timer_at version)
-      (took-timer version) octets t rest fits is).parts fits))) e)
+      (behind-counted (timer-item version) octets t rest fits is)) e
 
   variables-cut : (p : List ImagePoint) (octets : List ℕ) → AreOctets octets
       → variables_image version p octets ≡ Err Truncated
       → EndsIn (variables_image version p) Any octets ⊎ VariablesCut version octets
   variables-cut p octets fits e =
-      through (counted_at (variable_at version)) (timers_image version p) Any variables-steady
+      through _ (sound-counted (sound-variable version))
       (InCounted (variable_octets version) (variable_at version) (NoValue version))
       (λ v rest. TimersCut version rest) octets
-      (counted-short (variable_octets version) IsValue (NoValue version) (variable_at version)
-      (took-variable version) (steady-variable version) (local-variable version)
-      (variable-start version)
-      (variable-short version) octets fits) (timers-none p)
+      (counted-short (variable-item version) octets fits) (timers-none p)
       (λ v rest is. timers-cut p v rest
-      (behind-octets (count_and_items (variable_octets version) v) rest
-      (subst AreOctets (took-counted (variable_octets version) IsValue (variable_at version)
-      (took-variable version) octets v rest fits is).parts fits))) e
+      (behind-counted (variable-item version) octets v rest fits is)) e
 
   points-cut : (octets : List ℕ) → AreOctets octets → points_image version octets ≡ Err Truncated
       → EndsIn (points_image version) Any octets ⊎ PointsCut version octets
   points-cut octets fits e =
-      only (InCounted point_octets (point_at version) Never) (EndsIn (points_image version) Any)
-      (λ p rest. VariablesCut version rest) (counted_at (point_at version)) octets (λ c. c.is)
-      (through (counted_at (point_at version)) (variables_image version) Any points-steady
-      (InCounted point_octets (point_at version) Never) (λ p rest. VariablesCut version rest) octets
-      (counted-short point_octets HasName Never (point_at version) (took-point version)
-      (steady-point version) (local-point version) point-start
-      (λ octets good f. inl (point-short version octets f)) octets fits) variables-none
+      pass _ (sound-counted (sound-point version)) (λ p rest. VariablesCut version rest) octets
+      (counted-whole (point-item version) octets fits) variables-none
       (λ p rest is. variables-cut p rest
-      (behind-octets (count_and_items point_octets p) rest
-      (subst AreOctets (took-counted point_octets HasName (point_at version)
-      (took-point version) octets p rest fits is).parts fits))) e)
+      (behind-counted (point-item version) octets p rest fits is)) e
 
 abbrev VersionCut : List ℕ → Type 0
 VersionCut octets = (version : Version × List ℕ) × (version_at octets ≡ Ok version)
@@ -324,17 +323,14 @@ VersionCut octets = (version : Version × List ℕ) × (version_at octets ≡ Ok
 version-cut : (octets : List ℕ) → AreOctets octets → version_image octets ≡ Err Truncated
     → EndsIn version_image Any octets ⊎ VersionCut octets
 version-cut octets fits e =
-    only Never (EndsIn version_image Any) (λ v rest. PointsCut v rest) version_at octets
-    (λ n. n)
-    (through version_at points_image Any steady-version Never (λ v rest. PointsCut v rest) octets
-    (λ f. inl (version-short octets f)) points-none
+    pass _ sound-version (λ v rest. PointsCut v rest) octets (version-completes.short octets)
+    points-none
     (λ v rest is. points-cut v rest
     (behind-octets (version_octet v ∷ []) rest
-    (subst AreOctets (took-version octets v rest is) fits))) e)
+    (subst AreOctets (took-version octets v rest is) fits))) e
 
 version-none : EndsIn version_image Any []
-version-none =
-    ends-here version_at points_image Any steady-version [] (version-short [] refl) points-none
+version-none = ends-here _ sound-version [] version-completes.start points-none
 
 -- ---- behind the mark
 
@@ -400,22 +396,8 @@ others-behind a b d f g others =
     ∙ sym (append_assoc d (f ++ g) others)) ∙ sym (append_assoc b (d ++ (f ++ g)) others))
     ∙ sym (append_assoc a (b ++ (d ++ (f ++ g))) others)
 
--- Items are read of their spelling, whatever follows it.
-abbrev ReadsAll : {A : Type 0} → (A → List ℕ) → (List ℕ → Read A) → List A → Type 0
-ReadsAll {A} spell item xs =
-    (more : List ℕ) → counted_at item (count_and_items spell xs ++ more) ≡ Ok (xs, more)
-
 reads-none : {A : Type 0} (spell : A → List ℕ) (item : List ℕ → Read A) → ReadsAll spell item []
 reads-none spell item more = rw (back-number 0 more (omega arith)) refl
-
-reads-all : {A : Type 0} (spell : A → List ℕ) (P : A → Type 0) (item : List ℕ → Read A)
-    → Takes spell P item → Steady item → Local item → (octets : List ℕ) (xs : List A)
-    (rest : List ℕ) → AreOctets octets → counted_at item octets ≡ Ok (xs, rest)
-    → ReadsAll spell item xs
-reads-all spell P item takes s l octets xs rest fits e =
-    again (counted_at item) (count_and_items spell xs) xs (steady-counted item s) octets rest fits
-    (local-counted item s l octets xs rest e)
-    (λ front good is. (took-counted spell P item takes front xs [] good is).parts)
 
 reads-code : (version : Version) (code : List ℕ) → length code ≤ 65_535
     → code_fault version (length code) code ≡ None
@@ -538,20 +520,12 @@ module _ (octets : List ℕ) (version : Version) (rest1 : List ℕ)
       → HasOthers octets ⊎ (EndsInValue octets ⊎ EndsInInstr octets)
   in_rest (inl c) = inr (inl (in-value c))
   in_rest (inr d) =
-      let v = took-counted (variable_octets version) IsValue (variable_at version)
-      (took-variable version) rest2 d.0.0 d.0.1 fits2 d.1 in
-      let fits3 =
-      behind-octets (count_and_items (variable_octets version) d.0.0) d.0.1
-      (subst AreOctets v.parts fits2)
-      in
-      let t = took-counted (timer_octets version) IsKind (timer_at version) (took-timer version)
-      d.0.1 d.2.0.0 d.2.0.1 fits3 d.2.1 in
+      let v = counted-took (variable-item version) rest2 d.0.0 d.0.1 fits2 d.1 in
+      let fits3 = behind-counted (variable-item version) rest2 d.0.0 d.0.1 fits2 d.1 in
+      let t = counted-took (timer-item version) d.0.1 d.2.0.0 d.2.0.1 fits3 d.2.1 in
       elim (in-code d.0.0 d.0.1 v.parts
-      (reads-all (variable_octets version) IsValue (variable_at version) (took-variable version)
-      (steady-variable version) (local-variable version) rest2 d.0.0 d.0.1 fits2 d.1)
-      d.2.0.0 d.2.0.1 t.parts
-      (reads-all (timer_octets version) IsKind (timer_at version) (took-timer version)
-      (steady-timer version) (local-timer version) d.0.1 d.2.0.0 d.2.0.1 fits3 d.2.1) d.2.2) [
+      (reads-all (variable-item version) rest2 d.0.0 d.0.1 fits2 d.1) d.2.0.0 d.2.0.1 t.parts
+      (reads-all (timer-item version) d.0.1 d.2.0.0 d.2.0.1 fits3 d.2.1) d.2.2) [
         | inl o ↦ inl o
         | inr i ↦ inr (inr i)
       ]
@@ -577,13 +551,10 @@ right-so-far octets fits e = elim (behind_mark mark octets mark-octets
           let fits1 =
           behind-octets (version_octet v.0.0 ∷ []) v.0.1 (subst AreOctets second fits0) in
           let points = v.2 in
-          let p = took-counted point_octets HasName (point_at v.0.0) (took-point v.0.0) v.0.1
-          points.0.0 points.0.1 fits1 points.1 in
-          let fits2 =
-          behind-octets (count_and_items point_octets points.0.0) points.0.1
-          (subst AreOctets p.parts fits1) in
+          let i = point-item v.0.0 in
+          let p = counted-took i v.0.1 points.0.0 points.0.1 fits1 points.1 in
+          let fits2 = behind-counted i v.0.1 points.0.0 points.0.1 fits1 points.1 in
           in_rest octets v.0.0 v.0.1 (first ∙ ap (λ (ys : List ℕ). mark ++ ys) second)
           points.0.0 points.0.1 fits2 p.parts
-          (reads-all point_octets HasName (point_at v.0.0) (took-point v.0.0) (steady-point v.0.0)
-          (local-point v.0.0) v.0.1 points.0.0 points.0.1 fits1 points.1) points.2)
+          (reads-all i v.0.1 points.0.0 points.0.1 fits1 points.1) points.2)
     ]

@@ -1,7 +1,7 @@
 -- Items one behind the other.
 use Rattle.std.proofs.Common.{◌≡◌, ℕ, zero, suc, ◌+◌, ◌<◌, List, [], ◌∷◌, ◌++◌, length, get_or, take, refl, sym, ap, ◌∙◌, arith, append-nil}
 use Rattle.std.proofs.lemmas.List.{append_assoc, take_more}
-use Rattle.il_image.specs.Images.{Each, each_spelled}
+use Rattle.il_image.specs.Images.{each_spelled}
 
 pub each_spelled-append : {A : Type 0} (spell : A → List ℕ) (xs ys : List A)
     → each_spelled spell (xs ++ ys) ≡ each_spelled spell xs ++ each_spelled spell ys
@@ -18,12 +18,6 @@ each_spelled-more spell xs i x within is =
     ap (each_spelled spell) (take_more xs i x within ∙ ap (λ y. take i xs ++ y ∷ []) (sym is))
     ∙ each_spelled-append spell (take i xs) (x ∷ [])
     ∙ ap (λ (zs : List ℕ). each_spelled spell (take i xs) ++ zs) (append-nil (spell x))
-
-pub each_at : {A : Type 0} (P : A → Type 0) (xs : List A) (i : ℕ) (d : A) → Each P xs
-    → i < length xs → P (get_or xs i d)
-each_at P [] i d h within = absurd (omega arith)
-each_at P (x ∷ xs) zero d h within = h.0
-each_at P (x ∷ xs) (suc i) d h within = each_at P xs i d h.1 (omega arith)
 
 -- one turn of a loop that spells items
 pub each-turn : {A : Type 0} (spell : A → List ℕ) (xs : List A) (i : ℕ) (x : A)

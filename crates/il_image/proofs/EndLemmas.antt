@@ -1,5 +1,5 @@
 -- Octets that a reader finds too few are completed, or end in something that can't be.
-use Rattle.std.proofs.Common.{◌≡◌, ℕ, zero, suc, ◌<◌, ◌≤◌, List, [], ◌∷◌, ◌++◌, length, refl, sym, subst, ap, ◌∙◌, arith, inl, inr}
+use Rattle.std.proofs.Common.{◌≡◌, ℕ, zero, suc, ◌<◌, ◌≤◌, List, [], ◌∷◌, ◌++◌, length, refl, sym, subst, ap, ◌∙◌, arith, Option, Some, None, inl, inr}
 use Rattle.std.specs.Prelude.{Ok, Err, Result, ◌⊎◌}
 use Rattle.std.proofs.lemmas.Bool.{cases_eq}
 use Rattle.std.proofs.lemmas.List.{append_assoc}
@@ -7,9 +7,9 @@ use Rattle.bay_base.specs.Results.{◌>>=◌}
 use Rattle.il_image.specs.declared.fault.ImageFault.{ImageFault}
 use Rattle.il_image.specs.declared.fault.ImageFault.TheVariants.{Truncated}
 use Rattle.il_image.specs.Octets.{AreOctets}
-use Rattle.il_image.specs.Reading.{Read}
+use Rattle.il_image.specs.Reading.{Read, known_value, octet_at}
 use Rattle.il_image.proofs.ReadLemmas.{ok-same}
-use Rattle.il_image.proofs.SteadyLemmas.{Steady, err-same, later}
+use Rattle.il_image.proofs.SoundLemmas.{Sound, err-same, ok-is}
 
 -- ---- a search among octets
 
@@ -116,31 +116,21 @@ join-octets [] rest fits good = good
 join-octets (x ∷ front) rest fits good =
     are-more x (front ++ rest) (fits 0) (join-octets front rest (λ i. fits (suc i)) good)
 
--- what was read is read with more behind it
-pub ok-is : {A : Type 0} (item : List ℕ → Read A) → Steady item → (octets more : List ℕ) (x : A)
-    (rest : List ℕ) → item octets ≡ Ok (x, rest) → item (octets ++ more) ≡ Ok (x, rest ++ more)
-ok-is {A} item s octets more x rest e =
-    s octets more
-    (λ f. (let no : ◌≡◌ {A = Read A} (Ok (x, rest)) (Err Truncated) = sym e ∙ f in cc))
-    ∙ ap (λ (q : Read A). later q more) e
+-- what never comes
+abbrev pub Never : List ℕ → Type 0
+Never octets = ⊥
 
-module _ {A B : Type 0} (item : List ℕ → Read A) (g : A → List ℕ → Result B ImageFault)
-    (Q : B → Type 0) (s : Steady item) where
-  -- what follows is completed
-  pub ends-behind : (octets : List ℕ) (x : A) (rest : List ℕ) → item octets ≡ Ok (x, rest)
-      → EndsIn (g x) Q rest → EndsIn (λ octets. item octets >>= (λ r. g r.0 r.1)) Q octets
-  ends-behind octets x rest e b =
-      let here = ok-is item s octets b.more x rest e in
-      record { more = b.more; fits = b.fits; what = b.what; is = rw here b.is; ends = b.ends }
-
+module _ {A B : Type 0} {item : List ℕ → Read A} (g : A × List ℕ → Result B ImageFault)
+    {Q : B → Type 0} (s : Sound item) where
   -- it is completed, and then what follows from nothing
-  pub ends-here : (octets : List ℕ) → Ends item octets → ((x : A) → EndsIn (g x) Q [])
-      → EndsIn (λ octets. item octets >>= (λ r. g r.0 r.1)) Q octets
+  pub ends-here : (octets : List ℕ) → Ends item octets
+      → ((x : A) → EndsIn (λ octets. g (x, octets)) Q [])
+      → EndsIn (λ octets. item octets >>= g) Q octets
   ends-here octets a start =
       let b = start a.what.0 in
       let first : item (octets ++ a.more) ≡ Ok (a.what.0, []) =
       a.is ∙ ap (λ (ys : List ℕ). Ok (a.what.0, ys)) a.ends in
-      let here = ok-is item s (octets ++ a.more) b.more a.what.0 [] first in
+      let here = ok-is s (octets ++ a.more) b.more a.what.0 [] first in
       let joined = append_assoc octets a.more b.more in
       record {
         more = a.more ++ b.more;
@@ -152,27 +142,94 @@ module _ {A B : Type 0} (item : List ℕ → Read A) (g : A → List ℕ → Res
 
   pub through : (C : List ℕ → Type 0) (X : A → List ℕ → Type 0) (octets : List ℕ)
       → (item octets ≡ Err Truncated → Ends item octets ⊎ C octets)
-      → ((x : A) → EndsIn (g x) Q [])
-      → ((x : A) (rest : List ℕ) → item octets ≡ Ok (x, rest) → g x rest ≡ Err Truncated
-      → EndsIn (g x) Q rest ⊎ X x rest)
-      → item octets >>= (λ r. g r.0 r.1) ≡ Err Truncated
-      → EndsIn (λ octets. item octets >>= (λ r. g r.0 r.1)) Q octets
+      → ((x : A) → EndsIn (λ octets. g (x, octets)) Q [])
+      → ((x : A) (rest : List ℕ) → item octets ≡ Ok (x, rest) → g (x, rest) ≡ Err Truncated
+      → EndsIn (λ octets. g (x, octets)) Q rest ⊎ X x rest)
+      → item octets >>= g ≡ Err Truncated
+      → EndsIn (λ octets. item octets >>= g) Q octets
       ⊎ (C octets ⊎ ((r : A × List ℕ) × (item octets ≡ Ok r) × X r.0 r.1))
-  through C X octets short start more e = go (item octets) refl
+  through C X octets short start more e = go (item octets) refl (e)
     where
-      go : (r : Read A) → item octets ≡ r
-          → EndsIn (λ octets. item octets >>= (λ r. g r.0 r.1)) Q octets
+      go : (r : Read A) → item octets ≡ r → item octets >>= g ≡ Err Truncated
+          → EndsIn (λ octets. item octets >>= g) Q octets
           ⊎ (C octets ⊎ ((r : A × List ℕ) × (item octets ≡ Ok r) × X r.0 r.1))
-      go (Ok (x, rest)) is = elim (more x rest is
-          (ap (λ (q : Read A). q >>= (λ (p : A × List ℕ). g p.0 p.1)) (sym is) ∙ e)) [
-            | inl b ↦ inl (ends-behind octets x rest is b)
-            | inr c ↦ inr (inr ((x, rest), is, c))
-          ]
-      go (Err f) is =
-          let same : f ≡ Truncated =
-          err-same {A = B} f Truncated
-          (ap (λ (q : Read A). q >>= (λ (p : A × List ℕ). g p.0 p.1)) (sym is) ∙ e) in
+      go (Ok (x, rest)) is e = elim (more x rest is (rw is at e)) [
+        | inl b ↦ inl (record {
+          more = b.more;
+          fits = b.fits;
+          what = b.what;
+          is = rw (ok-is s octets b.more x rest is) b.is;
+          ends = b.ends;
+        })
+        | inr c ↦ inr (inr ((x, rest), is, c))
+      ]
+      go (Err f) is e =
+          let same : f ≡ Truncated = err-same {A = B} f Truncated (rw is at e) in
           elim (short (is ∙ ap (λ (x : ImageFault). Err x) same)) [
             | inl a ↦ inl (ends-here octets a start)
             | inr c ↦ inr (inl c)
           ]
+
+  -- the same, where what is read first is completed always
+  pub pass : (X : A → List ℕ → Type 0) (octets : List ℕ)
+      → (item octets ≡ Err Truncated → Ends item octets)
+      → ((x : A) → EndsIn (λ octets. g (x, octets)) Q [])
+      → ((x : A) (rest : List ℕ) → item octets ≡ Ok (x, rest) → g (x, rest) ≡ Err Truncated
+      → EndsIn (λ octets. g (x, octets)) Q rest ⊎ X x rest)
+      → item octets >>= g ≡ Err Truncated
+      → EndsIn (λ octets. item octets >>= g) Q octets
+      ⊎ ((r : A × List ℕ) × (item octets ≡ Ok r) × X r.0 r.1)
+  pass X octets short start more e =
+      elim (through Never X octets (λ f. inl (short f)) start more e) [
+        | inl a ↦ inl a
+        | inr c ↦ elim c [ inl n ↦ absurd n | inr d ↦ inr d ]
+      ]
+
+-- ---- readers that are completed always
+
+-- Nothing is completed, and so is what is cut short.
+pub record Completes {A : Type 0} (item : List ℕ → Read A) : Type 0 where
+  pub start : Ends item []
+  pub short : (octets : List ℕ) → item octets ≡ Err Truncated → Ends item octets
+
+pub completes-then : {A B : Type 0} {item : List ℕ → Read A} (g : A × List ℕ → Read B)
+    → Sound item → Completes item → ((x : A) → Completes (λ octets. g (x, octets)))
+    → Completes (λ octets. item octets >>= g)
+completes-then g s c t = record {
+  start = ends-here g s [] c.start (λ x. (t x).start);
+  short = λ octets e. elim (pass g s (λ x rest. ⊥) octets (c.short octets) (λ x. (t x).start)
+      (λ x rest is f. inl ((t x).short rest f)) e) [ inl a ↦ a | inr c ↦ absurd c.2 ];
+}
+
+pub ok-start : {A : Type 0} {x : A} → Ends (λ octets. Ok (x, octets)) []
+ok-start {A} {x} = record { more = []; fits = are-none; what = (x, []); is = refl; ends = refl }
+
+pub completes-ok : {A : Type 0} {x : A} → Completes (λ octets. Ok (x, octets))
+completes-ok = record { start = ok-start; short = λ octets e. absurd cc }
+
+pub known-never : {A : Type 0} (o : Option A) (octets : List ℕ)
+    → ◌≡◌ {A = Read A} (known_value o >>= (λ (t : A). Ok (t, octets))) (Err Truncated) → ⊥
+known-never None octets e = absurd cc
+known-never (Some x) octets e = absurd cc
+
+-- an octet of a table
+pub completes-table : {A : Type 0} (f : ℕ → Option A) (d : ℕ) (y : A) → d < 256 → f d ≡ Some y
+    → Completes (λ octets. octet_at octets >>= (λ o. known_value (f o.0) >>= (λ t. Ok (t, o.1))))
+completes-table {A} f d y small is = record { start = start; short = short }
+  where
+    table : List ℕ → Read A
+    table octets = octet_at octets >>= (λ o. known_value (f o.0) >>= (λ t. Ok (t, o.1)))
+
+    start : Ends table []
+    start =
+        record {
+          more = d ∷ [];
+          fits = are-more d [] small are-none;
+          what = (y, []);
+          is = rw is refl;
+          ends = refl;
+        }
+
+    short : (octets : List ℕ) → table octets ≡ Err Truncated → Ends table octets
+    short [] e = start
+    short (x ∷ octets) e = absurd (known-never (f x) octets e)

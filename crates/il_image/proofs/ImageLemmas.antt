@@ -101,24 +101,10 @@ took-parts : (octets rest0 : List ℕ) (version : Version) (rest1 : List ℕ) (i
     (record { points = p.0; variables = x.0; timers = t.0; code = code })))))) ≡ Ok i
     → (version : Version) × TookImage version octets i
 took-parts octets rest0 version rest1 i fits marked versioned e =
-    let d = bind-ok (counted_at (point_at version) rest1)
-    (λ (p : List ImagePoint × List ℕ). counted_at (variable_at version) p.1
-    >>= (λ (x : List Value × List ℕ). counted_at (timer_at version) x.1
-    >>= (λ (t : List TimerKind × List ℕ). code_at version t.1
-    >>= (λ (code : List ℕ). Ok
-    (record { points = p.0; variables = x.0; timers = t.0; code = code }))))) i e in
-    let f = bind-ok (counted_at (variable_at version) d.0.1)
-    (λ (x : List Value × List ℕ). counted_at (timer_at version) x.1
-    >>= (λ (t : List TimerKind × List ℕ). code_at version t.1
-    >>= (λ (code : List ℕ). Ok
-    (record { points = d.0.0; variables = x.0; timers = t.0; code = code })))) i d.2 in
-    let g = bind-ok (counted_at (timer_at version) f.0.1)
-    (λ (t : List TimerKind × List ℕ). code_at version t.1
-    >>= (λ (code : List ℕ). Ok
-    (record { points = d.0.0; variables = f.0.0; timers = t.0; code = code }))) i f.2 in
-    let h = bind-ok (code_at version g.0.1)
-    (λ (code : List ℕ). Ok (record
-    { points = d.0.0; variables = f.0.0; timers = g.0.0; code = code })) i g.2 in (
+    let d = bind-ok (counted_at (point_at version) rest1) _ _ e in
+    let f = bind-ok (counted_at (variable_at version) d.0.1) _ _ d.2 in
+    let g = bind-ok (counted_at (timer_at version) f.0.1) _ _ f.2 in
+    let h = bind-ok (code_at version g.0.1) _ _ g.2 in (
       version,
       of_parts version octets d.0.0 f.0.0 g.0.0 h.0 i
           (ok-same (record { points = d.0.0; variables = f.0.0; timers = g.0.0; code = h.0 }) i h.2)
@@ -131,21 +117,8 @@ pub took-decoded : (octets : List ℕ) (i : Image) → AreOctets octets → imag
     → (version : Version) × TookImage version octets i
 unfolding image_spelled
 took-decoded octets i fits e =
-    let a = bind-ok (behind mark octets)
-    (λ (rest : List ℕ). version_at rest
-    >>= (λ (v : Version × List ℕ). counted_at (point_at v.0) v.1
-    >>= (λ (p : List ImagePoint × List ℕ). counted_at (variable_at v.0) p.1
-    >>= (λ (x : List Value × List ℕ). counted_at (timer_at v.0) x.1
-    >>= (λ (t : List TimerKind × List ℕ). code_at v.0 t.1
-    >>= (λ (code : List ℕ). Ok
-    (record { points = p.0; variables = x.0; timers = t.0; code = code }))))))) i e in
-    let b = bind-ok (version_at a.0)
-    (λ (v : Version × List ℕ). counted_at (point_at v.0) v.1
-    >>= (λ (p : List ImagePoint × List ℕ). counted_at (variable_at v.0) p.1
-    >>= (λ (x : List Value × List ℕ). counted_at (timer_at v.0) x.1
-    >>= (λ (t : List TimerKind × List ℕ). code_at v.0 t.1
-    >>= (λ (code : List ℕ). Ok
-    (record { points = p.0; variables = x.0; timers = t.0; code = code })))))) i a.2 in
+    let a = bind-ok (behind mark octets) _ _ e in
+    let b = bind-ok (version_at a.0) _ _ a.2 in
     took-parts octets a.0 b.0.0 b.0.1 i fits a.1 b.1 b.2
 
 -- ---- no second spelling

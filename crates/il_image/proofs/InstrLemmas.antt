@@ -1,6 +1,7 @@
 -- Instructions: one spelling each, which is read back whatever follows.
 use Rattle.std.proofs.Common.{◌≡◌, ℕ, suc, ◌^◌, ◌<◌, ℤ, Bool, true, false, cond, eqb, List, [], ◌∷◌, ◌++◌, length, Option, Some, None, refl, subst, sym, ap, ◌∙◌, arith}
 use Rattle.std.specs.Prelude.{Result, Ok, Err, IsSome, find}
+use Rattle.std.proofs.lemmas.Bool.Decides.{nat_tests}
 use Rattle.std.proofs.lemmas.Bool.{eqb-true}
 use Rattle.std.proofs.lemmas.List.{append_assoc, length-append}
 use Rattle.bay_base.specs.Results.{◌>>=◌}
@@ -114,11 +115,10 @@ pub record TookValue (size : Size) (t : ElementaryType) (octets : List ℕ) (v :
 pub took-value : (size : Size) (t : ElementaryType) (octets : List ℕ) (v : Value) (rest : List ℕ)
     → value_at size t octets ≡ Ok (v, rest) → TookValue size t octets v rest
 took-value size t octets v rest e =
-    let a = bind-ok (signed_at size octets)
-    (λ (z : ℤ × List ℕ). known_value (value_of t z.0) >>= (λ (x : Value). Ok (x, z.1))) (v, rest) e
+    let a = bind-ok (signed_at size octets) _ _ e
     in
     let z = a.0.0 in
-    let b = bind-ok (known_value (value_of t z)) (λ (x : Value). Ok (x, a.0.1)) (v, rest) a.2 in
+    let b = bind-ok (known_value (value_of t z)) _ _ a.2 in
     let same = ok-same (b.0, a.0.1) (v, rest) b.2 in
     let is : value_of t z ≡ Some v =
     known-ok (value_of t z) b.0 b.1 ∙ ap Some (ap (λ q. q.0) same) in
@@ -133,36 +133,14 @@ took-value size t octets v rest e =
 
 width-is : (version : Version) (octet : ℕ) (w : Width) → width_of version octet ≡ Some w
     → octet ≡ width_octet w
-width-is One octet w e = go octet w (eqb octet 2) (eqb octet 3) refl refl e
-  where
-    go : (octet : ℕ) (w : Width) (a b : Bool) → eqb octet 2 ≡ a → eqb octet 3 ≡ b
-        → cond a (Some width.Int) (cond b (Some width.Dint) None) ≡ Some w → octet ≡ width_octet w
-    go octet w true b is other e = let same : width.Int ≡ w =
-        cc in eqb-true octet 2 is ∙ ap width_octet same
-    go octet w false true is other e = let same : width.Dint ≡ w =
-        cc in eqb-true octet 3 other ∙ ap width_octet same
-    go octet w false false is other e = absurd cc
-width-is Two octet w e = go octet w (eqb octet 2) (eqb octet 3) (eqb octet 5) refl refl refl e
-  where
-    go : (octet : ℕ) (w : Width) (a b d : Bool) → eqb octet 2 ≡ a → eqb octet 3 ≡ b
-        → eqb octet 5 ≡ d → cond a (Some width.Int)
-        (cond b (Some width.Dint) (cond d (Some width.Lint) None)) ≡ Some w → octet ≡ width_octet w
-    go octet w true b d is other third e = let same : width.Int ≡ w =
-        cc in eqb-true octet 2 is ∙ ap width_octet same
-    go octet w false true d is other third e = let same : width.Dint ≡ w =
-        cc in eqb-true octet 3 other ∙ ap width_octet same
-    go octet w false false true is other third e = let same : width.Lint ≡ w =
-        cc in eqb-true octet 5 third ∙ ap width_octet same
-    go octet w false false false is other third e = absurd cc
+width-is One octet w e = grind (arith, nat_tests)
+width-is Two octet w e = grind (arith, nat_tests)
 
 took-width : (version : Version) (octets : List ℕ) (w : Width) (rest : List ℕ)
     → width_at version octets ≡ Ok (w, rest) → Front 1 (width_octet w ∷ []) octets rest
 took-width version octets w rest e =
-    let a = bind-ok (octet_at octets)
-    (λ (x : ℕ × List ℕ). known_value (width_of version x.0) >>= (λ (y : Width). Ok (y, x.1)))
-    (w, rest) e in
-    let b = bind-ok (known_value (width_of version a.0.0)) (λ (y : Width). Ok (y, a.0.1)) (w, rest)
-    a.2 in
+    let a = bind-ok (octet_at octets) _ _ e in
+    let b = bind-ok (known_value (width_of version a.0.0)) _ _ a.2 in
     let same = ok-same (b.0, a.0.1) (w, rest) b.2 in
     let is =
     width-is version a.0.0 w
@@ -201,7 +179,7 @@ took-numbered : (opcode : Opcode) (make : ℕ → Instr) (octets : List ℕ) (i 
     → ((n : ℕ) → operand_of (make n) ≡ number_octets n) → ((n : ℕ) → n < 2 ^ 16 → IsInstr (make n))
     → with_number make octets ≡ Ok (i, rest) → TookOperand opcode octets i rest
 took-numbered opcode make octets i rest is text good e =
-    let a = bind-ok (number_at octets) (λ (n : ℕ × List ℕ). Ok (make n.0, n.1)) (i, rest) e in
+    let a = bind-ok (number_at octets) _ _ e in
     let n = a.0.0 in
     let same = ok-same (make n, a.0.1) (i, rest) a.2 in
     let took =
@@ -228,8 +206,7 @@ pub took-operand : (version : Version) (opcode : Opcode) (octets : List ℕ) (i 
     → TookOperand opcode octets i rest
 took-operand version Halt octets i rest e = took-none Halt instr.Halt octets i rest refl refl tt e
 took-operand version (Push t) octets i rest e =
-    let a = bind-ok (value_at (size_of t) t octets)
-    (λ (v : Value × List ℕ). Ok (instr.Push v.0, v.1)) (i, rest) e in
+    let a = bind-ok (value_at (size_of t) t octets) _ _ e in
     let v = a.0.0 in
     let same = ok-same (instr.Push v, a.0.1) (i, rest) a.2 in
     let took =
@@ -256,8 +233,7 @@ took-operand version Not octets i rest e = took-none Not instr.Not octets i rest
 took-operand version (Combine c) octets i rest e =
     took-none (Combine c) (instr.Combine c) octets i rest refl refl tt e
 took-operand version (Compute o) octets i rest e =
-    let a = bind-ok (width_at version octets)
-    (λ (w : Width × List ℕ). Ok (instr.Compute o w.0, w.1)) (i, rest) e in
+    let a = bind-ok (width_at version octets) _ _ e in
     let w = a.0.0 in
     let same = ok-same (instr.Compute o w, a.0.1) (i, rest) a.2 in
     let made : TookOperand (Compute o) octets (instr.Compute o w) rest = record {
@@ -296,11 +272,8 @@ pub took-instr : (version : Version) (octets : List ℕ) (i : Instr) (rest : Lis
     → instr_from version octets ≡ Ok (i, rest) → TookInstr version octets i rest
 unfolding instr_from
 took-instr version octets i rest e =
-    let a = bind-ok (octet_at octets)
-    (λ (x : ℕ × List ℕ). known_opcode version (opcode_of x.0)
-    >>= (λ (o : Opcode). operand_from version o x.1)) (i, rest) e in
-    let b = bind-ok (known_opcode version (opcode_of a.0.0))
-    (λ (o : Opcode). operand_from version o a.0.1) (i, rest) a.2 in
+    let a = bind-ok (octet_at octets) _ _ e in
+    let b = bind-ok (known_opcode version (opcode_of a.0.0)) _ _ a.2 in
     let is = known-is version (opcode_of a.0.0) b.0 b.1 in
     let first = took-octet octets a.0.0 a.0.1 a.1 in
     let operand = took-operand version b.0 a.0.1 i rest b.2 in

@@ -5,16 +5,12 @@ use Rattle.std.proofs.lemmas.List.{append_assoc}
 use Rattle.bay_base.specs.Results.{◌>>=◌}
 use Rattle.il_image.specs.declared.fault.ImageFault.{ImageFault}
 use Rattle.il_image.specs.Decoding.{items_at, counted_at}
-use Rattle.il_image.specs.Reading.{Read, number_at}
+use Rattle.il_image.specs.Reading.{Read}
 
 -- items behind those that are done
 abbrev pub joined : {A : Type 0} → List A → Read (List A) → Read (List A)
 joined done (Ok r) = Ok (done ++ r.0, r.1)
 joined done (Err e) = Err e
-
-joined-nil : {A : Type 0} (r : Read (List A)) → r ≡ joined [] r
-joined-nil (Ok r) = refl
-joined-nil (Err e) = refl
 
 joined-more : {A : Type 0} (done : List A) (x : A) (r : Read (List A))
     → joined done (r >>= (λ xs. Ok (x ∷ xs.0, xs.1))) ≡ joined (done ++ x ∷ []) r
@@ -28,13 +24,6 @@ turn : {A : Type 0} (item : List ℕ → Read A) (n m : ℕ) (done : List A) (oc
 turn item n m done octets x rest is e = rw (is, e) (joined-more done x (items_at item m rest))
 
 -- ---- a loop that has read i of the items
-
-pub going-init : {A : Type 0} (item : List ℕ → Read A) (octets : List ℕ) (count : ℕ) (rest : List ℕ)
-    → number_at octets ≡ Ok (count, rest)
-    → counted_at item octets ≡ joined [] (items_at item (count - 0) rest)
-going-init item octets count rest e =
-    rw e (joined-nil (items_at item count rest)
-    ∙ ap (λ (n : ℕ). joined [] (items_at item n rest)) (omega arith))
 
 pub going-turn : {A : Type 0} (item : List ℕ → Read A) (octets : List ℕ) (count i : ℕ)
     (done new : List A) (rest behind : List ℕ) (x : A)

@@ -13,65 +13,26 @@ use Rattle.bay_base.specs.declared.types.ElementaryType.TheVariants as elementar
 use Rattle.bay_base.specs.declared.types.TimerKind.TheVariants.{OnDelay}
 use Rattle.il_image.specs.declared.fault.ImageFault.{ImageFault}
 use Rattle.il_image.specs.declared.fault.ImageFault.TheVariants.{BadVersion, BadOpcode, Truncated}
-use Rattle.il_image.specs.declared.image.ImagePoint.{ImagePoint}
 use Rattle.il_image.specs.declared.opcode.Version.{Version}
 use Rattle.il_image.specs.declared.opcode.Version.TheVariants.{One, Two}
 use Rattle.il_image.specs.declared.value.Value.{Value}
 use Rattle.il_image.specs.declared.value.Value.TheVariants.{Truth}
 use Rattle.il_image.specs.declared.write.Size.{Size}
 use Rattle.il_image.specs.Cuts.{IsShortOf, IsValueOf}
-use Rattle.il_image.specs.Decoding.{access_at, access_of, kind_of_octet, name_at, name_of_length, point_at, timer_at, type_at, type_of_octet, variable_at, version_at}
+use Rattle.il_image.specs.Decoding.{access_of, kind_of_octet, name_at, name_of_length, point_at, timer_at, type_of_octet, variable_at, version_at}
 use Rattle.il_image.specs.Images.{is_name_octet, value_size, variable_octets}
 use Rattle.il_image.specs.Octets.{AreOctets, bits_of_size, octet_count}
-use Rattle.il_image.specs.Reading.{Read, known_value, number_at, octet_at, value_at}
+use Rattle.il_image.specs.Reading.{Read, known_value, number_at, value_at}
 use Rattle.il_image.specs.Values.{default_value, value_of}
-use Rattle.il_image.proofs.EndLemmas.{Empty, Ends, IsAll, all-told, are-more, are-none, few-told, through}
+use Rattle.il_image.proofs.EndLemmas.{Completes, Ends, IsAll, all-told, are-more, are-none, completes-ok, completes-table, completes-then, few-told, known-never}
 use Rattle.il_image.proofs.InstrLemmas.{behind-octets}
 use Rattle.il_image.proofs.ReadLemmas.{took-number}
-use Rattle.il_image.proofs.SteadyLemmas.{Steady, err-same, steady-access, steady-name, steady-type}
+use Rattle.il_image.proofs.SoundLemmas.{err-same, sound-access, sound-name, sound-type}
 use Rattle.il_image.proofs.TookLemmas.{took-variable}
 
 -- ---- readers that are completed always
 
--- what never comes
-abbrev pub Never : List ℕ → Type 0
-Never octets = ⊥
-
-abbrev pub NeverBehind : {A : Type 0} → A → List ℕ → Type 0
-NeverBehind x octets = ⊥
-
-pub known-never : {A : Type 0} (o : Option A) (octets : List ℕ)
-    → ◌≡◌ {A = Read A} (known_value o >>= (λ (t : A). Ok (t, octets))) (Err Truncated) → ⊥
-known-never None octets e = absurd cc
-known-never (Some x) octets e = absurd cc
-
--- an octet of a table
-abbrev tabled : {A : Type 0} → (ℕ → Option A) → List ℕ → Read A
-tabled f octets = do
-  o ← octet_at octets
-  t ← known_value (f o.0)
-  Ok (t, o.1)
-
-octet-short : {A : Type 0} (f : ℕ → Option A) (d : ℕ) (y : A) → d < 256 → f d ≡ Some y
-    → (octets : List ℕ) → tabled f octets ≡ Err Truncated → Ends (tabled f) octets
-octet-short f d y small is [] e =
-    record {
-      more = d ∷ [];
-      fits = are-more d [] small are-none;
-      what = (y, []);
-      is = rw is refl;
-      ends = refl;
-    }
-octet-short f d y small is (x ∷ octets) e = absurd (known-never (f x) octets e)
-
-type-short : (version : Version) (octets : List ℕ) → type_at version octets ≡ Err Truncated
-    → Ends (type_at version) octets
-type-short version = octet-short (type_of_octet version) 1 elementary.Bool (omega arith) refl
-
-access-short : (octets : List ℕ) → access_at octets ≡ Err Truncated → Ends access_at octets
-access-short = octet-short access_of 0 false (omega arith) refl
-
-pub version-short : (octets : List ℕ) → version_at octets ≡ Err Truncated → Ends version_at octets
+version-short : (octets : List ℕ) → version_at octets ≡ Err Truncated → Ends version_at octets
 version-short [] e =
     record {
       more = 1 ∷ [];
@@ -89,7 +50,7 @@ version-short (x ∷ octets) e = absurd (never (eqb x 1) (eqb x 2) e)
     never false true e = absurd cc
     never false false e = absurd cc
 
-pub number-short : (octets : List ℕ) → number_at octets ≡ Err Truncated → Ends number_at octets
+number-short : (octets : List ℕ) → number_at octets ≡ Err Truncated → Ends number_at octets
 number-short [] e = record {
   more = 0 ∷ 0 ∷ [];
   fits = are-more 0 (0 ∷ []) (omega arith) (are-more 0 [] (omega arith) are-none);
@@ -113,6 +74,12 @@ number-short (h ∷ l ∷ octets) e =
         → ⊥
     enough true is e = absurd cc
     enough false is e = absurd cc
+
+pub version-completes : Completes version_at
+version-completes = record { start = version-short [] refl; short = version-short }
+
+pub number-completes : Completes number_at
+number-completes = record { start = number-short [] refl; short = number-short }
 
 -- so many times an octet
 unfoldable pub copies : ℕ → ℕ → List ℕ
@@ -194,70 +161,21 @@ name-short (x ∷ octets) e = go (eqb x 0 || ltb 64 x) refl e
         let a = length-short x octets e in
         record { more = a.more; fits = a.fits; what = a.what; is = rw f a.is; ends = a.ends }
 
--- ---- readers one behind the other
+name-completes : Completes name_at
+name-completes = record { start = name-short [] refl; short = name-short }
 
-module _ {A B : Type 0} (item : List ℕ → Read A) (g : A → List ℕ → Read B) (s : Steady item) where
-  sure : (octets : List ℕ) → (item octets ≡ Err Truncated → Ends item octets)
-      → ((x : A) → Ends (g x) [])
-      → ((x : A) (rest : List ℕ) → g x rest ≡ Err Truncated → Ends (g x) rest)
-      → item octets >>= (λ r. g r.0 r.1) ≡ Err Truncated
-      → Ends (λ octets. item octets >>= (λ r. g r.0 r.1)) octets
-  sure octets short start more e = elim (through item g Empty s Never NeverBehind octets
-      (λ f. inl (short f)) start (λ x rest is f. inl (more x rest f)) e) [
-        | inl a ↦ a
-        | inr c ↦ absurd (elim c [ inl n ↦ n | inr n ↦ n.2 ])
-      ]
-
-pub ok-start : {A : Type 0} (x : A) → Ends (λ octets. Ok (x, octets)) []
-ok-start x = record { more = []; fits = are-none; what = (x, []); is = refl; ends = refl }
-
-pub ok-more : {A : Type 0} (x : A) (rest : List ℕ)
-    → ◌≡◌ {A = Read A} (Ok (x, rest)) (Err Truncated) → Ends (λ octets. Ok (x, octets)) rest
-ok-more x rest e = absurd cc
-
-abbrev named : {B : Type 0} → (List ℕ → B) → List ℕ → Read B
-named make octets = do
-  n ← name_at octets
-  Ok (make n.0, n.1)
-
-named-short : {B : Type 0} (make : List ℕ → B) (octets : List ℕ)
-    → named make octets ≡ Err Truncated → Ends (named make) octets
-named-short make octets =
-    sure name_at (λ n octets. Ok (make n, octets)) steady-name octets (name-short octets)
-    (λ n. ok-start (make n)) (λ n. ok-more (make n))
-
--- the point of a type, what is allowed and a name
-abbrev point_of : ElementaryType → Bool → List ℕ → ImagePoint
-point_of t w name = record { name = name; elementary = t; writable = w }
-
-abbrev allowed : ElementaryType → List ℕ → Read ImagePoint
-allowed t octets = do
-  w ← access_at octets
-  named (point_of t w.0) w.1
-
-allowed-short : (t : ElementaryType) (octets : List ℕ) → allowed t octets ≡ Err Truncated
-    → Ends (allowed t) octets
-allowed-short t octets =
-    sure access_at (λ w. named (point_of t w)) steady-access octets (access-short octets)
-    (λ w. named-short (point_of t w) [] refl) (λ w. named-short (point_of t w))
-
-pub point-short : (version : Version) (octets : List ℕ) → point_at version octets ≡ Err Truncated
-    → Ends (point_at version) octets
+pub point-completes : (version : Version) → Completes (point_at version)
 unfolding point_at
-point-short version octets =
-    sure (type_at version) allowed (steady-type version) octets (type-short version octets)
-    (λ t. allowed-short t [] refl) allowed-short
+point-completes version =
+    completes-then _ (sound-type version)
+    (completes-table (type_of_octet version) 1 elementary.Bool (omega arith) refl)
+    (λ t. completes-then _ sound-access (completes-table access_of 0 false (omega arith) refl)
+    (λ w. completes-then _ sound-name name-completes (λ n. completes-ok)))
 
-pub timer-start : (version : Version) → Ends (timer_at version) []
+pub timer-completes : (version : Version) → Completes (timer_at version)
 unfolding timer_at
-timer-start One = ok-start OnDelay
-timer-start Two = octet-short kind_of_octet 1 OnDelay (omega arith) refl [] refl
-
-pub timer-short : (version : Version) (octets : List ℕ) → timer_at version octets ≡ Err Truncated
-    → Ends (timer_at version) octets
-unfolding timer_at
-timer-short One octets = ok-more OnDelay octets
-timer-short Two octets = octet-short kind_of_octet 1 OnDelay (omega arith) refl octets
+timer-completes One = completes-ok
+timer-completes Two = completes-table kind_of_octet 1 OnDelay (omega arith) refl
 
 -- ---- initial values
 

@@ -2,25 +2,25 @@
 use Rattle.std.proofs.Common.{◌≡◌, ℕ, zero, suc, ◌<◌, ◌≤◌, ◌^◌, ◌||◌, Bool, true, false, cond, eqb, ltb, List, [], ◌∷◌, ◌++◌, length, take, drop, Option, Some, None, refl, sym, subst, ap, ◌∙◌, arith}
 use Rattle.std.specs.Prelude.{Ok, Err, IsSome}
 use Rattle.std.specs.List.{list_all}
+use Rattle.std.proofs.lemmas.Bool.Decides.{nat_tests}
 use Rattle.std.proofs.lemmas.Bool.{eqb-true, eqb-false, ltb-false, or_parts}
 use Rattle.std.proofs.lemmas.List.{append_assoc, length-take-le, take-append-drop}
 use Rattle.std.proofs.Math.Seq.{take-length}
 use Rattle.bay_base.specs.Results.{◌>>=◌}
 use Rattle.bay_base.specs.declared.types.ElementaryType.{ElementaryType}
-use Rattle.bay_base.specs.declared.types.ElementaryType.TheVariants as elementary
 use Rattle.il_image.specs.declared.fault.ImageFault.{ImageFault}
 use Rattle.il_image.specs.declared.fault.ImageFault.TheVariants.{BadMagic, BadVersion, BadOpcode, Truncated}
 use Rattle.il_image.specs.declared.image.ImagePoint.{ImagePoint}
 use Rattle.il_image.specs.declared.opcode.Version.{Version}
 use Rattle.il_image.specs.declared.opcode.Version.TheVariants.{One, Two}
 use Rattle.bay_base.specs.declared.types.TimerKind.{TimerKind}
-use Rattle.bay_base.specs.declared.types.TimerKind.TheVariants.{OnDelay, OffDelay}
-use Rattle.il_image.specs.Decoding.{access_at, access_of, behind, code_at, code_fault, code_of_length, counted_at, items_at, kind_of_octet, name_at, name_of_length, newest_type, point_at, timer_at, type_at, type_of_octet, unless, variable_at, version_at}
+use Rattle.bay_base.specs.declared.types.TimerKind.TheVariants.{OnDelay}
+use Rattle.il_image.specs.Decoding.{access_at, access_of, behind, code_at, code_fault, code_of_length, counted_at, items_at, kind_of_octet, name_at, name_of_length, point_at, timer_at, type_at, type_of_octet, unless, variable_at, version_at}
 use Rattle.il_image.specs.Images.{Each, HasName, IsCode, IsName, IsValue, count_and_items, each_spelled, is_name_octet, mark, point_octets, timer_octets, type_octet, value_size, variable_octets, version_octet}
 use Rattle.il_image.specs.Octets.{AreOctets, number_octets, signed_octets}
-use Rattle.il_image.specs.Reading.{Read, known_value, number_at, octet_at, value_at}
+use Rattle.il_image.specs.Reading.{Read, known_value, number_at, octet_at}
 use Rattle.il_image.specs.Values.{number_of, type_of, value_of}
-use Rattle.il_image.proofs.ReadLemmas.{bind-ok, known-ok, ok-same, took-octet, took-number}
+use Rattle.il_image.proofs.ReadLemmas.{bind-ok, ok-same, took-octet, took-number}
 use Rattle.il_image.proofs.InstrLemmas.{took-value, behind-octets}
 use Rattle.il_image.proofs.CodeLemmas.{no_fault}
 
@@ -53,12 +53,9 @@ took-items {A} spell P item takes zero octets xs rest fits e =
     record { parts = ap (λ q. q.1) same; good = tt; size = refl } in
     subst (λ (ys : List A). TookItems spell P zero octets ys rest) none made
 took-items {A} spell P item takes (suc n) octets xs rest fits e =
-    let a = bind-ok (item octets)
-    (λ (x : A × List ℕ). items_at item n x.1
-    >>= (λ (ys : List A × List ℕ). Ok (x.0 ∷ ys.0, ys.1))) (xs, rest) e in
+    let a = bind-ok (item octets) _ _ e in
     let first = takes octets a.0.0 a.0.1 fits a.1 in
-    let b = bind-ok (items_at item n a.0.1) (λ (ys : List A × List ℕ). Ok (a.0.0 ∷ ys.0, ys.1))
-    (xs, rest) a.2 in
+    let b = bind-ok (items_at item n a.0.1) _ _ a.2 in
     let same = ok-same (a.0.0 ∷ b.0.0, b.0.1) (xs, rest) b.2 in
     let all : a.0.0 ∷ b.0.0 ≡ xs = ap (λ q. q.0) same in
     let end : b.0.1 ≡ rest = ap (λ q. q.1) same in
@@ -84,7 +81,7 @@ pub took-counted : {A : Type 0} (spell : A → List ℕ) (P : A → Type 0) (ite
     → Takes spell P item → (octets : List ℕ) (xs : List A) (rest : List ℕ) → AreOctets octets
     → counted_at item octets ≡ Ok (xs, rest) → TookCounted spell P octets xs rest
 took-counted {A} spell P item takes octets xs rest fits e =
-    let a = bind-ok (number_at octets) (λ (n : ℕ × List ℕ). items_at item n.0 n.1) (xs, rest) e in
+    let a = bind-ok (number_at octets) _ _ e in
     let number = took-number octets a.0.0 a.0.1 a.1 in
     let text = number.0.is fits in
     let first : octets ≡ number_octets a.0.0 ++ a.0.1 =
@@ -104,83 +101,45 @@ took-counted {A} spell P item takes octets xs rest fits e =
 
 -- ---- types, points
 
-some-if-same : {A : Type 0} (x y : A) → Some x ≡ Some y → x ≡ y
-some-if-same x y e = cc
+-- an octet of a table
+abbrev pub table_at : {A : Type 0} → (ℕ → Option A) → List ℕ → Read A
+table_at f octets = do
+  octet ← octet_at octets
+  x ← known_value (f octet.0)
+  Ok (x, octet.1)
+
+took-table : {A : Type 0} (f : ℕ → Option A) (text : A → List ℕ)
+    → ((octet : ℕ) (x : A) → f octet ≡ Some x → octet ∷ [] ≡ text x) → (octets : List ℕ) (x : A)
+    (rest : List ℕ) → AreOctets octets
+    → table_at f octets ≡ Ok (x, rest)
+    → octets ≡ text x ++ rest
+took-table f text is [] x rest fits e = absurd cc
+took-table {A} f text is (o ∷ octets) x rest fits e = go (f o) refl e
+  where
+    go : (t : Option A) → f o ≡ t
+        → ◌≡◌ {A = Read A} (known_value t >>= (λ y. Ok (y, octets))) (Ok (x, rest))
+        → o ∷ octets ≡ text x ++ rest
+    go None g h = absurd cc
+    go (Some y) g h =
+        let same = ok-same (y, octets) (x, rest) h in
+        ap (λ (ys : List ℕ). ys ++ octets) (is o y g)
+        ∙ ap (λ (r : A × List ℕ). text r.0 ++ r.1) same
 
 type-is : (version : Version) (octet : ℕ) (t : ElementaryType)
-    → type_of_octet version octet ≡ Some t → octet ≡ type_octet t
-type-is version octet t e =
-    go version octet t (eqb octet 1) (eqb octet 2) (eqb octet 3) (eqb octet 4) (eqb octet 5) refl
-    refl refl refl refl e
-  where
-    last : (version : Version) (octet : ℕ) (t : ElementaryType) → eqb octet 5 ≡ true
-        → newest_type version ≡ Some t → octet ≡ type_octet t
-    last One octet t is e = absurd cc
-    last Two octet t is e = eqb-true octet 5 is ∙ ap type_octet (some-if-same elementary.Lint t e)
-
-    go : (version : Version) (octet : ℕ) (t : ElementaryType) (a b d f g : Bool) → eqb octet 1 ≡ a
-        → eqb octet 2 ≡ b → eqb octet 3 ≡ d → eqb octet 4 ≡ f → eqb octet 5 ≡ g
-        → cond a (Some elementary.Bool)
-        (cond b (Some elementary.Int)
-        (cond d (Some elementary.Dint)
-        (cond f (Some elementary.Time) (cond g (newest_type version) None)))) ≡ Some t
-        → octet ≡ type_octet t
-    go version octet t true b d f g h i j k l e =
-        eqb-true octet 1 h ∙ ap type_octet (some-if-same elementary.Bool t e)
-    go version octet t false true d f g h i j k l e =
-        eqb-true octet 2 i ∙ ap type_octet (some-if-same elementary.Int t e)
-    go version octet t false false true f g h i j k l e =
-        eqb-true octet 3 j ∙ ap type_octet (some-if-same elementary.Dint t e)
-    go version octet t false false false true g h i j k l e =
-        eqb-true octet 4 k ∙ ap type_octet (some-if-same elementary.Time t e)
-    go version octet t false false false false true h i j k l e = last version octet t l e
-    go version octet t false false false false false h i j k l e = absurd cc
+    → type_of_octet version octet ≡ Some t → octet ∷ [] ≡ type_octet t ∷ []
+type-is version octet t e = grind (arith, nat_tests)
 
 took-type : (version : Version) (octets : List ℕ) (t : ElementaryType) (rest : List ℕ)
     → AreOctets octets → type_at version octets ≡ Ok (t, rest) → octets ≡ type_octet t ∷ rest
-took-type version octets t rest fits e =
-    let a = bind-ok (octet_at octets)
-    (λ (x : ℕ × List ℕ). known_value (type_of_octet version x.0)
-    >>= (λ (y : ElementaryType). Ok (y, x.1))) (t, rest) e in
-    let b = bind-ok (known_value (type_of_octet version a.0.0))
-    (λ (y : ElementaryType). Ok (y, a.0.1))
-    (t, rest) a.2 in
-    let same = ok-same (b.0, a.0.1) (t, rest) b.2 in
-    let is =
-    type-is version a.0.0 t
-    (known-ok (type_of_octet version a.0.0) b.0 b.1 ∙ ap Some (ap (λ q. q.0) same)) in
-    let first = took-octet octets a.0.0 a.0.1 a.1 in
-    first.parts ∙ ap (λ (ys : List ℕ). ys ++ a.0.1) (first.is fits) ∙ ap (λ (x : ℕ). x ∷ a.0.1) is
-    ∙ ap (λ (ys : List ℕ). type_octet t ∷ ys) (ap (λ q. q.1) same)
+took-type version = took-table (type_of_octet version) (λ t. type_octet t ∷ []) (type-is version)
 
 access-is : (octet : ℕ) (writable : Bool) → access_of octet ≡ Some writable
-    → octet ≡ cond writable 1 0
-access-is octet writable e = go octet writable (eqb octet 0) (eqb octet 1) refl refl e
-  where
-    go : (octet : ℕ) (writable a b : Bool) → eqb octet 0 ≡ a → eqb octet 1 ≡ b
-        → cond a (Some false) (cond b (Some true) None) ≡ Some writable → octet ≡ cond writable 1 0
-    go octet writable true b h g e =
-        eqb-true octet 0 h ∙ ap (λ (w : Bool). cond w 1 0) (some-if-same false writable e)
-    go octet writable false true h g e =
-        eqb-true octet 1 g ∙ ap (λ (w : Bool). cond w 1 0) (some-if-same true writable e)
-    go octet writable false false h g e = absurd cc
+    → octet ∷ [] ≡ cond writable 1 0 ∷ []
+access-is octet writable e = grind (arith, nat_tests)
 
 took-access : (octets : List ℕ) (writable : Bool) (rest : List ℕ) → AreOctets octets
     → access_at octets ≡ Ok (writable, rest) → octets ≡ cond writable 1 0 ∷ rest
-took-access octets writable rest fits e =
-    let a = bind-ok (octet_at octets)
-    (λ (x : ℕ × List ℕ). known_value (access_of x.0) >>= (λ (y : Bool). Ok (y, x.1)))
-    (writable, rest)
-    e in
-    let b = bind-ok (known_value (access_of a.0.0)) (λ (y : Bool). Ok (y, a.0.1)) (writable, rest)
-    a.2 in
-    let same = ok-same (b.0, a.0.1) (writable, rest) b.2 in
-    let is =
-    access-is a.0.0 writable (known-ok (access_of a.0.0) b.0 b.1 ∙ ap Some (ap (λ q. q.0) same))
-    in
-    let first = took-octet octets a.0.0 a.0.1 a.1 in
-    first.parts ∙ ap (λ (ys : List ℕ). ys ++ a.0.1) (first.is fits) ∙ ap (λ (x : ℕ). x ∷ a.0.1) is
-    ∙ ap (λ (ys : List ℕ). cond writable 1 0 ∷ ys) (ap (λ q. q.1) same)
+took-access = took-table access_of (λ w. cond w 1 0 ∷ []) access-is
 
 -- A name was read: its length, and its octets.
 record TookName (octets name rest : List ℕ) : Type 0 where
@@ -220,9 +179,7 @@ took-length n octets name rest e =
 took-name : (octets name rest : List ℕ) → AreOctets octets → name_at octets ≡ Ok (name, rest)
     → TookName octets name rest
 took-name octets name rest fits e =
-    let a = bind-ok (octet_at octets)
-    (λ (n : ℕ × List ℕ). cond (eqb n.0 0 || ltb 64 n.0) (Err BadOpcode)
-    (name_of_length n.0 n.1)) (name, rest) e in
+    let a = bind-ok (octet_at octets) _ _ e in
     let first = took-octet octets a.0.0 a.0.1 a.1 in
     go (eqb a.0.0 0 || ltb 64 a.0.0) octets a.0.0 a.0.1 name rest refl
     (first.parts ∙ ap (λ (ys : List ℕ). ys ++ a.0.1) (first.is fits)) a.2
@@ -269,18 +226,9 @@ point-made t w name octets first second third p rest a b took same =
 pub took-point : (version : Version) → Takes point_octets HasName (point_at version)
 unfolding point_at
 took-point version octets p rest fits e =
-    let a = bind-ok (type_at version octets)
-    (λ (t : ElementaryType × List ℕ). access_at t.1
-    >>= (λ (w : Bool × List ℕ). name_at w.1
-    >>= (λ (n : List ℕ × List ℕ). Ok
-    (record { name = n.0; elementary = t.0; writable = w.0 }, n.1)))) (p, rest) e in
-    let b = bind-ok (access_at a.0.1)
-    (λ (w : Bool × List ℕ). name_at w.1
-    >>= (λ (n : List ℕ × List ℕ). Ok
-    (record { name = n.0; elementary = a.0.0; writable = w.0 }, n.1))) (p, rest) a.2 in
-    let d = bind-ok (name_at b.0.1)
-    (λ (n : List ℕ × List ℕ). Ok
-    (record { name = n.0; elementary = a.0.0; writable = b.0.0 }, n.1)) (p, rest) b.2 in
+    let a = bind-ok (type_at version octets) _ _ e in
+    let b = bind-ok (access_at a.0.1) _ _ a.2 in
+    let d = bind-ok (name_at b.0.1) _ _ b.2 in
     let type = took-type version octets a.0.0 a.0.1 fits a.1 in
     let fits1 = tail-octets octets (type_octet a.0.0) a.0.1 type fits in
     let access = took-access a.0.1 b.0.0 b.0.1 fits1 b.1 in
@@ -300,8 +248,7 @@ pub took-variable : (version : Version)
     → Takes (variable_octets version) IsValue (variable_at version)
 unfolding variable_at
 took-variable version octets v rest fits e =
-    let a = bind-ok (type_at version octets)
-    (λ (t : ElementaryType × List ℕ). value_at (value_size version) t.0 t.1) (v, rest) e in
+    let a = bind-ok (type_at version octets) _ _ e in
     let type = took-type version octets a.0.0 a.0.1 fits a.1 in
     let value = took-value (value_size version) a.0.0 a.0.1 v rest a.2 in
     let text = value.front.is (tail-octets octets (type_octet a.0.0) a.0.1 type fits) in
@@ -325,38 +272,15 @@ IsKind kind = Unit {0}
 
 kind_is : (octet : ℕ) (kind : TimerKind) → kind_of_octet octet ≡ Some kind
     → octet ∷ [] ≡ timer_octets Two kind
-kind_is octet kind e = go octet kind (eqb octet 1) (eqb octet 2) refl refl e
-  where
-    go : (octet : ℕ) (kind : TimerKind) (a b : Bool) → eqb octet 1 ≡ a → eqb octet 2 ≡ b
-        → cond a (Some OnDelay) (cond b (Some OffDelay) None) ≡ Some kind
-        → octet ∷ [] ≡ timer_octets Two kind
-    go octet kind true b h g e =
-        ap (λ (x : ℕ). x ∷ []) (eqb-true octet 1 h)
-        ∙ ap (timer_octets Two) (some-if-same OnDelay kind e)
-    go octet kind false true h g e =
-        ap (λ (x : ℕ). x ∷ []) (eqb-true octet 2 g)
-        ∙ ap (timer_octets Two) (some-if-same OffDelay kind e)
-    go octet kind false false h g e = absurd cc
+kind_is octet kind e = grind (arith, nat_tests)
 
 pub took-timer : (version : Version) → Takes (timer_octets version) IsKind (timer_at version)
 unfolding timer_at
 took-timer One octets kind rest fits e =
     record { parts = ap (λ q. q.1) (ok-same (OnDelay, octets) (kind, rest) e); good = tt }
 took-timer Two octets kind rest fits e =
-    let a = bind-ok (octet_at octets)
-    (λ (x : ℕ × List ℕ). known_value (kind_of_octet x.0) >>= (λ (y : TimerKind). Ok (y, x.1)))
-    (kind, rest) e in
-    let b = bind-ok (known_value (kind_of_octet a.0.0)) (λ (y : TimerKind). Ok (y, a.0.1))
-    (kind, rest)
-    a.2 in
-    let same = ok-same (b.0, a.0.1) (kind, rest) b.2 in
-    let is =
-    kind_is a.0.0 kind (known-ok (kind_of_octet a.0.0) b.0 b.1 ∙ ap Some (ap (λ q. q.0) same))
-    in
-    let first = took-octet octets a.0.0 a.0.1 a.1 in
     record {
-      parts = first.parts ∙ ap (λ (ys : List ℕ). ys ++ a.0.1) (first.is fits ∙ is)
-          ∙ ap (λ (ys : List ℕ). timer_octets Two kind ++ ys) (ap (λ q. q.1) same);
+      parts = took-table kind_of_octet (timer_octets Two) kind_is octets kind rest fits e;
       good = tt;
     }
 
@@ -393,7 +317,7 @@ pub took-code : (version : Version) (octets code : List ℕ) → AreOctets octet
     → code_at version octets ≡ Ok code → TookCode octets code
 unfolding code_at
 took-code version octets code fits e =
-    let a = bind-ok (number_at octets) (λ (n : ℕ × List ℕ). code_of_length version n.0 n.1) code e
+    let a = bind-ok (number_at octets) _ _ e
     in
     let number = took-number octets a.0.0 a.0.1 a.1 in
     let first : octets ≡ number_octets a.0.0 ++ a.0.1 =

@@ -1,4 +1,4 @@
-use Rattle.il_image.proofs.SteadyLemmas.{first-bad, octets-behind, proper-front}
+use Rattle.il_image.proofs.FinalLemmas.{first-bad, octets-behind, proper-front}
 use Rattle.il_image.proofs.laws.images_end.Goals as goal
 
 pub returns-clause-behind : goal.returns-clause-behind
