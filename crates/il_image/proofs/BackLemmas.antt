@@ -1,4 +1,5 @@
 -- What is spelled as an image in version 2 is read back.
+use Rattle.std.proofs.lemmas.Grind.{common_steps}
 use Rattle.std.proofs.Common.{◌≡◌, ℕ, ◌≤◌, Bool, true, false, cond, eqb, ltb, List, [], ◌∷◌, ◌++◌, length, refl, arith}
 use Rattle.std.specs.Prelude.{Ok, FitsSigned}
 use Rattle.std.specs.Int.{w64}
@@ -47,11 +48,7 @@ back-counted spell P item reads xs rest few good =
 -- ---- types, points
 
 back-type : (t : ElementaryType) (rest : List ℕ) → type_at Two (type_octet t ∷ rest) ≡ Ok (t, rest)
-back-type elementary.Bool rest = refl
-back-type elementary.Int rest = refl
-back-type elementary.Dint rest = refl
-back-type elementary.Lint rest = refl
-back-type elementary.Time rest = refl
+back-type t rest = grind (arith, common_steps)
 
 back-length : (name rest : List ℕ) → list_all is_name_octet name ≡ true
     → name_of_length (length name) (name ++ rest) ≡ Ok (name, rest)

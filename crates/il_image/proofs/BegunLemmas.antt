@@ -1,4 +1,5 @@
 -- Where an instruction begins, and the machine that does not ask for it.
+use Rattle.std.proofs.lemmas.Grind.{common_steps}
 use Rattle.std.proofs.Common.{◌≡◌, ℕ, zero, suc, ◌+◌, ◌<◌, ◌≤◌, ℤ, pos, int_eq, Bool, true, false, cond, ◌&&◌, ◌||◌, ltb, List, [], ◌∷◌, length, Option, Some, None, refl, sym, ap, subst, ◌∙◌, arith, inl, inr}
 use Rattle.std.specs.Prelude.{◌↔◌, ◌⊎◌, IsSome, IsTrue, option_map, slice_get}
 use Rattle.std.proofs.lemmas.Bool.{eq-eqb, eqb-true, lt-ltb, ltb-true, cases_eq}
@@ -133,36 +134,14 @@ module _ (P : ℕ → Type 0) where
 
   lands-truth : (v : Value) (f : Bool → Turn) → ((b : Bool) → Lands P (f b))
       → Lands P (as_truth v f)
-  lands-truth (Truth b) f h = h b
-  lands-truth (Short z) f h = tt
-  lands-truth (Long z) f h = tt
-  lands-truth (Wide z) f h = tt
-  lands-truth (Span n) f h = tt
+  lands-truth v f h = grind (arith, common_steps)
 
   lands-span : (v : Value) (f : ℕ → Turn) → ((n : ℕ) → Lands P (f n)) → Lands P (as_span v f)
-  lands-span (Truth b) f h = tt
-  lands-span (Short z) f h = tt
-  lands-span (Long z) f h = tt
-  lands-span (Wide z) f h = tt
-  lands-span (Span n) f h = h n
+  lands-span v f h = grind (arith, common_steps)
 
   lands-number : (w : Width) (v : Value) (f : ℤ → Turn) → ((z : ℤ) → Lands P (f z))
       → Lands P (as_number w v f)
-  lands-number width.Int (Truth b) f h = tt
-  lands-number width.Int (Short z) f h = h z
-  lands-number width.Int (Long z) f h = tt
-  lands-number width.Int (Wide z) f h = tt
-  lands-number width.Int (Span n) f h = tt
-  lands-number width.Dint (Truth b) f h = tt
-  lands-number width.Dint (Short z) f h = tt
-  lands-number width.Dint (Long z) f h = h z
-  lands-number width.Dint (Wide z) f h = tt
-  lands-number width.Dint (Span n) f h = tt
-  lands-number width.Lint (Truth b) f h = tt
-  lands-number width.Lint (Short z) f h = tt
-  lands-number width.Lint (Long z) f h = tt
-  lands-number width.Lint (Wide z) f h = h z
-  lands-number width.Lint (Span n) f h = tt
+  lands-number w v f h = grind (arith, common_steps)
 
   lands-slot : (n : ℕ) (s : State) (f : Value → Turn) → ((v : Value) → Lands P (f v))
       → Lands P (with_slot n s f)

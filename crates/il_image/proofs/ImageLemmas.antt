@@ -1,4 +1,5 @@
 -- Images: what is read is spelled so, and what is spelled is read back.
+use Rattle.std.proofs.lemmas.Grind.{common_steps}
 use Rattle.std.proofs.Common.{◌≡◌, ℕ, List, [], ◌∷◌, ◌++◌, length, refl, sym, subst, ap, ◌∙◌, arith}
 use Rattle.std.specs.Prelude.{Ok, slice_index}
 use Rattle.bay_base.specs.Results.{◌>>=◌}
@@ -129,10 +130,7 @@ unfolding image_octets
 fifth version i = refl
 
 same-version : (a b : Version) → version_octet a ≡ version_octet b → a ≡ b
-same-version One One e = refl
-same-version One Two e = absurd (omega arith)
-same-version Two One e = absurd (omega arith)
-same-version Two Two e = refl
+same-version a b h = grind (arith, common_steps)
 
 pub one-of-each : (octets others : List ℕ) (i : Image) → AreOctets octets → AreOctets others
     → image_spelled octets ≡ Ok i → image_spelled others ≡ Ok i

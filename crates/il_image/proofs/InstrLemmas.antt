@@ -1,4 +1,5 @@
 -- Instructions: one spelling each, which is read back whatever follows.
+use Rattle.std.proofs.lemmas.Grind.{common_steps}
 use Rattle.std.proofs.Common.{◌≡◌, ℕ, suc, ◌^◌, ◌<◌, ℤ, Bool, true, false, cond, eqb, List, [], ◌∷◌, ◌++◌, length, Option, Some, None, refl, subst, sym, ap, ◌∙◌, arith}
 use Rattle.std.specs.Prelude.{Result, Ok, Err, IsSome, find}
 use Rattle.std.proofs.lemmas.Bool.Decides.{nat_tests}
@@ -196,10 +197,7 @@ some-is None x e = absurd cc
 some-is (Some y) x e = refl
 
 length-signed : (s : Size) (z : ℤ) → length (signed_octets s z) ≡ octet_count s
-length-signed size.One z = refl
-length-signed size.Two z = refl
-length-signed size.Four z = refl
-length-signed size.Eight z = refl
+length-signed s z = grind (arith, common_steps)
 
 pub took-operand : (version : Version) (opcode : Opcode) (octets : List ℕ) (i : Instr)
     (rest : List ℕ) → operand_from version opcode octets ≡ Ok (i, rest)

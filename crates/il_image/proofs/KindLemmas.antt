@@ -1,4 +1,6 @@
 -- The order of the kinds.
+use Rattle.std.proofs.Common.{arith}
+use Rattle.std.proofs.lemmas.Grind.{common_steps}
 use Rattle.std.proofs.Common.{◌≡◌, Bool, true, false, cond, refl, sym, subst, ◌∙◌}
 use Rattle.bay_base.specs.declared.types.ElementaryType.{ElementaryType}
 use Rattle.bay_base.specs.declared.types.ElementaryType.TheVariants as elementary
@@ -10,19 +12,10 @@ use Rattle.il_image.specs.Arithmetic.{type_of_width}
 use Rattle.il_image.specs.Kinds.{HasKind, is_within, join}
 
 pub same-self : (t : ElementaryType) → same_type t t ≡ true
-same-self elementary.Bool = refl
-same-self elementary.Int = refl
-same-self elementary.Dint = refl
-same-self elementary.Lint = refl
-same-self elementary.Time = refl
+same-self t = grind (arith, common_steps)
 
 pub same-is : (t u : ElementaryType) → same_type t u ≡ true → t ≡ u
-same-is elementary.Bool elementary.Bool e = refl
-same-is elementary.Int elementary.Int e = refl
-same-is elementary.Dint elementary.Dint e = refl
-same-is elementary.Lint elementary.Lint e = refl
-same-is elementary.Time elementary.Time e = refl
-same-is t u e = absurd cc
+same-is t u h = grind (arith, common_steps)
 
 -- two types that are one with a third
 same-both : (t u v : ElementaryType) → same_type t v ≡ true → same_type u v ≡ true
@@ -50,20 +43,7 @@ within-any (NotZero w) = refl
 
 pub within-along : (a b c : CellKind) → is_within a b ≡ true → is_within b c ≡ true
     → is_within a c ≡ true
-within-along a b Any e f = within-any a
-within-along a Any (Plain t) e f = absurd cc
-within-along a Any (NotZero w) e f = absurd cc
-within-along Any (Plain u) c e f = absurd cc
-within-along Any (NotZero u) c e f = absurd cc
-within-along (Plain t) (NotZero u) c e f = absurd cc
-within-along (Plain t) (Plain u) (Plain v) e f = same-along t u v e f
-within-along (Plain t) (Plain u) (NotZero v) e f = absurd cc
-within-along (NotZero t) (Plain u) (Plain v) e f = same-along (type_of_width t) u v e f
-within-along (NotZero t) (Plain u) (NotZero v) e f = absurd cc
-within-along (NotZero t) (NotZero u) (Plain v) e f =
-    same-along (type_of_width t) (type_of_width u) v e f
-within-along (NotZero t) (NotZero u) (NotZero v) e f =
-    same-along (type_of_width t) (type_of_width u) (type_of_width v) e f
+within-along a b c h g = grind (arith, common_steps)
 
 -- ---- the join
 
@@ -80,26 +60,7 @@ join-over a b = over a b (is_within a b) (is_within b a) refl refl
 -- Two kinds below one that is not any are one below the other.
 compared : (a b top : CellKind) → is_within a top ≡ true → is_within b top ≡ true
     → is_within a b ≡ false → is_within b a ≡ false → is_within Any top ≡ true
-compared a b Any e f g h = refl
-compared Any b (Plain t) e f g h = absurd cc
-compared (Plain u) Any (Plain t) e f g h = absurd cc
-compared (Plain u) (Plain v) (Plain t) e f g h =
-    absurd (not-both (same_type u v) (same-both u v t e f) g)
-compared (Plain u) (NotZero v) (Plain t) e f g h =
-    absurd (not-both (same_type (type_of_width v) u) (same-both (type_of_width v) u t f e) h)
-compared (NotZero u) Any (Plain t) e f g h = absurd cc
-compared (NotZero u) (Plain v) (Plain t) e f g h =
-    absurd (not-both (same_type (type_of_width u) v) (same-both (type_of_width u) v t e f) g)
-compared (NotZero u) (NotZero v) (Plain t) e f g h =
-    absurd (not-both (same_type (type_of_width u) (type_of_width v))
-    (same-both (type_of_width u) (type_of_width v) t e f) g)
-compared Any b (NotZero w) e f g h = absurd cc
-compared (Plain u) b (NotZero w) e f g h = absurd cc
-compared (NotZero u) Any (NotZero w) e f g h = absurd cc
-compared (NotZero u) (Plain v) (NotZero w) e f g h = absurd cc
-compared (NotZero u) (NotZero v) (NotZero w) e f g h =
-    absurd (not-both (same_type (type_of_width u) (type_of_width v))
-    (same-both (type_of_width u) (type_of_width v) (type_of_width w) e f) g)
+compared a b top h g e k = grind (arith, common_steps)
 
 least : (a b top : CellKind) (p q : Bool) → is_within a b ≡ p → is_within b a ≡ q
     → is_within a top ≡ true → is_within b top ≡ true
@@ -115,11 +76,4 @@ join-least a b top e f = least a b top (is_within a b) (is_within b a) refl refl
 -- ---- the values of a kind
 
 pub kind-above : (v : Value) (a b : CellKind) → is_within a b ≡ true → HasKind v a → HasKind v b
-kind-above v a Any e h = tt
-kind-above v Any (Plain t) e h = absurd cc
-kind-above v Any (NotZero w) e h = absurd cc
-kind-above v (Plain t) (Plain u) e h = h ∙ same-is t u e
-kind-above v (Plain t) (NotZero w) e h = absurd cc
-kind-above v (NotZero w) (Plain t) e h = h.0 ∙ same-is (type_of_width w) t e
-kind-above v (NotZero w) (NotZero u) e h =
-    (h.0 ∙ same-is (type_of_width w) (type_of_width u) e, h.1)
+kind-above v a b h g = grind (arith, common_steps)

@@ -1,4 +1,5 @@
 -- Readers that find too few octets: others complete them, or no initial value begins so.
+use Rattle.std.proofs.lemmas.Grind.{common_steps}
 use Rattle.std.proofs.Common.{◌≡◌, ℕ, zero, suc, ◌-◌, ◌<◌, ◌≤◌, ◌&&◌, ◌||◌, Bool, true, false, cond, eqb, ltb, List, [], ◌∷◌, ◌++◌, length, take, drop, Option, Some, None, refl, sym, subst, ap, ◌∙◌, arith, append-nil, inl, inr}
 use Rattle.std.specs.Prelude.{Ok, Err, Result, ◌⊎◌}
 use Rattle.std.specs.Int.{cast_signed, from_be_bytes, w16}
@@ -102,10 +103,7 @@ copies-name zero = refl
 copies-name (suc n) = copies-name n
 
 pub take-all : (n : ℕ) (xs : List ℕ) → length xs ≤ n → take n xs ≡ xs
-take-all zero [] le = refl
-take-all zero (x ∷ xs) le = absurd (omega arith)
-take-all (suc n) [] le = refl
-take-all (suc n) (x ∷ xs) le = ap (λ (ys : List ℕ). x ∷ ys) (take-all n xs (omega arith))
+take-all n xs h = grind (arith, common_steps)
 
 length-short : (n : ℕ) (octets : List ℕ) → name_of_length n octets ≡ Err Truncated
     → Ends (name_of_length n) octets
@@ -236,16 +234,7 @@ zero-value : (version : Version) (t : ElementaryType)
     → value_at (value_size version) t (copies 0 (octet_count (value_size version)))
     ≡ Ok (default_value t, [])
 unfolding copies
-zero-value One elementary.Bool = refl
-zero-value One elementary.Int = refl
-zero-value One elementary.Dint = refl
-zero-value One elementary.Lint = refl
-zero-value One elementary.Time = refl
-zero-value Two elementary.Bool = refl
-zero-value Two elementary.Int = refl
-zero-value Two elementary.Dint = refl
-zero-value Two elementary.Lint = refl
-zero-value Two elementary.Time = refl
+zero-value version t = grind (arith, common_steps)
 
 value-begins : (version : Version) (x : ℕ) (octets : List ℕ) → x < 256
     → variable_at version (x ∷ octets) ≡ Err Truncated → BeginsValue version (x ∷ octets)

@@ -1,5 +1,6 @@
 -- Readers of items: what one says of octets it says whatever follows them, unless it wants more of
 -- them, and what it reads it reads of those octets alone.
+use Rattle.std.proofs.lemmas.Grind.{common_steps}
 use Rattle.std.proofs.Common.{◌≡◌, ℕ, zero, suc, ◌+◌, ◌-◌, ◌≤◌, ◌&&◌, ◌||◌, Bool, true, false, cond, eqb, ltb, List, [], ◌∷◌, ◌++◌, length, take, drop, Option, Some, None, refl, sym, subst, ap, ◌∙◌, arith, append-nil, inl, inr}
 use Rattle.std.specs.Prelude.{Ok, Err, Result}
 use Rattle.std.specs.Int.{cast_signed, from_be_bytes, w16}
@@ -245,10 +246,7 @@ still-bad n octets more e = elim (cases_lt (length octets) n) [
 ]
   where
     take-all : (xs : List ℕ) (k : ℕ) → length xs ≤ k → take k xs ≡ xs
-    take-all [] zero h = refl
-    take-all [] (suc k) h = refl
-    take-all (x ∷ xs) zero h = absurd (omega arith)
-    take-all (x ∷ xs) (suc k) h = ap (λ (ys : List ℕ). x ∷ ys) (take-all xs k (omega arith))
+    take-all xs k h = grind (arith, common_steps)
 
 sound-length : (n : ℕ) → Sound (name_of_length n)
 sound-length n = record {

@@ -1,4 +1,6 @@
 -- Letters in upper case: pieces.
+use Rattle.std.proofs.Common.{arith}
+use Rattle.std.proofs.lemmas.Grind.{common_steps}
 use Rattle.std.proofs.Common.{◌≡◌, ℕ, suc, zero, ◌||◌, Bool, true, false, cond, List, [], ◌∷◌, Option, Some, None, Result, Ok, Err, option_map, map, length, slice_index, eqb, ltb, leb, codes, refl, sym, ap, ◌∙◌, lit<}
 use Rattle.std.specs.List.{list_all}
 use Rattle.std.specs.Str.{bytes_eq}
@@ -14,7 +16,6 @@ use Rattle.il_text.specs.Symbols.{literal_piece, name_or_reserved, plain_word, w
 use Rattle.il_text.specs.Tokens.{Symbol, name, keyword_word, type_word, literal, mnemonic_word, mark_symbol, Piece, blank, line_end, token, bad_token, bad_literal}
 use Rattle.bay_base.specs.Words.{reserved_of}
 use Rattle.bay_base.specs.declared.words.ReservedWord.{ReservedWord}
-use Rattle.bay_base.specs.declared.words.ReservedWord.TheVariants as word_is
 use Rattle.il_text.specs.declared.literal.LiteralFault.{LiteralFault}
 use Rattle.il_text.specs.declared.literal.LiteralFault.TheVariants.{Malformed, OutOfRange}
 use Rattle.il_text.specs.declared.program.Literal.{Literal}
@@ -201,53 +202,7 @@ line_end-up p = rw (plain-up p (10 ∷ []) refl, plain-up p (13 ∷ 10 ∷ []) r
 
 -- no reserved word is a name
 word-cases : (r : ReservedWord) → upper_symbol (symbol_of_word r) ≡ symbol_of_word r
-word-cases word_is.Ld = refl
-word-cases word_is.Ldn = refl
-word-cases word_is.St = refl
-word-cases word_is.Stn = refl
-word-cases word_is.S = refl
-word-cases word_is.R = refl
-word-cases word_is.And = refl
-word-cases word_is.Andn = refl
-word-cases word_is.Or = refl
-word-cases word_is.Orn = refl
-word-cases word_is.Xor = refl
-word-cases word_is.Xorn = refl
-word-cases word_is.Not = refl
-word-cases word_is.Add = refl
-word-cases word_is.Sub = refl
-word-cases word_is.Mul = refl
-word-cases word_is.Div = refl
-word-cases word_is.Mod = refl
-word-cases word_is.Gt = refl
-word-cases word_is.Ge = refl
-word-cases word_is.Eq = refl
-word-cases word_is.Ne = refl
-word-cases word_is.Le = refl
-word-cases word_is.Lt = refl
-word-cases word_is.Jmp = refl
-word-cases word_is.Jmpc = refl
-word-cases word_is.Jmpcn = refl
-word-cases word_is.Cal = refl
-word-cases word_is.Ret = refl
-word-cases word_is.Retc = refl
-word-cases word_is.Retcn = refl
-word-cases word_is.IntToDint = refl
-word-cases word_is.DintToLint = refl
-word-cases word_is.Program = refl
-word-cases word_is.EndProgram = refl
-word-cases word_is.Var = refl
-word-cases word_is.VarExternal = refl
-word-cases word_is.EndVar = refl
-word-cases word_is.Bool = refl
-word-cases word_is.Int = refl
-word-cases word_is.Dint = refl
-word-cases word_is.Lint = refl
-word-cases word_is.Time = refl
-word-cases word_is.Ton = refl
-word-cases word_is.Tof = refl
-word-cases word_is.True = refl
-word-cases word_is.False = refl
+word-cases r = grind (arith, common_steps)
 
 symbols-by : (o : Option ReservedWord)
     → option_map upper_symbol (option_map symbol_of_word o) ≡ option_map symbol_of_word o

@@ -1,4 +1,6 @@
 -- Letters in upper case: the forms of lines.
+use Rattle.std.proofs.Common.{arith}
+use Rattle.std.proofs.lemmas.Grind.{common_steps}
 use Rattle.std.proofs.Common.{◌≡◌, ℕ, ◌&&◌, Bool, true, false, cond, List, [], ◌∷◌, Option, Some, None, option_map, option_and_then, map, take, drop, codes, refl, ap, ◌∙◌}
 use Rattle.std.proofs.lemmas.List.{drop-map, take-map}
 use Rattle.std.specs.List.{position_or_len}
@@ -50,12 +52,7 @@ kept f h (mnemonic_word m) = refl
 kept f h (mark_symbol m) = refl
 
 name-s : (s : Symbol) → form.name_of (upper_symbol s) ≡ option_map (map up) (form.name_of s)
-name-s (name n) = refl
-name-s (keyword_word w) = refl
-name-s (type_word k) = refl
-name-s (literal v) = refl
-name-s (mnemonic_word m) = refl
-name-s (mark_symbol m) = refl
+name-s s = grind (arith, common_steps)
 
 literal-s : (s : Symbol) → form.literal_of (upper_symbol s) ≡ form.literal_of s
 literal-s s = kept form.literal_of (λ n. refl) s
@@ -72,13 +69,6 @@ cond-to : {A B : Type 0} → (f : A → B) (b : Bool) (o : Option B) (q : Option
     → cond b o None ≡ option_map f (cond b q None)
 cond-to f true o q e = e
 cond-to f false o q e = refl
-
--- what is made of a thing in upper case, in upper case
-map-to : {A B C D : Type 0} → (f : B → D) (g : C → D) (h : A → B) (k : A → C)
-    → ((x : A) → f (h x) ≡ g (k x)) → (o : Option A)
-    → option_map f (option_map h o) ≡ option_map g (option_map k o)
-map-to f g h k e None = refl
-map-to f g h k e (Some x) = ap Some (e x)
 
 only_name-up : (ss : List Symbol)
     → form.only_name (upper_symbols ss) ≡ option_map (map up) (form.only_name ss)

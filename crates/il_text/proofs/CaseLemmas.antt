@@ -16,9 +16,6 @@ use Rattle.il_text.specs.Literals.{is_underscore, is_hash, is_integer, number, h
 abbrev pub up : ℕ → ℕ
 up = to_ascii_uppercase
 
-pub up-up : (x : ℕ) → up (up x) ≡ up x
-up-up x = grind (arith, nat_tests)
-
 pub up-eqb : (x k : ℕ) → k < 65 → eqb (up x) k ≡ eqb x k
 up-eqb x k h = grind (arith, nat_tests)
 

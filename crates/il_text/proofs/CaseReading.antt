@@ -1,11 +1,13 @@
 -- Letters in upper case: lines and the program.
+use Rattle.std.proofs.Common.{arith}
+use Rattle.std.proofs.lemmas.Grind.{common_steps}
 use Rattle.std.proofs.Common.{◌≡◌, ℕ, ◌+◌, Bool, true, false, cond, List, [], ◌∷◌, ◌++◌, Option, Some, None, Ok, Err, Result, option_map, option_and_then, map, length, leb, ltb, refl, sym, ap, subst, ◌∙◌}
 use Rattle.std.proofs.lemmas.List.{length-map, map-append}
 use Rattle.bay_base.specs.Results.{◌>>=◌}
 use Rattle.il_text.specs.Forms.{parts_of}
 use Rattle.il_text.specs.Grammar.{is_plain}
 use Rattle.il_text.specs.LetterCase.{upper_action, upper_entry, upper_entries, upper_declared, upper_program, LettersMayBeRespelled}
-use Rattle.il_text.specs.Listing.{Action, load, store, combine, invert, convert, jump, leave, call, Entry, label, action, block, entry, entries_of, Declared, PlainProgram}
+use Rattle.il_text.specs.Listing.{Action, Entry, label, action, block, entry, entries_of, Declared, PlainProgram}
 use Rattle.il_text.specs.Parts.{Part, heading, opening, declaring, closing, labelling, acting, entering, leaving, ending}
 use Rattle.il_text.specs.Places.{last_line}
 use Rattle.il_text.specs.Reading.{onto, lines, tokens_of, Read, is_instruction, has_instruction, past_limit, with_instruction, within_bounds, within_limits, after_text_line, after_parts, after_line, whole_at, reading, none_yet, program_of}
@@ -103,24 +105,10 @@ outside-up [] = refl
 outside-up (f ∷ fs) = refl
 
 load-up : (a : Action) → is_load (upper_action a) ≡ is_load a
-load-up (load negated source) = refl
-load-up (store kind place) = refl
-load-up (combine operator negated source) = refl
-load-up invert = refl
-load-up (convert conversion) = refl
-load-up (jump condition to) = refl
-load-up (leave condition) = refl
-load-up (call timer arguments) = refl
+load-up a = grind (arith, common_steps)
 
 plain-up : (a : Action) → is_plain (upper_action a) ≡ is_plain a
-plain-up (load negated source) = refl
-plain-up (store kind place) = refl
-plain-up (combine operator negated source) = refl
-plain-up invert = refl
-plain-up (convert conversion) = refl
-plain-up (jump condition to) = refl
-plain-up (leave condition) = refl
-plain-up (call timer arguments) = refl
+plain-up a = grind (arith, common_steps)
 
 entries-up : (es : List Entry) → entries_of (map upper_entry es) ≡ upper_entries (entries_of es)
 entries-up [] = refl
@@ -262,15 +250,7 @@ steps-up n r (p ∷ ps) =
     (λ s. unfold steps in steps-up n s ps) (step n r p)
 
 one_instruction-up : (p : Part) → is_instruction (upper_part p) ≡ is_instruction p
-one_instruction-up (heading name) = refl
-one_instruction-up (opening scope) = refl
-one_instruction-up (declaring ns kind initial) = refl
-one_instruction-up closing = refl
-one_instruction-up (labelling name) = refl
-one_instruction-up (acting a) = refl
-one_instruction-up (entering o g) = refl
-one_instruction-up leaving = refl
-one_instruction-up ending = refl
+one_instruction-up p = grind (arith, common_steps)
 
 instruction-up : (ps : List Part) → has_instruction (upper_parts ps) ≡ has_instruction ps
 instruction-up [] = refl
@@ -334,11 +314,7 @@ after-up n last r ss =
 
 whole-up : (last : ℕ) (s : Reached) (p : Stage)
     → whole_at last (upper_reached s) p ≡ upper_program (whole_at last s p)
-whole-up last s place.Start = refl
-whole-up last s place.Declarations = refl
-whole-up last s (place.Block scope) = refl
-whole-up last s place.Body = refl
-whole-up last s place.Finished = refl
+whole-up last s p = grind (arith, common_steps)
 
 then-read : (f g : Read → Result PlainProgram TextFault)
     → ((s : Read) → f (upper_read s) ≡ upper_program (g s)) → (x : Result Read TextFault)

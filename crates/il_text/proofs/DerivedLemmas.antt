@@ -1,11 +1,13 @@
 -- What the grammar derives is reached: the parts of a program are taken one after the other.
+use Rattle.std.proofs.Common.{arith}
+use Rattle.std.proofs.lemmas.Grind.{common_steps}
 use Rattle.std.proofs.Common.{◌≡◌, ℕ, ◌&&◌, ◌||◌, Bool, true, false, List, [], ◌∷◌, ◌++◌, Option, Some, None, map, refl, sym, ap, subst, ◌∙◌, append-nil, append_assoc}
 use Rattle.std.specs.List.{flat_map, list_all}
 use Rattle.std.specs.Option.{is_none}
 use Rattle.std.proofs.Math.Bool.{or-true}
 use Rattle.std.proofs.lemmas.Bool.{false≢true}
 use Rattle.il_text.specs.Grammar.{Numbered, Declaration, Block, declaration_part, block_parts, names_declared, block_declared, may_declare, is_allowed, entry_parts, entries_parts, is_plain, is_first, is_inner, all_inner, is_parenthesis, is_outer, Derives}
-use Rattle.il_text.specs.Listing.{Action, load, store, combine, invert, convert, jump, leave, call, Entry, label, action, block, Entries, no_entries, entry, entries_of, Declared, PlainProgram}
+use Rattle.il_text.specs.Listing.{Action, Entry, label, action, block, Entries, no_entries, entry, entries_of, Declared, PlainProgram}
 use Rattle.il_text.specs.Parts.{Part, heading, opening, declaring, closing, labelling, acting, entering, leaving, ending}
 use Rattle.il_text.specs.Steps.{Opened, Reached, nothing_read, is_body, is_outside, is_some, is_load, may_begin_with, may_stand, may_act, may_enter, may_leave, step}
 use Rattle.il_text.specs.declared.listing.Stage.{Stage}
@@ -34,14 +36,7 @@ entries-list no_entries = refl
 entries-list (entry e es) = ap (entry e) (entries-list es)
 
 first-is : (n : ℕ) (a : Action) → is_first (action n a) ≡ is_load a
-first-is n (load negated source) = refl
-first-is n (store kind place) = refl
-first-is n (combine operator negated source) = refl
-first-is n invert = refl
-first-is n (convert conversion) = refl
-first-is n (jump condition to) = refl
-first-is n (leave condition) = refl
-first-is n (call timer arguments) = refl
+first-is n a = grind (arith, common_steps)
 
 label-step : (n : ℕ) (l name : List ℕ) (p : Stage) (ds : List Declared) (is : List Entry)
     → is_body p ≡ true

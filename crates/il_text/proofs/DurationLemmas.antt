@@ -8,9 +8,6 @@ use Rattle.il_text.specs.Runs.{capped_number}
 use Rattle.il_text.specs.Durations.{capped_one, capped_duration, capped_time}
 use Rattle.std.proofs.lemmas.Bool.Decides.{nat_tests}
 
-cap-large : (t m : ℕ) → 2 ^ 32 ≤ m → min (t + m) (2 ^ 32) ≡ 2 ^ 32
-cap-large t m h = omega arith
-
 cap-sum : (t n f : ℕ) → 0 < f
     → min (t + n * f) (2 ^ 32) ≡ min (min t (2 ^ 32) + min n (2 ^ 32) * f) (2 ^ 32)
 cap-sum t n f h = ⊎_elim

@@ -1,4 +1,5 @@
 -- Durations as parts in falling units: the unit taken first, and those left.
+use Rattle.std.proofs.lemmas.Grind.{common_steps}
 use Rattle.std.proofs.Common.{◌≡◌, ℕ, ◌+◌, ◌<◌, ◌&&◌, ◌==◌, ◌⊎◌, inl, inr, Bool, true, false, cond, List, [], ◌∷◌, ◌++◌, Option, Some, None, option_and_then, length, take, drop, refl, sym, ap, subst, ◌∙◌, arith, append_assoc, append-nil, zero-add, get_or, ◌*◌, ◌≤◌, add-zero, ◌||◌, not, map, eqb, ltb, ⊎_elim}
 use Rattle.std.specs.Prelude.{⊤}
 use Rattle.std.proofs.lemmas.Bool.{eqb-true, eq-eqb, cases_lt, false≢true}
@@ -288,11 +289,7 @@ as-long : (name : List ℕ) (u : Unit) → same_name name (letters u) ≡ true
 as-long name u h = sym (length-up name) ∙ ap length (in-upper name u h) ∙ length-up (letters u)
 
 all-letters : (u : Unit) → prefix_len is_ascii_alphabetic (letters u) ≡ length (letters u)
-all-letters days = refl
-all-letters hours = refl
-all-letters minutes = refl
-all-letters seconds = refl
-all-letters thousandths = refl
+all-letters u = grind (arith, common_steps)
 
 no-numeral : (u : Unit) → (prefix_len numeral (letters u) ≡ 0)
     × (eqb 0 (length (letters u)) ≡ false) × (same_name [] (letters u) ≡ false)
@@ -382,11 +379,7 @@ measured w =
     (cond (eqb (get_or w 0 0) 72) 3600000 (cond (eqb (get_or w 0 0) 77) 60000 1000)))
 
 size_of : (u : Unit) → measured (map up (letters u)) ≡ size u
-size_of days = refl
-size_of hours = refl
-size_of minutes = refl
-size_of seconds = refl
-size_of thousandths = refl
+size_of u = grind (arith, common_steps)
 
 abbrev unit_of : ℕ → Unit
 unit_of n =
@@ -394,11 +387,7 @@ unit_of n =
     (cond (eqb n 1000) seconds (cond (eqb n 60000) minutes (cond (eqb n 3600000) hours days)))
 
 unit-back : (u : Unit) → unit_of (size u) ≡ u
-unit-back days = refl
-unit-back hours = refl
-unit-back minutes = refl
-unit-back seconds = refl
-unit-back thousandths = refl
+unit-back u = grind (arith, common_steps)
 
 other-if : (u v : Unit) (name : List ℕ) (b : Bool) → same_name name (letters u) ≡ true
     → size u < size v → same_name name (letters v) ≡ b → b ≡ false

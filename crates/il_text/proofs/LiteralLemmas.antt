@@ -120,10 +120,6 @@ from-other radix value wanted ds i h d u =
 pub ruleset number_rules =
     (from-start, from-underscore, from-end, from-end-wanted, from-digit, from-other)
 
--- the cap is past every bound
-pub leb-capped : (c m b : ℕ) → b < c → leb (min m c) b ≡ leb m b
-leb-capped c m b h = grind (arith, nat_tests)
-
 signed-plus : (m : ℕ) → number_value (Some (false, min m (2 ^ 64 - 1)))
     ≡ number_value (Some (false, m))
 signed-plus m = ⊎_elim

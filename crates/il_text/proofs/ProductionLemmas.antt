@@ -390,10 +390,6 @@ operand-read : (ts : List Symbol) (x : Source) → operand ts ≡ Some x → IsO
 unfolding operand
 operand-read ts x e = either-operand ts (only_literal ts) (place ts) x refl refl e
 
-pair-parts : (k i : Input) (x y : Source) → ◌≡◌ {A = Input × Source} (k, x) (i, y)
-    → (k ≡ i) × (x ≡ y)
-pair-parts k i x y e = (ap (λ (q : Input × Source). q.0) e, ap (λ (q : Input × Source). q.1) e)
-
 argument-read : (ts : List Symbol) (a : Input × Source) → argument ts ≡ Some a → IsArgument ts a
 unfolding argument
 argument-read [] a e = absurd cc

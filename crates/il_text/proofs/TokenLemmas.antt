@@ -1,18 +1,17 @@
 -- What a token is, and what stands before and after one.
+use Rattle.std.proofs.lemmas.Grind.{common_steps}
 use Rattle.std.proofs.Common.{◌≡◌, ℕ, suc, ◌+◌, Bool, true, false, not, cond, ◌&&◌, ◌||◌, List, [], ◌∷◌, ◌++◌, length, take, drop, Option, Some, None, option_map, option_and_then, refl, sym, ap, ◌∙◌, arith}
 use Rattle.std.specs.List.{list_any, position_or_len}
 use Rattle.std.proofs.Math.ListN.{drop_of_length-le}
 use Rattle.std.proofs.Math.Seq.{drop-append_seam, take-append_seam}
 use Rattle.std.proofs.lemmas.List.{take-append-drop}
 use Rattle.bay_base.specs.declared.types.ElementaryType.{ElementaryType}
-use Rattle.il_text.specs.Forms.{after_front, elementary_of, is_mark, is_mnemonic, literal_of, name_of, split_at_mark, parts_at, same_mark, type_of}
+use Rattle.il_text.specs.Forms.{after_front, elementary_of, is_mark, literal_of, name_of, split_at_mark, parts_at, same_mark, type_of}
 use Rattle.il_text.specs.Tokens.{Symbol, name, keyword_word, type_word, literal, mnemonic_word, mark_symbol}
 use Rattle.il_text.specs.declared.program.DeclaredType.{DeclaredType}
 use Rattle.il_text.specs.declared.program.DeclaredType.TheVariants.{Elementary, Timer}
 use Rattle.il_text.specs.declared.program.Literal.{Literal}
 use Rattle.il_text.specs.declared.token.Mark.{Mark}
-use Rattle.il_text.specs.declared.token.Mark.TheVariants as mark
-use Rattle.il_text.specs.declared.token.Mnemonic.{Mnemonic}
 
 -- ---- options
 
@@ -79,64 +78,8 @@ elementary-is (literal v) k e = absurd cc
 elementary-is (mnemonic_word m) k e = absurd cc
 elementary-is (mark_symbol m) k e = absurd cc
 
-pub mnemonic-is : (s : Symbol) → is_mnemonic s ≡ true → (m : Mnemonic) × (s ≡ mnemonic_word m)
-mnemonic-is (name n) e = absurd cc
-mnemonic-is (keyword_word w) e = absurd cc
-mnemonic-is (type_word k) e = absurd cc
-mnemonic-is (literal v) e = absurd cc
-mnemonic-is (mnemonic_word m) e = (m, refl)
-mnemonic-is (mark_symbol m) e = absurd cc
-
 pub mark-is : (m n : Mark) → same_mark m n ≡ true → n ≡ m
-mark-is mark.Colon mark.Colon e = refl
-mark-is mark.Colon mark.Assign e = absurd cc
-mark-is mark.Colon mark.Comma e = absurd cc
-mark-is mark.Colon mark.Semicolon e = absurd cc
-mark-is mark.Colon mark.Dot e = absurd cc
-mark-is mark.Colon mark.Open e = absurd cc
-mark-is mark.Colon mark.Close e = absurd cc
-mark-is mark.Assign mark.Colon e = absurd cc
-mark-is mark.Assign mark.Assign e = refl
-mark-is mark.Assign mark.Comma e = absurd cc
-mark-is mark.Assign mark.Semicolon e = absurd cc
-mark-is mark.Assign mark.Dot e = absurd cc
-mark-is mark.Assign mark.Open e = absurd cc
-mark-is mark.Assign mark.Close e = absurd cc
-mark-is mark.Comma mark.Colon e = absurd cc
-mark-is mark.Comma mark.Assign e = absurd cc
-mark-is mark.Comma mark.Comma e = refl
-mark-is mark.Comma mark.Semicolon e = absurd cc
-mark-is mark.Comma mark.Dot e = absurd cc
-mark-is mark.Comma mark.Open e = absurd cc
-mark-is mark.Comma mark.Close e = absurd cc
-mark-is mark.Semicolon mark.Colon e = absurd cc
-mark-is mark.Semicolon mark.Assign e = absurd cc
-mark-is mark.Semicolon mark.Comma e = absurd cc
-mark-is mark.Semicolon mark.Semicolon e = refl
-mark-is mark.Semicolon mark.Dot e = absurd cc
-mark-is mark.Semicolon mark.Open e = absurd cc
-mark-is mark.Semicolon mark.Close e = absurd cc
-mark-is mark.Dot mark.Colon e = absurd cc
-mark-is mark.Dot mark.Assign e = absurd cc
-mark-is mark.Dot mark.Comma e = absurd cc
-mark-is mark.Dot mark.Semicolon e = absurd cc
-mark-is mark.Dot mark.Dot e = refl
-mark-is mark.Dot mark.Open e = absurd cc
-mark-is mark.Dot mark.Close e = absurd cc
-mark-is mark.Open mark.Colon e = absurd cc
-mark-is mark.Open mark.Assign e = absurd cc
-mark-is mark.Open mark.Comma e = absurd cc
-mark-is mark.Open mark.Semicolon e = absurd cc
-mark-is mark.Open mark.Dot e = absurd cc
-mark-is mark.Open mark.Open e = refl
-mark-is mark.Open mark.Close e = absurd cc
-mark-is mark.Close mark.Colon e = absurd cc
-mark-is mark.Close mark.Assign e = absurd cc
-mark-is mark.Close mark.Comma e = absurd cc
-mark-is mark.Close mark.Semicolon e = absurd cc
-mark-is mark.Close mark.Dot e = absurd cc
-mark-is mark.Close mark.Open e = absurd cc
-mark-is mark.Close mark.Close e = refl
+mark-is m n h = grind (arith, common_steps)
 
 pub only-mark : (m : Mark) (s : Symbol) → is_mark m s ≡ true → s ≡ mark_symbol m
 only-mark m (name n) e = absurd cc
