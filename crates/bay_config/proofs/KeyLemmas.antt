@@ -39,12 +39,6 @@ among_named (e ∷ es) s =
     (λ b. (b || is_among (map (λ x. x.0) es) s) ≡ is_some (cond b (Some e.1) (value_named es s)))
     [ true ↦ refl | false ↦ among_named es s ]
 
--- what a refusal or a value says of the check
-pub judged-Err : {S : Type 0} (check : Option BayFault) (x : S) (e : BayFault)
-    → Err e ≡ unless_refused check x → check ≡ Some e
-judged-Err None x e h = cc
-judged-Err (Some f) x e h = cc
-
 pub judged-Ok : {S : Type 0} (check : Option BayFault) (x y : S) → Ok y ≡ unless_refused check x
     → (check ≡ None) × (y ≡ x)
 judged-Ok None x y h = (refl, cc)

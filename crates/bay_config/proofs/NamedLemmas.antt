@@ -1,10 +1,13 @@
 -- The node of each switch is among the nodes of its bay.
-use Rattle.std.proofs.Common.{◌≡◌, ℕ, zero, suc, ◌+◌, ◌<◌, Bool, true, false, List, [], ◌∷◌, ◌++◌, length, map, filter, take, get_or, slice_get, Option, None, Some, codes, All, Contains, append_assoc, refl, sym, ap, subst, ◌∙◌, arith}
+use Rattle.std.proofs.Common.{◌≡◌, ℕ, zero, suc, ◌+◌, ◌<◌, Bool, true, false, List, [], ◌∷◌, ◌++◌, length, map, filter, take, get_or, ltb, pos, slice_get, Option, None, Some, codes, All, Contains, append_assoc, refl, sym, ap, subst, ◌∙◌, arith}
+use Rattle.std.proofs.lemmas.Bool.{ltb-true}
 use Rattle.std.proofs.lemmas.List.{get_or-map, length-map}
 use Rattle.std.proofs.lemmas.List.Elements.{Contains-append_left, Contains-append_right, Contains-get_or}
 use Rattle.std.specs.List.{enumerate_from, flat_map}
 use Rattle.bay_tree.specs.declared.row.Row.{Row}
 use Rattle.bay_tree.specs.declared.leaf.Leaf.{Leaf}
+use Rattle.bay_tree.specs.declared.leaf.Leaf.TheVariants.{Truth, Quality, Int8, Unsigned8, Octets, Utc}
+use Rattle.bay_tree.specs.declared.leaf.Quality.{Quality as Validity}
 use Rattle.bay_config.specs.declared.bay.Bay.{Bay}
 use Rattle.bay_nodes.specs.declared.switch.Control.{Control}
 use Rattle.bay_nodes.specs.declared.switch.Control.TheVariants.{Status, Direct, Sbo, SboEnhanced}
@@ -12,8 +15,8 @@ use Rattle.bay_nodes.specs.declared.switch.Switch.{Switch}
 use Rattle.bay_nodes.specs.declared.nameplate.Nameplate.{Nameplate}
 use Rattle.bay_nodes.specs.declared.switch.SwitchKind.{SwitchKind}
 use Rattle.bay_nodes.specs.declared.switch.SwitchKind.TheVariants.{Breaker, Disconnector, Earthing}
-use Rattle.bay_config.specs.Laws.{nameplate_of, IsBay, HasNode, HasPosition, HasControl, HasCommands, HasEnable, HasMeter, NamesPosition, NamesControl, NamesInterlocking, NamesMeter}
-use Rattle.bay_nodes.specs.Names.{opening_names, closing_names, control_names_of, meter_names_of}
+use Rattle.bay_config.specs.Laws.{nameplate_of, IsBay, HasNode, HasPosition, HasCancel, HasControl, HasCommands, HasEnable, HasMeter, HasValue, NamesPosition, NamesControl, NamesInterlocking, NamesMeter}
+use Rattle.bay_nodes.specs.Names.{StatusNames, opening_names, closing_names, control_names_of, meter_names_of}
 use Rattle.bay_nodes.specs.Node.{Parts, Node, row, node_rows, node_name, class_of, is_breaker, is_of, node_number, device_node, physical_node, position_node, position_nodes, position_parts, control_node, control_nodes, control_parts, interlocking_node, interlocking_nodes, interlocking_parts, meter_node, meter_nodes, meter_parts, nodes_of}
 
 Contains-cons : {X : Type 0} (y : X) (xs : List X) (x : X) → Contains xs x → Contains (y ∷ xs) x
@@ -169,108 +172,68 @@ position-among true n ss ms place s here e =
 position-among false n ss ms place s here e =
     others-within n ss ms _ (among-class false ss place s here e)
 
--- the rows of nodes, by their places in them
+-- a row of a node, by its place among them
+row-at : (bay : Bay) (node : Node) → HasNode bay node → (k : ℕ)
+    → ltb k (length (node_rows node)) ≡ true
+    → Contains bay.rows (get_or (node_rows node) k (row [] None))
+row-at bay node h k within = h k (row [] None) (ltb-true k (length (node_rows node)) within)
+
+has-value : {rows : List Row} {names : StatusNames} {value : Leaf} {quality : Validity}
+    → Contains rows (row names.value (Some value))
+    → Contains rows (row names.quality (Some (Quality quality)))
+    → Contains rows (row names.time (Some (Utc 0))) → HasValue rows names value quality
+has-value v q t = record { value_there = v; quality_there = q; moment_there = t }
+
 has-position : (bay : Bay) (name : List ℕ) (kind : SwitchKind)
     → HasNode bay (record { name = name; parts = position_parts kind }) → HasPosition bay.rows name
 has-position bay name Breaker h =
+    let at = row-at bay (record { name = name; parts = position_parts Breaker }) h in
     record {
-      position = record {
-        value_there = h 3 (row name None) (omega arith);
-        quality_there = h 4 (row name None) (omega arith);
-        moment_there = h 5 (row name None) (omega arith);
-      };
-      operations = record {
-        value_there = h 15 (row name None) (omega arith);
-        quality_there = h 16 (row name None) (omega arith);
-        moment_there = h 17 (row name None) (omega arith);
-      };
+      position = has-value (at 3 refl) (at 4 refl) (at 5 refl);
+      operations = has-value (at 15 refl) (at 16 refl) (at 17 refl);
     }
 has-position bay name Disconnector h =
+    let at = row-at bay (record { name = name; parts = position_parts Disconnector }) h in
     record {
-      position = record {
-        value_there = h 3 (row name None) (omega arith);
-        quality_there = h 4 (row name None) (omega arith);
-        moment_there = h 5 (row name None) (omega arith);
-      };
-      operations = record {
-        value_there = h 15 (row name None) (omega arith);
-        quality_there = h 16 (row name None) (omega arith);
-        moment_there = h 17 (row name None) (omega arith);
-      };
+      position = has-value (at 3 refl) (at 4 refl) (at 5 refl);
+      operations = has-value (at 15 refl) (at 16 refl) (at 17 refl);
     }
 has-position bay name Earthing h =
+    let at = row-at bay (record { name = name; parts = position_parts Earthing }) h in
     record {
-      position = record {
-        value_there = h 3 (row name None) (omega arith);
-        quality_there = h 4 (row name None) (omega arith);
-        moment_there = h 5 (row name None) (omega arith);
-      };
-      operations = record {
-        value_there = h 15 (row name None) (omega arith);
-        quality_there = h 16 (row name None) (omega arith);
-        moment_there = h 17 (row name None) (omega arith);
-      };
+      position = has-value (at 3 refl) (at 4 refl) (at 5 refl);
+      operations = has-value (at 15 refl) (at 16 refl) (at 17 refl);
     }
 
 has-open : (bay : Bay) (name : List ℕ)
     → HasNode bay (record { name = name; parts = interlocking_parts })
     → HasEnable bay.rows (opening_names name)
 has-open bay name h =
-    record {
-      value_there = h 3 (row name None) (omega arith);
-      quality_there = h 4 (row name None) (omega arith);
-      moment_there = h 5 (row name None) (omega arith);
-    }
+    let at = row-at bay (record { name = name; parts = interlocking_parts }) h in
+    has-value (at 3 refl) (at 4 refl) (at 5 refl)
 
 has-close : (bay : Bay) (name : List ℕ)
     → HasNode bay (record { name = name; parts = interlocking_parts })
     → HasEnable bay.rows (closing_names name)
 has-close bay name h =
-    record {
-      value_there = h 7 (row name None) (omega arith);
-      quality_there = h 8 (row name None) (omega arith);
-      moment_there = h 9 (row name None) (omega arith);
-    }
+    let at = row-at bay (record { name = name; parts = interlocking_parts }) h in
+    has-value (at 7 refl) (at 8 refl) (at 9 refl)
 
 has-control : (bay : Bay) (name : List ℕ) (control : Control) (timeout : ℕ)
     → HasNode bay (record { name = name; parts = control_parts control timeout })
     → HasControl bay.rows name
 has-control bay name Status timeout h =
-    record {
-      position = record {
-        value_there = h 3 (row name None) (omega arith);
-        quality_there = h 4 (row name None) (omega arith);
-        moment_there = h 5 (row name None) (omega arith);
-      };
-      selected = h 6 (row name None) (omega arith);
-    }
+    let at = row-at bay (record { name = name; parts = control_parts Status timeout }) h in
+    record { position = has-value (at 3 refl) (at 4 refl) (at 5 refl); selected = at 6 refl }
 has-control bay name Direct timeout h =
-    record {
-      position = record {
-        value_there = h 3 (row name None) (omega arith);
-        quality_there = h 4 (row name None) (omega arith);
-        moment_there = h 5 (row name None) (omega arith);
-      };
-      selected = h 6 (row name None) (omega arith);
-    }
+    let at = row-at bay (record { name = name; parts = control_parts Direct timeout }) h in
+    record { position = has-value (at 3 refl) (at 4 refl) (at 5 refl); selected = at 6 refl }
 has-control bay name Sbo timeout h =
-    record {
-      position = record {
-        value_there = h 3 (row name None) (omega arith);
-        quality_there = h 4 (row name None) (omega arith);
-        moment_there = h 5 (row name None) (omega arith);
-      };
-      selected = h 6 (row name None) (omega arith);
-    }
+    let at = row-at bay (record { name = name; parts = control_parts Sbo timeout }) h in
+    record { position = has-value (at 3 refl) (at 4 refl) (at 5 refl); selected = at 6 refl }
 has-control bay name SboEnhanced timeout h =
-    record {
-      position = record {
-        value_there = h 3 (row name None) (omega arith);
-        quality_there = h 4 (row name None) (omega arith);
-        moment_there = h 5 (row name None) (omega arith);
-      };
-      selected = h 6 (row name None) (omega arith);
-    }
+    let at = row-at bay (record { name = name; parts = control_parts SboEnhanced timeout }) h in
+    record { position = has-value (at 3 refl) (at 4 refl) (at 5 refl); selected = at 6 refl }
 
 -- the names of a node's rows are its name and their paths
 inside-name : (rows : List Row) (name path word : List ℕ) (leaf : Option Leaf)
@@ -279,179 +242,89 @@ inside-name : (rows : List Row) (name path word : List ℕ) (leaf : Option Leaf)
 inside-name rows name path word leaf h =
     subst (λ n. Contains rows (row n leaf)) (sym (append_assoc name path word)) h
 
+has-cancel : {rows : List Row} (name path : List ℕ) → Contains rows (row (name ++ path) None)
+    → Contains rows (row (name ++ (path ++ codes "$ctlVal")) (Some (Truth false)))
+    → Contains rows (row (name ++ (path ++ codes "$origin")) None)
+    → Contains rows (row (name ++ (path ++ codes "$origin$orCat")) (Some (Int8 (pos 0))))
+    → Contains rows (row (name ++ (path ++ codes "$origin$orIdent")) (Some (Octets [])))
+    → Contains rows (row (name ++ (path ++ codes "$ctlNum")) (Some (Unsigned8 0)))
+    → Contains rows (row (name ++ (path ++ codes "$T")) (Some (Utc 0)))
+    → Contains rows (row (name ++ (path ++ codes "$Test")) (Some (Truth false)))
+    → HasCancel rows (name ++ path)
+has-cancel {rows} name path structure value origin category identity number moment test = record {
+  structure = structure;
+  value = inside-name rows name path (codes "$ctlVal") _ value;
+  origin = inside-name rows name path (codes "$origin") _ origin;
+  category = inside-name rows name path (codes "$origin$orCat") _ category;
+  identity = inside-name rows name path (codes "$origin$orIdent") _ identity;
+  number = inside-name rows name path (codes "$ctlNum") _ number;
+  moment = inside-name rows name path (codes "$T") _ moment;
+  test = inside-name rows name path (codes "$Test") _ test;
+}
+
 has-commands : (bay : Bay) (name : List ℕ) (control : Control) (timeout : ℕ)
     → HasNode bay (record { name = name; parts = control_parts control timeout })
     → HasCommands bay.rows (control_names_of name) control
 has-commands bay name Status timeout h = tt
 has-commands bay name Direct timeout h =
+    let at = row-at bay (record { name = name; parts = control_parts Direct timeout }) h in
     record {
-      parts = record {
-        structure = h 9 (row name None) (omega arith);
-        value = inside-name bay.rows name (codes "$CO$Pos$Oper") (codes "$ctlVal") _
-            (h 10 (row name None) (omega arith));
-        origin = inside-name bay.rows name (codes "$CO$Pos$Oper") (codes "$origin") _
-            (h 11 (row name None) (omega arith));
-        category = inside-name bay.rows name (codes "$CO$Pos$Oper") (codes "$origin$orCat") _
-            (h 12 (row name None) (omega arith));
-        identity = inside-name bay.rows name (codes "$CO$Pos$Oper") (codes "$origin$orIdent") _
-            (h 13 (row name None) (omega arith));
-        number = inside-name bay.rows name (codes "$CO$Pos$Oper") (codes "$ctlNum") _
-            (h 14 (row name None) (omega arith));
-        moment = inside-name bay.rows name (codes "$CO$Pos$Oper") (codes "$T") _
-            (h 15 (row name None) (omega arith));
-        test = inside-name bay.rows name (codes "$CO$Pos$Oper") (codes "$Test") _
-            (h 16 (row name None) (omega arith));
-      };
-      checks = inside-name bay.rows name (codes "$CO$Pos$Oper") (codes "$Check") _
-          (h 17 (row name None) (omega arith));
+      parts =
+          has-cancel name (codes "$CO$Pos$Oper") (at 9 refl) (at 10 refl) (at 11 refl) (at 12 refl)
+          (at 13 refl) (at 14 refl) (at 15 refl) (at 16 refl);
+      checks = inside-name bay.rows name (codes "$CO$Pos$Oper") (codes "$Check") _ (at 17 refl);
     }
 has-commands bay name Sbo timeout h =
+    let at = row-at bay (record { name = name; parts = control_parts Sbo timeout }) h in
     record {
-      select = h 9 (row name None) (omega arith);
+      select = at 9 refl;
       operate = record {
         parts =
-            record {
-              structure = h 10 (row name None) (omega arith);
-              value = inside-name bay.rows name (codes "$CO$Pos$Oper") (codes "$ctlVal") _
-                  (h 11 (row name None) (omega arith));
-              origin = inside-name bay.rows name (codes "$CO$Pos$Oper") (codes "$origin") _
-                  (h 12 (row name None) (omega arith));
-              category = inside-name bay.rows name (codes "$CO$Pos$Oper") (codes "$origin$orCat") _
-                  (h 13 (row name None) (omega arith));
-              identity =
-                  inside-name bay.rows name (codes "$CO$Pos$Oper") (codes "$origin$orIdent") _
-                  (h 14 (row name None) (omega arith));
-              number = inside-name bay.rows name (codes "$CO$Pos$Oper") (codes "$ctlNum") _
-                  (h 15 (row name None) (omega arith));
-              moment = inside-name bay.rows name (codes "$CO$Pos$Oper") (codes "$T") _
-                  (h 16 (row name None) (omega arith));
-              test = inside-name bay.rows name (codes "$CO$Pos$Oper") (codes "$Test") _
-                  (h 17 (row name None) (omega arith));
-            };
-        checks = inside-name bay.rows name (codes "$CO$Pos$Oper") (codes "$Check") _
-            (h 18 (row name None) (omega arith));
+            has-cancel name (codes "$CO$Pos$Oper") (at 10 refl) (at 11 refl) (at 12 refl)
+            (at 13 refl)
+            (at 14 refl) (at 15 refl) (at 16 refl) (at 17 refl);
+        checks = inside-name bay.rows name (codes "$CO$Pos$Oper") (codes "$Check") _ (at 18 refl);
       };
-      cancel = record {
-        structure = h 19 (row name None) (omega arith);
-        value = inside-name bay.rows name (codes "$CO$Pos$Cancel") (codes "$ctlVal") _
-            (h 20 (row name None) (omega arith));
-        origin = inside-name bay.rows name (codes "$CO$Pos$Cancel") (codes "$origin") _
-            (h 21 (row name None) (omega arith));
-        category = inside-name bay.rows name (codes "$CO$Pos$Cancel") (codes "$origin$orCat") _
-            (h 22 (row name None) (omega arith));
-        identity = inside-name bay.rows name (codes "$CO$Pos$Cancel") (codes "$origin$orIdent") _
-            (h 23 (row name None) (omega arith));
-        number = inside-name bay.rows name (codes "$CO$Pos$Cancel") (codes "$ctlNum") _
-            (h 24 (row name None) (omega arith));
-        moment = inside-name bay.rows name (codes "$CO$Pos$Cancel") (codes "$T") _
-            (h 25 (row name None) (omega arith));
-        test = inside-name bay.rows name (codes "$CO$Pos$Cancel") (codes "$Test") _
-            (h 26 (row name None) (omega arith));
-      };
+      cancel =
+          has-cancel name (codes "$CO$Pos$Cancel") (at 19 refl) (at 20 refl) (at 21 refl)
+          (at 22 refl)
+          (at 23 refl) (at 24 refl) (at 25 refl) (at 26 refl);
     }
 has-commands bay name SboEnhanced timeout h =
+    let at = row-at bay (record { name = name; parts = control_parts SboEnhanced timeout }) h in
     record {
       select = record {
-        parts = record {
-          structure = h 9 (row name None) (omega arith);
-          value = inside-name bay.rows name (codes "$CO$Pos$SBOw") (codes "$ctlVal") _
-              (h 10 (row name None) (omega arith));
-          origin = inside-name bay.rows name (codes "$CO$Pos$SBOw") (codes "$origin") _
-              (h 11 (row name None) (omega arith));
-          category = inside-name bay.rows name (codes "$CO$Pos$SBOw") (codes "$origin$orCat") _
-              (h 12 (row name None) (omega arith));
-          identity = inside-name bay.rows name (codes "$CO$Pos$SBOw") (codes "$origin$orIdent") _
-              (h 13 (row name None) (omega arith));
-          number = inside-name bay.rows name (codes "$CO$Pos$SBOw") (codes "$ctlNum") _
-              (h 14 (row name None) (omega arith));
-          moment = inside-name bay.rows name (codes "$CO$Pos$SBOw") (codes "$T") _
-              (h 15 (row name None) (omega arith));
-          test = inside-name bay.rows name (codes "$CO$Pos$SBOw") (codes "$Test") _
-              (h 16 (row name None) (omega arith));
-        };
-        checks = inside-name bay.rows name (codes "$CO$Pos$SBOw") (codes "$Check") _
-            (h 17 (row name None) (omega arith));
+        parts =
+            has-cancel name (codes "$CO$Pos$SBOw") (at 9 refl) (at 10 refl) (at 11 refl)
+            (at 12 refl)
+            (at 13 refl) (at 14 refl) (at 15 refl) (at 16 refl);
+        checks = inside-name bay.rows name (codes "$CO$Pos$SBOw") (codes "$Check") _ (at 17 refl);
       };
       operate = record {
         parts =
-            record {
-              structure = h 18 (row name None) (omega arith);
-              value = inside-name bay.rows name (codes "$CO$Pos$Oper") (codes "$ctlVal") _
-                  (h 19 (row name None) (omega arith));
-              origin = inside-name bay.rows name (codes "$CO$Pos$Oper") (codes "$origin") _
-                  (h 20 (row name None) (omega arith));
-              category = inside-name bay.rows name (codes "$CO$Pos$Oper") (codes "$origin$orCat") _
-                  (h 21 (row name None) (omega arith));
-              identity =
-                  inside-name bay.rows name (codes "$CO$Pos$Oper") (codes "$origin$orIdent") _
-                  (h 22 (row name None) (omega arith));
-              number = inside-name bay.rows name (codes "$CO$Pos$Oper") (codes "$ctlNum") _
-                  (h 23 (row name None) (omega arith));
-              moment = inside-name bay.rows name (codes "$CO$Pos$Oper") (codes "$T") _
-                  (h 24 (row name None) (omega arith));
-              test = inside-name bay.rows name (codes "$CO$Pos$Oper") (codes "$Test") _
-                  (h 25 (row name None) (omega arith));
-            };
-        checks = inside-name bay.rows name (codes "$CO$Pos$Oper") (codes "$Check") _
-            (h 26 (row name None) (omega arith));
+            has-cancel name (codes "$CO$Pos$Oper") (at 18 refl) (at 19 refl) (at 20 refl)
+            (at 21 refl)
+            (at 22 refl) (at 23 refl) (at 24 refl) (at 25 refl);
+        checks = inside-name bay.rows name (codes "$CO$Pos$Oper") (codes "$Check") _ (at 26 refl);
       };
-      cancel = record {
-        structure = h 27 (row name None) (omega arith);
-        value = inside-name bay.rows name (codes "$CO$Pos$Cancel") (codes "$ctlVal") _
-            (h 28 (row name None) (omega arith));
-        origin = inside-name bay.rows name (codes "$CO$Pos$Cancel") (codes "$origin") _
-            (h 29 (row name None) (omega arith));
-        category = inside-name bay.rows name (codes "$CO$Pos$Cancel") (codes "$origin$orCat") _
-            (h 30 (row name None) (omega arith));
-        identity = inside-name bay.rows name (codes "$CO$Pos$Cancel") (codes "$origin$orIdent") _
-            (h 31 (row name None) (omega arith));
-        number = inside-name bay.rows name (codes "$CO$Pos$Cancel") (codes "$ctlNum") _
-            (h 32 (row name None) (omega arith));
-        moment = inside-name bay.rows name (codes "$CO$Pos$Cancel") (codes "$T") _
-            (h 33 (row name None) (omega arith));
-        test = inside-name bay.rows name (codes "$CO$Pos$Cancel") (codes "$Test") _
-            (h 34 (row name None) (omega arith));
-      };
+      cancel =
+          has-cancel name (codes "$CO$Pos$Cancel") (at 27 refl) (at 28 refl) (at 29 refl)
+          (at 30 refl)
+          (at 31 refl) (at 32 refl) (at 33 refl) (at 34 refl);
     }
 
 has-meter : (bay : Bay) (name : List ℕ) → HasNode bay (record { name = name; parts = meter_parts })
     → HasMeter bay.rows (meter_names_of name)
-has-meter bay name h = record {
-  tot_w = record {
-    value_there = h 4 (row name None) (omega arith);
-    quality_there = h 5 (row name None) (omega arith);
-    moment_there = h 6 (row name None) (omega arith);
-  };
-  tot_var =
-      record {
-        value_there = h 9 (row name None) (omega arith);
-        quality_there = h 10 (row name None) (omega arith);
-        moment_there = h 11 (row name None) (omega arith);
-      };
-  hz = record {
-    value_there = h 14 (row name None) (omega arith);
-    quality_there = h 15 (row name None) (omega arith);
-    moment_there = h 16 (row name None) (omega arith);
-  };
-  phase_a =
-      record {
-        value_there = h 21 (row name None) (omega arith);
-        quality_there = h 22 (row name None) (omega arith);
-        moment_there = h 23 (row name None) (omega arith);
-      };
-  phase_b =
-      record {
-        value_there = h 27 (row name None) (omega arith);
-        quality_there = h 28 (row name None) (omega arith);
-        moment_there = h 29 (row name None) (omega arith);
-      };
-  phase_c =
-      record {
-        value_there = h 33 (row name None) (omega arith);
-        quality_there = h 34 (row name None) (omega arith);
-        moment_there = h 35 (row name None) (omega arith);
-      };
-}
+has-meter bay name h =
+    let at = row-at bay (record { name = name; parts = meter_parts }) h in
+    record {
+      tot_w = has-value (at 4 refl) (at 5 refl) (at 6 refl);
+      tot_var = has-value (at 9 refl) (at 10 refl) (at 11 refl);
+      hz = has-value (at 14 refl) (at 15 refl) (at 16 refl);
+      phase_a = has-value (at 21 refl) (at 22 refl) (at 23 refl);
+      phase_b = has-value (at 27 refl) (at 28 refl) (at 29 refl);
+      phase_c = has-value (at 33 refl) (at 34 refl) (at 35 refl);
+    }
 
 -- a node of a bay has its rows there
 node-there : (bay : Bay) (node : Node) → IsBay bay

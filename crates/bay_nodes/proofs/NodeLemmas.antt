@@ -13,18 +13,6 @@ use Rattle.bay_nodes.specs.declared.tables.InitialValue.{InitialValue}
 use Rattle.bay_nodes.specs.Node.{Part, Parts, Node, row, rows_of, rows_of_parts, parts_of, inside, value, commands, model_of, node_rows, device_node, device_parts, physical_node, physical_parts, position_node, position_parts, control_parts, is_of}
 use Rattle.bay_nodes.specs.NodeRows.{line_row, under, table_rows, status_group, type_rows, position_model, command_rows, control_group, control_model}
 
--- one line more of a table
-pub table-turn : (n : Nameplate) (node : List ℕ) (table : List (Bor (List ℕ) × InitialValue))
-    (i : ℕ) (line : Bor (List ℕ) × InitialValue) (done : List Row) → i < length table
-    → line ≡ get_or table i line
-    → done ++ table_rows n node (drop i table)
-    ≡ (done ++ under node (line_row n line) ∷ []) ++ table_rows n node (drop (i + 1) table)
-table-turn n node table i line done h at =
-    ap (λ ls. done ++ table_rows n node ls)
-    (drop_more table i line h ∙ ap (λ l. l ∷ drop (i + 1) table) (sym at))
-    ∙ sym (append_assoc done (under node (line_row n line) ∷ [])
-    (table_rows n node (drop (i + 1) table)))
-
 -- a node's own row, and the rows of its table
 pub node-appended : (n : Nameplate) (node : List ℕ) (table : List (Bor (List ℕ) × InitialValue))
     (parts : Parts) → map (line_row n) table ≡ rows_of_parts [] parts
