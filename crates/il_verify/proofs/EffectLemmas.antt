@@ -1,6 +1,6 @@
 -- An instruction that is allowed on kinds is allowed on kinds within them, and gives kinds within
 -- those that it gives there.
-use Rattle.std.proofs.Common.{◌≡◌, ℕ, Bool, true, false, cond, List, [], ◌∷◌, refl, ap, subst, ◌∙◌, Option, Some, None}
+use Rattle.std.proofs.Common.{sym, ◌≡◌, ℕ, Bool, true, false, cond, List, [], ◌∷◌, refl, ap, subst, ◌∙◌, Option, Some, None}
 use Rattle.std.specs.Prelude.{nat_lt, slice_get}
 use Rattle.bay_base.specs.Options.{◌>>=◌}
 use Rattle.bay_base.specs.declared.types.ElementaryType.{ElementaryType}
@@ -18,7 +18,7 @@ use Rattle.il_image.specs.declared.opcode.Widening.TheVariants.{IntToDint, DintT
 use Rattle.il_image.specs.declared.opcode.When.TheVariants.{Always, IfTrue, IfFalse}
 use Rattle.il_image.specs.declared.opcode.TimerUse.TheVariants.{SetInput, SetPreset, Run, LoadOutput, LoadElapsed}
 use Rattle.il_image.specs.Arithmetic.{type_of_width}
-use Rattle.il_image.specs.Effects.{are_compared, below, compares, effect, kind_of, looks_at, second_kind, two, type_of_kind, widens, with_timer, with_truth}
+use Rattle.il_image.specs.Effects.{are_compared, below, compares, effect, kind_of, looks_at, second_kind, two, type_of_kind, widens, with_truth}
 use Rattle.il_image.specs.Kinds.{AreWithin, is_within}
 use Rattle.il_image.proofs.KindLemmas.{within-along, within-self, same-self, same-is}
 
@@ -67,38 +67,51 @@ below-lower wanted (x ∷ xs) [] rest h e = absurd h
 below-lower wanted (x ∷ xs) (y ∷ ys) rest h e =
     below-case wanted x y xs ys rest (is_within y wanted) refl h.0 h.1 e
 
+-- what is made of an option, and of what lies below a top
+lowers-made : {A : Type 0} (o : Option A) (f g : A → Option (List CellKind)) (upper : List CellKind)
+    → ((x : A) → g x ≡ Some upper → Lowers (f x) upper) → (o >>= g) ≡ Some upper
+    → Lowers (o >>= f) upper
+lowers-made None f g upper lower e = absurd cc
+lowers-made (Some x) f g upper lower e = lower x e
+
+lowers-below : (wanted : CellKind) (xs ys upper : List CellKind)
+    (f g : List CellKind → Option (List CellKind)) → AreWithin xs ys
+    → ((us vs : List CellKind) → AreWithin us vs → g vs ≡ Some upper → Lowers (f us) upper)
+    → (below wanted ys >>= g) ≡ Some upper → Lowers (below wanted xs >>= f) upper
+lowers-below wanted xs ys upper f g h lower e =
+    let r = bind-some (below wanted ys) g upper e in
+    let l = below-lower wanted xs ys r.0 h r.1 in
+    subst (λ (o : Option (List CellKind)). Lowers (o >>= f) upper) (sym l.is)
+    (lower l.lower r.0 l.within r.2)
+
+lowers-if : (b : Bool) (x y : Option (List CellKind)) (upper : List CellKind)
+    → (y ≡ Some upper → Lowers x upper) → cond b y None ≡ Some upper → Lowers (cond b x None) upper
+lowers-if false x y upper lower e = absurd cc
+lowers-if true x y upper lower e = lower e
+
+kept : (xs ys upper : List CellKind) → AreWithin xs ys → Some ys ≡ Some upper
+    → Lowers (Some xs) upper
+kept xs ys upper h e = lowers-at (Some xs) xs ys upper refl h e
+
+pushed : (k : CellKind) (xs ys upper : List CellKind) → AreWithin xs ys → Some (k ∷ ys) ≡ Some upper
+    → Lowers (Some (k ∷ xs)) upper
+pushed k xs ys upper h e = kept (k ∷ xs) (k ∷ ys) upper (within-self k, h) e
+
 looks-lower : (wanted : CellKind) (xs ys upper : List CellKind) → AreWithin xs ys
     → looks_at wanted ys ≡ Some upper → Lowers (looks_at wanted xs) upper
 looks-lower wanted xs ys upper h e =
-    let r = bind-some (below wanted ys) (λ (rest : List CellKind). Some ys) upper e in
-    let l = below-lower wanted xs ys r.0 h r.1 in
-    lowers-at (looks_at wanted xs) xs ys upper
-    (bind-is (below wanted xs) (λ (rest : List CellKind). Some xs) l.lower (Some xs) l.is refl) h
-    r.2
+    lowers-below wanted xs ys upper _ _ h (λ us vs w f. kept xs ys upper h f) e
 
 one-lower : (wanted gives : CellKind) (xs ys upper : List CellKind) → AreWithin xs ys
     → (below wanted ys >>= (λ rest. Some (gives ∷ rest))) ≡ Some upper
     → Lowers (below wanted xs >>= (λ rest. Some (gives ∷ rest))) upper
 one-lower wanted gives xs ys upper h e =
-    let f = λ (rest : List CellKind). Some (gives ∷ rest) in
-    let r = bind-some (below wanted ys) f upper e in
-    let l = below-lower wanted xs ys r.0 h r.1 in
-    lowers-at _ (gives ∷ l.lower) (gives ∷ r.0) upper
-    (bind-is (below wanted xs) f l.lower (Some (gives ∷ l.lower)) l.is refl)
-    (within-self gives, l.within) r.2
+    lowers-below wanted xs ys upper _ _ h (λ us vs w f. pushed gives us vs upper w f) e
 
 two-lower : (top second gives : CellKind) (xs ys upper : List CellKind) → AreWithin xs ys
     → two top second gives ys ≡ Some upper → Lowers (two top second gives xs) upper
 two-lower top second gives xs ys upper h e =
-    let f = λ (more : List CellKind). below second more >>= (λ rest. Some (gives ∷ rest)) in
-    let m = bind-some (below top ys) f upper e in
-    let k = below-lower top xs ys m.0 h m.1 in
-    let l = one-lower second gives k.lower m.0 upper k.within m.2 in
-    record {
-      lower = l.lower;
-      is = bind-is (below top xs) f k.lower (Some l.lower) k.is l.is;
-      within = l.within;
-    }
+    lowers-below top xs ys upper _ _ h (λ us vs w f. one-lower second gives us vs upper w f) e
 
 shown-lower : (x y : CellKind) (t : ElementaryType) → is_within x y ≡ true → type_of_kind y ≡ Some t
     → type_of_kind x ≡ Some t
@@ -171,41 +184,9 @@ widens-lower from to (x ∷ xs) (y ∷ ys) upper h e =
 truth-lower : (slots : List ElementaryType) (n : ℕ) (xs ys upper : List CellKind) → AreWithin xs ys
     → with_truth slots n ys ≡ Some upper → Lowers (with_truth slots n xs) upper
 truth-lower slots n xs ys upper h e =
-    let at =
-    λ (kinds : List CellKind) (t : ElementaryType). cond (same_type t elementary.Bool)
-    (looks_at (Plain elementary.Bool) kinds) None in
-    let t = bind-some (slice_get slots n) (at ys) upper e in
-    go t.0 (same_type t.0 elementary.Bool) refl t.1 t.2
-  where
-    go : (t : ElementaryType) (b : Bool) → same_type t elementary.Bool ≡ b
-        → slice_get slots n ≡ Some t
-        → cond b (looks_at (Plain elementary.Bool) ys) None ≡ Some upper
-        → Lowers (with_truth slots n xs) upper
-    go t false same found g = absurd cc
-    go t true same found g =
-        let l = looks-lower (Plain elementary.Bool) xs ys upper h g in
-        record { lower = l.lower; is = rw found (rw same l.is); within = l.within }
-
-timer-lower : (timers n : ℕ) (f : List CellKind → Option (List CellKind))
-    (xs ys upper : List CellKind)
-    → ((up : List CellKind) → f ys ≡ Some up → Lowers (f xs) up)
-    → with_timer timers n (f ys) ≡ Some upper → Lowers (with_timer timers n (f xs)) upper
-timer-lower timers n f xs ys upper lower e = go (nat_lt n timers) refl e
-  where
-    go : (b : Bool) → nat_lt n timers ≡ b → cond b (f ys) None ≡ Some upper
-        → Lowers (with_timer timers n (f xs)) upper
-    go false is g = absurd cc
-    go true is g = let l =
-        lower upper g in record { lower = l.lower; is = rw is l.is; within = l.within }
-
-pushed : (k : CellKind) (xs ys upper : List CellKind) → AreWithin xs ys → Some (k ∷ ys) ≡ Some upper
-    → Lowers (Some (k ∷ xs)) upper
-pushed k xs ys upper h e =
-    lowers-at (Some (k ∷ xs)) (k ∷ xs) (k ∷ ys) upper refl (within-self k, h) e
-
-kept : (xs ys upper : List CellKind) → AreWithin xs ys → Some ys ≡ Some upper
-    → Lowers (Some xs) upper
-kept xs ys upper h e = lowers-at (Some xs) xs ys upper refl h e
+    lowers-made (slice_get slots n) _ _ upper
+    (λ t f. lowers-if (same_type t elementary.Bool) _ _ upper
+    (looks-lower (Plain elementary.Bool) xs ys upper h) f) e
 
 pub effect-lower : (slots : List ElementaryType) (timers : ℕ) (i : Instr)
     (xs ys upper : List CellKind)
@@ -215,23 +196,9 @@ effect-lower slots timers Halt xs ys upper h e = kept xs ys upper h e
 effect-lower slots timers (Push v) xs ys upper h e = pushed (kind_of v) xs ys upper h e
 effect-lower slots timers Drop xs ys upper h e = below-lower Any xs ys upper h e
 effect-lower slots timers (Slot Load n) xs ys upper h e =
-    let t = bind-some (slice_get slots n) (λ (t : ElementaryType). Some (Plain t ∷ ys)) upper e in
-    let l = pushed (Plain t.0) xs ys upper h t.2 in
-    record {
-      lower = l.lower;
-      is = bind-is (slice_get slots n) (λ (t : ElementaryType). Some (Plain t ∷ xs)) t.0
-          (Some l.lower) t.1 l.is;
-      within = l.within;
-    }
+    lowers-made (slice_get slots n) _ _ upper (λ t f. pushed (Plain t) xs ys upper h f) e
 effect-lower slots timers (Slot Store n) xs ys upper h e =
-    let t = bind-some (slice_get slots n) (λ (t : ElementaryType). looks_at (Plain t) ys) upper e in
-    let l = looks-lower (Plain t.0) xs ys upper h t.2 in
-    record {
-      lower = l.lower;
-      is = bind-is (slice_get slots n) (λ (t : ElementaryType). looks_at (Plain t) xs) t.0
-          (Some l.lower) t.1 l.is;
-      within = l.within;
-    }
+    lowers-made (slice_get slots n) _ _ upper (λ t f. looks-lower (Plain t) xs ys upper h f) e
 effect-lower slots timers (Slot SetIf n) xs ys upper h e = truth-lower slots n xs ys upper h e
 effect-lower slots timers (Slot ResetIf n) xs ys upper h e = truth-lower slots n xs ys upper h e
 effect-lower slots timers Not xs ys upper h e =
@@ -252,16 +219,12 @@ effect-lower slots timers (Jump IfTrue distance) xs ys upper h e =
 effect-lower slots timers (Jump IfFalse distance) xs ys upper h e =
     looks-lower (Plain elementary.Bool) xs ys upper h e
 effect-lower slots timers (Timer SetInput n) xs ys upper h e =
-    timer-lower timers n (below (Plain elementary.Bool)) xs ys upper
-    (λ up f. below-lower (Plain elementary.Bool) xs ys up h f) e
+    lowers-if (nat_lt n timers) _ _ upper (below-lower (Plain elementary.Bool) xs ys upper h) e
 effect-lower slots timers (Timer SetPreset n) xs ys upper h e =
-    timer-lower timers n (below (Plain elementary.Time)) xs ys upper
-    (λ up f. below-lower (Plain elementary.Time) xs ys up h f) e
+    lowers-if (nat_lt n timers) _ _ upper (below-lower (Plain elementary.Time) xs ys upper h) e
 effect-lower slots timers (Timer Run n) xs ys upper h e =
-    timer-lower timers n (λ kinds. Some kinds) xs ys upper (λ up f. kept xs ys up h f) e
+    lowers-if (nat_lt n timers) _ _ upper (kept xs ys upper h) e
 effect-lower slots timers (Timer LoadOutput n) xs ys upper h e =
-    timer-lower timers n (λ kinds. Some (Plain elementary.Bool ∷ kinds)) xs ys upper
-    (λ up f. pushed (Plain elementary.Bool) xs ys up h f) e
+    lowers-if (nat_lt n timers) _ _ upper (pushed (Plain elementary.Bool) xs ys upper h) e
 effect-lower slots timers (Timer LoadElapsed n) xs ys upper h e =
-    timer-lower timers n (λ kinds. Some (Plain elementary.Time ∷ kinds)) xs ys upper
-    (λ up f. pushed (Plain elementary.Time) xs ys up h f) e
+    lowers-if (nat_lt n timers) _ _ upper (pushed (Plain elementary.Time) xs ys upper h) e

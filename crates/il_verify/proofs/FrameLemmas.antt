@@ -2,7 +2,7 @@
 use Rattle.std.proofs.Common.{◌≡◌, ℕ, ◌≤◌, max, List, [], ◌∷◌, length, refl, sym, ap, subst, ◌∙◌, arith, Option, Some, None, reverse, ◌⊎◌, inl, inr}
 use Rattle.std.proofs.lemmas.List.{reverse-reverse, length-reverse}
 use Rattle.std.proofs.lemmas.Bool.{cases_lt}
-use Rattle.std.specs.Prelude.{option_map, Result, Ok, Err, IfErr, IfOk}
+use Rattle.std.specs.Prelude.{option_map, Result, Ok, Err, IfErr}
 use Rattle.il_image.specs.declared.kind.CellKind.{CellKind}
 use Rattle.il_image.specs.Kinds.{AreWithin}
 use Rattle.il_image.proofs.KindLemmas.{join-over, join-least}
@@ -127,8 +127,3 @@ pub if_err_weaker : {T E : Type 0} (r : Result T E) (P Q : E → Type 0) → ((e
     → IfErr r P → IfErr r Q
 if_err_weaker (Ok x) P Q f h = tt
 if_err_weaker (Err e) P Q f h = f e h
-
-pub if_ok_weaker : {T E : Type 0} (r : Result T E) (P Q : T → Type 0) → ((x : T) → P x → Q x)
-    → IfOk r P → IfOk r Q
-if_ok_weaker (Ok x) P Q f h = f x h
-if_ok_weaker (Err e) P Q f h = tt

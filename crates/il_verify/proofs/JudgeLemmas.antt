@@ -294,12 +294,6 @@ pub missing-fault : (slots : List SlotType) (timers : ℕ) (i : Instr) (kinds : 
 unfolding fault_of
 missing-fault slots timers i kinds f e = rw e refl
 
-pub empty-fault : (slots : List SlotType) (timers : ℕ) (i : Instr) (kinds : List CellKind)
-    → missing (length slots) timers i ≡ None → length kinds < operands i
-    → fault_of slots timers i kinds ≡ Some StackEmpty
-unfolding fault_of
-empty-fault slots timers i kinds e less = rw (e, lt-ltb (length kinds) (operands i) less) refl
-
 pub misfit-fault : (slots : List SlotType) (timers : ℕ) (i : Instr) (kinds : List CellKind)
     (f : VerifyFault) → missing (length slots) timers i ≡ None → operands i ≤ length kinds
     → misfit slots timers i kinds ≡ Some f

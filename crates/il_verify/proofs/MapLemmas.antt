@@ -7,9 +7,8 @@ use Rattle.std.proofs.lemmas.Option.{slice_get-get_or}
 use Rattle.il_image.specs.declared.instr.Instr.{Instr}
 use Rattle.il_image.specs.declared.kind.CellKind.{CellKind}
 use Rattle.il_verify.specs.declared.frame.Frame.{Frame}
-use Rattle.il_verify.specs.Refusals.{JumpsTo}
 use Rattle.il_verify.proofs.OrderLemmas.{set-elsewhere, set-here}
-use Rattle.il_verify.specs.Frames.{Clashing, Falls, Grows, Jumps, PlainFrame, PlainFrames, Pends, beside, frame_at, goes_on, plain_frame, plain_frames}
+use Rattle.il_verify.specs.Frames.{Clashing, Falls, Grows, PlainFrame, Pends, beside, frame_at, goes_on, plain_frame, plain_frames}
 
 here-is : (p q : ℕ) → q ≡ p → (q == p) ≡ true
 here-is p q e = grind (arith, nat_tests)
@@ -123,14 +122,3 @@ stays-so instr next come old mid o off was gone to = inr (
 )
 
 -- ---- by a jump
-
-pub jumps-by : (instr : Instr) (next place : ℕ) (come : PlainFrame) (old new : PlainFrames)
-    → ((to : ℕ) → JumpsTo instr next to → to ≡ place) → JumpsTo instr next place
-    → Pends old new place come → Jumps instr next come old new
-jumps-by instr next place come old new only jumps p to = elim (cases_eq to place) [
-  | inl e ↦ inl (
-    subst (JumpsTo instr next) (sym e) jumps,
-    (p.frame, ap new e ∙ p.is, subst (λ (q : ℕ). Grows come (old q) p.frame) (sym e) p.grows),
-  )
-  | inr ne ↦ inr ((λ h. ne (only to h)), p.others to ne)
-]

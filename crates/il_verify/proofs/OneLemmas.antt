@@ -1,16 +1,14 @@
 -- An image has one first fault.
+use Rattle.std.proofs.lemmas.Grind.{common_steps}
 use Rattle.std.proofs.Common.{◌≡◌, ℕ, ◌<◌, List, [], ◌∷◌, length, true, refl, sym, ap, subst, ◌∙◌, arith, Option, Some, None, ◌⊎◌, inl, inr}
 use Rattle.std.specs.Prelude.{zero, suc}
 use Rattle.std.proofs.lemmas.Bool.{cases_lt}
 use Rattle.bay_base.specs.declared.types.ElementaryType.{ElementaryType}
 use Rattle.bay_config.specs.declared.bay.Point.{Point}
 use Rattle.il_image.specs.declared.arithmetic.Width.{Width}
-use Rattle.il_image.specs.declared.arithmetic.Width.TheVariants as width
 use Rattle.il_image.specs.declared.instr.Instr.{Instr}
-use Rattle.il_image.specs.declared.instr.Instr.TheVariants.{Halt, Push, Drop, Slot, Not, Combine, Compute, Compare, Widen, Jump, Timer}
 use Rattle.il_image.specs.declared.kind.CellKind.{CellKind}
 use Rattle.il_image.specs.declared.kind.CellKind.TheVariants.{Any, Plain, NotZero}
-use Rattle.il_image.specs.declared.opcode.When.TheVariants.{Always, IfTrue, IfFalse}
 use Rattle.il_image.specs.Arithmetic.{type_of_width}
 use Rattle.il_image.specs.Images.{Image}
 use Rattle.il_image.specs.Kinds.{AreWithin, is_within}
@@ -23,19 +21,12 @@ use Rattle.il_verify.specs.Judging.{fault_of}
 use Rattle.il_verify.specs.Slots.{slots_of}
 use Rattle.il_verify.specs.Refusals.{after, Arrives, Clashes, Comes, FailsAt, GoesPast, HasOwn, IsFaultAt, IsFront, IsJoin, IsRefusal, JumpsBadly, JumpsTo, Passes, own_fault}
 use Rattle.il_verify.proofs.EffectLemmas.{some-same}
+use Rattle.il_verify.proofs.TableLemmas.{leads-by-jump}
 
 -- ---- kinds
 
 width-same : (w v : Width) → type_of_width w ≡ type_of_width v → w ≡ v
-width-same width.Int width.Int e = refl
-width-same width.Int width.Dint e = absurd (cc)
-width-same width.Int width.Lint e = absurd (cc)
-width-same width.Dint width.Int e = absurd (cc)
-width-same width.Dint width.Dint e = refl
-width-same width.Dint width.Lint e = absurd (cc)
-width-same width.Lint width.Int e = absurd (cc)
-width-same width.Lint width.Dint e = absurd (cc)
-width-same width.Lint width.Lint e = refl
+width-same w v h = grind (arith, common_steps)
 
 kind-same : (a b : CellKind) → is_within a b ≡ true → is_within b a ≡ true → a ≡ b
 kind-same Any Any h g = refl
@@ -137,21 +128,6 @@ fronts-alike image t u d e place f g low high q less =
     fronts-below image t u d e place q f g less (omega arith) (omega arith)
 
 -- ---- what comes to a place
-
-pub leads-by-jump : (i : Instr) (next to : ℕ) → JumpsTo i next to → LeadsTo i next to
-leads-by-jump (Jump Always d) next to h = h
-leads-by-jump (Jump IfTrue d) next to h = inr h
-leads-by-jump (Jump IfFalse d) next to h = inr h
-leads-by-jump Halt next to h = absurd h
-leads-by-jump (Push v) next to h = absurd h
-leads-by-jump Drop next to h = absurd h
-leads-by-jump (Slot s n) next to h = absurd h
-leads-by-jump Not next to h = absurd h
-leads-by-jump (Combine c) next to h = absurd h
-leads-by-jump (Compute o w) next to h = absurd h
-leads-by-jump (Compare c) next to h = absurd h
-leads-by-jump (Widen w) next to h = absurd h
-leads-by-jump (Timer s n) next to h = absurd h
 
 here-same : (code : List ℕ) (place : ℕ) (i j : Instr) (n m : ℕ) → instr_at code place ≡ Some (i, n)
     → instr_at code place ≡ Some (j, m) → ◌≡◌ {A = Instr × ℕ} (i, n) (j, m)

@@ -1,8 +1,9 @@
 -- The number of octets of the instruction that begins at a place is told by its first octet.
+use Rattle.std.proofs.Common.{arith}
+use Rattle.std.proofs.lemmas.Grind.{common_steps}
 use Rattle.std.proofs.Common.{◌≡◌, ℕ, zero, suc, ◌+◌, List, [], ◌∷◌, ◌++◌, length, drop, get_or, refl, sym, ap, ◌∙◌, Some, None}
 use Rattle.std.specs.Prelude.{ℤ}
 use Rattle.bay_base.specs.declared.types.ElementaryType.{ElementaryType}
-use Rattle.bay_base.specs.declared.types.ElementaryType.TheVariants as elementary
 use Rattle.il_image.specs.declared.instr.Instr.{Instr}
 use Rattle.il_image.specs.declared.instr.Instr.TheVariants.{Halt, Push, Drop, Slot, Not, Combine, Compute, Compare, Widen, Jump, Timer}
 use Rattle.il_image.specs.Octets.{AreOctets, octet_count, signed_octets, size_of}
@@ -19,11 +20,7 @@ use Rattle.il_verify.proofs.OrderLemmas.{There}
 
 length-signed : (t : ElementaryType) (z : ℤ)
     → length (signed_octets (size_of t) z) ≡ octet_count (size_of t)
-length-signed elementary.Bool z = refl
-length-signed elementary.Int z = refl
-length-signed elementary.Dint z = refl
-length-signed elementary.Lint z = refl
-length-signed elementary.Time z = refl
+length-signed t z = grind (arith, common_steps)
 
 size-is : (i : Instr) → size_of_opcode (opcode_of_instr i) ≡ length (spelling i)
 size-is (Push v) = ap suc (sym (length-signed (type_of v) (number_of v)))

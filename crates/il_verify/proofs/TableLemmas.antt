@@ -61,20 +61,20 @@ some-way (Compare c) next = inr (next, refl)
 some-way (Widen w) next = inr (next, refl)
 some-way (Timer timer_use n) next = inr (next, refl)
 
-jumps-lead : (i : Instr) (next to : ℕ) → JumpsTo i next to → LeadsTo i next to
-jumps-lead (Jump Always distance) next to h = h
-jumps-lead (Jump IfTrue distance) next to h = inr h
-jumps-lead (Jump IfFalse distance) next to h = inr h
-jumps-lead Halt next to h = absurd h
-jumps-lead (Push v) next to h = absurd h
-jumps-lead Drop next to h = absurd h
-jumps-lead (Slot slot_use n) next to h = absurd h
-jumps-lead Not next to h = absurd h
-jumps-lead (Combine c) next to h = absurd h
-jumps-lead (Compute o w) next to h = absurd h
-jumps-lead (Compare c) next to h = absurd h
-jumps-lead (Widen w) next to h = absurd h
-jumps-lead (Timer timer_use n) next to h = absurd h
+pub leads-by-jump : (i : Instr) (next to : ℕ) → JumpsTo i next to → LeadsTo i next to
+leads-by-jump (Jump Always distance) next to h = h
+leads-by-jump (Jump IfTrue distance) next to h = inr h
+leads-by-jump (Jump IfFalse distance) next to h = inr h
+leads-by-jump Halt next to h = absurd h
+leads-by-jump (Push v) next to h = absurd h
+leads-by-jump Drop next to h = absurd h
+leads-by-jump (Slot slot_use n) next to h = absurd h
+leads-by-jump Not next to h = absurd h
+leads-by-jump (Combine c) next to h = absurd h
+leads-by-jump (Compute o w) next to h = absurd h
+leads-by-jump (Compare c) next to h = absurd h
+leads-by-jump (Widen w) next to h = absurd h
+leads-by-jump (Timer timer_use n) next to h = absurd h
 
 -- an instruction leads behind the place where it stands
 pub leads-on : (code : List ℕ) (from to : ℕ) (i : Instr) (next : ℕ)
@@ -341,7 +341,7 @@ module _ (image : Image) (table : Table) (done : ℕ) (front : IsFront image tab
     no-bad-jump : JumpsBadly image table place → ⊥
     no-bad-jump j = let d = does place j.at is in
         j.bad (place-of-entry j.to d.gives
-        (d.enters j.to (jumps-lead j.at.instr j.at.next j.to j.jumps)))
+        (d.enters j.to (leads-by-jump j.at.instr j.at.next j.to j.jumps)))
 
     no_end : GoesPast image table place → ⊥
     no_end g =
