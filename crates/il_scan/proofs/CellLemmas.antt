@@ -35,35 +35,22 @@ pub depth_of : (values : List Value) (kinds : List CellKind) → Fit values kind
     → length (words_of values) ≡ length kinds
 depth_of values kinds h = length-map values number_of ∙ fit-length values kinds h
 
--- a value of the wanted kind on top, and the values below it
-pub record Tops (wanted : CellKind) (values : List Value) (rest : List CellKind) : Type 0 where
-  pub value : Value
-  pub others : List Value
-  pub are : values ≡ value ∷ others
-  pub kind : HasKind value wanted
-  pub is_value : IsValue value
-  pub fit : Fit others rest
-
-tops-case : (wanted k : CellKind) (kinds rest : List CellKind) (v : Value) (values : List Value)
-    (b : Bool) → is_within k wanted ≡ b → HasKind v k × IsValue v → Fit values kinds
-    → cond b (Some kinds) None ≡ Some rest → Tops wanted (v ∷ values) rest
-tops-case wanted k kinds rest v values true e is fit same =
-    record {
-      value = v;
-      others = values;
-      are = refl;
-      kind = kind-above v k wanted e is.0;
-      is_value = is.1;
-      fit = subst (Fit values) (some-same kinds rest same) fit;
-    }
-tops-case wanted k kinds rest v values false e is fit same = absurd cc
-
-pub tops : (wanted : CellKind) (kinds rest : List CellKind) (values : List Value)
-    → below wanted kinds ≡ Some rest → Fit values kinds → Tops wanted values rest
-tops wanted [] rest values e fit = absurd cc
-tops wanted (k ∷ kinds) rest [] e fit = absurd fit
-tops wanted (k ∷ kinds) rest (v ∷ values) e fit =
-    tops-case wanted k kinds rest v values (is_within k wanted) refl fit.0 fit.1 e
+-- a value of the wanted kind is on top
+pub on-top : (wanted : CellKind) (kinds rest : List CellKind) (P : List Value → Type 0)
+    → below wanted kinds ≡ Some rest
+    → ((v : Value) (others : List Value) → HasKind v wanted → IsValue v → Fit others rest
+    → Fit (v ∷ others) kinds → P (v ∷ others))
+    → (cells : List Value) → Fit cells kinds → P cells
+on-top wanted [] rest P e does cells fit = absurd cc
+on-top wanted (k ∷ kinds) rest P e does [] fit = absurd fit
+on-top wanted (k ∷ kinds) rest P e does (v ∷ others) fit = go (is_within k wanted) refl e
+  where
+    go : (b : Bool) → is_within k wanted ≡ b → cond b (Some kinds) None ≡ Some rest
+        → P (v ∷ others)
+    go true f g =
+        does v others (kind-above v k wanted f fit.0.0) fit.0.1
+        (subst (Fit others) (some-same kinds rest g) fit.1) fit
+    go false f g = absurd cc
 
 -- ---- slots
 

@@ -1,5 +1,5 @@
 -- What an instruction does to words where it is allowed on the values that they stand for.
-use Rattle.std.proofs.Common.{◌≡◌, ℕ, ◌+◌, ◌<◌, ◌≤◌, ℤ, pos, Bool, true, false, not, cond, ◌&&◌, ◌||◌, List, ◌∷◌, length, refl, sym, ap, subst, ◌∙◌, arith, Some}
+use Rattle.std.proofs.Common.{◌≡◌, ℕ, ◌+◌, ◌<◌, ◌≤◌, ℤ, pos, Bool, true, false, ◌&&◌, List, ◌∷◌, length, refl, sym, ap, subst, ◌∙◌, arith, Some}
 use Rattle.std.specs.Prelude.{slice_get, slice_set, nat_lt}
 use Rattle.std.specs.Ordering.{int_eq}
 use Rattle.std.proofs.lemmas.Bool.{lt-ltb}
@@ -64,159 +64,179 @@ pub record Does (types : List ElementaryType) (count now : ℕ) (i : Instr) (nex
   pub fit : Fit new_cells kinds
   pub typed : Typed types count new_slots new_timers
 
--- with any values on the stack
+-- Only the stack changes, and the next place.
+on-stack : {types : List ElementaryType} {count now next p : ℕ} {i : Instr}
+    {cells slots : List Value}
+    {timers : List TimerState} {kinds : List CellKind} (to : ℕ) (new : List Value)
+    → IsReady i (words_for cells slots timers)
+    → act now i next (state p cells slots timers) ≡ Goes (state to new slots timers)
+    → leads i next (words_of cells) ≡ Some to
+    → words_after now i (words_for cells slots timers) ≡ words_for new slots timers → Fit new kinds
+    → Typed types count slots timers → Does types count now i next p cells slots timers kinds
+on-stack {slots = slots} {timers = timers} to new ready goes_on leads_to words_are fit typed =
+    record {
+      ready = ready;
+      to = to;
+      new_cells = new;
+      new_slots = slots;
+      new_timers = timers;
+      goes_on = goes_on;
+      leads_to = leads_to;
+      words_are = words_are;
+      fit = fit;
+      typed = typed;
+    }
+
+-- for each instruction, with any values on the stack
 module _ (types : List ElementaryType) (count now next p : ℕ) (cells slots : List Value)
-    (timers : List TimerState) (kinds : List CellKind) (fit : Fit cells kinds)
-    (typed : Typed types count slots timers) where
-  small : length (words_of cells) ≡ length kinds
-  small = depth_of cells kinds fit
+    (timers : List TimerState) (typed : Typed types count slots timers) where
+  abbrev here : State
+  here = state p cells slots timers
 
-  pushes-is : (v : Value) → length kinds < 32
-      → pushes v next (state p cells slots timers) ≡ Goes (state next (v ∷ cells) slots timers)
-  pushes-is v h =
-      let size : length cells ≡ length kinds = fit-length cells kinds fit in
+  -- A value is put on the stack.
+  put : {kinds : List CellKind} (i : Instr) (v : Value) (k : CellKind) → Fit cells kinds
+      → (length (words_of cells) < 32 → IsReady i (words_for cells slots timers))
+      → act now i next here ≡ pushes v next here → leads i next (words_of cells) ≡ Some next
+      → words_after now i (words_for cells slots timers) ≡ words_for (v ∷ cells) slots timers
+      → HasKind v k × IsValue v → length (k ∷ kinds) ≤ 32
+      → Does types count now i next p cells slots timers (k ∷ kinds)
+  put {kinds} i v k fit ready goes leads_to words_are good room =
+      let d = depth_of cells kinds fit in
+      let size = fit-length cells kinds fit in
       let e : nat_lt (length cells) 32 ≡ true = lt-ltb (length cells) 32 (omega arith) in
-      rw e refl
+      on-stack next (v ∷ cells) (ready (omega arith)) (goes ∙ rw e refl) leads_to words_are
+      (good, fit) typed
 
-  pub does-push : (v : Value) → IsValue v → length (kind_of v ∷ kinds) ≤ 32
-      → Does types count now (Push v) next p cells slots timers (kind_of v ∷ kinds)
-  unfolding act
-  does-push v good room =
-      let d = small in
+  -- A slot takes a value of its type.
+  put-slot : {kinds : List CellKind} (i : Instr) (n : ℕ) (t : ElementaryType) (v : Value)
+      → slice_get types n ≡ Some t → type_of v ≡ t → IsValue v → Fit cells kinds
+      → IsReady i (words_for cells slots timers)
+      → act now i next here ≡ stores n v next here → leads i next (words_of cells) ≡ Some next
+      → words_after now i (words_for cells slots timers)
+      ≡ words (words_of cells) (slice_set (words_of slots) n (number_of v)) timers
+      → Does types count now i next p cells slots timers kinds
+  put-slot i n t v e is good fit ready goes leads_to words_are =
       record {
-        ready = omega arith;
+        ready = ready;
         to = next;
-        new_cells = v ∷ cells;
-        new_slots = slots;
-        new_timers = timers;
-        goes_on = pushes-is v (omega arith);
-        leads_to = refl;
-        words_are = refl;
-        fit = ((kind-there v, good), fit);
-        typed = typed;
-      }
-
-  pub does-load : (n : ℕ) (t : ElementaryType) → slice_get types n ≡ Some t
-      → length (Plain t ∷ kinds) ≤ 32
-      → Does types count now (Slot Load n) next p cells slots timers (Plain t ∷ kinds)
-  unfolding act
-  does-load n t e room =
-      let d = small in
-      let s = slot-there types slots n t e typed.of_types in
-      record {
-        ready = (omega arith, s.below);
-        to = next;
-        new_cells = s.value ∷ cells;
-        new_slots = slots;
-        new_timers = timers;
-        goes_on =
-            with-slot-is slots n s.value (λ v. pushes v next (state p cells slots timers)) s.get
-            ∙ pushes-is s.value (omega arith);
-        leads_to = refl;
-        words_are = ap (λ (w : ℤ). words (w ∷ words_of cells) (words_of slots) timers) s.word;
-        fit = ((s.type, s.is_value), fit);
-        typed = typed;
-      }
-
-  pub does-jump : (distance : ℕ)
-      → Does types count now (Jump Always distance) next p cells slots timers kinds
-  unfolding act
-  does-jump distance =
-      record {
-        ready = tt;
-        to = next + distance;
         new_cells = cells;
-        new_slots = slots;
+        new_slots = slice_set slots n v;
         new_timers = timers;
-        goes_on = refl;
-        leads_to = refl;
-        words_are = refl;
+        goes_on = goes;
+        leads_to = leads_to;
+        words_are = words_are
+            ∙ ap (λ (w : List ℤ). words (words_of cells) w timers)
+            (sym (map-set number_of slots n v));
         fit = fit;
-        typed = typed;
+        typed = record {
+          of_types = slot-set types slots n t v e typed.of_types is good;
+          so_many = typed.so_many;
+          times = typed.times;
+        };
       }
 
-  pub does-run : (n : ℕ) → n < count
-      → Does types count now (Timer Run n) next p cells slots timers kinds
-  unfolding act
-  does-run n below =
+  -- A timer changes, and what is on the stack.
+  change : {kinds : List CellKind} (i : Instr) (n : ℕ) (make : TimerState → TimerState)
+      (new : List Value) → n < count
+      → (n < length timers → IsReady i (words_for cells slots timers))
+      → act now i next here
+      ≡ machine.with_timer n here (λ t. machine.changes n (make t) next new here)
+      → leads i next (words_of cells) ≡ Some next
+      → words_after now i (words_for cells slots timers)
+      ≡ words_for new slots (slice_set timers n (make (timer_at timers n))) → Fit new kinds
+      → IsTimer (make (timer_at timers n))
+      → Does types count now i next p cells slots timers kinds
+  change i n make new below ready goes leads_to words_are fit good =
       let size : length timers ≡ count = typed.so_many in
       let there : n < length timers = omega arith in
-      let t : TimerState = after_call (timer_at timers n) now in
+      let t : TimerState = make (timer_at timers n) in
       record {
-        ready = there;
+        ready = ready there;
         to = next;
-        new_cells = cells;
+        new_cells = new;
         new_slots = slots;
         new_timers = slice_set timers n t;
-        goes_on =
-            with-timer-is timers n (timer_at timers n)
-            (λ u. machine.changes n (after_call u now) next cells (state p cells slots timers))
-            (timer-is timers n there);
-        leads_to = refl;
-        words_are = refl;
+        goes_on = goes ∙ with-timer-is timers n (timer_at timers n)
+            (λ u. machine.changes n (make u) next new here) (timer-is timers n there);
+        leads_to = leads_to;
+        words_are = words_are;
         fit = fit;
         typed = record {
           of_types = typed.of_types;
           so_many = length-set timers n t ∙ size;
-          times = timers-set timers n t typed.times
-              (call-good (timer_at timers n) now (timer-good timers n typed.times));
+          times = timers-set timers n t typed.times good;
         };
       }
 
-  pub does-load-output : (n : ℕ) → n < count → length (Plain elementary.Bool ∷ kinds) ≤ 32
-      → Does types count now (Timer LoadOutput n) next p cells slots timers
-      (Plain elementary.Bool ∷ kinds)
-  unfolding act
-  does-load-output n below room =
-      let d = small in
+  -- what a timer shows is put on the stack
+  show : {kinds : List CellKind} (i : Instr) (n : ℕ) (make : TimerState → Value) (k : CellKind)
+      → n < count → Fit cells kinds
+      → (length (words_of cells) < 32 → n < length timers
+      → IsReady i (words_for cells slots timers))
+      → act now i next here ≡ machine.with_timer n here (λ t. pushes (make t) next here)
+      → leads i next (words_of cells) ≡ Some next
+      → words_after now i (words_for cells slots timers)
+      ≡ words_for (make (timer_at timers n) ∷ cells) slots timers
+      → HasKind (make (timer_at timers n)) k × IsValue (make (timer_at timers n))
+      → length (k ∷ kinds) ≤ 32
+      → Does types count now i next p cells slots timers (k ∷ kinds)
+  show i n make k below fit ready goes leads_to words_are good room =
       let size : length timers ≡ count = typed.so_many in
       let there : n < length timers = omega arith in
-      let v : Value = Truth (timer_at timers n).output in
-      record {
-        ready = (omega arith, there);
-        to = next;
-        new_cells = v ∷ cells;
-        new_slots = slots;
-        new_timers = timers;
-        goes_on =
-            with-timer-is timers n (timer_at timers n)
-            (λ u. pushes (Truth u.output) next (state p cells slots timers))
-            (timer-is timers n there) ∙ pushes-is v (omega arith);
-        leads_to = refl;
-        words_are =
-            ap (λ (w : ℤ). words (w ∷ words_of cells) (words_of slots) timers)
-            (sym (truth-word (timer_at timers n).output));
-        fit = ((refl, truth-value (timer_at timers n).output), fit);
-        typed = typed;
-      }
+      put i (make (timer_at timers n)) k fit (λ deep. ready deep there)
+      (goes ∙ with-timer-is timers n (timer_at timers n) (λ u. pushes (make u) next here)
+      (timer-is timers n there)) leads_to words_are good room
 
-  pub does-load-elapsed : (n : ℕ) → n < count → length (Plain elementary.Time ∷ kinds) ≤ 32
-      → Does types count now (Timer LoadElapsed n) next p cells slots timers
-      (Plain elementary.Time ∷ kinds)
-  unfolding act
-  does-load-elapsed n below room =
-      let d = small in
-      let size : length timers ≡ count = typed.so_many in
-      let there : n < length timers = omega arith in
-      let v : Value = Span (timer_at timers n).elapsed in
-      record {
-        ready = (omega arith, there);
-        to = next;
-        new_cells = v ∷ cells;
-        new_slots = slots;
-        new_timers = timers;
-        goes_on =
-            with-timer-is timers n (timer_at timers n)
-            (λ u. pushes (Span u.elapsed) next (state p cells slots timers))
-            (timer-is timers n there) ∙ pushes-is v (omega arith);
-        leads_to = refl;
-        words_are = refl;
-        fit = (
-          (refl, span-value (timer_at timers n).elapsed (timer-good timers n typed.times).1),
-          fit,
-        );
-        typed = typed;
-      }
+  module _ (kinds : List CellKind) (fit : Fit cells kinds) where
+    pub does-push : (v : Value) → IsValue v → length (kind_of v ∷ kinds) ≤ 32
+        → Does types count now (Push v) next p cells slots timers (kind_of v ∷ kinds)
+    unfolding act
+    does-push v good room =
+        put (Push v) v (kind_of v) fit (λ deep. deep) refl refl refl (kind-there v, good) room
+
+    pub does-load : (n : ℕ) (t : ElementaryType) → slice_get types n ≡ Some t
+        → length (Plain t ∷ kinds) ≤ 32
+        → Does types count now (Slot Load n) next p cells slots timers (Plain t ∷ kinds)
+    unfolding act
+    does-load n t e room =
+        let s = slot-there types slots n t e typed.of_types in
+        put (Slot Load n) s.value (Plain t) fit (λ deep. (deep, s.below))
+        (with-slot-is slots n s.value (λ v. pushes v next here) s.get) refl
+        (ap (λ (w : ℤ). words (w ∷ words_of cells) (words_of slots) timers) s.word)
+        (s.type, s.is_value) room
+
+    pub does-jump : (distance : ℕ)
+        → Does types count now (Jump Always distance) next p cells slots timers kinds
+    unfolding act
+    does-jump distance = on-stack (next + distance) cells tt refl refl refl fit typed
+
+    pub does-run : (n : ℕ) → n < count
+        → Does types count now (Timer Run n) next p cells slots timers kinds
+    unfolding act
+    does-run n below =
+        change (Timer Run n) n (λ t. after_call t now) cells below (λ there. there) refl refl refl
+        fit
+        (call-good (timer_at timers n) now (timer-good timers n typed.times))
+
+    pub does-load-output : (n : ℕ) → n < count → length (Plain elementary.Bool ∷ kinds) ≤ 32
+        → Does types count now (Timer LoadOutput n) next p cells slots timers
+        (Plain elementary.Bool ∷ kinds)
+    unfolding act
+    does-load-output n below room =
+        show (Timer LoadOutput n) n (λ t. Truth t.output) (Plain elementary.Bool) below fit
+        (λ deep there. (deep, there)) refl refl
+        (ap (λ (w : ℤ). words (w ∷ words_of cells) (words_of slots) timers)
+        (sym (truth-word (timer_at timers n).output)))
+        (refl, truth-value (timer_at timers n).output) room
+
+    pub does-load-elapsed : (n : ℕ) → n < count → length (Plain elementary.Time ∷ kinds) ≤ 32
+        → Does types count now (Timer LoadElapsed n) next p cells slots timers
+        (Plain elementary.Time ∷ kinds)
+    unfolding act
+    does-load-elapsed n below room =
+        show (Timer LoadElapsed n) n (λ t. Span t.elapsed) (Plain elementary.Time) below fit
+        (λ deep there. (deep, there)) refl refl refl
+        (refl, span-value (timer_at timers n).elapsed (timer-good timers n typed.times).1) room
 
 -- with a value on top
 module _ (types : List ElementaryType) (count now next p : ℕ) (top : Value)
@@ -224,19 +244,7 @@ module _ (types : List ElementaryType) (count now next p : ℕ) (top : Value)
     (fit : Fit others rest) (typed : Typed types count slots timers) where
   pub does-drop : Does types count now Drop next p (top ∷ others) slots timers rest
   unfolding act
-  does-drop =
-      record {
-        ready = omega arith;
-        to = next;
-        new_cells = others;
-        new_slots = slots;
-        new_timers = timers;
-        goes_on = refl;
-        leads_to = refl;
-        words_are = refl;
-        fit = fit;
-        typed = typed;
-      }
+  does-drop = on-stack next others (omega arith) refl refl refl fit typed
 
   pub does-store : (n : ℕ) (t : ElementaryType) (kinds : List CellKind) → slice_get types n ≡ Some t
       → type_of top ≡ t → IsValue top → Fit (top ∷ others) kinds
@@ -247,147 +255,49 @@ module _ (types : List ElementaryType) (count now next p : ℕ) (top : Value)
       let test : same_type (type_of top) (type_of s.value) ≡ true =
       subst (λ (u : ElementaryType). same_type (type_of top) u ≡ true) (is ∙ sym s.type)
       (same-self (type_of top)) in
-      let here : State = state p (top ∷ others) slots timers in
-      let chosen : cond (same_type (type_of top) (type_of s.value)) (stores n top next here)
-      (Traps WrongKind) ≡ stores n top next here = rw test refl in
-      record {
-        ready = (omega arith, s.below);
-        to = next;
-        new_cells = top ∷ others;
-        new_slots = slice_set slots n top;
-        new_timers = timers;
-        goes_on =
-            with-slot-is slots n s.value
-            (λ v. cond (same_type (type_of top) (type_of v)) (stores n top next here)
-            (Traps WrongKind)) s.get ∙ chosen;
-        leads_to = refl;
-        words_are =
-            ap (λ (w : List ℤ). words (words_of (top ∷ others)) w timers)
-            (sym (map-set number_of slots n top));
-        fit = all;
-        typed = record {
-          of_types = slot-set types slots n t top e typed.of_types is good;
-          so_many = typed.so_many;
-          times = typed.times;
-        };
-      }
+      put-slot types count now next p (top ∷ others) slots timers typed (Slot Store n) n t top e is
+      good all (omega arith, s.below) (rw (s.get, test) refl) refl refl
 
 -- with a BOOL on top
 module _ (types : List ElementaryType) (count now next p : ℕ) (others slots : List Value)
     (timers : List TimerState) (rest : List CellKind) (fit : Fit others rest)
     (typed : Typed types count slots timers) where
-  bools : Fit (Truth true ∷ others) (Plain elementary.Bool ∷ rest)
-  bools = ((refl, truth-value true), fit)
-
   pub does-not : (b : Bool) → Does types count now Not next p (Truth b ∷ others) slots timers
       (Plain elementary.Bool ∷ rest)
   unfolding act
   does-not true =
-      record {
-        ready = omega arith;
-        to = next;
-        new_cells = Truth false ∷ others;
-        new_slots = slots;
-        new_timers = timers;
-        goes_on = refl;
-        leads_to = refl;
-        words_are = refl;
-        fit = ((refl, truth-value false), fit);
-        typed = typed;
-      }
+      on-stack next (Truth false ∷ others) (omega arith) refl refl refl
+      ((refl, truth-value false), fit) typed
   does-not false =
-      record {
-        ready = omega arith;
-        to = next;
-        new_cells = Truth true ∷ others;
-        new_slots = slots;
-        new_timers = timers;
-        goes_on = refl;
-        leads_to = refl;
-        words_are = refl;
-        fit = ((refl, truth-value true), fit);
-        typed = typed;
-      }
+      on-stack next (Truth true ∷ others) (omega arith) refl refl refl
+      ((refl, truth-value true), fit) typed
 
   pub does-jump-if : (b : Bool) (distance : ℕ) (kinds : List CellKind)
       → Fit (Truth b ∷ others) kinds
       → Does types count now (Jump IfTrue distance) next p (Truth b ∷ others) slots timers kinds
   unfolding act
   does-jump-if true distance kinds all =
-      record {
-        ready = omega arith;
-        to = next + distance;
-        new_cells = Truth true ∷ others;
-        new_slots = slots;
-        new_timers = timers;
-        goes_on = refl;
-        leads_to = refl;
-        words_are = refl;
-        fit = all;
-        typed = typed;
-      }
+      on-stack (next + distance) (Truth true ∷ others) (omega arith) refl refl refl all typed
   does-jump-if false distance kinds all =
-      record {
-        ready = omega arith;
-        to = next;
-        new_cells = Truth false ∷ others;
-        new_slots = slots;
-        new_timers = timers;
-        goes_on = refl;
-        leads_to = refl;
-        words_are = refl;
-        fit = all;
-        typed = typed;
-      }
+      on-stack next (Truth false ∷ others) (omega arith) refl refl refl all typed
 
   pub does-jump-if-not : (b : Bool) (distance : ℕ) (kinds : List CellKind)
       → Fit (Truth b ∷ others) kinds
       → Does types count now (Jump IfFalse distance) next p (Truth b ∷ others) slots timers kinds
   unfolding act
   does-jump-if-not true distance kinds all =
-      record {
-        ready = omega arith;
-        to = next;
-        new_cells = Truth true ∷ others;
-        new_slots = slots;
-        new_timers = timers;
-        goes_on = refl;
-        leads_to = refl;
-        words_are = refl;
-        fit = all;
-        typed = typed;
-      }
+      on-stack next (Truth true ∷ others) (omega arith) refl refl refl all typed
   does-jump-if-not false distance kinds all =
-      record {
-        ready = omega arith;
-        to = next + distance;
-        new_cells = Truth false ∷ others;
-        new_slots = slots;
-        new_timers = timers;
-        goes_on = refl;
-        leads_to = refl;
-        words_are = refl;
-        fit = all;
-        typed = typed;
-      }
+      on-stack (next + distance) (Truth false ∷ others) (omega arith) refl refl refl all typed
 
   pub does-combine : (c : Connective) (a b : Bool)
       → Does types count now (Combine c) next p (Truth b ∷ Truth a ∷ others) slots timers
       (Plain elementary.Bool ∷ rest)
   unfolding act
-  does-combine c a b = record {
-    ready = omega arith;
-    to = next;
-    new_cells = Truth (logic_of c a b) ∷ others;
-    new_slots = slots;
-    new_timers = timers;
-    goes_on = refl;
-    leads_to = refl;
-    words_are =
-        ap (λ (w : ℤ). words (w ∷ words_of others) (words_of slots) timers) (combined-is c a b);
-    fit = ((refl, truth-value (logic_of c a b)), fit);
-    typed = typed;
-  }
+  does-combine c a b =
+      on-stack next (Truth (logic_of c a b) ∷ others) (omega arith) refl refl
+      (ap (λ (w : ℤ). words (w ∷ words_of others) (words_of slots) timers) (combined-is c a b))
+      ((refl, truth-value (logic_of c a b)), fit) typed
 
   -- SETIF and RESETIF: a BOOL slot takes a value that has this word
   sets : (i : Instr) (n : ℕ) (b : Bool) (kinds : List CellKind) (made : Bool → Bool)
@@ -405,34 +315,10 @@ module _ (types : List ElementaryType) (count now next p : ℕ) (others slots : 
   sets i n b kinds made e all ready goes leads done =
       let s = slot-there types slots n elementary.Bool e typed.of_types in
       let t = truth-there s.value s.type in
-      let v : Value = Truth (made t.0) in
-      record {
-        ready = ready s.below;
-        to = next;
-        new_cells = Truth b ∷ others;
-        new_slots = slice_set slots n v;
-        new_timers = timers;
-        goes_on = goes t.0 (s.get ∙ ap (λ (u : Value). Some u) t.1);
-        leads_to = leads;
-        words_are =
-            done t.0 (s.word ∙ ap number_of t.1)
-            ∙ ap (λ (w : List ℤ). words (words_of (Truth b ∷ others)) w timers)
-            (sym (map-set number_of slots n v));
-        fit = all;
-        typed = record {
-          of_types =
-              slot-set types slots n elementary.Bool v e typed.of_types refl
-              (truth-value (made t.0));
-          so_many = typed.so_many;
-          times = typed.times;
-        };
-      }
-
-  with-truths-is : (n : ℕ) (b old : Bool) (f : Bool → Bool → Turn)
-      → slice_get slots n ≡ Some (Truth old)
-      → machine.with_truths n (state p (Truth b ∷ others) slots timers) f ≡ f b old
-  with-truths-is n b old f e =
-      with-slot-is slots n (Truth old) (λ slot. machine.as_truth slot (λ o. f b o)) e
+      put-slot types count now next p (Truth b ∷ others) slots timers typed i n elementary.Bool
+      (Truth (made t.0)) e refl (truth-value (made t.0)) all (ready s.below)
+      (goes t.0 (s.get ∙ ap (λ (u : Value). Some u) t.1)) leads
+      (done t.0 (s.word ∙ ap number_of t.1))
 
   pub does-set-if : (n : ℕ) (b : Bool) (kinds : List CellKind)
       → slice_get types n ≡ Some elementary.Bool → Fit (Truth b ∷ others) kinds
@@ -440,16 +326,10 @@ module _ (types : List ElementaryType) (count now next p : ℕ) (others slots : 
   unfolding act
   does-set-if n true kinds e all =
       sets (Slot SetIf n) n true kinds (λ old. true) e all (λ below. (omega arith, below))
-      (λ old get. with-truths-is n true old
-      (λ t o. stores n (Truth (t || o)) next (state p (Truth true ∷ others) slots timers)) get)
-      refl (λ old word. refl)
+      (λ old get. rw get refl) refl (λ old word. refl)
   does-set-if n false kinds e all =
       sets (Slot SetIf n) n false kinds (λ old. old) e all (λ below. (omega arith, below))
-      (λ old get. with-truths-is n false old
-      (λ t o. stores n (Truth (t || o)) next (state p (Truth false ∷ others) slots timers)) get)
-      refl
-      (λ old word. ap (λ (w : ℤ). words (words_of (Truth false ∷ others))
-      (slice_set (words_of slots) n w) timers) word)
+      (λ old get. rw get refl) refl (λ old word. rw word refl)
 
   pub does-reset-if : (n : ℕ) (b : Bool) (kinds : List CellKind)
       → slice_get types n ≡ Some elementary.Bool → Fit (Truth b ∷ others) kinds
@@ -457,99 +337,34 @@ module _ (types : List ElementaryType) (count now next p : ℕ) (others slots : 
   unfolding act
   does-reset-if n true kinds e all =
       sets (Slot ResetIf n) n true kinds (λ old. false) e all (λ below. (omega arith, below))
-      (λ old get. with-truths-is n true old
-      (λ t o. stores n (Truth (not t && o)) next (state p (Truth true ∷ others) slots timers))
-      get) refl (λ old word. refl)
+      (λ old get. rw get refl) refl (λ old word. refl)
   does-reset-if n false kinds e all =
       sets (Slot ResetIf n) n false kinds (λ old. old) e all (λ below. (omega arith, below))
-      (λ old get. with-truths-is n false old
-      (λ t o. stores n (Truth (not t && o)) next (state p (Truth false ∷ others) slots timers))
-      get) refl
-      (λ old word. ap (λ (w : ℤ). words (words_of (Truth false ∷ others))
-      (slice_set (words_of slots) n w) timers) word)
-
-  changed : (n : ℕ) (t : TimerState) → IsTimer t → Typed types count slots (slice_set timers n t)
-  changed n t good =
-      record {
-        of_types = typed.of_types;
-        so_many = length-set timers n t ∙ typed.so_many;
-        times = timers-set timers n t typed.times good;
-      }
+      (λ old get. rw get refl) refl (λ old word. rw word refl)
 
   pub does-set-input : (n : ℕ) (b : Bool) → n < count
       → Does types count now (Timer SetInput n) next p (Truth b ∷ others) slots timers rest
   unfolding act
   does-set-input n true below =
-      let size : length timers ≡ count = typed.so_many in
-      let there : n < length timers = omega arith in
-      let t : TimerState = record (timer_at timers n) { input = true } in
-      record {
-        ready = (omega arith, there);
-        to = next;
-        new_cells = others;
-        new_slots = slots;
-        new_timers = slice_set timers n t;
-        goes_on =
-            with-timer-is timers n (timer_at timers n)
-            (λ u. machine.changes n (record u { input = true }) next others
-            (state p (Truth true ∷ others) slots timers)) (timer-is timers n there);
-        leads_to = refl;
-        words_are = refl;
-        fit = fit;
-        typed = changed n t (timer-good timers n typed.times);
-      }
+      change types count now next p (Truth true ∷ others) slots timers typed (Timer SetInput n) n
+      (λ t. record t { input = true }) others below (λ there. (omega arith, there)) refl refl refl
+      fit (timer-good timers n typed.times)
   does-set-input n false below =
-      let size : length timers ≡ count = typed.so_many in
-      let there : n < length timers = omega arith in
-      let t : TimerState = record (timer_at timers n) { input = false } in
-      record {
-        ready = (omega arith, there);
-        to = next;
-        new_cells = others;
-        new_slots = slots;
-        new_timers = slice_set timers n t;
-        goes_on =
-            with-timer-is timers n (timer_at timers n)
-            (λ u. machine.changes n (record u { input = false }) next others
-            (state p (Truth false ∷ others) slots timers)) (timer-is timers n there);
-        leads_to = refl;
-        words_are = refl;
-        fit = fit;
-        typed = changed n t (timer-good timers n typed.times);
-      }
+      change types count now next p (Truth false ∷ others) slots timers typed (Timer SetInput n) n
+      (λ t. record t { input = false }) others below (λ there. (omega arith, there)) refl refl refl
+      fit (timer-good timers n typed.times)
 
   pub does-set-preset : (n m : ℕ) → IsValue (Span m) → n < count
       → Does types count now (Timer SetPreset n) next p (Span m ∷ others) slots timers rest
   unfolding act
   does-set-preset n m good below =
-      let size : length timers ≡ count = typed.so_many in
-      let there : n < length timers = omega arith in
       let small = span-within m good in
-      let t : TimerState = record (timer_at timers n) { preset = m } in
-      record {
-        ready = (omega arith, there, (m, refl, small));
-        to = next;
-        new_cells = others;
-        new_slots = slots;
-        new_timers = slice_set timers n t;
-        goes_on =
-            with-timer-is timers n (timer_at timers n)
-            (λ u. machine.changes n (record u { preset = m }) next others
-            (state p (Span m ∷ others) slots timers)) (timer-is timers n there);
-        leads_to = refl;
-        words_are = refl;
-        fit = fit;
-        typed = changed n t (small, (timer-good timers n typed.times).1);
-      }
+      change types count now next p (Span m ∷ others) slots timers typed (Timer SetPreset n) n
+      (λ t. record t { preset = m }) others below
+      (λ there. (omega arith, there, (m, refl, small))) refl refl refl fit
+      (small, (timer-good timers n typed.times).1)
 
   -- ---- two values
-
-  with-numbers-is : (w : Width) (a b : ℤ) (f : ℤ → ℤ → List Value → Turn)
-      → machine.with_numbers w
-      (state p (value_of_width w b ∷ value_of_width w a ∷ others) slots timers) f ≡ f a b others
-  with-numbers-is width.Int a b f = refl
-  with-numbers-is width.Dint a b f = refl
-  with-numbers-is width.Lint a b f = refl
 
   pub does-compute : (o : Operation) (w : Width) (a b : ℤ) → (divides o && int_eq b (pos 0)) ≡ false
       → DividesBy o b → Does types count now (Compute o w) next p
@@ -557,35 +372,21 @@ module _ (types : List ElementaryType) (count now next p : ℕ) (others slots : 
       (Plain (type_of_width w) ∷ rest)
   unfolding act
   does-compute o w a b test divisor =
-      let here : State = state p (value_of_width w b ∷ value_of_width w a ∷ others) slots timers in
       let v : Value = value_of_width w (computation_of o w a b) in
       let nb : number_of (value_of_width w b) ≡ b = number_in w b in
       let na : number_of (value_of_width w a) ≡ a = number_in w a in
-      let chosen : cond (divides o && int_eq b (pos 0)) (Traps ZeroDivisor)
-      (goes next (v ∷ others) here) ≡ goes next (v ∷ others) here = rw test refl in
-      record {
-        ready = (omega arith, subst (DividesBy o) (sym nb) divisor);
-        to = next;
-        new_cells = v ∷ others;
-        new_slots = slots;
-        new_timers = timers;
-        goes_on =
-            with-numbers-is w a b (λ x y below. cond (divides o && int_eq y (pos 0))
-            (Traps ZeroDivisor) (goes next (value_of_width w (computation_of o w x y) ∷ below)
-            here))
-            ∙ chosen;
-        leads_to = refl;
-        words_are =
-            ap (λ (x : ℤ). words (computation_of o w x (number_of (value_of_width w b))
-            ∷ words_of others)
-            (words_of slots) timers) na
-            ∙ ap (λ (y : ℤ). words (computation_of o w a y ∷ words_of others) (words_of slots)
-            timers) nb
-            ∙ ap (λ (x : ℤ). words (x ∷ words_of others) (words_of slots) timers)
-            (sym (number_in w (computation_of o w a b)));
-        fit = ((type-in w (computation_of o w a b), wrapped-value w (exact o a b)), fit);
-        typed = typed;
-      }
+      let nv : number_of v ≡ computation_of o w a b = number_in w (computation_of o w a b) in
+      on-stack next (v ∷ others) (omega arith, subst (DividesBy o) (sym nb) divisor)
+      (with-numbers-is w a b test) refl (rw (na, nb, nv) refl)
+      ((type-in w (computation_of o w a b), wrapped-value w (exact o a b)), fit) typed
+    where
+      with-numbers-is : (w : Width) (a b : ℤ) → (divides o && int_eq b (pos 0)) ≡ false
+          → machine.computes o w next
+          (state p (value_of_width w b ∷ value_of_width w a ∷ others) slots timers)
+          ≡ Goes (state next (value_of_width w (computation_of o w a b) ∷ others) slots timers)
+      with-numbers-is width.Int a b e = rw e refl
+      with-numbers-is width.Dint a b e = rw e refl
+      with-numbers-is width.Lint a b e = rw e refl
 
   pub does-compare : (c : Comparison) (first second : Value) → is_comparable c first second ≡ true
       → Does types count now (Compare c) next p (second ∷ first ∷ others) slots timers
@@ -593,54 +394,20 @@ module _ (types : List ElementaryType) (count now next p : ℕ) (others slots : 
   unfolding act
   does-compare c first second test =
       let b : Bool = comparison_holds c (number_of first) (number_of second) in
-      let here : State = state p (second ∷ first ∷ others) slots timers in
-      let chosen : cond (is_comparable c first second) (goes next (Truth b ∷ others) here)
-      (Traps WrongKind) ≡ goes next (Truth b ∷ others) here = rw test refl in
-      record {
-        ready = omega arith;
-        to = next;
-        new_cells = Truth b ∷ others;
-        new_slots = slots;
-        new_timers = timers;
-        goes_on = chosen;
-        leads_to = refl;
-        words_are =
-            ap (λ (x : ℤ). words (x ∷ words_of others) (words_of slots) timers)
-            (sym (truth-word b));
-        fit = ((refl, truth-value b), fit);
-        typed = typed;
-      }
+      on-stack next (Truth b ∷ others) (omega arith) (rw test refl) refl
+      (ap (λ (x : ℤ). words (x ∷ words_of others) (words_of slots) timers) (sym (truth-word b)))
+      ((refl, truth-value b), fit) typed
 
   pub does-widen : (z : ℤ) (k : CellKind) → HasKind (Long z) k → IsValue (Short z)
       → Does types count now (Widen IntToDint) next p (Short z ∷ others) slots timers (k ∷ rest)
   unfolding act
   does-widen z k is good =
-      record {
-        ready = omega arith;
-        to = next;
-        new_cells = Long z ∷ others;
-        new_slots = slots;
-        new_timers = timers;
-        goes_on = refl;
-        leads_to = refl;
-        words_are = refl;
-        fit = ((is, widened-short z good), fit);
-        typed = typed;
-      }
+      on-stack next (Long z ∷ others) (omega arith) refl refl refl
+      ((is, widened-short z good), fit) typed
 
   pub does-widen-long : (z : ℤ) (k : CellKind) → HasKind (Wide z) k → IsValue (Long z)
       → Does types count now (Widen DintToLint) next p (Long z ∷ others) slots timers (k ∷ rest)
   unfolding act
   does-widen-long z k is good =
-      record {
-        ready = omega arith;
-        to = next;
-        new_cells = Wide z ∷ others;
-        new_slots = slots;
-        new_timers = timers;
-        goes_on = refl;
-        leads_to = refl;
-        words_are = refl;
-        fit = ((is, widened-long z good), fit);
-        typed = typed;
-      }
+      on-stack next (Wide z ∷ others) (omega arith) refl refl refl
+      ((is, widened-long z good), fit) typed

@@ -27,22 +27,6 @@ longer (y ∷ front) x = let e : length (front ++ (x ∷ [])) ≡ length front +
 
 -- ---- the places, point by point
 
-pub read_on : (n : ℕ) (p : ImagePoint) (points : List ImagePoint) → p.writable ≡ true
-    → read_places n (p ∷ points) ≡ read_places (n + 1) points
-read_on n p points e = rw e refl
-
-pub read-here : (n : ℕ) (p : ImagePoint) (points : List ImagePoint) → p.writable ≡ false
-    → read_places n (p ∷ points) ≡ n ∷ read_places (n + 1) points
-read-here n p points e = rw e refl
-
-pub write-here : (n : ℕ) (p : ImagePoint) (points : List ImagePoint) → p.writable ≡ true
-    → write_places n (p ∷ points) ≡ n ∷ write_places (n + 1) points
-write-here n p points e = rw e refl
-
-pub write-on : (n : ℕ) (p : ImagePoint) (points : List ImagePoint) → p.writable ≡ false
-    → write_places n (p ∷ points) ≡ write_places (n + 1) points
-write-on n p points e = rw e refl
-
 below-case : (b : Bool) (most n : ℕ) (places : List ℕ) → n < most → AllBelow most places
     → AllBelow most (cond b places (n ∷ places))
 below-case true most n places l h = h

@@ -18,10 +18,6 @@ use Rattle.il_scan.proofs.SlotLemmas.{first-stand, held-words, only-read, output
 use Rattle.il_scan.proofs.StandLemmas.{stand-again, stand-itself}
 
 module _ (image : Image) (points : List ImagePoint) (is : points ≡ image.points) where
-  pub points-below : (slots : List ℤ) (timers : List TimerState) → IsHeld image slots timers
-      → length points ≡ length image.points
-  points-below slots timers h = ap (λ (ps : List ImagePoint). length ps) is
-
   pub points-words : (slots : List ℤ) (timers : List TimerState) → IsHeld image slots timers
       → AreWords points slots
   points-words slots timers h =

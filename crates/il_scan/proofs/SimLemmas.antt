@@ -25,19 +25,19 @@ use Rattle.il_image.specs.declared.opcode.Widening.TheVariants.{IntToDint, DintT
 use Rattle.il_image.specs.declared.opcode.TimerUse.TheVariants.{SetInput, SetPreset, Run, LoadOutput, LoadElapsed}
 use Rattle.il_image.specs.declared.timer.TimerState.{TimerState}
 use Rattle.il_image.specs.declared.value.Value.{Value}
-use Rattle.il_image.specs.declared.value.Value.TheVariants.{Truth, Short, Long, Wide, Span}
+use Rattle.il_image.specs.declared.value.Value.TheVariants.{Truth}
 use Rattle.il_image.specs.Arithmetic.{DividesBy, type_of_width}
 use Rattle.il_image.specs.Effects.{are_compared, below, compares, effect, kind_of, looks_at, second_kind, two, type_of_kind, widens, with_timer, with_truth}
 use Rattle.il_image.specs.Images.{IsValue}
 use Rattle.il_image.specs.Kinds.{HasKind, is_within}
-use Rattle.il_image.specs.Machine.{divides, is_comparable, value_of_width}
+use Rattle.il_image.specs.Machine.{divides, value_of_width}
 use Rattle.il_image.specs.Spelling.{IsInstr}
 use Rattle.il_image.specs.Values.{number_of, type_of}
 use Rattle.il_image.proofs.KindLemmas.{kind-above, same-is}
 use Rattle.il_verify.proofs.EffectLemmas.{some-same, bind-some}
 use Rattle.il_scan.specs.Standing.{Fit, Typed}
-use Rattle.il_scan.proofs.ValueLemmas.{number-there, span-there, truth-there}
-use Rattle.il_scan.proofs.CellLemmas.{tops}
+use Rattle.il_scan.proofs.ValueLemmas.{number_in, number-there, span-there, truth-there, type-in}
+use Rattle.il_scan.proofs.CellLemmas.{on-top}
 use Rattle.il_scan.proofs.DoesLemmas.{Does, does-combine, does-compare, does-compute, does-drop, does-jump, does-jump-if, does-jump-if-not, does-load, does-load-elapsed, does-load-output, does-not, does-push, does-reset-if, does-run, does-set-if, does-set-input, does-set-preset, does-store, does-widen, does-widen-long}
 
 -- ---- each instruction that is allowed
@@ -87,9 +87,16 @@ module _ (types : List ElementaryType) (count now next p : ℕ) (slots : List Va
         → Done i cells given → Done i cells after
     to-kinds i cells given e d = subst (Done i cells) (some-same given after e) d
 
-    on-cells : (i : Instr) (cells these : List Value) (kinds : List CellKind) → cells ≡ these
-        → Done i these kinds → Done i cells kinds
-    on-cells i cells these kinds are d = subst (λ (v : List Value). Done i v kinds) (sym are) d
+    -- a BOOL is on top
+    on-bool : (i : Instr) (kinds rest given : List CellKind)
+        → below (Plain elementary.Bool) kinds ≡ Some rest
+        → ((b : Bool) (others : List Value) → Fit others rest → Fit (Truth b ∷ others) kinds
+        → Done i (Truth b ∷ others) given)
+        → (cells : List Value) → Fit cells kinds → Done i cells given
+    on-bool i kinds rest given e does =
+        on-top (Plain elementary.Bool) kinds rest (λ cells. Done i cells given) e
+        (λ v others is good f all. let b = truth-there v is in
+        rw b.1 (does b.0 others f (subst (λ (u : Value). Fit (u ∷ others) kinds) b.1 all)))
 
     -- a BOOL on top that stays
     on-truth : (i : Instr) (cells : List Value) (kinds : List CellKind)
@@ -100,12 +107,8 @@ module _ (types : List ElementaryType) (count now next p : ℕ) (slots : List Va
         let r = bind-some (below (Plain elementary.Bool) kinds)
         (λ (rest : List CellKind). Some kinds)
         after e in
-        let t = tops (Plain elementary.Bool) kinds r.0 cells r.1 fit in
-        let b = truth-there t.value t.kind in
-        let are : cells ≡ Truth b.0 ∷ t.others = t.are ∙ ap (λ (v : Value). v ∷ t.others) b.1 in
         to-kinds i cells kinds r.2
-        (on-cells i cells (Truth b.0 ∷ t.others) kinds are
-        (does b.0 t.others r.0 t.fit (subst (λ (v : List Value). Fit v kinds) are fit)))
+        (on-bool i kinds r.0 kinds r.1 (λ b others f all. does b others r.0 f all) cells fit)
 
     on-bool-slot : (i : Instr) (n : ℕ) (cells : List Value) (kinds : List CellKind)
         → with_truth types n kinds ≡ Some after → Fit cells kinds
@@ -137,50 +140,43 @@ module _ (types : List ElementaryType) (count now next p : ℕ) (slots : List Va
         go true is h = does (ltb-true n count is) h
         go false is h = absurd cc
 
+    -- two values become one
+    on-two : (i : Instr) (top second gives : CellKind) (cells : List Value) (kinds : List CellKind)
+        → two top second gives kinds ≡ Some after → Fit cells kinds
+        → ((v u : Value) (others : List Value) (rest : List CellKind) → HasKind v top
+        → HasKind u second → Fit others rest → Done i (v ∷ u ∷ others) (gives ∷ rest))
+        → Done i cells after
+    on-two i top second gives cells kinds e fit does =
+        let m = bind-some (below top kinds)
+        (λ (more : List CellKind). below second more >>= (λ rest. Some (gives ∷ rest))) after e in
+        let r = bind-some (below second m.0) (λ (rest : List CellKind). Some (gives ∷ rest)) after
+        m.2 in
+        to-kinds i cells (gives ∷ r.0) r.2
+        (on-top top kinds m.0 (λ these. Done i these (gives ∷ r.0)) m.1
+        (λ v more is good f all. on-top second m.0 r.0 (λ these. Done i (v ∷ these) (gives ∷ r.0))
+        r.1 (λ u others is_u good_u g all. does v u others r.0 is is_u g) more f) cells fit)
+
     compute-does : (o : Operation) (w : Width) (cells : List Value) (kinds : List CellKind)
         → two (second_kind o w) (Plain (type_of_width w)) (Plain (type_of_width w)) kinds
         ≡ Some after
         → Fit cells kinds → Done (Compute o w) cells after
     compute-does o w cells kinds e fit =
-        let k = Plain (type_of_width w) in
-        let m = bind-some (below (second_kind o w) kinds)
-        (λ (more : List CellKind). below k more >>= (λ rest. Some (k ∷ rest))) after e in
-        let r = bind-some (below k m.0) (λ (rest : List CellKind). Some (k ∷ rest)) after m.2 in
-        let t = tops (second_kind o w) kinds m.0 cells m.1 fit in
-        let u = tops k m.0 r.0 t.others r.1 t.fit in
-        let d = divisor-of o w t.value t.kind in
-        let b : ℤ = number_of t.value in
-        let a : ℤ = number_of u.value in
-        let top : t.value ≡ value_of_width w b = number-there w t.value d.type in
-        let second : u.value ≡ value_of_width w a = number-there w u.value u.kind in
-        let are : cells ≡ value_of_width w b ∷ value_of_width w a ∷ u.others =
-        t.are ∙ ap (λ (v : List Value). t.value ∷ v) u.are
-        ∙ ap (λ (v : Value). v ∷ u.value ∷ u.others) top
-        ∙ ap (λ (v : Value). value_of_width w b ∷ v ∷ u.others) second in
-        to-kinds (Compute o w) cells (k ∷ r.0) r.2
-        (on-cells (Compute o w) cells (value_of_width w b ∷ value_of_width w a ∷ u.others)
-        (k ∷ r.0) are (does-compute types count now next p u.others slots timers r.0 u.fit typed o
-        w a b d.test d.divisor))
+        on-two (Compute o w) (second_kind o w) (Plain (type_of_width w)) (Plain (type_of_width w))
+        cells kinds e fit
+        (λ v u others rest is is_u f. let d = divisor-of o w v is in
+        rw (number-there w v d.type, number-there w u is_u)
+        (does-compute types count now next p others slots timers rest f typed o w (number_of u)
+        (number_of v) d.test d.divisor))
 
     combine-does : (c : Connective) (cells : List Value) (kinds : List CellKind)
         → two (Plain elementary.Bool) (Plain elementary.Bool) (Plain elementary.Bool) kinds
         ≡ Some after → Fit cells kinds → Done (Combine c) cells after
     combine-does c cells kinds e fit =
-        let k = Plain elementary.Bool in
-        let m = bind-some (below k kinds)
-        (λ (more : List CellKind). below k more >>= (λ rest. Some (k ∷ rest))) after e in
-        let r = bind-some (below k m.0) (λ (rest : List CellKind). Some (k ∷ rest)) after m.2 in
-        let t = tops k kinds m.0 cells m.1 fit in
-        let u = tops k m.0 r.0 t.others r.1 t.fit in
-        let b = truth-there t.value t.kind in
-        let a = truth-there u.value u.kind in
-        let are : cells ≡ Truth b.0 ∷ Truth a.0 ∷ u.others =
-        t.are ∙ ap (λ (v : List Value). t.value ∷ v) u.are
-        ∙ ap (λ (v : Value). v ∷ u.value ∷ u.others) b.1
-        ∙ ap (λ (v : Value). Truth b.0 ∷ v ∷ u.others) a.1 in
-        to-kinds (Combine c) cells (k ∷ r.0) r.2
-        (on-cells (Combine c) cells (Truth b.0 ∷ Truth a.0 ∷ u.others) (k ∷ r.0) are
-        (does-combine types count now next p u.others slots timers r.0 u.fit typed c a.0 b.0))
+        on-two (Combine c) (Plain elementary.Bool) (Plain elementary.Bool) (Plain elementary.Bool)
+        cells kinds e fit
+        (λ v u others rest is is_u f. let b = truth-there v is in let a = truth-there u is_u in
+        rw (b.1, a.1) (does-combine types count now next p others slots timers rest f typed c a.0
+        b.0))
 
     compare-does : (c : Comparison) (cells : List Value) (kinds : List CellKind)
         → compares c kinds ≡ Some after → Fit cells kinds → Done (Compare c) cells after
@@ -197,14 +193,10 @@ module _ (types : List ElementaryType) (count now next p : ℕ) (slots : List Va
         (λ (s : ElementaryType). cond (are_compared c s t.0) (Some (Plain elementary.Bool ∷ rest))
         None) after t.2 in
         let b = if-some (are_compared c s.0 t.0) (Plain elementary.Bool ∷ rest) after s.2 in
-        let vt : type_of v ≡ t.0 = shown v k t.0 fit.0.0 t.1 in
-        let ut : type_of u ≡ s.0 = shown u l s.0 fit.1.0.0 s.1 in
-        let test : is_comparable c u v ≡ true =
-        ap (λ (x : ElementaryType). are_compared c x (type_of v)) ut
-        ∙ ap (λ (x : ElementaryType). are_compared c s.0 x) vt ∙ b.0 in
         to-kinds (Compare c) (v ∷ u ∷ others) (Plain elementary.Bool ∷ rest)
         (ap (λ (x : List CellKind). Some x) b.1)
-        (does-compare types count now next p others slots timers rest fit.1.1 typed c u v test)
+        (does-compare types count now next p others slots timers rest fit.1.1 typed c u v
+        (rw (shown u l s.0 fit.1.0.0 s.1, shown v k t.0 fit.0.0 t.1) b.0))
 
     not-does : (cells : List Value) (kinds : List CellKind)
         → (below (Plain elementary.Bool) kinds >>= (λ rest. Some (Plain elementary.Bool ∷ rest)))
@@ -212,12 +204,9 @@ module _ (types : List ElementaryType) (count now next p : ℕ) (slots : List Va
     not-does cells kinds e fit =
         let k = Plain elementary.Bool in
         let r = bind-some (below k kinds) (λ (rest : List CellKind). Some (k ∷ rest)) after e in
-        let t = tops k kinds r.0 cells r.1 fit in
-        let b = truth-there t.value t.kind in
-        let are : cells ≡ Truth b.0 ∷ t.others = t.are ∙ ap (λ (v : Value). v ∷ t.others) b.1 in
         to-kinds Not cells (k ∷ r.0) r.2
-        (on-cells Not cells (Truth b.0 ∷ t.others) (k ∷ r.0) are
-        (does-not types count now next p t.others slots timers r.0 t.fit typed b.0))
+        (on-bool Not kinds r.0 (k ∷ r.0) r.1 (λ b others f all. does-not types count now next p
+        others slots timers r.0 f typed b) cells fit)
 
     store-does : (n : ℕ) (cells : List Value) (kinds : List CellKind)
         → (slice_get types n >>= (λ t. looks_at (Plain t) kinds)) ≡ Some after → Fit cells kinds
@@ -228,100 +217,41 @@ module _ (types : List ElementaryType) (count now next p : ℕ) (slots : List Va
         e in
         let r = bind-some (below (Plain s.0) kinds) (λ (rest : List CellKind). Some kinds) after s.2
         in
-        let t = tops (Plain s.0) kinds r.0 cells r.1 fit in
         to-kinds (Slot Store n) cells kinds r.2
-        (on-cells (Slot Store n) cells (t.value ∷ t.others) kinds t.are
-        (does-store types count now next p t.value t.others slots timers r.0 t.fit typed n s.0 kinds
-        s.1 t.kind t.is_value (subst (λ (v : List Value). Fit v kinds) t.are fit)))
-
-    drop-does : (cells : List Value) (kinds : List CellKind) → below Any kinds ≡ Some after
-        → Fit cells kinds → Done Drop cells after
-    drop-does cells kinds e fit =
-        let t = tops Any kinds after cells e fit in
-        on-cells Drop cells (t.value ∷ t.others) after t.are
-        (does-drop types count now next p t.value t.others slots timers after t.fit typed)
-
-    set-input-does : (n : ℕ) (cells : List Value) (kinds : List CellKind)
-        → below (Plain elementary.Bool) kinds ≡ Some after → Fit cells kinds → n < count
-        → Done (Timer SetInput n) cells after
-    set-input-does n cells kinds e fit there =
-        let t = tops (Plain elementary.Bool) kinds after cells e fit in
-        let b = truth-there t.value t.kind in
-        on-cells (Timer SetInput n) cells (Truth b.0 ∷ t.others) after
-        (t.are ∙ ap (λ (v : Value). v ∷ t.others) b.1)
-        (does-set-input types count now next p t.others slots timers after t.fit typed n b.0
-        there)
-
-    set-preset-does : (n : ℕ) (cells : List Value) (kinds : List CellKind)
-        → below (Plain elementary.Time) kinds ≡ Some after → Fit cells kinds → n < count
-        → Done (Timer SetPreset n) cells after
-    set-preset-does n cells kinds e fit there =
-        let t = tops (Plain elementary.Time) kinds after cells e fit in
-        let s = span-there t.value t.kind in
-        on-cells (Timer SetPreset n) cells (Span s.0 ∷ t.others) after
-        (t.are ∙ ap (λ (v : Value). v ∷ t.others) s.1)
-        (does-set-preset types count now next p t.others slots timers after t.fit typed n s.0
-        (subst IsValue s.1 t.is_value) there)
+        (on-top (Plain s.0) kinds r.0 (λ these. Done (Slot Store n) these kinds) r.1
+        (λ v others is good f all. does-store types count now next p v others slots timers r.0 f
+        typed n s.0 kinds s.1 is good all) cells fit)
 
     -- WIDEN and WIDENL
-    widen-does : (cells : List Value) (kinds : List CellKind)
-        → widens width.Int width.Dint kinds ≡ Some after → Fit cells kinds
-        → Done (Widen IntToDint) cells after
-    widen-does cells [] e fit = absurd cc
-    widen-does [] (k ∷ rest) e fit = absurd fit
-    widen-does (v ∷ others) (k ∷ rest) e fit =
-        go (is_within k (NotZero width.Int)) (is_within k (Plain elementary.Int)) refl refl e
+    widen-does : (i : Instr) (from to : Width) (cells : List Value) (kinds : List CellKind)
+        → widens from to kinds ≡ Some after → Fit cells kinds
+        → ((z : ℤ) (others : List Value) (rest : List CellKind) (k : CellKind)
+        → HasKind (value_of_width to z) k → IsValue (value_of_width from z) → Fit others rest
+        → Done i (value_of_width from z ∷ others) (k ∷ rest)) → Done i cells after
+    widen-does i from to cells [] e fit does = absurd cc
+    widen-does i from to [] (k ∷ rest) e fit does = absurd fit
+    widen-does i from to (v ∷ others) (k ∷ rest) e fit does =
+        go (is_within k (NotZero from)) (is_within k (Plain (type_of_width from))) refl refl e
       where
-        made : (to : CellKind) → type_of v ≡ elementary.Int → HasKind (Long (number_of v)) to
-            → Some (to ∷ rest) ≡ Some after → Done (Widen IntToDint) (v ∷ others) after
-        made to is kind e =
-            let same : v ≡ Short (number_of v) = number-there width.Int v is in
-            to-kinds (Widen IntToDint) (v ∷ others) (to ∷ rest) e
-            (on-cells (Widen IntToDint) (v ∷ others) (Short (number_of v) ∷ others) (to ∷ rest)
-            (ap (λ (u : Value). u ∷ others) same)
-            (does-widen types count now next p others slots timers rest fit.1 typed (number_of v) to
-            kind (subst IsValue same fit.0.1)))
+        z : ℤ
+        z = number_of v
 
-        go : (a b : Bool) → is_within k (NotZero width.Int) ≡ a
-            → is_within k (Plain elementary.Int) ≡ b
-            → cond a (Some (NotZero width.Dint ∷ rest))
-            (cond b (Some (Plain elementary.Dint ∷ rest)) None) ≡ Some after
-            → Done (Widen IntToDint) (v ∷ others) after
-        go true b f g e = let h = kind-above v k (NotZero width.Int) f fit.0.0 in
-            made (NotZero width.Dint) h.0 (refl, h.1) e
-        go false true f g e = let h =
-            kind-above v k (Plain elementary.Int) g fit.0.0 in made (Plain elementary.Dint) h refl e
-        go false false f g e = absurd cc
+        made : (k : CellKind) → type_of v ≡ type_of_width from → HasKind (value_of_width to z) k
+            → Some (k ∷ rest) ≡ Some after → Done i (v ∷ others) after
+        made k is kind e =
+            let same = number-there from v is in
+            to-kinds i (v ∷ others) (k ∷ rest) e
+            (rw same (does z others rest k kind (subst IsValue same fit.0.1) fit.1))
 
-    widen-long-does : (cells : List Value) (kinds : List CellKind)
-        → widens width.Dint width.Lint kinds ≡ Some after → Fit cells kinds
-        → Done (Widen DintToLint) cells after
-    widen-long-does cells [] e fit = absurd cc
-    widen-long-does [] (k ∷ rest) e fit = absurd fit
-    widen-long-does (v ∷ others) (k ∷ rest) e fit =
-        go (is_within k (NotZero width.Dint)) (is_within k (Plain elementary.Dint)) refl refl e
-      where
-        made : (to : CellKind) → type_of v ≡ elementary.Dint → HasKind (Wide (number_of v)) to
-            → Some (to ∷ rest) ≡ Some after → Done (Widen DintToLint) (v ∷ others) after
-        made to is kind e =
-            let same : v ≡ Long (number_of v) = number-there width.Dint v is in
-            to-kinds (Widen DintToLint) (v ∷ others) (to ∷ rest) e
-            (on-cells (Widen DintToLint) (v ∷ others) (Long (number_of v) ∷ others) (to ∷ rest)
-            (ap (λ (u : Value). u ∷ others) same)
-            (does-widen-long types count now next p others slots timers rest fit.1 typed
-            (number_of v)
-            to kind (subst IsValue same fit.0.1)))
-
-        go : (a b : Bool) → is_within k (NotZero width.Dint) ≡ a
-            → is_within k (Plain elementary.Dint) ≡ b
-            → cond a (Some (NotZero width.Lint ∷ rest))
-            (cond b (Some (Plain elementary.Lint ∷ rest)) None) ≡ Some after
-            → Done (Widen DintToLint) (v ∷ others) after
-        go true b f g e = let h = kind-above v k (NotZero width.Dint) f fit.0.0 in
-            made (NotZero width.Lint) h.0 (refl, h.1) e
-        go false true f g e = let h =
-            kind-above v k (Plain elementary.Dint) g fit.0.0 in
-            made (Plain elementary.Lint) h refl e
+        go : (a b : Bool) → is_within k (NotZero from) ≡ a
+            → is_within k (Plain (type_of_width from)) ≡ b
+            → cond a (Some (NotZero to ∷ rest)) (cond b (Some (Plain (type_of_width to) ∷ rest))
+            None) ≡ Some after → Done i (v ∷ others) after
+        go true b f g e = let h = kind-above v k (NotZero from) f fit.0.0 in
+            made (NotZero to) h.0 (type-in to z, λ zero. h.1 (sym (number_in to z) ∙ zero)) e
+        go false true f g e =
+            made (Plain (type_of_width to)) (kind-above v k (Plain (type_of_width from)) g fit.0.0)
+            (type-in to z) e
         go false false f g e = absurd cc
 
     pub does : (i : Instr) (cells : List Value) (kinds : List CellKind)
@@ -330,15 +260,18 @@ module _ (types : List ElementaryType) (count now next p : ℕ) (slots : List Va
     does Halt cells kinds e good going fit room = absurd (going refl)
     does (Push v) cells kinds e good going fit room =
         to-kinds (Push v) cells (kind_of v ∷ kinds) e
-        (does-push types count now next p cells slots timers kinds fit typed v good
+        (does-push types count now next p cells slots timers typed kinds fit v good
         (room-of (kind_of v ∷ kinds) after e room))
-    does Drop cells kinds e good going fit room = drop-does cells kinds e fit
+    does Drop cells kinds e good going fit room =
+        on-top Any kinds after (λ these. Done Drop these after) e
+        (λ v others is good f all. does-drop types count now next p v others slots timers after f
+        typed) cells fit
     does (Slot Load n) cells kinds e good going fit room =
         let t = bind-some (slice_get types n) (λ (t : ElementaryType). Some (Plain t ∷ kinds)) after
         e
         in
         to-kinds (Slot Load n) cells (Plain t.0 ∷ kinds) t.2
-        (does-load types count now next p cells slots timers kinds fit typed n t.0 t.1
+        (does-load types count now next p cells slots timers typed kinds fit n t.0 t.1
         (room-of (Plain t.0 ∷ kinds) after t.2 room))
     does (Slot Store n) cells kinds e good going fit room = store-does n cells kinds e fit
     does (Slot SetIf n) cells kinds e good going fit room =
@@ -353,11 +286,17 @@ module _ (types : List ElementaryType) (count now next p : ℕ) (slots : List Va
     does (Combine c) cells kinds e good going fit room = combine-does c cells kinds e fit
     does (Compute o w) cells kinds e good going fit room = compute-does o w cells kinds e fit
     does (Compare c) cells kinds e good going fit room = compare-does c cells kinds e fit
-    does (Widen IntToDint) cells kinds e good going fit room = widen-does cells kinds e fit
-    does (Widen DintToLint) cells kinds e good going fit room = widen-long-does cells kinds e fit
+    does (Widen IntToDint) cells kinds e good going fit room =
+        widen-does (Widen IntToDint) width.Int width.Dint cells kinds e fit
+        (λ z others rest k kind good f. does-widen types count now next p others slots timers rest f
+        typed z k kind good)
+    does (Widen DintToLint) cells kinds e good going fit room =
+        widen-does (Widen DintToLint) width.Dint width.Lint cells kinds e fit
+        (λ z others rest k kind good f. does-widen-long types count now next p others slots timers
+        rest f typed z k kind good)
     does (Jump Always distance) cells kinds e good going fit room =
         to-kinds (Jump Always distance) cells kinds e
-        (does-jump types count now next p cells slots timers kinds fit typed distance)
+        (does-jump types count now next p cells slots timers typed kinds fit distance)
     does (Jump IfTrue distance) cells kinds e good going fit room =
         on-truth (Jump IfTrue distance) cells kinds e fit
         (λ b others rest f all. does-jump-if types count now next p others slots timers rest f
@@ -368,21 +307,27 @@ module _ (types : List ElementaryType) (count now next p : ℕ) (slots : List Va
         typed b distance kinds all)
     does (Timer SetInput n) cells kinds e good going fit room =
         on-timer (Timer SetInput n) n cells (below (Plain elementary.Bool) kinds) e
-        (λ there f. set-input-does n cells kinds f fit there)
+        (λ there f. on-bool (Timer SetInput n) kinds after after f
+        (λ b others g all. does-set-input types count now next p others slots timers after g typed n
+        b there) cells fit)
     does (Timer SetPreset n) cells kinds e good going fit room =
         on-timer (Timer SetPreset n) n cells (below (Plain elementary.Time) kinds) e
-        (λ there f. set-preset-does n cells kinds f fit there)
+        (λ there f. on-top (Plain elementary.Time) kinds after
+        (λ these. Done (Timer SetPreset n) these after) f
+        (λ v others is good g all. let s = span-there v is in
+        rw s.1 (does-set-preset types count now next p others slots timers after g typed n s.0
+        (subst IsValue s.1 good) there)) cells fit)
     does (Timer Run n) cells kinds e good going fit room =
         on-timer (Timer Run n) n cells (Some kinds) e
         (λ there f. to-kinds (Timer Run n) cells kinds f
-        (does-run types count now next p cells slots timers kinds fit typed n there))
+        (does-run types count now next p cells slots timers typed kinds fit n there))
     does (Timer LoadOutput n) cells kinds e good going fit room =
         on-timer (Timer LoadOutput n) n cells (Some (Plain elementary.Bool ∷ kinds)) e
         (λ there f. to-kinds (Timer LoadOutput n) cells (Plain elementary.Bool ∷ kinds) f
-        (does-load-output types count now next p cells slots timers kinds fit typed n there
+        (does-load-output types count now next p cells slots timers typed kinds fit n there
         (room-of (Plain elementary.Bool ∷ kinds) after f room)))
     does (Timer LoadElapsed n) cells kinds e good going fit room =
         on-timer (Timer LoadElapsed n) n cells (Some (Plain elementary.Time ∷ kinds)) e
         (λ there f. to-kinds (Timer LoadElapsed n) cells (Plain elementary.Time ∷ kinds) f
-        (does-load-elapsed types count now next p cells slots timers kinds fit typed n there
+        (does-load-elapsed types count now next p cells slots timers typed kinds fit n there
         (room-of (Plain elementary.Time ∷ kinds) after f room)))

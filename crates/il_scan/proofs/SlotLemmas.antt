@@ -1,8 +1,8 @@
 -- Inputs, outputs and first values, told by words and by the values that they stand for.
+use Rattle.std.proofs.lemmas.Grind.{common_steps}
 use Rattle.std.proofs.Common.{◌≡◌, ℕ, zero, suc, ◌+◌, ◌<◌, ◌≤◌, ℤ, pos, Bool, true, false, not, cond, List, [], ◌∷◌, ◌++◌, length, get_or, map, take, drop, refl, sym, ap, subst, ◌∙◌, arith, Option, Some, None, ◌&&◌}
 use Rattle.std.specs.Prelude.{IsSome, slice_get}
 use Rattle.bay_base.specs.declared.types.ElementaryType.{ElementaryType}
-use Rattle.bay_base.specs.declared.types.ElementaryType.TheVariants as elementary
 use Rattle.il_image.specs.declared.image.ImagePoint.{ImagePoint}
 use Rattle.il_image.specs.declared.timer.TimerState.{TimerState}
 use Rattle.bay_base.specs.declared.types.TimerKind.{TimerKind}
@@ -175,11 +175,7 @@ same-slot types words others n e =
 -- ---- at first
 
 first_number : (t : ElementaryType) → number_of (default_value t) ≡ pos 0
-first_number elementary.Bool = refl
-first_number elementary.Int = refl
-first_number elementary.Dint = refl
-first_number elementary.Lint = refl
-first_number elementary.Time = refl
+first_number t = grind (arith, common_steps)
 
 first-words : (points : List ImagePoint) (variables : List Value)
     → map (λ (p : ImagePoint). pos 0) points ++ words_of variables

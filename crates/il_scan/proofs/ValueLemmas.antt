@@ -1,4 +1,5 @@
 -- Values, their words, and what arithmetic makes of them.
+use Rattle.std.proofs.lemmas.Grind.{common_steps}
 use Rattle.std.proofs.Common.{◌≡◌, ℕ, suc, ◌<◌, ◌≤◌, ◌^◌, ℤ, pos, negsuc, FitsSigned, Bool, true, false, cond, leb, refl, sym, ap, ◌∙◌, arith, Option, Some, None}
 use Rattle.std.specs.Prelude.{IsSome, unwrap_or}
 use Rattle.std.specs.Int.{Width as Bits, w16, w32, w64, int_wrap}
@@ -13,7 +14,6 @@ use Rattle.il_image.specs.declared.arithmetic.Width.{Width}
 use Rattle.il_image.specs.declared.arithmetic.Width.TheVariants as width
 use Rattle.il_image.specs.declared.kind.CellKind.TheVariants.{Plain, NotZero}
 use Rattle.il_image.specs.declared.opcode.Connective.{Connective}
-use Rattle.il_image.specs.declared.opcode.Connective.TheVariants.{And, Or, Xor}
 use Rattle.il_image.specs.declared.value.Value.{Value}
 use Rattle.il_image.specs.declared.value.Value.TheVariants.{Truth, Short, Long, Wide, Span}
 use Rattle.il_image.specs.Arithmetic.{logic_of, type_of_width, wrap_to}
@@ -33,15 +33,6 @@ truth-word false = refl
 pub truth-value : (b : Bool) → IsValue (Truth b)
 truth-value true = refl
 truth-value false = refl
-
--- Two values of one type that have one number are the same.
-pub same-value : (v u : Value) → IsValue v → IsValue u → type_of v ≡ type_of u
-    → number_of v ≡ number_of u → v ≡ u
-same-value v u is its t n =
-    let all : Some v ≡ Some u =
-    sym (value-back v is) ∙ ap (λ (s : ElementaryType). value_of s (number_of v)) t
-    ∙ ap (value_of (type_of u)) n ∙ value-back u its in
-    cc
 
 -- the value of a type that its number stands for
 pub value-again : (t : ElementaryType) (v : Value) → type_of v ≡ t → IsValue v
@@ -164,33 +155,8 @@ span-there (Span n) e = (n, refl)
 
 pub number-there : (w : Width) (v : Value) → type_of v ≡ type_of_width w
     → v ≡ value_of_width w (number_of v)
-number-there width.Int (Short z) e = refl
-number-there width.Dint (Long z) e = refl
-number-there width.Lint (Wide z) e = refl
-number-there width.Int (Truth b) e = absurd cc
-number-there width.Int (Long z) e = absurd cc
-number-there width.Int (Wide z) e = absurd cc
-number-there width.Int (Span n) e = absurd cc
-number-there width.Dint (Truth b) e = absurd cc
-number-there width.Dint (Short z) e = absurd cc
-number-there width.Dint (Wide z) e = absurd cc
-number-there width.Dint (Span n) e = absurd cc
-number-there width.Lint (Truth b) e = absurd cc
-number-there width.Lint (Short z) e = absurd cc
-number-there width.Lint (Long z) e = absurd cc
-number-there width.Lint (Span n) e = absurd cc
+number-there w v h = grind (arith, common_steps)
 
 pub combined-is : (c : Connective) (a b : Bool)
     → logic_word c (number_of (Truth a)) (number_of (Truth b)) ≡ number_of (Truth (logic_of c a b))
-combined-is And true true = refl
-combined-is And true false = refl
-combined-is And false true = refl
-combined-is And false false = refl
-combined-is Or true true = refl
-combined-is Or true false = refl
-combined-is Or false true = refl
-combined-is Or false false = refl
-combined-is Xor true true = refl
-combined-is Xor true false = refl
-combined-is Xor false true = refl
-combined-is Xor false false = refl
+combined-is c a b = grind (arith, common_steps)
