@@ -82,11 +82,8 @@ back-point p rest is = back-access p.writable p.elementary p.name rest is
 -- ---- variables, timers
 
 wide : (t : ElementaryType) (z : _) → FitsSigned (bits_of_size (size_of t)) z → FitsSigned w64 z
-wide elementary.Bool z fits = let h = fits.sfits in record { sfits = omega arith }
-wide elementary.Int z fits = let h = fits.sfits in record { sfits = omega arith }
-wide elementary.Dint z fits = let h = fits.sfits in record { sfits = omega arith }
 wide elementary.Lint z fits = fits
-wide elementary.Time z fits = let h = fits.sfits in record { sfits = omega arith }
+wide i z fits = let h = fits.sfits in record { sfits = omega arith }
 
 back-variable : Reads (variable_octets Two) IsValue (variable_at Two)
 unfolding variable_at

@@ -4,7 +4,6 @@ use Rattle.std.proofs.Common.{◌≡◌, ℕ, zero, suc, ◌+◌, ◌<◌, ◌�
 use Rattle.std.specs.Prelude.{◌↔◌, ◌⊎◌, IsSome, IsTrue, option_map, slice_get}
 use Rattle.std.proofs.lemmas.Bool.{eq-eqb, eqb-true, lt-ltb, ltb-true, cases_eq}
 use Rattle.il_image.specs.declared.arithmetic.Width.{Width}
-use Rattle.il_image.specs.declared.arithmetic.Width.TheVariants as width
 use Rattle.il_image.specs.declared.instr.Instr.{Instr}
 use Rattle.il_image.specs.declared.instr.Instr.TheVariants.{Halt, Push, Drop, Slot, Not, Combine, Compute, Compare, Widen, Jump, Timer}
 use Rattle.il_image.specs.declared.opcode.SlotUse.TheVariants.{Load, Store, SetIf, ResetIf}
@@ -12,7 +11,7 @@ use Rattle.il_image.specs.declared.opcode.When.TheVariants.{Always, IfTrue, IfFa
 use Rattle.il_image.specs.declared.opcode.TimerUse.TheVariants.{SetInput, SetPreset, Run, LoadOutput, LoadElapsed}
 use Rattle.il_image.specs.declared.timer.TimerState.{TimerState}
 use Rattle.il_image.specs.declared.value.Value.{Value}
-use Rattle.il_image.specs.declared.value.Value.TheVariants.{Truth, Short, Long, Wide, Span}
+use Rattle.il_image.specs.declared.value.Value.TheVariants.{Truth}
 use Rattle.il_image.specs.Machine.{State, Turn, Goes, Halts, Traps, MissingSlot, MissingTimer, WrongKind, ZeroDivisor, Ending, Unfinished, act, as_number, as_span, as_truth, divides, ending_of, goes, is_comparable, pushes, run_from, stores, value_of_width, turn_of, with_slot, with_timer, with_top, with_truths, with_two}
 use Rattle.bay_base.specs.Types.{same_type}
 use Rattle.il_image.specs.Arithmetic.{comparison_holds, computation_of, wider_value}

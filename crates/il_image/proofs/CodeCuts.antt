@@ -1,5 +1,4 @@
 -- Code that is cut short: others complete it, or it ends in an instruction that has no room.
-use Rattle.std.proofs.lemmas.Grind.{common_steps}
 use Rattle.std.proofs.Common.{◌≡◌, ℕ, zero, suc, ◌+◌, ◌-◌, ◌^◌, ◌<◌, ◌≤◌, Bool, true, false, cond, eqb, List, [], ◌∷◌, ◌++◌, length, take, drop, Option, Some, None, refl, sym, subst, ap, ◌∙◌, arith, append-nil, inl, inr}
 use Rattle.std.specs.Prelude.{Ok, Err, Result, ◌⊎◌}
 use Rattle.std.specs.Int.{from_be_bytes, w16}
@@ -170,17 +169,13 @@ width-reads Two o = refl
 operand-begins : (version : Version) (o : Opcode) (octets : List ℕ)
     → operand_from version o octets ≡ Err Truncated → Operand version o octets
 unfolding copies
-operand-begins version opcode.Halt octets e = absurd cc
 operand-begins version (opcode.Push t) octets e =
     push-begins version t octets
     (value-few (size_of t) t octets (err-mapped (value_at (size_of t) t octets)
     (λ (v : Value × List ℕ). (instr.Push v.0, v.1)) e))
-operand-begins version opcode.Drop octets e = absurd cc
 operand-begins version (opcode.Slot u) octets e =
     zero-operand version (opcode.Slot u) 2 (instr.Slot u 0) octets refl
     (numbered-few (λ n. instr.Slot u n) octets e)
-operand-begins version opcode.Not octets e = absurd cc
-operand-begins version (opcode.Combine c) octets e = absurd cc
 operand-begins version (opcode.Compute o) [] e = record {
   operand = 2 ∷ [];
   instr = instr.Compute o width.Int;
@@ -192,14 +187,13 @@ operand-begins version (opcode.Compute o) (x ∷ octets) e =
     absurd (known-never (width_of version x) octets
     (err-mapped (known_value (width_of version x) >>= (λ (w : Width). Ok (w, octets)))
     (λ (w : Width × List ℕ). (instr.Compute o w.0, w.1)) e))
-operand-begins version (opcode.Compare c) octets e = absurd cc
-operand-begins version (opcode.Widen w) octets e = absurd cc
 operand-begins version (opcode.Jump when) octets e =
     zero-operand version (opcode.Jump when) 2 (instr.Jump when 0) octets refl
     (numbered-few (λ n. instr.Jump when n) octets e)
 operand-begins version (opcode.Timer u) octets e =
     zero-operand version (opcode.Timer u) 2 (instr.Timer u 0) octets refl
     (numbered-few (λ n. instr.Timer u n) octets e)
+operand-begins version i x e = absurd cc
 
 instr-begins : (version : Version) (octets : List ℕ) → AreOctets octets → 0 < length octets
     → instr_from version octets ≡ Err Truncated → BeginsInstr version octets

@@ -1,6 +1,5 @@
 -- What has to end where it ends: of octets it says the same whatever follows them, or wants more of
 -- them, or is whole and has others behind it.
-use Rattle.std.proofs.lemmas.Grind.{common_steps}
 use Rattle.std.proofs.Common.{◌≡◌, ℕ, zero, suc, ◌<◌, ◌≤◌, Bool, true, false, cond, eqb, List, [], ◌∷◌, ◌++◌, length, take, drop, get_or, Option, Some, None, refl, sym, subst, ap, ◌∙◌, arith, append-nil, inl, inr}
 use Rattle.std.specs.Prelude.{Ok, Err, Result, ◌⊎◌}
 use Rattle.std.proofs.lemmas.Bool.{eqb-true, ne_eqb}
@@ -8,7 +7,7 @@ use Rattle.std.proofs.lemmas.List.{length-append, take-append-drop, take-append-
 use Rattle.std.proofs.Math.Seq.{take-length, take-suc}
 use Rattle.bay_base.specs.Results.{◌>>=◌}
 use Rattle.il_image.specs.declared.fault.ImageFault.{ImageFault}
-use Rattle.il_image.specs.declared.fault.ImageFault.TheVariants.{BadMagic, BadVersion, BadOpcode, Truncated, OutOfMemory}
+use Rattle.il_image.specs.declared.fault.ImageFault.TheVariants.{BadMagic, BadOpcode, Truncated}
 use Rattle.il_image.specs.declared.instr.Instr.{Instr}
 use Rattle.il_image.specs.declared.opcode.Version.{Version}
 use Rattle.il_image.specs.Decoding.{IsFirstBad, behind, code_at, code_fault, code_of_length, image_spelled, fault_behind}
@@ -177,10 +176,7 @@ octets-behind octets more i e some =
 -- a fault is the want of more octets, or stays whatever follows
 cut-or-not : (e : ImageFault) → (e ≡ Truncated) ⊎ (e ≡ Truncated → ⊥)
 cut-or-not Truncated = inl refl
-cut-or-not BadMagic = inr (λ h. cc)
-cut-or-not BadVersion = inr (λ h. cc)
-cut-or-not BadOpcode = inr (λ h. cc)
-cut-or-not OutOfMemory = inr (λ h. cc)
+cut-or-not i = inr (λ h. cc)
 
 stays : (octets more : List ℕ) (e : ImageFault) → image_spelled octets ≡ Err e → 0 < length more
     → (e ≡ Truncated → ⊥) → image_spelled (octets ++ more) ≡ Err e

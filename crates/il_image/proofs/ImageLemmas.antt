@@ -5,7 +5,6 @@ use Rattle.std.specs.Prelude.{Ok, slice_index}
 use Rattle.bay_base.specs.Results.{◌>>=◌}
 use Rattle.il_image.specs.declared.image.ImagePoint.{ImagePoint}
 use Rattle.il_image.specs.declared.opcode.Version.{Version}
-use Rattle.il_image.specs.declared.opcode.Version.TheVariants.{One, Two}
 use Rattle.bay_base.specs.declared.types.TimerKind.{TimerKind}
 use Rattle.il_image.specs.declared.value.Value.{Value}
 use Rattle.il_image.specs.Decoding.{behind, code_at, counted_at, image_spelled, point_at, timer_at, variable_at, version_at}

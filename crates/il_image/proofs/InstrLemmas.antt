@@ -10,24 +10,23 @@ use Rattle.bay_base.specs.declared.types.ElementaryType.{ElementaryType}
 use Rattle.bay_base.specs.declared.types.ElementaryType.TheVariants as elementary
 use Rattle.il_image.specs.declared.arithmetic.Width.{Width}
 use Rattle.il_image.specs.declared.arithmetic.Width.TheVariants as width
-use Rattle.il_image.specs.declared.arithmetic.Operation.TheVariants.{Add, Sub, Mul, Div, Mod}
-use Rattle.il_image.specs.declared.arithmetic.Comparison.TheVariants.{Gt, Ge, Eq, Ne, Le, Lt}
+use Rattle.il_image.specs.declared.arithmetic.Operation.TheVariants.{Add}
+use Rattle.il_image.specs.declared.arithmetic.Comparison.TheVariants.{Gt}
 use Rattle.il_image.specs.declared.fault.ImageFault.{ImageFault}
 use Rattle.il_image.specs.declared.fault.ImageFault.TheVariants.{BadOpcode}
 use Rattle.il_image.specs.declared.instr.Instr.{Instr}
 use Rattle.il_image.specs.declared.instr.Instr.TheVariants as instr
-use Rattle.il_image.specs.declared.opcode.Connective.TheVariants.{And, Or, Xor}
-use Rattle.il_image.specs.declared.opcode.SlotUse.TheVariants.{Load, Store, SetIf, ResetIf}
-use Rattle.il_image.specs.declared.opcode.Widening.TheVariants.{IntToDint, DintToLint}
-use Rattle.il_image.specs.declared.opcode.When.TheVariants.{Always, IfTrue, IfFalse}
-use Rattle.il_image.specs.declared.opcode.TimerUse.TheVariants.{SetInput, SetPreset, Run, LoadOutput, LoadElapsed}
+use Rattle.il_image.specs.declared.opcode.Connective.TheVariants.{And}
+use Rattle.il_image.specs.declared.opcode.SlotUse.TheVariants.{Load}
+use Rattle.il_image.specs.declared.opcode.Widening.TheVariants.{IntToDint}
+use Rattle.il_image.specs.declared.opcode.When.TheVariants.{Always}
+use Rattle.il_image.specs.declared.opcode.TimerUse.TheVariants.{SetInput}
 use Rattle.il_image.specs.declared.opcode.Opcode.{Opcode}
 use Rattle.il_image.specs.declared.opcode.Opcode.TheVariants.{Halt, Push, Drop, Slot, Not, Combine, Compute, Compare, Widen, Jump, Timer}
 use Rattle.il_image.specs.declared.opcode.Version.{Version}
 use Rattle.il_image.specs.declared.opcode.Version.TheVariants.{One, Two}
 use Rattle.il_image.specs.declared.value.Value.{Value}
 use Rattle.il_image.specs.declared.write.Size.{Size}
-use Rattle.il_image.specs.declared.write.Size.TheVariants as size
 use Rattle.il_image.specs.Octets.{AreOctets, octet_count, number_octets, signed_octets, size_of}
 use Rattle.il_image.specs.Opcodes.{octet_of, opcodes, opcode_of, is_known, width_octet, width_of}
 use Rattle.il_image.specs.Reading.{Read, known_value, known_opcode, octet_at, number_at, signed_at, value_at, width_at, with_number, operand_from, instr_from}
@@ -54,42 +53,15 @@ opcode_is octet o e =
 
 pub opcode-back : (o : Opcode) → opcode_of (octet_of o) ≡ Some o
 unfolding opcode_of
-opcode-back Halt = refl
 opcode-back (Push elementary.Bool) = refl
-opcode-back (Push elementary.Int) = refl
-opcode-back (Push elementary.Dint) = refl
-opcode-back (Push elementary.Time) = refl
-opcode-back (Push elementary.Lint) = refl
-opcode-back Drop = refl
 opcode-back (Slot Load) = refl
-opcode-back (Slot Store) = refl
-opcode-back (Slot SetIf) = refl
-opcode-back (Slot ResetIf) = refl
-opcode-back Not = refl
 opcode-back (Combine And) = refl
-opcode-back (Combine Or) = refl
-opcode-back (Combine Xor) = refl
 opcode-back (Compute Add) = refl
-opcode-back (Compute Sub) = refl
-opcode-back (Compute Mul) = refl
-opcode-back (Compute Div) = refl
-opcode-back (Compute Mod) = refl
 opcode-back (Compare Gt) = refl
-opcode-back (Compare Ge) = refl
-opcode-back (Compare Eq) = refl
-opcode-back (Compare Ne) = refl
-opcode-back (Compare Le) = refl
-opcode-back (Compare Lt) = refl
 opcode-back (Widen IntToDint) = refl
-opcode-back (Widen DintToLint) = refl
 opcode-back (Jump Always) = refl
-opcode-back (Jump IfTrue) = refl
-opcode-back (Jump IfFalse) = refl
 opcode-back (Timer SetInput) = refl
-opcode-back (Timer SetPreset) = refl
-opcode-back (Timer Run) = refl
-opcode-back (Timer LoadOutput) = refl
-opcode-back (Timer LoadElapsed) = refl
+opcode-back o = refl
 
 known-is : (version : Version) (o : Option Opcode) (opcode : Opcode)
     → known_opcode version o ≡ Ok opcode → (o ≡ Some opcode) × (is_known version opcode ≡ true)
@@ -317,21 +289,16 @@ back-numbered make n rest small =
 
 back-operand : (i : Instr) (rest : List ℕ) → IsInstr i
     → operand_from Two (opcode_of_instr i) (operand_of i ++ rest) ≡ Ok (i, rest)
-back-operand instr.Halt rest good = refl
 back-operand (instr.Push v) rest good =
     bind-is (value_at (size_of (type_of v)) (type_of v)
     (signed_octets (size_of (type_of v)) (number_of v) ++ rest))
     (λ (x : Value × List ℕ). Ok (instr.Push x.0, x.1)) (v, rest) (Ok (instr.Push v, rest))
     (back-value v rest good) refl
-back-operand instr.Drop rest good = refl
 back-operand (instr.Slot u n) rest good = back-numbered (λ m. instr.Slot u m) n rest good
-back-operand instr.Not rest good = refl
-back-operand (instr.Combine c) rest good = refl
 back-operand (instr.Compute o w) rest good = rw (width-back w) refl
-back-operand (instr.Compare c) rest good = refl
-back-operand (instr.Widen w) rest good = refl
 back-operand (instr.Jump when n) rest good = back-numbered (λ m. instr.Jump when m) n rest good
 back-operand (instr.Timer u n) rest good = back-numbered (λ m. instr.Timer u m) n rest good
+back-operand i rest good = refl
 
 pub back-instr : (i : Instr) (rest : List ℕ) → IsInstr i
     → instr_from Two (spelling i ++ rest) ≡ Ok (i, rest)

@@ -16,7 +16,7 @@ use Rattle.il_image.specs.declared.fault.ImageFault.TheVariants.{BadVersion, Bad
 use Rattle.il_image.specs.declared.instr.Instr.{Instr}
 use Rattle.il_image.specs.declared.instr.Instr.TheVariants as instr
 use Rattle.il_image.specs.declared.opcode.Opcode.{Opcode}
-use Rattle.il_image.specs.declared.opcode.Opcode.TheVariants.{Halt, Push, Drop, Slot, Not, Combine, Compute, Compare, Widen, Jump, Timer}
+use Rattle.il_image.specs.declared.opcode.Opcode.TheVariants.{Push, Slot, Compute, Jump, Timer}
 use Rattle.il_image.specs.declared.opcode.Version.{Version}
 use Rattle.il_image.specs.declared.opcode.Version.TheVariants.{One, Two}
 use Rattle.il_image.specs.declared.write.Size.{Size}
@@ -200,17 +200,12 @@ sound-with : (make : ℕ → Instr) → Sound (with_number make)
 sound-with make = sound-then _ sound-number (λ n. sound-ok)
 
 sound-operand : (version : Version) (o : Opcode) → Sound (operand_from version o)
-sound-operand version Halt = sound-ok
 sound-operand version (Push t) = sound-then _ (sound-value (size_of t) t) (λ v. sound-ok)
-sound-operand version Drop = sound-ok
 sound-operand version (Slot use_of) = sound-with (λ n. instr.Slot use_of n)
-sound-operand version Not = sound-ok
-sound-operand version (Combine c) = sound-ok
 sound-operand version (Compute o) = sound-then _ (sound-width version) (λ w. sound-ok)
-sound-operand version (Compare c) = sound-ok
-sound-operand version (Widen w) = sound-ok
 sound-operand version (Jump when) = sound-with (λ n. instr.Jump when n)
 sound-operand version (Timer use_of) = sound-with (λ n. instr.Timer use_of n)
+sound-operand version i = sound-ok
 
 sound-opcode : (version : Version) (r : Result Opcode ImageFault)
     → Sound (λ octets. r >>= (λ o. operand_from version o octets))

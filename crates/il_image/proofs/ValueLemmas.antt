@@ -102,7 +102,4 @@ value-back (Span n) h = rw (some-if (is_between (pos 0) (pos 0x7FFF_FFFF) (pos n
 pub default-typed : (t : ElementaryType)
     → (type_of (default_value t) ≡ t) × IsValue (default_value t)
 default-typed elementary.Bool = (refl, refl)
-default-typed elementary.Int = (refl, refl)
-default-typed elementary.Dint = (refl, refl)
-default-typed elementary.Lint = (refl, refl)
-default-typed elementary.Time = (refl, refl)
+default-typed t = (refl, refl)
