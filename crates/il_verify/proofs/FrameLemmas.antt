@@ -23,12 +23,10 @@ join-all-over (x ∷ xs) (y ∷ ys) e =
 
 join-all-least : (xs ys top : List CellKind) → AreWithin xs top → AreWithin ys top
     → AreWithin (join_all xs ys) top
-join-all-least [] [] top h g = h
-join-all-least [] (y ∷ ys) top h g = h
-join-all-least (x ∷ xs) [] top h g = h
 join-all-least (x ∷ xs) (y ∷ ys) [] h g = absurd h
 join-all-least (x ∷ xs) (y ∷ ys) (t ∷ top) h g =
     (join-least x y t h.0 g.0, join-all-least xs ys top h.1 g.1)
+join-all-least i x y h g = h
 
 join-all-least-reversed : (xs ys top : List CellKind) → AreWithin (reverse xs) top
     → AreWithin (reverse ys) top → AreWithin (reverse (join_all xs ys)) top

@@ -12,12 +12,12 @@ use Rattle.bay_base.specs.declared.types.ElementaryType.TheVariants as elementar
 use Rattle.bay_base.specs.Types.{same_type}
 use Rattle.il_image.specs.declared.arithmetic.Width.{Width}
 use Rattle.il_image.specs.declared.instr.Instr.{Instr}
-use Rattle.il_image.specs.declared.instr.Instr.TheVariants.{Halt, Push, Drop, Slot, Not, Combine, Compute, Compare, Widen, Jump, Timer}
+use Rattle.il_image.specs.declared.instr.Instr.TheVariants.{Drop, Slot, Not, Combine, Compute, Compare, Widen, Jump, Timer}
 use Rattle.il_image.specs.declared.kind.CellKind.{CellKind}
 use Rattle.il_image.specs.declared.kind.CellKind.TheVariants.{Any, Plain, NotZero}
 use Rattle.il_image.specs.declared.opcode.SlotUse.TheVariants.{Load, Store, SetIf, ResetIf}
 use Rattle.il_image.specs.declared.opcode.Widening.TheVariants.{IntToDint, DintToLint}
-use Rattle.il_image.specs.declared.opcode.When.TheVariants.{Always, IfTrue, IfFalse}
+use Rattle.il_image.specs.declared.opcode.When.TheVariants.{IfTrue, IfFalse}
 use Rattle.il_image.specs.declared.opcode.TimerUse.TheVariants.{SetInput, SetPreset, Run, LoadOutput, LoadElapsed}
 use Rattle.il_image.specs.Arithmetic.{type_of_width}
 use Rattle.il_image.specs.Effects.{below, effect, looks_at, second_kind, two, with_timer, with_truth}
@@ -90,9 +90,6 @@ timer-made timers n made gives e = go (nat_lt n timers) e
 
 nothing-missing : (slots : List SlotType) (timers : ℕ) (i : Instr) (kinds gives : List CellKind)
     → effect (types_of slots) timers i kinds ≡ Some gives → missing (length slots) timers i ≡ None
-nothing-missing slots timers Halt kinds gives e = refl
-nothing-missing slots timers (Push v) kinds gives e = refl
-nothing-missing slots timers Drop kinds gives e = refl
 nothing-missing slots timers (Slot Load n) kinds gives e =
     slot-there slots n (λ (t : ElementaryType). Some (Plain t ∷ kinds)) gives e
 nothing-missing slots timers (Slot Store n) kinds gives e =
@@ -103,17 +100,12 @@ nothing-missing slots timers (Slot SetIf n) kinds gives e =
 nothing-missing slots timers (Slot ResetIf n) kinds gives e =
     slot-there slots n (λ (t : ElementaryType). cond (same_type t elementary.Bool)
     (looks_at (Plain elementary.Bool) kinds) None) gives e
-nothing-missing slots timers Not kinds gives e = refl
-nothing-missing slots timers (Combine c) kinds gives e = refl
-nothing-missing slots timers (Compute o w) kinds gives e = refl
-nothing-missing slots timers (Compare c) kinds gives e = refl
-nothing-missing slots timers (Widen w) kinds gives e = refl
-nothing-missing slots timers (Jump when distance) kinds gives e = refl
 nothing-missing slots timers (Timer SetInput n) kinds gives e = timer-there timers n _ gives e
 nothing-missing slots timers (Timer SetPreset n) kinds gives e = timer-there timers n _ gives e
 nothing-missing slots timers (Timer Run n) kinds gives e = timer-there timers n _ gives e
 nothing-missing slots timers (Timer LoadOutput n) kinds gives e = timer-there timers n _ gives e
 nothing-missing slots timers (Timer LoadElapsed n) kinds gives e = timer-there timers n _ gives e
+nothing-missing slots timers i kinds gives e = refl
 
 -- ---- enough values
 
@@ -162,11 +154,8 @@ truth-some types n kinds gives e =
 
 enough : (types : List ElementaryType) (timers : ℕ) (i : Instr) (kinds gives : List CellKind)
     → effect types timers i kinds ≡ Some gives → operands i ≤ length kinds
-enough types timers Halt kinds gives e = omega arith
-enough types timers (Push v) kinds gives e = omega arith
 enough types timers Drop kinds gives e = let size : length kinds ≡ suc (length gives) =
     below-some Any kinds gives e in omega arith
-enough types timers (Slot Load n) kinds gives e = omega arith
 enough types timers (Slot Store n) kinds gives e =
     let t = bind-some (slice_get types n) (λ (t : ElementaryType). looks_at (Plain t) kinds) gives e
     in looks-some (Plain t.0) kinds gives t.2
@@ -178,13 +167,10 @@ enough types timers (Combine c) kinds gives e =
     two-some (Plain elementary.Bool) (Plain elementary.Bool) (Plain elementary.Bool) kinds gives e
 enough types timers (Compute o w) kinds gives e =
     two-some (second_kind o w) (Plain (type_of_width w)) (Plain (type_of_width w)) kinds gives e
-enough types timers (Compare c) (x ∷ y ∷ kinds) gives e = omega arith
 enough types timers (Compare c) (x ∷ []) gives e = absurd cc
 enough types timers (Compare c) [] gives e = absurd cc
 enough types timers (Widen IntToDint) [] gives e = absurd cc
 enough types timers (Widen DintToLint) [] gives e = absurd cc
-enough types timers (Widen w) (x ∷ kinds) gives e = omega arith
-enough types timers (Jump Always distance) kinds gives e = omega arith
 enough types timers (Jump IfTrue distance) kinds gives e =
     looks-some (Plain elementary.Bool) kinds gives e
 enough types timers (Jump IfFalse distance) kinds gives e =
@@ -195,9 +181,7 @@ enough types timers (Timer SetInput n) kinds gives e =
 enough types timers (Timer SetPreset n) kinds gives e =
     let size : length kinds ≡ suc (length gives) =
     below-some (Plain elementary.Time) kinds gives (timer-made timers n _ gives e) in omega arith
-enough types timers (Timer Run n) kinds gives e = omega arith
-enough types timers (Timer LoadOutput n) kinds gives e = omega arith
-enough types timers (Timer LoadElapsed n) kinds gives e = omega arith
+enough types timers i x gives e = omega arith
 
 -- ---- the kinds fit
 
@@ -227,16 +211,7 @@ undivided-some types timers (Compute o w) kinds gives e =
     let wide : below number kinds ≡ Some m.0 =
     wider-below (second_kind o w) number kinds m.0 (second-within w (divides o)) m.1 in
     rw wide m.2
-undivided-some types timers Halt kinds gives e = e
-undivided-some types timers (Push v) kinds gives e = e
-undivided-some types timers Drop kinds gives e = e
-undivided-some types timers (Slot slot_use n) kinds gives e = e
-undivided-some types timers Not kinds gives e = e
-undivided-some types timers (Combine c) kinds gives e = e
-undivided-some types timers (Compare c) kinds gives e = e
-undivided-some types timers (Widen w) kinds gives e = e
-undivided-some types timers (Jump when distance) kinds gives e = e
-undivided-some types timers (Timer timer_use n) kinds gives e = e
+undivided-some types timers i kinds gives e = e
 
 fits-all : (a b : Option (List CellKind)) (x y : List CellKind) → a ≡ Some x → b ≡ Some y
     → unfit a b ≡ None
@@ -374,15 +349,7 @@ unfit-own (Some x) (Some y) = tt
 missing-own : (slots timers : ℕ) (i : Instr) → AllOwn (missing slots timers i)
 missing-own slots timers (Slot slot_use n) = unless-own (nat_lt n slots) NoSlot tt
 missing-own slots timers (Timer timer_use n) = unless-own (nat_lt n timers) NoTimer tt
-missing-own slots timers Halt = tt
-missing-own slots timers (Push v) = tt
-missing-own slots timers Drop = tt
-missing-own slots timers Not = tt
-missing-own slots timers (Combine c) = tt
-missing-own slots timers (Compute o w) = tt
-missing-own slots timers (Compare c) = tt
-missing-own slots timers (Widen w) = tt
-missing-own slots timers (Jump when distance) = tt
+missing-own slots timers i = tt
 
 pub own-of : (slots : List SlotType) (timers : ℕ) (i : Instr) (kinds : List CellKind)
     (f : VerifyFault)

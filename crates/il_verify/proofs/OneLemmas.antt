@@ -30,15 +30,10 @@ width-same w v h = grind (arith, common_steps)
 
 kind-same : (a b : CellKind) → is_within a b ≡ true → is_within b a ≡ true → a ≡ b
 kind-same Any Any h g = refl
-kind-same Any (Plain t) h g = absurd (cc)
-kind-same Any (NotZero w) h g = absurd (cc)
-kind-same (Plain t) Any h g = absurd (cc)
 kind-same (Plain t) (Plain u) h g = ap (λ (k : ElementaryType). Plain k) (same-is t u h)
-kind-same (Plain t) (NotZero w) h g = absurd (cc)
-kind-same (NotZero w) Any h g = absurd (cc)
-kind-same (NotZero w) (Plain t) h g = absurd (cc)
 kind-same (NotZero w) (NotZero v) h g =
     ap (λ (k : Width). NotZero k) (width-same w v (same-is (type_of_width w) (type_of_width v) h))
+kind-same i x h g = absurd (cc)
 
 kinds-same : (xs ys : List CellKind) → AreWithin xs ys → AreWithin ys xs → xs ≡ ys
 kinds-same [] [] h g = refl
@@ -213,13 +208,7 @@ reason image t place BadTarget h = inr (inr (inl (refl, h)))
 reason image t place NoHalt h = inr (inr (inr (inl (refl, h))))
 reason image t place DepthClash h = inr (inr (inr (inr (refl, h))))
 reason image t place OutOfMemory h = absurd h
-reason image t place StackEmpty h = inr (inl h)
-reason image t place StackFull h = inr (inl h)
-reason image t place WrongKind h = inr (inl h)
-reason image t place ZeroDivisor h = inr (inl h)
-reason image t place NoSlot h = inr (inl h)
-reason image t place NoTimer h = inr (inl h)
-reason image t place BadBinding h = inr (inl h)
+reason image t place i h = inr (inl h)
 
 something : (image : Image) (t : Table) (place : ℕ) (fault : VerifyFault)
     → Reason image t place fault → Nothing image t place → ⊥

@@ -177,11 +177,9 @@ set-here (x ∷ xs) (suc i) v h = set-here xs i v (omega arith)
 
 pub set-elsewhere : {A : Type 0} (xs : List A) (i j : ℕ) (v : A) → (j ≡ i → ⊥)
     → slice_get (set xs i v) j ≡ slice_get xs j
-set-elsewhere [] i j v ne = refl
 set-elsewhere (x ∷ xs) zero zero v ne = absurd (ne refl)
-set-elsewhere (x ∷ xs) zero (suc j) v ne = refl
-set-elsewhere (x ∷ xs) (suc i) zero v ne = refl
 set-elsewhere (x ∷ xs) (suc i) (suc j) v ne = set-elsewhere xs i j v (λ e. ne (ap suc e))
+set-elsewhere i x y v ne = refl
 
 never-true : (n q : ℕ) → slice_get (replicate n false) q ≡ Some true → ⊥
 never-true zero q e = cc

@@ -10,7 +10,7 @@ use Rattle.il_image.specs.Reading.{instr_at}
 use Rattle.il_image.specs.Tables.{Table, place_of}
 use Rattle.il_image.proofs.PlaceLemmas.{goes-forward}
 use Rattle.il_verify.specs.declared.fault.VerifyFault.{VerifyFault}
-use Rattle.il_verify.specs.declared.fault.VerifyFault.TheVariants.{StackEmpty, StackFull, WrongKind, ZeroDivisor, NoSlot, NoTimer, BadTarget, Unreachable, DepthClash, NoHalt, BadBinding, OutOfMemory}
+use Rattle.il_verify.specs.declared.fault.VerifyFault.TheVariants.{BadTarget, Unreachable, DepthClash, NoHalt, OutOfMemory}
 use Rattle.il_verify.specs.Frames.{Clashing, Collides, ComesWhere, FailsVisit, GoesOn, Grows, PlainFrame, PlainFrames, MisLeads, Visits, beside}
 use Rattle.il_verify.specs.Passing.{raised_budget}
 use Rattle.il_verify.specs.Refusals.{Arrives, Clashes, FailsAt, HasOwn, IsFaultAt, IsFront, IsJoin, JumpsTo}
@@ -173,18 +173,12 @@ fails-unreached image place budget depth frames p less none = (
 
 own-fault-at : (image : Image) (table : Table) (place : ℕ) (fault : VerifyFault) → IsOwn fault
     → HasOwn image table place fault → IsFaultAt image table place fault
-own-fault-at image table place StackEmpty own h = h
-own-fault-at image table place StackFull own h = h
-own-fault-at image table place WrongKind own h = h
-own-fault-at image table place ZeroDivisor own h = h
-own-fault-at image table place NoSlot own h = h
-own-fault-at image table place NoTimer own h = h
-own-fault-at image table place BadBinding own h = h
 own-fault-at image table place BadTarget own h = absurd own
 own-fault-at image table place Unreachable own h = absurd own
 own-fault-at image table place DepthClash own h = absurd own
 own-fault-at image table place NoHalt own h = absurd own
 own-fault-at image table place OutOfMemory own h = absurd own
+own-fault-at image table place i own h = h
 
 module _ (image : Image) (place : ℕ) (instr : Instr) (next : ℕ) (come : PlainFrame)
     (old : PlainFrames) (budget depth : ℕ) (here : instr_at image.code place ≡ Some (instr, next))

@@ -5,7 +5,7 @@ use Rattle.std.proofs.Common.{◌≡◌, ℕ, zero, suc, ◌+◌, List, [], ◌�
 use Rattle.std.specs.Prelude.{ℤ}
 use Rattle.bay_base.specs.declared.types.ElementaryType.{ElementaryType}
 use Rattle.il_image.specs.declared.instr.Instr.{Instr}
-use Rattle.il_image.specs.declared.instr.Instr.TheVariants.{Halt, Push, Drop, Slot, Not, Combine, Compute, Compare, Widen, Jump, Timer}
+use Rattle.il_image.specs.declared.instr.Instr.TheVariants.{Push}
 use Rattle.il_image.specs.Octets.{AreOctets, octet_count, signed_octets, size_of}
 use Rattle.il_image.specs.Opcodes.{octet_of, opcode_of}
 use Rattle.il_image.specs.Reading.{instr_at}
@@ -24,16 +24,7 @@ length-signed t z = grind (arith, common_steps)
 
 size-is : (i : Instr) → size_of_opcode (opcode_of_instr i) ≡ length (spelling i)
 size-is (Push v) = ap suc (sym (length-signed (type_of v) (number_of v)))
-size-is Halt = refl
-size-is Drop = refl
-size-is (Slot slot_use n) = refl
-size-is Not = refl
-size-is (Combine c) = refl
-size-is (Compute o w) = refl
-size-is (Compare c) = refl
-size-is (Widen w) = refl
-size-is (Jump when distance) = refl
-size-is (Timer timer_use n) = refl
+size-is i = refl
 
 first_of : (code : List ℕ) (place x d : ℕ) (xs : List ℕ) → drop place code ≡ x ∷ xs
     → get_or code place d ≡ x

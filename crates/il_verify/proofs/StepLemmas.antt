@@ -3,7 +3,7 @@ use Rattle.std.proofs.Common.{◌≡◌, ℕ, suc, ◌+◌, ◌<◌, ◌≤◌, 
 use Rattle.std.proofs.lemmas.Bool.{cases_lt, cases_eq}
 use Rattle.bay_base.specs.declared.types.ElementaryType.{ElementaryType}
 use Rattle.il_image.specs.declared.instr.Instr.{Instr}
-use Rattle.il_image.specs.declared.instr.Instr.TheVariants.{Halt, Push, Drop, Slot, Not, Combine, Compute, Compare, Widen, Jump, Timer}
+use Rattle.il_image.specs.declared.instr.Instr.TheVariants.{Halt, Jump}
 use Rattle.il_image.specs.declared.kind.CellKind.{CellKind}
 use Rattle.il_image.specs.declared.opcode.When.TheVariants.{Always, IfTrue, IfFalse}
 use Rattle.il_image.specs.Effects.{effect}
@@ -30,15 +30,7 @@ leads-split Halt next to h = absurd h
 leads-split (Jump Always distance) next to h = inl h
 leads-split (Jump IfTrue distance) next to h = elim h [ inl e ↦ inr (refl, e) | inr e ↦ inl e ]
 leads-split (Jump IfFalse distance) next to h = elim h [ inl e ↦ inr (refl, e) | inr e ↦ inl e ]
-leads-split (Push v) next to h = inr (refl, h)
-leads-split Drop next to h = inr (refl, h)
-leads-split (Slot slot_use n) next to h = inr (refl, h)
-leads-split Not next to h = inr (refl, h)
-leads-split (Combine c) next to h = inr (refl, h)
-leads-split (Compute o w) next to h = inr (refl, h)
-leads-split (Compare c) next to h = inr (refl, h)
-leads-split (Widen w) next to h = inr (refl, h)
-leads-split (Timer timer_use n) next to h = inr (refl, h)
+leads-split i next to h = inr (refl, h)
 
 pub leads-join : (i : Instr) (next to : ℕ) → JumpsTo i next to ⊎ GoesOn i next to
     → LeadsTo i next to
@@ -48,15 +40,7 @@ leads-join (Jump Always distance) next to h =
     elim h [ inl e ↦ e | inr g ↦ absurd (let no : false ≡ true = g.0 in cc) ]
 leads-join (Jump IfTrue distance) next to h = elim h [ inl e ↦ inr e | inr g ↦ inl g.1 ]
 leads-join (Jump IfFalse distance) next to h = elim h [ inl e ↦ inr e | inr g ↦ inl g.1 ]
-leads-join (Push v) next to h = elim h [ inl e ↦ absurd e | inr g ↦ g.1 ]
-leads-join Drop next to h = elim h [ inl e ↦ absurd e | inr g ↦ g.1 ]
-leads-join (Slot slot_use n) next to h = elim h [ inl e ↦ absurd e | inr g ↦ g.1 ]
-leads-join Not next to h = elim h [ inl e ↦ absurd e | inr g ↦ g.1 ]
-leads-join (Combine c) next to h = elim h [ inl e ↦ absurd e | inr g ↦ g.1 ]
-leads-join (Compute o w) next to h = elim h [ inl e ↦ absurd e | inr g ↦ g.1 ]
-leads-join (Compare c) next to h = elim h [ inl e ↦ absurd e | inr g ↦ g.1 ]
-leads-join (Widen w) next to h = elim h [ inl e ↦ absurd e | inr g ↦ g.1 ]
-leads-join (Timer timer_use n) next to h = elim h [ inl e ↦ absurd e | inr g ↦ g.1 ]
+leads-join i next to h = elim h [ inl e ↦ absurd e | inr g ↦ g.1 ]
 
 comes-both : (P Q L : Type 0) (come : PlainFrame) (old mid new : Option PlainFrame) → (L → P ⊎ Q)
     → (P ⊎ Q → L) → ComesWhere P come old mid → ComesWhere Q come mid new

@@ -6,7 +6,7 @@ use Rattle.std.proofs.lemmas.Bool.{cases_eq}
 use Rattle.bay_base.specs.declared.types.ElementaryType.{ElementaryType}
 use Rattle.bay_config.specs.declared.bay.Point.{Point}
 use Rattle.il_image.specs.declared.instr.Instr.{Instr}
-use Rattle.il_image.specs.declared.instr.Instr.TheVariants.{Halt, Push, Drop, Slot, Not, Combine, Compute, Compare, Widen, Jump, Timer}
+use Rattle.il_image.specs.declared.instr.Instr.TheVariants.{Halt, Jump}
 use Rattle.il_image.specs.declared.kind.CellKind.{CellKind}
 use Rattle.il_image.specs.declared.opcode.When.TheVariants.{Always, IfTrue, IfFalse}
 use Rattle.il_image.specs.Effects.{effect}
@@ -30,20 +30,11 @@ use Rattle.il_verify.proofs.WithinLemmas.{all-within-along, within-length, withi
 
 pub leads-forward : (i : Instr) (next to : ℕ) → LeadsTo i next to → next ≤ to
 leads-forward Halt next to h = absurd h
-leads-forward (Jump Always distance) next to h = omega arith
 leads-forward (Jump IfTrue distance) next to h =
     elim h [ inl e ↦ omega arith | inr e ↦ omega arith ]
 leads-forward (Jump IfFalse distance) next to h =
     elim h [ inl e ↦ omega arith | inr e ↦ omega arith ]
-leads-forward (Push v) next to h = omega arith
-leads-forward Drop next to h = omega arith
-leads-forward (Slot slot_use n) next to h = omega arith
-leads-forward Not next to h = omega arith
-leads-forward (Combine c) next to h = omega arith
-leads-forward (Compute o w) next to h = omega arith
-leads-forward (Compare c) next to h = omega arith
-leads-forward (Widen w) next to h = omega arith
-leads-forward (Timer timer_use n) next to h = omega arith
+leads-forward i next to h = omega arith
 
 -- Each instruction but HALT leads somewhere.
 pub some-way : (i : Instr) (next : ℕ) → (i ≡ Halt) ⊎ ((to : ℕ) × LeadsTo i next to)
@@ -51,30 +42,13 @@ some-way Halt next = inl refl
 some-way (Jump Always distance) next = inr (next + distance, refl)
 some-way (Jump IfTrue distance) next = inr (next, inl refl)
 some-way (Jump IfFalse distance) next = inr (next, inl refl)
-some-way (Push v) next = inr (next, refl)
-some-way Drop next = inr (next, refl)
-some-way (Slot slot_use n) next = inr (next, refl)
-some-way Not next = inr (next, refl)
-some-way (Combine c) next = inr (next, refl)
-some-way (Compute o w) next = inr (next, refl)
-some-way (Compare c) next = inr (next, refl)
-some-way (Widen w) next = inr (next, refl)
-some-way (Timer timer_use n) next = inr (next, refl)
+some-way i next = inr (next, refl)
 
 pub leads-by-jump : (i : Instr) (next to : ℕ) → JumpsTo i next to → LeadsTo i next to
 leads-by-jump (Jump Always distance) next to h = h
 leads-by-jump (Jump IfTrue distance) next to h = inr h
 leads-by-jump (Jump IfFalse distance) next to h = inr h
-leads-by-jump Halt next to h = absurd h
-leads-by-jump (Push v) next to h = absurd h
-leads-by-jump Drop next to h = absurd h
-leads-by-jump (Slot slot_use n) next to h = absurd h
-leads-by-jump Not next to h = absurd h
-leads-by-jump (Combine c) next to h = absurd h
-leads-by-jump (Compute o w) next to h = absurd h
-leads-by-jump (Compare c) next to h = absurd h
-leads-by-jump (Widen w) next to h = absurd h
-leads-by-jump (Timer timer_use n) next to h = absurd h
+leads-by-jump i next to h = absurd h
 
 -- an instruction leads behind the place where it stands
 pub leads-on : (code : List ℕ) (from to : ℕ) (i : Instr) (next : ℕ)
