@@ -175,12 +175,10 @@ last_line-up (x ∷ xs) =
 -- a spelling without letters
 plain-up : (p ks : List ℕ) → list_all (λ k. ltb k 65) ks ≡ true
     → bytes_eq (map up p) ks ≡ bytes_eq p ks
-plain-up [] [] h = refl
-plain-up [] (k ∷ ks) h = refl
-plain-up (x ∷ p) [] h = refl
 plain-up (x ∷ p) (k ∷ ks) h =
     let rest : bytes_eq (map up p) ks ≡ bytes_eq p ks = plain-up p ks (and-right (ltb k 65) _ h) in
     rw (up-eqb x k (ltb-true k 65 (and-left (ltb k 65) _ h)), rest) refl
+plain-up i x h = refl
 
 mark-up : (p : List ℕ) → mark_of (map up p) ≡ mark_of p
 unfolding mark_of

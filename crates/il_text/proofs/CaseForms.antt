@@ -45,11 +45,7 @@ upper_parts = map upper_part
 kept : {A : Type 0} → (f : Symbol → A) → ((n : List ℕ) → f (name (map up n)) ≡ f (name n))
     → (s : Symbol) → f (upper_symbol s) ≡ f s
 kept f h (name n) = h n
-kept f h (keyword_word w) = refl
-kept f h (type_word k) = refl
-kept f h (literal v) = refl
-kept f h (mnemonic_word m) = refl
-kept f h (mark_symbol m) = refl
+kept f h i = refl
 
 name-s : (s : Symbol) → form.name_of (upper_symbol s) ≡ option_map (map up) (form.name_of s)
 name-s s = grind (arith, common_steps)
@@ -109,15 +105,13 @@ named-to (Some n) = refl
 place-up : (ss : List Symbol)
     → form.place (upper_symbols ss) ≡ option_map upper_place (form.place ss)
 unfolding form.place
-place-up [] = refl
 place-up (s ∷ []) = ap (option_map named) (name-s s) ∙ named-to (form.name_of s)
-place-up (s ∷ d ∷ []) = refl
 place-up (s ∷ d ∷ o ∷ []) =
     ap (λ (b : Bool). cond b (form.output_by (upper_symbol s) (upper_symbol o)) None)
     (mark-s mark.Dot d)
     ∙ cond-to upper_place (form.is_mark mark.Dot d)
     (form.output_by (upper_symbol s) (upper_symbol o)) (form.output_by s o) (output_by-up s o)
-place-up (s ∷ d ∷ o ∷ t ∷ ss) = refl
+place-up i = refl
 
 only_literal-up : (ss : List Symbol) → form.only_literal (upper_symbols ss) ≡ form.only_literal ss
 unfolding form.only_literal
@@ -337,10 +331,7 @@ statement-up mnemonic.Call ss = ap form.one_part (called-up ss) ∙ one_part-up 
 
 tail-up : (ss : List Symbol) → form.tail (upper_symbols ss) ≡ form.tail ss
 unfolding form.tail
-tail-up [] = refl
-tail-up (k ∷ []) = refl
 tail-up (k ∷ e ∷ []) = rw (mark-s mark.Semicolon e, kept form.type_of (λ n. refl) k) refl
-tail-up (k ∷ a ∷ v ∷ []) = refl
 tail-up (k ∷ a ∷ v ∷ e ∷ []) =
     rw (
       mark-s mark.Assign a,
@@ -348,7 +339,7 @@ tail-up (k ∷ a ∷ v ∷ e ∷ []) =
       literal-s v,
       kept form.elementary_of (λ n. refl) k,
     ) refl
-tail-up (k ∷ a ∷ v ∷ e ∷ f ∷ ss) = refl
+tail-up i = refl
 
 abbrev upper_names : List (List ℕ) → List (List ℕ)
 upper_names = map (map up)
@@ -427,12 +418,8 @@ rest-up (c ∷ ss) =
 by-up : (s : Symbol) (ss : List Symbol)
     → form.statement_by (upper_symbol s) (upper_symbols ss)
     ≡ option_map upper_parts (form.statement_by s ss)
-by-up (name n) ss = refl
-by-up (keyword_word w) ss = refl
-by-up (type_word k) ss = refl
-by-up (literal v) ss = refl
 by-up (mnemonic_word m) ss = statement-up m ss
-by-up (mark_symbol m) ss = refl
+by-up i ss = refl
 
 labelled-by : (n : List ℕ) (o : Option (List Part))
     → option_map (λ ps. labelling (map up n) ∷ ps) (option_map upper_parts o)
@@ -487,13 +474,8 @@ keyword_line-up keyword.EndVar ss = only-up closing closing refl ss
 marked-up : (m : Mark) (ss : List Symbol)
     → form.mark_parts m (upper_symbols ss) ≡ option_map upper_parts (form.mark_parts m ss)
 unfolding form.mark_parts
-marked-up mark.Colon ss = refl
-marked-up mark.Assign ss = refl
-marked-up mark.Comma ss = refl
-marked-up mark.Semicolon ss = refl
-marked-up mark.Dot ss = refl
-marked-up mark.Open ss = refl
 marked-up mark.Close ss = only-up leaving leaving refl ss
+marked-up i ss = refl
 
 first-up : (s : Symbol) (rest ss : List Symbol)
     → form.by_first (upper_symbol s) (upper_symbols rest) (upper_symbols ss)

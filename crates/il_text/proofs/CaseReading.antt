@@ -58,14 +58,12 @@ token-then s (Err e) = refl
 tokens-up : (n : ℕ) (ps : List Piece)
     → tokens_of n (map upper_piece ps) ≡ upper_tokens (tokens_of n ps)
 unfolding tokens_of
-tokens-up n [] = refl
 tokens-up n (blank ∷ ps) = unfold tokens_of in tokens-up n ps
 tokens-up n (line_end ∷ ps) = unfold tokens_of in tokens-up n ps
 tokens-up n (token s ∷ ps) =
     ap (λ (r : Result (List Symbol) TextFault). r >>= (λ ss. Ok (upper_symbol s ∷ ss)))
     (unfold tokens_of in tokens-up n ps) ∙ token-then s (tokens_of n ps)
-tokens-up n (bad_token ∷ ps) = refl
-tokens-up n (bad_literal ∷ ps) = refl
+tokens-up n i = refl
 
 abbrev upper_opened : Opened → Opened
 upper_opened f =

@@ -7,7 +7,7 @@ use Rattle.std.proofs.lemmas.Bool.{false≢true}
 use Rattle.std.proofs.lemmas.Grind.{flat_map-append}
 use Rattle.std.proofs.lemmas.List.{map-append}
 use Rattle.il_text.specs.Grammar.{Numbered, Declaration, Block, declaration_part, block_parts, names_declared, block_declared, may_declare, is_allowed, entry_parts, entries_parts, is_plain, is_first, is_inner, all_inner, is_parenthesis, is_outer, Derives}
-use Rattle.il_text.specs.Listing.{Action, load, store, combine, invert, convert, jump, leave, call, Entry, label, action, block, Entries, entries_of, Declared}
+use Rattle.il_text.specs.Listing.{Action, load, Entry, label, action, block, Entries, entries_of, Declared}
 use Rattle.il_text.specs.Parts.{Part, heading, opening, declaring, closing, labelling, acting, entering, leaving, ending}
 use Rattle.il_text.specs.Reading.{program_made}
 use Rattle.il_text.specs.Steps.{Opened, Reached, nothing_read, at_place, with_name, declared_in, with_declarations, with_item, with_opened, with_closed, is_start, is_between_blocks, block_scope, is_body, is_outside, is_some, is_load, may_begin_with, declared_here, closed_block, may_stand, may_act, may_enter, may_leave, left_here, step}
@@ -110,36 +110,25 @@ both-and a b h k = rw (h, k) refl
 
 body-at : (ps : List Numbered) (r : Reached) (p : Stage) → is_body p ≡ true → ReachesAt ps r p
     → InBody ps r
-body-at ps r place.Start h x = absurd (false≢true h)
 body-at ps r place.Declarations h x = x.body
-body-at ps r (place.Block scope) h x = absurd (false≢true h)
 body-at ps r place.Body h x = x
-body-at ps r place.Finished h x = absurd (false≢true h)
+body-at ps r i h x = absurd (false≢true h)
 
 start-at : (ps : List Numbered) (r : Reached) (p : Stage) → is_start p ≡ true → ReachesAt ps r p
     → AtStart ps r
 start-at ps r place.Start h x = x
-start-at ps r place.Declarations h x = absurd (false≢true h)
-start-at ps r (place.Block scope) h x = absurd (false≢true h)
-start-at ps r place.Body h x = absurd (false≢true h)
-start-at ps r place.Finished h x = absurd (false≢true h)
+start-at ps r i h x = absurd (false≢true h)
 
 between-at : (ps : List Numbered) (r : Reached) (p : Stage) → is_between_blocks p ≡ true
     → ReachesAt ps r p → Between ps r
-between-at ps r place.Start h x = absurd (false≢true h)
 between-at ps r place.Declarations h x = x
-between-at ps r (place.Block scope) h x = absurd (false≢true h)
-between-at ps r place.Body h x = absurd (false≢true h)
-between-at ps r place.Finished h x = absurd (false≢true h)
+between-at ps r i h x = absurd (false≢true h)
 
 block-at : (ps : List Numbered) (r : Reached) (p : Stage) (scope : Scope)
     → block_scope p ≡ Some scope → ReachesAt ps r p → InBlock scope ps r
-block-at ps r place.Start scope h x = cc
-block-at ps r place.Declarations scope h x = cc
 block-at ps r (place.Block other) scope h x = let e : other ≡ scope =
     cc in subst (λ (k : Scope). InBlock k ps r) e x
-block-at ps r place.Body scope h x = cc
-block-at ps r place.Finished scope h x = cc
+block-at ps r i scope h x = cc
 
 outside-is : (fs : List Opened) → is_outside fs ≡ true → fs ≡ []
 outside-is [] h = refl
@@ -296,13 +285,7 @@ right-outer (f ∷ fs) es e o h k = absurd (false≢true o)
 
 first-load : (n : ℕ) (a : Action) → is_load a ≡ true → is_first (action n a) ≡ true
 first-load n (load negated source) h = refl
-first-load n (store kind place) h = absurd (false≢true h)
-first-load n (combine operator negated source) h = absurd (false≢true h)
-first-load n invert h = absurd (false≢true h)
-first-load n (convert conversion) h = absurd (false≢true h)
-first-load n (jump condition to) h = absurd (false≢true h)
-first-load n (leave condition) h = absurd (false≢true h)
-first-load n (call timer arguments) h = absurd (false≢true h)
+first-load n i h = absurd (false≢true h)
 
 -- one more entry of a parenthesis: the first of them, or a later one
 starts-more : (es : List Entry) (e : Entry) → starts_right es ≡ true
@@ -461,12 +444,9 @@ cond-left false o s e = cc
 
 block-back : (ps : List Numbered) (r : Reached) (p : Stage) (scope : Scope)
     → block_scope p ≡ Some scope → InBlock scope ps r → ReachesAt ps r p
-block-back ps r place.Start scope h x = cc
-block-back ps r place.Declarations scope h x = cc
 block-back ps r (place.Block other) scope h x = let e : scope ≡ other =
     cc in subst (λ (k : Scope). InBlock k ps r) e x
-block-back ps r place.Body scope h x = cc
-block-back ps r place.Finished scope h x = cc
+block-back ps r i scope h x = cc
 
 -- a part that is taken is the next of the grammar's
 step-reaches : (n : ℕ) (ps : List Numbered) (r s : Reached) (p : Part) → Reaches ps r

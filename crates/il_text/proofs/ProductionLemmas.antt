@@ -357,10 +357,8 @@ two-same s d a b rest e f =
 
 place-read : (ts : List Symbol) (p : Place) → place ts ≡ Some p → IsPlace ts p
 unfolding place output_by
-place-read [] p e = absurd cc
 place-read (s ∷ []) p e = let m = map-some (λ n. named n) (name_of s) p e in
     of_name m.0 (ap (λ (x : Symbol). x ∷ []) (named-is s m.0 m.1)) (sym m.2)
-place-read (s ∷ d ∷ []) p e = absurd cc
 place-read (s ∷ d ∷ o ∷ []) p e =
     let i = if-some (is_mark mark.Dot d)
     (option_and_then (λ t. option_map (output t) (option_and_then output_named (name_of o)))
@@ -371,7 +369,7 @@ place-read (s ∷ d ∷ o ∷ []) p e =
     let w = then-some output_named (name_of o) m.0 m.1 in
     of_output t.0 w.0 m.0 (three-same s d o (name t.0) (mark_symbol mark.Dot) (name w.0)
     (named-is s t.0 t.1) (only-mark mark.Dot d i.0) (named-is o w.0 w.1)) w.2 (sym m.2)
-place-read (s ∷ d ∷ o ∷ t ∷ ss) p e = absurd cc
+place-read i p e = absurd cc
 
 only-literal-is : (ts : List Symbol) (v : Literal) → only_literal ts ≡ Some v → ts ≡ literal v ∷ []
 unfolding only_literal
@@ -621,8 +619,6 @@ four-same k a v e k' a' v' e' p q r s =
 
 tail-read : (ts : List Symbol) (t : Tail) → tail ts ≡ Some t → IsTail ts t
 unfolding tail
-tail-read [] t e = absurd cc
-tail-read (k ∷ []) t e = absurd cc
 tail-read (k ∷ s ∷ []) t e =
     let i = if-some (is_mark mark.Semicolon s)
     (option_map (λ x. record { kind = x; initial = None }) (type_of k)) t e in
@@ -631,7 +627,6 @@ tail-read (k ∷ s ∷ []) t e =
     without m.0 (two-same k s (type_word m.0) (mark_symbol mark.Semicolon) [] (type-is k m.0 m.1)
     (only-mark mark.Semicolon s i.0)) (ap (λ (x : Tail). x.kind) (sym m.2))
     (ap (λ (x : Tail). x.initial) (sym m.2))
-tail-read (k ∷ a ∷ v ∷ []) t e = absurd cc
 tail-read (k ∷ a ∷ v ∷ s ∷ []) t e =
     let i = if-some (is_mark mark.Assign a && is_mark mark.Semicolon s)
     (option_and_then (λ x. option_map (λ y. record { kind = x; initial = Some y })
@@ -647,7 +642,7 @@ tail-read (k ∷ a ∷ v ∷ s ∷ []) t e =
     (mark_symbol mark.Assign) (literal y.0) (mark_symbol mark.Semicolon) k_is.1
     (only-mark mark.Assign a w.0) (literal-is v y.0 y.1) (only-mark mark.Semicolon s w.1))
     (ap (λ (z : Tail). z.kind) (sym y.2) ∙ k_is.2) (ap (λ (z : Tail). z.initial) (sym y.2))
-tail-read (k ∷ a ∷ v ∷ s ∷ f ∷ ts) t e = absurd cc
+tail-read i t e = absurd cc
 
 declaration-case : (ts front back : List Symbol) (ns : List (List ℕ)) (t : Tail)
     → ts ≡ front ++ mark_symbol mark.Colon ∷ back → Names front ns → IsTail back t
@@ -689,12 +684,8 @@ declaration-read ts ps e = declared-case ts ps (split_at_mark mark.Colon ts) ref
 
 statement-by-read : (m : Symbol) (ss : List Symbol) (ps : List Part) → statement_by m ss ≡ Some ps
     → IsStatement (m ∷ ss) ps
-statement-by-read (name n) ss ps e = absurd cc
-statement-by-read (keyword_word w) ss ps e = absurd cc
-statement-by-read (type_word k) ss ps e = absurd cc
-statement-by-read (literal v) ss ps e = absurd cc
 statement-by-read (mnemonic_word m) ss ps e = statement-read m ss ps e
-statement-by-read (mark_symbol m) ss ps e = absurd cc
+statement-by-read i ss ps e = absurd cc
 
 labelled-read : (n : List ℕ) (rest : List Symbol) (ps : List Part) (ts : List Symbol)
     → ts ≡ name n ∷ mark_symbol mark.Colon ∷ rest → label_parts n rest ≡ Some ps → IsLine ts ps
@@ -745,14 +736,9 @@ keyword-line-read keyword.EndVar ss ps e = let h = only-is closing ss ps e in
 marked-read : (m : Mark) (ss : List Symbol) (ps : List Part) → mark_parts m ss ≡ Some ps
     → IsLine (mark_symbol m ∷ ss) ps
 unfolding mark_parts
-marked-read mark.Colon ss ps e = absurd cc
-marked-read mark.Assign ss ps e = absurd cc
-marked-read mark.Comma ss ps e = absurd cc
-marked-read mark.Semicolon ss ps e = absurd cc
-marked-read mark.Dot ss ps e = absurd cc
-marked-read mark.Open ss ps e = absurd cc
 marked-read mark.Close ss ps e = let h = only-is leaving ss ps e in
     leaves_block (ap (λ (xs : List Symbol). mark_symbol mark.Close ∷ xs) h.0) h.1
+marked-read i ss ps e = absurd cc
 
 line-read : (ts : List Symbol) (ps : List Part) → parts_of ts ≡ Some ps → IsLine ts ps
 unfolding parts_of named_line

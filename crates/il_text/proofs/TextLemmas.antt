@@ -111,15 +111,10 @@ shallow-so ls s e h d = let k = run-depth (all_parts ls) s e in omega (arith, k,
 -- a part that is no instruction leaves the parentheses as they are
 quiet-part : (n : ℕ) (p : Part) → is_instruction p ≡ false
     → (is_leaving (n, p) ≡ false) × (is_entering (n, p) ≡ false)
-quiet-part n (heading name) h = (refl, refl)
-quiet-part n (opening scope) h = (refl, refl)
-quiet-part n (declaring ns kind initial) h = (refl, refl)
-quiet-part n closing h = (refl, refl)
-quiet-part n (labelling name) h = (refl, refl)
 quiet-part n (acting a) h = absurd (false≢true (sym h))
 quiet-part n (entering o g) h = absurd (false≢true (sym h))
 quiet-part n leaving h = absurd (false≢true (sym h))
-quiet-part n ending h = (refl, refl)
+quiet-part n i h = (refl, refl)
 
 or-neither : (a b : Bool) → a || b ≡ false → (a ≡ false) × (b ≡ false)
 or-neither true b h = absurd (false≢true (sym h))

@@ -7,9 +7,9 @@ use Rattle.std.proofs.Math.Seq.{drop-append_seam, take-append_seam}
 use Rattle.std.proofs.lemmas.List.{take-append-drop}
 use Rattle.bay_base.specs.declared.types.ElementaryType.{ElementaryType}
 use Rattle.il_text.specs.Forms.{after_front, elementary_of, is_mark, literal_of, name_of, split_at_mark, parts_at, same_mark, type_of}
-use Rattle.il_text.specs.Tokens.{Symbol, name, keyword_word, type_word, literal, mnemonic_word, mark_symbol}
+use Rattle.il_text.specs.Tokens.{Symbol, name, type_word, literal, mark_symbol}
 use Rattle.il_text.specs.declared.program.DeclaredType.{DeclaredType}
-use Rattle.il_text.specs.declared.program.DeclaredType.TheVariants.{Elementary, Timer}
+use Rattle.il_text.specs.declared.program.DeclaredType.TheVariants.{Elementary}
 use Rattle.il_text.specs.declared.program.Literal.{Literal}
 use Rattle.il_text.specs.declared.token.Mark.{Mark}
 
@@ -46,48 +46,27 @@ either-false false b e = (refl, e)
 
 pub named-is : (s : Symbol) (n : List ℕ) → name_of s ≡ Some n → s ≡ name n
 named-is (name m) n e = ap (λ (x : List ℕ). name x) (some-same m n e)
-named-is (keyword_word w) n e = absurd cc
-named-is (type_word k) n e = absurd cc
-named-is (literal v) n e = absurd cc
-named-is (mnemonic_word m) n e = absurd cc
-named-is (mark_symbol m) n e = absurd cc
+named-is i n e = absurd cc
 
 pub literal-is : (s : Symbol) (v : Literal) → literal_of s ≡ Some v → s ≡ literal v
-literal-is (name n) v e = absurd cc
-literal-is (keyword_word w) v e = absurd cc
-literal-is (type_word k) v e = absurd cc
 literal-is (literal u) v e = ap (λ (x : Literal). literal x) (some-same u v e)
-literal-is (mnemonic_word m) v e = absurd cc
-literal-is (mark_symbol m) v e = absurd cc
+literal-is i v e = absurd cc
 
 pub type-is : (s : Symbol) (k : DeclaredType) → type_of s ≡ Some k → s ≡ type_word k
-type-is (name n) k e = absurd cc
-type-is (keyword_word w) k e = absurd cc
 type-is (type_word l) k e = ap (λ (x : DeclaredType). type_word x) (some-same l k e)
-type-is (literal v) k e = absurd cc
-type-is (mnemonic_word m) k e = absurd cc
-type-is (mark_symbol m) k e = absurd cc
+type-is i k e = absurd cc
 
 pub elementary-is : (s : Symbol) (k : DeclaredType) → elementary_of s ≡ Some k
     → (t : ElementaryType) × (s ≡ type_word (Elementary t)) × (k ≡ Elementary t)
-elementary-is (name n) k e = absurd cc
-elementary-is (keyword_word w) k e = absurd cc
 elementary-is (type_word (Elementary t)) k e = (t, refl, sym (some-same (Elementary t) k e))
-elementary-is (type_word (Timer t)) k e = absurd cc
-elementary-is (literal v) k e = absurd cc
-elementary-is (mnemonic_word m) k e = absurd cc
-elementary-is (mark_symbol m) k e = absurd cc
+elementary-is i k e = absurd cc
 
 pub mark-is : (m n : Mark) → same_mark m n ≡ true → n ≡ m
 mark-is m n h = grind (arith, common_steps)
 
 pub only-mark : (m : Mark) (s : Symbol) → is_mark m s ≡ true → s ≡ mark_symbol m
-only-mark m (name n) e = absurd cc
-only-mark m (keyword_word w) e = absurd cc
-only-mark m (type_word k) e = absurd cc
-only-mark m (literal v) e = absurd cc
-only-mark m (mnemonic_word k) e = absurd cc
 only-mark m (mark_symbol n) e = ap (λ (k : Mark). mark_symbol k) (mark-is m n e)
+only-mark m i e = absurd cc
 
 -- ---- what stands before and after a token
 
