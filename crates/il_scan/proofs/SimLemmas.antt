@@ -11,7 +11,7 @@ use Rattle.bay_base.specs.declared.types.ElementaryType.TheVariants as elementar
 use Rattle.bay_base.specs.Types.{same_type}
 use Rattle.il_image.specs.declared.arithmetic.Comparison.{Comparison}
 use Rattle.il_image.specs.declared.arithmetic.Operation.{Operation}
-use Rattle.il_image.specs.declared.arithmetic.Operation.TheVariants.{Add, Sub, Mul, Div, Mod}
+use Rattle.il_image.specs.declared.arithmetic.Operation.TheVariants.{Div, Mod}
 use Rattle.il_image.specs.declared.arithmetic.Width.{Width}
 use Rattle.il_image.specs.declared.arithmetic.Width.TheVariants as width
 use Rattle.il_image.specs.declared.instr.Instr.{Instr}
@@ -61,11 +61,9 @@ record Divisor (o : Operation) (w : Width) (v : Value) : Type 0 where
   divisor : DividesBy o (number_of v)
 
 divisor-of : (o : Operation) (w : Width) (v : Value) → HasKind v (second_kind o w) → Divisor o w v
-divisor-of Add w v h = record { type = h; test = refl; divisor = tt }
-divisor-of Sub w v h = record { type = h; test = refl; divisor = tt }
-divisor-of Mul w v h = record { type = h; test = refl; divisor = tt }
 divisor-of Div w v h = record { type = h.0; test = not-zero (number_of v) h.1; divisor = h.1 }
 divisor-of Mod w v h = record { type = h.0; test = not-zero (number_of v) h.1; divisor = h.1 }
+divisor-of i w v h = record { type = h; test = refl; divisor = tt }
 
 if-some : {A : Type 0} (b : Bool) (x y : A) → cond b (Some x) None ≡ Some y → (b ≡ true) × (x ≡ y)
 if-some true x y e = (refl, some-same x y e)
@@ -104,9 +102,7 @@ module _ (types : List ElementaryType) (count now next p : ℕ) (slots : List Va
         → ((b : Bool) (others : List Value) (rest : List CellKind) → Fit others rest
         → Fit (Truth b ∷ others) kinds → Done i (Truth b ∷ others) kinds) → Done i cells after
     on-truth i cells kinds e fit does =
-        let r = bind-some (below (Plain elementary.Bool) kinds)
-        (λ (rest : List CellKind). Some kinds)
-        after e in
+        let r = bind-some (below (Plain elementary.Bool) kinds) _ _ e in
         to-kinds i cells kinds r.2
         (on-bool i kinds r.0 kinds r.1 (λ b others f all. does b others r.0 f all) cells fit)
 
@@ -116,9 +112,7 @@ module _ (types : List ElementaryType) (count now next p : ℕ) (slots : List Va
         → slice_get types n ≡ Some elementary.Bool → Fit others rest
         → Fit (Truth b ∷ others) kinds → Done i (Truth b ∷ others) kinds) → Done i cells after
     on-bool-slot i n cells kinds e fit does =
-        let t = bind-some (slice_get types n)
-        (λ (t : ElementaryType). cond (same_type t elementary.Bool)
-        (looks_at (Plain elementary.Bool) kinds) None) after e in
+        let t = bind-some (slice_get types n) _ _ e in
         go t.0 (same_type t.0 elementary.Bool) refl t.1 t.2
       where
         go : (t : ElementaryType) (b : Bool) → same_type t elementary.Bool ≡ b
@@ -147,10 +141,8 @@ module _ (types : List ElementaryType) (count now next p : ℕ) (slots : List Va
         → HasKind u second → Fit others rest → Done i (v ∷ u ∷ others) (gives ∷ rest))
         → Done i cells after
     on-two i top second gives cells kinds e fit does =
-        let m = bind-some (below top kinds)
-        (λ (more : List CellKind). below second more >>= (λ rest. Some (gives ∷ rest))) after e in
-        let r = bind-some (below second m.0) (λ (rest : List CellKind). Some (gives ∷ rest)) after
-        m.2 in
+        let m = bind-some (below top kinds) _ _ e in
+        let r = bind-some (below second m.0) _ _ m.2 in
         to-kinds i cells (gives ∷ r.0) r.2
         (on-top top kinds m.0 (λ these. Done i these (gives ∷ r.0)) m.1
         (λ v more is good f all. on-top second m.0 r.0 (λ these. Done i (v ∷ these) (gives ∷ r.0))
@@ -185,13 +177,9 @@ module _ (types : List ElementaryType) (count now next p : ℕ) (slots : List Va
     compare-does c [] (k ∷ l ∷ rest) e fit = absurd fit
     compare-does c (v ∷ []) (k ∷ l ∷ rest) e fit = absurd fit.1
     compare-does c (v ∷ u ∷ others) (k ∷ l ∷ rest) e fit =
-        let t = bind-some (type_of_kind k)
-        (λ (t : ElementaryType). type_of_kind l
-        >>= (λ s. cond (are_compared c s t) (Some (Plain elementary.Bool ∷ rest)) None)) after e
+        let t = bind-some (type_of_kind k) _ _ e
         in
-        let s = bind-some (type_of_kind l)
-        (λ (s : ElementaryType). cond (are_compared c s t.0) (Some (Plain elementary.Bool ∷ rest))
-        None) after t.2 in
+        let s = bind-some (type_of_kind l) _ _ t.2 in
         let b = if-some (are_compared c s.0 t.0) (Plain elementary.Bool ∷ rest) after s.2 in
         to-kinds (Compare c) (v ∷ u ∷ others) (Plain elementary.Bool ∷ rest)
         (ap (λ (x : List CellKind). Some x) b.1)
@@ -203,7 +191,7 @@ module _ (types : List ElementaryType) (count now next p : ℕ) (slots : List Va
         ≡ Some after → Fit cells kinds → Done Not cells after
     not-does cells kinds e fit =
         let k = Plain elementary.Bool in
-        let r = bind-some (below k kinds) (λ (rest : List CellKind). Some (k ∷ rest)) after e in
+        let r = bind-some (below k kinds) _ _ e in
         to-kinds Not cells (k ∷ r.0) r.2
         (on-bool Not kinds r.0 (k ∷ r.0) r.1 (λ b others f all. does-not types count now next p
         others slots timers r.0 f typed b) cells fit)
@@ -212,10 +200,8 @@ module _ (types : List ElementaryType) (count now next p : ℕ) (slots : List Va
         → (slice_get types n >>= (λ t. looks_at (Plain t) kinds)) ≡ Some after → Fit cells kinds
         → Done (Slot Store n) cells after
     store-does n cells kinds e fit =
-        let s = bind-some (slice_get types n) (λ (t : ElementaryType). looks_at (Plain t) kinds)
-        after
-        e in
-        let r = bind-some (below (Plain s.0) kinds) (λ (rest : List CellKind). Some kinds) after s.2
+        let s = bind-some (slice_get types n) _ _ e in
+        let r = bind-some (below (Plain s.0) kinds) _ _ s.2
         in
         to-kinds (Slot Store n) cells kinds r.2
         (on-top (Plain s.0) kinds r.0 (λ these. Done (Slot Store n) these kinds) r.1
@@ -267,8 +253,7 @@ module _ (types : List ElementaryType) (count now next p : ℕ) (slots : List Va
         (λ v others is good f all. does-drop types count now next p v others slots timers after f
         typed) cells fit
     does (Slot Load n) cells kinds e good going fit room =
-        let t = bind-some (slice_get types n) (λ (t : ElementaryType). Some (Plain t ∷ kinds)) after
-        e
+        let t = bind-some (slice_get types n) _ _ e
         in
         to-kinds (Slot Load n) cells (Plain t.0 ∷ kinds) t.2
         (does-load types count now next p cells slots timers typed kinds fit n t.0 t.1

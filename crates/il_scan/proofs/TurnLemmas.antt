@@ -3,11 +3,11 @@ use Rattle.std.proofs.Common.{◌≡◌, ℕ, zero, suc, ◌+◌, ◌<◌, ◌�
 use Rattle.std.specs.Prelude.{IsSome, slice_get, slice_set}
 use Rattle.std.specs.Ordering.{int_eq}
 use Rattle.il_image.specs.declared.instr.Instr.{Instr}
-use Rattle.il_image.specs.declared.instr.Instr.TheVariants.{Halt, Push, Drop, Slot, Not, Combine, Compute, Compare, Widen, Jump, Timer}
+use Rattle.il_image.specs.declared.instr.Instr.TheVariants.{Halt, Slot, Jump, Timer}
 use Rattle.il_image.specs.declared.kind.CellKind.{CellKind}
 use Rattle.il_image.specs.declared.opcode.SlotUse.TheVariants.{Load, Store, SetIf, ResetIf}
 use Rattle.il_image.specs.declared.opcode.When.TheVariants.{Always, IfTrue, IfFalse}
-use Rattle.il_image.specs.declared.opcode.TimerUse.TheVariants.{SetInput, SetPreset, Run, LoadOutput, LoadElapsed}
+use Rattle.il_image.specs.declared.opcode.TimerUse.TheVariants.{Run}
 use Rattle.il_image.specs.Effects.{effect}
 use Rattle.il_image.specs.Images.{Image}
 use Rattle.il_image.specs.Machine.{Goes, State, act, turn, turn_of}
@@ -47,25 +47,15 @@ leads-there (Jump IfTrue distance) next stack to e =
     chosen (int_eq (top stack) (pos 0)) next (next + distance) to e
 leads-there (Jump IfFalse distance) next stack to e =
     turned-round (chosen (int_eq (top stack) (pos 0)) (next + distance) next to e)
-leads-there (Push v) next stack to e = sym (some-same next to e)
-leads-there Drop next stack to e = sym (some-same next to e)
-leads-there (Slot slot_use n) next stack to e = sym (some-same next to e)
-leads-there Not next stack to e = sym (some-same next to e)
-leads-there (Combine c) next stack to e = sym (some-same next to e)
-leads-there (Compute o w) next stack to e = sym (some-same next to e)
-leads-there (Compare c) next stack to e = sym (some-same next to e)
-leads-there (Widen w) next stack to e = sym (some-same next to e)
-leads-there (Timer timer_use n) next stack to e = sym (some-same next to e)
+leads-there i next stack to e = sym (some-same next to e)
 
 -- ---- slots of points that may only be read
 
 get-other : {A : Type 0} (xs : List A) (k n : ℕ) (x : A) → (n ≡ k → ⊥)
     → slice_get (slice_set xs k x) n ≡ slice_get xs n
-get-other [] k n x ne = refl
 get-other (y ∷ xs) zero zero x ne = absurd (ne refl)
-get-other (y ∷ xs) zero (suc n) x ne = refl
-get-other (y ∷ xs) (suc k) zero x ne = refl
 get-other (y ∷ xs) (suc k) (suc n) x ne = get-other xs k n x (λ e. ne (ap suc e))
+get-other i y z x ne = refl
 
 not-both : (b : Bool) → b ≡ true → b ≡ false → ⊥
 not-both b e f = absurd cc
@@ -82,20 +72,8 @@ module _ (image : Image) (now n : ℕ) (only : is_read_only (slots_of image) n �
   keeps (Slot Store k) m e = get-other m.slots k n _ (other k e)
   keeps (Slot SetIf k) m e = get-other m.slots k n _ (other k e)
   keeps (Slot ResetIf k) m e = get-other m.slots k n _ (other k e)
-  keeps Halt m e = refl
-  keeps (Push v) m e = refl
-  keeps Drop m e = refl
-  keeps Not m e = refl
-  keeps (Combine c) m e = refl
-  keeps (Compute o w) m e = refl
-  keeps (Compare c) m e = refl
-  keeps (Widen w) m e = refl
-  keeps (Jump when distance) m e = refl
-  keeps (Timer SetInput k) m e = refl
-  keeps (Timer SetPreset k) m e = refl
   keeps (Timer Run k) m e = refl
-  keeps (Timer LoadOutput k) m e = refl
-  keeps (Timer LoadElapsed k) m e = refl
+  keeps i m e = refl
 
 -- ---- values within other kinds
 

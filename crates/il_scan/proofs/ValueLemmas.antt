@@ -91,28 +91,22 @@ span-within n is =
     leb-true n 0x7FFF_FFFF (and_parts (leb 0 n) (leb n 0x7FFF_FFFF)
     (some-test (is_between (pos 0) (pos 0x7FFF_FFFF) (pos n)) (Span n) is)).1
 
+wider : (m k : ℕ) (z : ℤ) → m ≤ k → is_between (negsuc m) (pos m) z ≡ true
+    → is_between (negsuc k) (pos k) z ≡ true
+wider m k (pos n) h e = let g : n ≤ m = leb-true n m e in le-leb n k (omega arith)
+wider m k (negsuc n) h e = let g : n ≤ m = leb-true n m (and_parts (leb n m) true e).0 in
+    let f : leb n k ≡ true = le-leb n k (omega arith) in rw f refl
+
 -- widening keeps the number in range
 pub widened-short : (z : ℤ) → IsValue (Short z) → IsValue (Long z)
 widened-short z is =
     some-value _ (Long z) (wider 0x7FFF 0x7FFF_FFFF z (omega arith)
     (some-test (is_between (negsuc 0x7FFF) (pos 0x7FFF) z) (Short z) is))
-  where
-    wider : (m k : ℕ) (z : ℤ) → m ≤ k → is_between (negsuc m) (pos m) z ≡ true
-        → is_between (negsuc k) (pos k) z ≡ true
-    wider m k (pos n) h e = let g : n ≤ m = leb-true n m e in le-leb n k (omega arith)
-    wider m k (negsuc n) h e = let g : n ≤ m = leb-true n m (and_parts (leb n m) true e).0 in
-        let f : leb n k ≡ true = le-leb n k (omega arith) in rw f refl
 
 pub widened-long : (z : ℤ) → IsValue (Long z) → IsValue (Wide z)
 widened-long z is =
     some-value _ (Wide z) (wider 0x7FFF_FFFF 0x7FFF_FFFF_FFFF_FFFF z (omega arith)
     (some-test (is_between (negsuc 0x7FFF_FFFF) (pos 0x7FFF_FFFF) z) (Long z) is))
-  where
-    wider : (m k : ℕ) (z : ℤ) → m ≤ k → is_between (negsuc m) (pos m) z ≡ true
-        → is_between (negsuc k) (pos k) z ≡ true
-    wider m k (pos n) h e = let g : n ≤ m = leb-true n m e in le-leb n k (omega arith)
-    wider m k (negsuc n) h e = let g : n ≤ m = leb-true n m (and_parts (leb n m) true e).0 in
-        let f : leb n k ≡ true = le-leb n k (omega arith) in rw f refl
 
 -- ---- kinds of values
 
@@ -141,17 +135,11 @@ kind-there (Span n) = refl
 
 pub truth-there : (v : Value) → type_of v ≡ elementary.Bool → (b : Bool) × (v ≡ Truth b)
 truth-there (Truth b) e = (b, refl)
-truth-there (Short z) e = absurd cc
-truth-there (Long z) e = absurd cc
-truth-there (Wide z) e = absurd cc
-truth-there (Span n) e = absurd cc
+truth-there i e = absurd cc
 
 pub span-there : (v : Value) → type_of v ≡ elementary.Time → (n : ℕ) × (v ≡ Span n)
-span-there (Truth b) e = absurd cc
-span-there (Short z) e = absurd cc
-span-there (Long z) e = absurd cc
-span-there (Wide z) e = absurd cc
 span-there (Span n) e = (n, refl)
+span-there i e = absurd cc
 
 pub number-there : (w : Width) (v : Value) → type_of v ≡ type_of_width w
     → v ≡ value_of_width w (number_of v)
