@@ -16,11 +16,16 @@ class Fault:
 
 
 def faults():
-    """Each fault of the page by its number."""
-    found = {}
+    """Each fault of the page by its number. A cause and a mend that stand alone are those of the
+    entries behind them that have none, up to the next heading."""
+    found, shared = {}, ('', '')
     for entry in re.split(r'\n(?=- |#|\n)', PAGE.read_text(encoding='utf-8')):
         entry = ' '.join(entry.split())
-        parts = re.fullmatch(r'- \*\*(\d+)\*\* (.*?) \*Cause:\* (.*?) \*Mend:\* (.*)', entry)
-        if parts:
-            found[int(parts[1])] = Fault(int(parts[1]), *parts.groups()[1:])
+        told = re.fullmatch(r'(.*?)(?: \*Cause:\* (.*?) \*Mend:\* (.*))?', entry)
+        fault = re.fullmatch(r'- \*\*(\d+)\*\* (.*)', told[1])
+        if fault:
+            cause, mend = told.groups()[1:] if told[2] else shared
+            found[int(fault[1])] = Fault(int(fault[1]), fault[2], cause, mend)
+        elif told[2] or entry.startswith('#'):
+            shared = told.groups()[1:] if told[2] else ('', '')
     return found
