@@ -39,6 +39,14 @@ class Documents(unittest.TestCase):
                 if not MADE.search(name):
                     self.assertTrue((TOP / name).exists(), f'{page.name}: {name}')
 
+    def test_tables(self):
+        for page in PAGES:
+            for block in page.read_text(encoding='utf-8').split('\n\n'):
+                rows = block.strip('\n').split('\n')
+                if rows[0].startswith('|'):
+                    self.assertTrue(len(rows) > 2 and rows[1].startswith('|--'),
+                                    f'{page.name}: {rows[0]}')
+
     def test_headline(self):
         quoted = [re.findall(r'^> (.*)$', page.read_text(encoding='utf-8'), re.MULTILINE)
                   for page in (TOP / 'README.md', TOP / 'docs' / 'PROVED.md')]
