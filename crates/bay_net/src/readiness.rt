@@ -16,7 +16,7 @@ const ANY: Token = Token(0);
 /// Tells when sockets of links are ready.
 ///
 /// An event comes at a change, so a wait is right only where every call on these sockets has
-/// answered that it would wait.
+/// answered that it would wait, or has read less than its room, which empties a socket as well.
 #[derive(Drop)]
 pub struct Readiness {
     poll: Poll,

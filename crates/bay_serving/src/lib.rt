@@ -1,9 +1,9 @@
 // A device is served to clients, turn by turn, and what each turn tells is printed.
 //
-// `host` has ports and a clock, `busy` a link that knows whether anything happens on it, `turns`
-// the lines for a turn, `trace_lines` those of a trace, and `process` the process that is heard;
-// `serving` goes turn by turn, and `serve` is all of it: files are read and loaded, ports are
-// bound, and turns are served.
+// `host` has ports and a clock, `busy` a link that notes whether its calls left something to do at
+// once, `turns` the lines for a turn, `trace_lines` those of a trace, and `process` the process that
+// is heard; `serving` goes turn by turn, and `serve` is all of it: files are read and loaded, ports
+// are bound, and turns are served.
 #![tactic(auto)]
 
 mod busy;

@@ -108,6 +108,7 @@ impl Transport {
         ensures several { result ≡ None
             → IfSome (size_agreed self.now.stream) (λ size. size < count + 3) }
     {
+        // That the size agreed is within its limits is known of the reader's parts alone.
         let _ = &self.reader.assembly;
         match self.agreed_size() {
             Some(size) => header(size, count),
