@@ -1,7 +1,7 @@
 -- What the writer's fields hold, and the sheet that contracts see.
 use Rattle.std.proofs.Common.{◌≡◌, ℕ, ◌+◌, ◌-◌, ◌<◌, ◌≤◌, Bool, true, false, List, [], ◌∷◌, ◌++◌, length, get_or, take, drop, Some, None, refl, sym, ap, ◌∙◌, arith}
 use Rattle.std.proofs.lemmas.Bool.{lt-ltb, le-ltb}
-use Rattle.std.proofs.lemmas.List.{append_assoc, length-append, length-drop, length-take, length-take-le, take-append-le, drop-append-le, drop_all, take-append-drop, take-take, drop-drop, drop-take, take_more, take_all, take_at, drop_at}
+use Rattle.std.proofs.lemmas.List.{append_assoc, length-append, length-drop, length-take, length-take-le, take-append-le, drop-append-le, drop_all, take-append-drop, take-take, drop-drop, drop-take, take_more, drop_at}
 use Rattle.std.proofs.Math.Seq.{take-append-add, drop-append-add}
 use Rattle.bay_ber.specs.declared.writer.Writer.TheInside.{Inside}
 use Rattle.bay_ber.specs.Writing.{length_octets}
