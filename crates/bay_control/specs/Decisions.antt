@@ -12,7 +12,7 @@ use Rattle.bay_control.specs.declared.request.Choice.{Choice}
 use Rattle.bay_control.specs.declared.request.View.{View}
 use Rattle.bay_control.specs.declared.selection.Execution.{Execution}
 use Rattle.bay_control.specs.declared.selection.Selection.{Selection}
-use Rattle.bay_control.specs.declared.selection.Standing.{Standing}
+use Rattle.bay_control.specs.declared.selection.Ongoing.{Ongoing}
 
 -- the controls of a bay: what its file says of each switch, the selected switch and the operating
 -- one
@@ -245,11 +245,11 @@ after_contact k position s =
 -- ---- what is taken and put back
 
 -- what a decision may change
-abbrev pub standing_of : State → Standing
+abbrev pub standing_of : State → Ongoing
 standing_of s = record { selection = s.selection; execution = s.execution }
 
 -- it stands again as it did
-abbrev pub with_standing : Standing → State → State
+abbrev pub with_standing : Ongoing → State → State
 with_standing standing s =
     record s { selection = standing.selection; execution = standing.execution }
 

@@ -9,7 +9,7 @@ use crate::cause::AddCause;
 use crate::control::{SwitchControl, is_over};
 use crate::request::{Ask, Choice, View, is_reached};
 use crate::selection::{
-    Execution, Selection, Standing, is_chosen, is_done, is_executing, is_selected_by,
+    Execution, Ongoing, Selection, is_chosen, is_done, is_executing, is_selected_by,
     is_selected_by_other, other_is_executing, other_is_selected,
 };
 use arrayvec::ArrayVec;
@@ -357,17 +357,17 @@ impl Controls {
 
     /// What is selected and what is operating, to be put back where a request is to have had no
     /// effect.
-    pub fn standing(&self) -> Standing
+    pub fn standing(&self) -> Ongoing
         ensures { result ≡ standing_of self.now }
     {
-        Standing {
+        Ongoing {
             selection: self.selection.as_ref().map(|s| s.duplicate()),
             execution: self.execution,
         }
     }
 
     /// Puts back what was selected and what was operating.
-    pub fn restore(&mut self, standing: Standing)
+    pub fn restore(&mut self, standing: Ongoing)
         ensures { self.new ≡ with_standing standing self.old }
     {
         self.selection = standing.selection;

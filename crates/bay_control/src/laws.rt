@@ -3,7 +3,7 @@ ghost use Rattle.std.specs.Prelude.{◌≡◌, ℕ, Bool, true, List, [], ◌++�
 ghost use Rattle.bay_control.specs.Acts.{Entry};
 ghost use Rattle.bay_control.specs.Backing.{AreBacked};
 ghost use Rattle.bay_control.specs.Decisions.{State, with_standing, standing_of};
-ghost use Rattle.bay_control.specs.declared.selection.Standing.{Standing};
+ghost use Rattle.bay_control.specs.declared.selection.Ongoing.{Ongoing};
 ghost use Rattle.bay_control.specs.Happenings.{Call, Leads, act_of, entries_of, is_open_after, is_orderly_call, outcome_of};
 
 /// Whatever happens to controls with no selection, whichever associations are open, each accepted
@@ -31,7 +31,7 @@ pub fn calls_lead()
 
 /// What was standing before some calls is put back as if they had not been made.
 pub fn restoring_undoes()
-    ensures calls { (standing : Standing) (call : Call) (now : ℕ) (s : State) →
+    ensures calls { (standing : Ongoing) (call : Call) (now : ℕ) (s : State) →
         with_standing standing (outcome_of call now s).after ≡ with_standing standing s }
     ensures own { (s : State) → with_standing (standing_of s) s ≡ s }
 {}

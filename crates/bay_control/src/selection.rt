@@ -45,7 +45,7 @@ pub struct Execution {
 
 /// What is selected and what is operating, taken from controls to be put back.
 #[derive(Debug, Drop)]
-pub struct Standing {
+pub struct Ongoing {
     pub selection: Option<Selection>,
     pub execution: Option<Execution>,
 }

@@ -3,7 +3,7 @@ use Rattle.std.proofs.Common.{◌≡◌, ◌≤◌, ℕ, suc, All, List, [], ◌
 use Rattle.std.specs.Result.{OnErr, OnOk}
 use Rattle.bay_assoc.specs.declared.hearing.AssociationTerms.{AssociationTerms}
 use Rattle.bay_connection.specs.Talk.{Terms, sending}
-use Rattle.bay_control.specs.declared.selection.Standing.{Standing}
+use Rattle.bay_control.specs.declared.selection.Ongoing.{Ongoing}
 use Rattle.bay_services.specs.Answers.{Answered}
 use Rattle.bay_services.specs.Bay.{Bay, standing_again}
 use Rattle.bay_services.specs.declared.answer.Command.{Command}
@@ -68,7 +68,7 @@ answered-done a terms x s sent made commands obeyed b due after is sends does =
     (sent ++ map (λ pdu. sent_on a (sending terms pdu)) x.sent) y) does
 
 -- what stood before is put back
-pub put-back-done : (standing : Standing) (s m : State) (b : Bay) (sent made : List Sent)
+pub put-back-done : (standing : Ongoing) (s m : State) (b : Bay) (sent made : List Sent)
     (commands obeyed : List Command) → b ≡ standing_again standing (bay_of m)
     → put_back standing m ≡ put_back standing s → standing_again standing (bay_of s) ≡ bay_of s
     → made ≡ sent → obeyed ≡ commands → done (with_bay b m) made obeyed ≡ done s sent commands

@@ -4,7 +4,7 @@ use Rattle.bay_tree.specs.declared.row.Row.{Row}
 use Rattle.bay_nodes.specs.Names.{interlocking_of}
 use Rattle.bay_control.specs.Decisions.{selected_switch, standing_of}
 use Rattle.bay_control.specs.Decisions as control
-use Rattle.bay_control.specs.declared.selection.Standing.{Standing}
+use Rattle.bay_control.specs.declared.selection.Ongoing.{Ongoing}
 use Rattle.bay_process.specs.Told.{AreTold}
 use Rattle.bay_process.specs.declared.switch.Enabled.{Enabled}
 use Rattle.bay_process.proofs.ToldLemmas.{told-kept}
@@ -27,7 +27,7 @@ told-with old new controls told all is =
 -- rows of a bay that, with any selection and execution put back, is the same, and that shows its
 -- own selection
 pub told-again : (old new : Bay) (told : List (Option Enabled)) → AreTold old.rows told
-    → ((standing : Standing) → standing_again standing new ≡ standing_again standing old)
+    → ((standing : Ongoing) → standing_again standing new ≡ standing_again standing old)
     → ShowSelection new.controls (length new.switches) new.rows → AreTold new.rows told
 told-again old new told all back shows =
     let own : rows_shown (selected_switch new.controls.selection) (length new.switches) new.rows

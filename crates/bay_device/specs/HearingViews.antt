@@ -1,6 +1,6 @@
 -- What the code has made of a device so far, and how octets are heard turn by turn.
 use Rattle.std.specs.Prelude.{ℕ, ◌≡◌, List, Option, Some, None}
-use Rattle.bay_control.specs.declared.selection.Standing.{Standing}
+use Rattle.bay_control.specs.declared.selection.Ongoing.{Ongoing}
 use Rattle.bay_connection.specs.Talk.{Indication, Talk, indications}
 use Rattle.bay_connection.specs.Feeding.{IsContinued}
 use Rattle.bay_services.specs.Bay.{standing_again}
@@ -13,7 +13,7 @@ abbrev pub done_of : State → Made → Done
 done_of s made = record { state = s; sent = made.sent.items; commands = made.commands.items }
 
 -- a device with what stood before
-abbrev pub put_back : Standing → State → State
+abbrev pub put_back : Ongoing → State → State
 put_back standing s = with_bay (standing_again standing (bay_of s)) s
 
 -- one thing that was heard, if there is one, and then what follows

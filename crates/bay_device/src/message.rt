@@ -2,7 +2,7 @@
 ghost use Rattle.std.specs.Prelude.{◌≡◌, ◌≤◌, ◌++◌, List, Option, [], All, IfOk, IfSome, IsSome, OnErr, OnOk, length, map, take};
 ghost use Rattle.bay_assoc.specs.Hears.{association_terms};
 ghost use Rattle.bay_connection.specs.Talk.{Talk, sending, terms_of};
-ghost use Rattle.bay_control.specs.declared.selection.Standing.{Standing};
+ghost use Rattle.bay_control.specs.declared.selection.Ongoing.{Ongoing};
 ghost use Rattle.bay_services.specs.Answers.{pdu_answer};
 ghost use Rattle.bay_services.specs.Controls.{AreShort, IsShort};
 ghost use Rattle.bay_device.specs.Device.{bay_of};
@@ -170,7 +170,7 @@ fn answer(
         ≡ answered_with client.association (terms_of connection.now.talk)
         (pdu_answer client connection.now.pdu (bay_of (state_view connections state.old)))
         (done_of (state_view connections state.old) made.old)) }
-    ensures back { OnErr result ((connections : List (Option Talk)) (standing : Standing)
+    ensures back { OnErr result ((connections : List (Option Talk)) (standing : Ongoing)
         → put_back standing (state_view connections state.new)
         ≡ put_back standing (state_view connections state.old)) }
     ensures sent { take (length made.old.sent.items) made.new.sent.items ≡ made.old.sent.items }

@@ -3,7 +3,7 @@ use Rattle.std.proofs.Common.{◌≡◌, ℕ, List, length, Option, Some, None, 
 use Rattle.bay_tree.specs.declared.row.Row.{Row}
 use Rattle.bay_control.specs.Decisions.{State, controls_at, selected_switch}
 use Rattle.bay_control.specs.declared.selection.Selection.{Selection}
-use Rattle.bay_control.specs.declared.selection.Standing.{Standing}
+use Rattle.bay_control.specs.declared.selection.Ongoing.{Ongoing}
 use Rattle.bay_process.specs.Layout.{switches_of}
 use Rattle.bay_services.specs.Bay.{Bay, ShowSelection, rows_shown, standing_again, with_controls}
 use Rattle.bay_services.specs.Views.{bay_view}
@@ -23,7 +23,7 @@ decided d c outcome tree count sized rows is =
     (rows_shown (selected_switch c.selection) n d.tree))
     sized ∙ ap (λ (s : State). with_controls s (bay_view d)) is
 
-pub undone : (d : ServedBay) (c outcome : State) (tree : List Row) (count : ℕ) (standing : Standing)
+pub undone : (d : ServedBay) (c outcome : State) (tree : List Row) (count : ℕ) (standing : Ongoing)
     → count ≡ length (switches_of d.switches)
     → tree ≡ rows_shown (selected_switch c.selection) count d.tree → c ≡ outcome
     → outcome.controls ≡ d.controls.controls

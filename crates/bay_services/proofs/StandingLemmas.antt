@@ -1,12 +1,12 @@
 -- What stood before is put back, whatever was done to the controls.
 use Rattle.std.proofs.Common.{◌≡◌, length, ap, ◌∙◌}
 use Rattle.bay_control.specs.Decisions.{State, with_standing, selected_switch}
-use Rattle.bay_control.specs.declared.selection.Standing.{Standing}
+use Rattle.bay_control.specs.declared.selection.Ongoing.{Ongoing}
 use Rattle.bay_services.specs.Bay.{Bay, rows_shown, standing_again, with_controls}
 use Rattle.bay_services.proofs.ShownLemmas.{shown-again}
 
 -- controls of the same switches are put back alike
-pub again : (standing : Standing) (c : State) (b : Bay) → c.controls ≡ b.controls.controls
+pub again : (standing : Ongoing) (c : State) (b : Bay) → c.controls ≡ b.controls.controls
     → standing_again standing (with_controls c b) ≡ standing_again standing b
 again standing c b same =
     let selected = selected_switch standing.selection in

@@ -6,7 +6,7 @@ use Rattle.bay_tree.specs.Rows.{with_leaf_of}
 use Rattle.bay_tree.specs.declared.row.Row.{Row}
 use Rattle.bay_tree.specs.declared.leaf.Leaf.TheVariants as leaf
 use Rattle.bay_control.specs.Decisions.{State, with_standing, selected_switch}
-use Rattle.bay_control.specs.declared.selection.Standing.{Standing}
+use Rattle.bay_control.specs.declared.selection.Ongoing.{Ongoing}
 
 -- a bay: its name and its nameplate, its switches, the rows of its tree, and its controls
 pub record Bay : Type 0 where
@@ -44,5 +44,5 @@ with_controls controls b =
     }
 
 -- a bay with what stood before
-abbrev pub standing_again : Standing → Bay → Bay
+abbrev pub standing_again : Ongoing → Bay → Bay
 standing_again standing b = with_controls (with_standing standing b.controls) b

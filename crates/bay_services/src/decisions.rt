@@ -1,7 +1,7 @@
 // What clients ask of controls, decided, with the selection shown in the tree.
 ghost use Rattle.std.specs.Prelude.{◌≡◌, ◌<◌, length};
 ghost use Rattle.bay_control.specs.Decisions.{controls_at, cancel_outcome, without_association, operate_outcome, select_outcome, run_out, select_with_outcome, selected_switch, standing_of};
-ghost use Rattle.bay_control.specs.declared.selection.Standing.{Standing};
+ghost use Rattle.bay_control.specs.declared.selection.Ongoing.{Ongoing};
 ghost use Rattle.bay_process.specs.Controls.{AreAllControlRows};
 ghost use Rattle.bay_process.specs.Layout.{layout_of};
 ghost use Rattle.bay_services.specs.Bay.{rows_shown, standing_again, with_controls};
@@ -15,7 +15,7 @@ use bay_base::listing::Listing;
 use bay_control::cause::AddCause;
 use bay_control::controls::Controls;
 use bay_control::request::{Ask, View};
-use bay_control::selection::Standing;
+use bay_control::selection::Ongoing;
 use bay_process::controls::ControlRows;
 use bay_process::rows::{is_truth, position_at, put};
 use bay_tree::leaf::Leaf;
@@ -62,7 +62,7 @@ impl ServedBay {
             ≡ with_controls (select_outcome client.association switch client.now
             self.old.controls).after (bay_view self.old) }
         ensures layout { layout_of self.new.tree ≡ layout_of self.old.tree }
-        ensures back { (standing : Standing)
+        ensures back { (standing : Ongoing)
             → standing_again standing (bay_view self.new)
             ≡ standing_again standing (bay_view self.old) }
         ensures switches { self.new.switches ≡ self.old.switches }
@@ -86,7 +86,7 @@ impl ServedBay {
             ≡ with_controls (select_with_outcome client.association switch ask client.now
             self.old.controls).after (bay_view self.old) }
         ensures layout { layout_of self.new.tree ≡ layout_of self.old.tree }
-        ensures back { (standing : Standing)
+        ensures back { (standing : Ongoing)
             → standing_again standing (bay_view self.new)
             ≡ standing_again standing (bay_view self.old) }
         ensures switches { self.new.switches ≡ self.old.switches }
@@ -106,7 +106,7 @@ impl ServedBay {
             ≡ with_controls (cancel_outcome client.association switch client.now
             self.old.controls).after (bay_view self.old) }
         ensures layout { layout_of self.new.tree ≡ layout_of self.old.tree }
-        ensures back { (standing : Standing)
+        ensures back { (standing : Ongoing)
             → standing_again standing (bay_view self.new)
             ≡ standing_again standing (bay_view self.old) }
         ensures switches { self.new.switches ≡ self.old.switches }
@@ -146,7 +146,7 @@ impl ServedBay {
             (view_of client switch (bay_view self.old)) client.now self.old.controls).after
             (bay_view self.old) }
         ensures layout { layout_of self.new.tree ≡ layout_of self.old.tree }
-        ensures back { (standing : Standing)
+        ensures back { (standing : Ongoing)
             → standing_again standing (bay_view self.new)
             ≡ standing_again standing (bay_view self.old) }
         ensures switches { self.new.switches ≡ self.old.switches }
@@ -160,7 +160,7 @@ impl ServedBay {
     }
 
     /// What is selected and what is operating, to be put back.
-    pub fn standing(&self) -> Standing
+    pub fn standing(&self) -> Ongoing
         ensures value { result ≡ standing_of self.now.controls }
         ensures own { standing_again result (bay_view self.now) ≡ bay_view self.now }
     {
@@ -168,7 +168,7 @@ impl ServedBay {
     }
 
     /// Puts back what was selected and what was operating.
-    pub fn restore(&mut self, standing: Standing)
+    pub fn restore(&mut self, standing: Ongoing)
         ensures after { bay_view self.new ≡ standing_again standing (bay_view self.old) }
         ensures switches { self.new.switches ≡ self.old.switches }
         ensures layout { layout_of self.new.tree ≡ layout_of self.old.tree }

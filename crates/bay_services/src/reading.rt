@@ -1,6 +1,6 @@
 // The variables of a read, one after the other.
 ghost use Rattle.std.specs.Prelude.{◌≡◌, ◌≤◌, ◌<◌, Some, map, length, IfErr, IfSome, OnOk};
-ghost use Rattle.bay_control.specs.declared.selection.Standing.{Standing};
+ghost use Rattle.bay_control.specs.declared.selection.Ongoing.{Ongoing};
 ghost use Rattle.bay_mms.specs.RequestViews.{naming};
 ghost use Rattle.bay_mms.specs.declared.fault.EncodeFault.TheVariants.{TooLong};
 ghost use Rattle.bay_control.specs.Decisions.{select_outcome};
@@ -74,7 +74,7 @@ impl ServedBay {
             (reading self.old response.old.octets)
             (select_outcome client.association switch client.now self.old.controls)).results) }
         ensures size { response.new.size ≡ response.old.size }
-        ensures back { (standing : Standing)
+        ensures back { (standing : Ongoing)
             → standing_again standing (bay_view self.new)
             ≡ standing_again standing (bay_view self.old) }
         ensures switches { self.new.switches ≡ self.old.switches }
@@ -107,7 +107,7 @@ impl ServedBay {
             (spec.read_row client (reading self.old response.old.octets)
             (Some row)).results) }
         ensures size { response.new.size ≡ response.old.size }
-        ensures back { (standing : Standing)
+        ensures back { (standing : Ongoing)
             → standing_again standing (bay_view self.new)
             ≡ standing_again standing (bay_view self.old) }
         ensures switches { self.new.switches ≡ self.old.switches }
@@ -140,7 +140,7 @@ impl ServedBay {
             → response.old.size < length (spec.read_one client (naming name.now)
             (reading self.old response.old.octets)).results) }
         ensures size { response.new.size ≡ response.old.size }
-        ensures back { (standing : Standing)
+        ensures back { (standing : Ongoing)
             → standing_again standing (bay_view self.new)
             ≡ standing_again standing (bay_view self.old) }
         ensures switches { self.new.switches ≡ self.old.switches }
@@ -168,7 +168,7 @@ impl ServedBay {
             → response.old.size < length (spec.read_all client (map naming names.now)
             (reading self.old response.old.octets)).results) }
         ensures size { response.new.size ≡ response.old.size }
-        ensures back { (standing : Standing)
+        ensures back { (standing : Ongoing)
             → standing_again standing (bay_view self.new)
             ≡ standing_again standing (bay_view self.old) }
         ensures switches { self.new.switches ≡ self.old.switches }

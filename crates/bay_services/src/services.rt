@@ -1,7 +1,7 @@
 // A PDU of a client, answered and done.
 ghost use Rattle.std.specs.Prelude.{◌≡◌, ◌≢◌, ◌≤◌, ◌∷◌, [], All, List, ℕ, length, map, option_map, IfOk, OnOk, OnErr, None, Some, Err};
 ghost use Rattle.bay_base.specs.Exact.{Gives};
-ghost use Rattle.bay_control.specs.declared.selection.Standing.{Standing};
+ghost use Rattle.bay_control.specs.declared.selection.Ongoing.{Ongoing};
 ghost use Rattle.bay_mms.specs.RequestViews.{asking, naming};
 ghost use Rattle.bay_mms.specs.Responses.{concluded_text, error_text, read_text};
 ghost use Rattle.bay_mms.specs.Views.{data_in};
@@ -160,7 +160,7 @@ impl ServedBay {
         ensures after { OnOk result
             (bay_view self.new ≡ (read_all client (map naming names.now)
             (nothing_read (bay_view self.old))).bay) }
-        ensures back { (standing : Standing)
+        ensures back { (standing : Ongoing)
             → standing_again standing (bay_view self.new)
             ≡ standing_again standing (bay_view self.old) }
         ensures switches { self.new.switches ≡ self.old.switches }
@@ -183,7 +183,7 @@ impl ServedBay {
         ensures ok { IfOk result
             (λ answer. AnswersAs answer (bay_view self.new)
             (read_asked client id (bay_view self.old) (map naming names.now))) }
-        ensures back { (standing : Standing)
+        ensures back { (standing : Ongoing)
             → standing_again standing (bay_view self.new)
             ≡ standing_again standing (bay_view self.old) }
         ensures switches { self.new.switches ≡ self.old.switches }
@@ -213,7 +213,7 @@ impl ServedBay {
         ensures ok { IfOk result
             (λ answer. AnswersAs answer (bay_view self.new)
             (write_asked client id (bay_view self.old) (map naming names.now) (data_in values.now))) }
-        ensures back { (standing : Standing)
+        ensures back { (standing : Ongoing)
             → standing_again standing (bay_view self.new)
             ≡ standing_again standing (bay_view self.old) }
         ensures switches { self.new.switches ≡ self.old.switches }
@@ -262,7 +262,7 @@ impl ServedBay {
         ensures ok { IfOk result
             (λ answer. AnswersAs answer (bay_view self.new)
             (service_answer client id (bay_view self.old) (asking call.now))) }
-        ensures back { (standing : Standing)
+        ensures back { (standing : Ongoing)
             → standing_again standing (bay_view self.new)
             ≡ standing_again standing (bay_view self.old) }
         ensures switches { self.new.switches ≡ self.old.switches }
@@ -297,7 +297,7 @@ impl ServedBay {
             (λ answer. AnswersAs answer (bay_view self.new)
             (answer_of client (bay_view self.old) (read_as request.entry))) }
         ensures memory { IfOk result (λ _. request.entry ≢ Err MmsFault.OutOfMemory) }
-        ensures back { (standing : Standing)
+        ensures back { (standing : Ongoing)
             → standing_again standing (bay_view self.new)
             ≡ standing_again standing (bay_view self.old) }
         ensures switches { self.new.switches ≡ self.old.switches }
@@ -331,7 +331,7 @@ impl ServedBay {
         ensures ending { IfOk result (λ answer. IsShort answer.ending) }
         ensures err { OnErr result (bay_view self.new ≡ bay_view self.old) }
         // What it did can be undone, where what it is to send finds no memory.
-        ensures back { (standing : Standing)
+        ensures back { (standing : Ongoing)
             → standing_again standing (bay_view self.new)
             ≡ standing_again standing (bay_view self.old) }
         ensures switches { self.new.switches ≡ self.old.switches }

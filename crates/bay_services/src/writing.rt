@@ -9,7 +9,7 @@ ghost use Rattle.bay_services.specs.Controls as spec_controls;
 ghost use Rattle.bay_services.specs.Places.{IsFound};
 ghost use Rattle.bay_services.specs.Writes.{cancel_asked, commands_for, decision_result, later_ending, operate_asked, select_with_asked};
 ghost use Rattle.bay_services.specs.Writes as spec;
-ghost use Rattle.bay_control.specs.declared.selection.Standing.{Standing};
+ghost use Rattle.bay_control.specs.declared.selection.Ongoing.{Ongoing};
 ghost use Rattle.bay_mms.specs.RequestViews.{naming};
 ghost use Rattle.bay_mms.specs.Responses.{failure_result, success_result};
 ghost use Rattle.bay_mms.specs.Views.{data_in, datum_of};
@@ -201,7 +201,7 @@ impl ServedBay {
         ensures ok { OnOk result (writing self.new written.new
             ≡ select_with_asked client part.switch (name_at self.old.tree part.row)
             (writing self.old written.old) (operate_in (datum_of given.now))) }
-        ensures back { (standing : Standing)
+        ensures back { (standing : Ongoing)
             → standing_again standing (bay_view self.new)
             ≡ standing_again standing (bay_view self.old) }
         ensures switches { self.new.switches ≡ self.old.switches }
@@ -229,7 +229,7 @@ impl ServedBay {
             (writing self.new written.new
             ≡ cancel_asked client part.switch (name_at self.old.tree part.row)
             (writing self.old written.old) (cancel_in (datum_of given.now))) }
-        ensures back { (standing : Standing)
+        ensures back { (standing : Ongoing)
             → standing_again standing (bay_view self.new)
             ≡ standing_again standing (bay_view self.old) }
         ensures switches { self.new.switches ≡ self.old.switches }
@@ -322,7 +322,7 @@ impl ServedBay {
             (writing self.new written.new
             ≡ operate_asked client part.switch (name_at self.old.tree part.row)
             (writing self.old written.old) (operate_in (datum_of given.now))) }
-        ensures back { (standing : Standing)
+        ensures back { (standing : Ongoing)
             → standing_again standing (bay_view self.new)
             ≡ standing_again standing (bay_view self.old) }
         ensures switches { self.new.switches ≡ self.old.switches }
@@ -351,7 +351,7 @@ impl ServedBay {
         ensures ok { OnOk result
             (writing self.new written.new
             ≡ spec.write_row client (datum_of given.now) (writing self.old written.old) (Some row)) }
-        ensures back { (standing : Standing)
+        ensures back { (standing : Ongoing)
             → standing_again standing (bay_view self.new)
             ≡ standing_again standing (bay_view self.old) }
         ensures switches { self.new.switches ≡ self.old.switches }
@@ -386,7 +386,7 @@ impl ServedBay {
             (writing self.new written.new
             ≡ spec.write_one client (naming name.now) (datum_of given.now)
             (writing self.old written.old)) }
-        ensures back { (standing : Standing)
+        ensures back { (standing : Ongoing)
             → standing_again standing (bay_view self.new)
             ≡ standing_again standing (bay_view self.old) }
         ensures switches { self.new.switches ≡ self.old.switches }
@@ -411,7 +411,7 @@ impl ServedBay {
             (writing self.new written.new
             ≡ spec.write_all client (map naming names.now) (data_in values.now)
             (writing self.old written.old)) }
-        ensures back { (standing : Standing)
+        ensures back { (standing : Ongoing)
             → standing_again standing (bay_view self.new)
             ≡ standing_again standing (bay_view self.old) }
         ensures switches { self.new.switches ≡ self.old.switches }

@@ -18,7 +18,7 @@ use bay_config::read::read_bay;
 use bay_control::cause::AddCause;
 use bay_control::controls::Controls;
 use bay_control::request::{Ask, Origin, View};
-use bay_control::selection::Standing;
+use bay_control::selection::Ongoing;
 use cases::octets::octets_of;
 use cases::told::check_text;
 use cases::words::{first_word, words_of};
@@ -121,16 +121,16 @@ fn controls_of(alloc: Global, controls: &str) -> Result<Controls> {
 
 /// The controls of a bay, and what was taken of them.
 #[derive(Drop)]
-pub struct Session {
+pub struct ControlSession {
     alloc: Global,
     controls: Controls,
-    kept: Option<Standing>,
+    kept: Option<Ongoing>,
 }
 
-impl Session {
+impl ControlSession {
     /// The controls of a bay with one switch.
-    pub fn new(alloc: Global) -> Result<Session> {
-        Ok(Session {
+    pub fn new(alloc: Global) -> Result<ControlSession> {
+        Ok(ControlSession {
             alloc,
             controls: controls_of(alloc, "status")?,
             kept: None,

@@ -127,7 +127,7 @@ fn tell_tree(alloc: Global, told: &mut Told, body: &str) -> Result<()> {
 
 /// The lines of what controls are asked.
 fn tell_controls(alloc: Global, told: &mut Told, body: &str) -> Result<()> {
-    let mut session = controls::Session::new(alloc)?;
+    let mut session = controls::ControlSession::new(alloc)?;
     for line in body.lines() {
         if is_case(line) {
             told.tell(line, session.check(line))?;

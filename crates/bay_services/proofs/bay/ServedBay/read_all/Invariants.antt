@@ -1,5 +1,5 @@
 use Rattle.std.proofs.Common.{◌≡◌, drop, map}
-use Rattle.bay_control.specs.declared.selection.Standing.{Standing}
+use Rattle.bay_control.specs.declared.selection.Ongoing.{Ongoing}
 use Rattle.bay_mms.specs.RequestViews.{naming}
 use Rattle.bay_process.specs.Layout.{layout_of}
 use Rattle.bay_services.specs.Bay.{standing_again}
@@ -13,7 +13,7 @@ invariant-loop-name l = record {
       ≡ read_all l.client (map naming (drop l.name-index l.names))
       (reading l.self l.response.octets);
   size : l.response.size ≡ l.initial.response.size;
-  back : (standing : Standing)
+  back : (standing : Ongoing)
       → standing_again standing (bay_view l.self)
       ≡ standing_again standing (bay_view l.initial.self);
   switches : l.self.switches ≡ l.initial.self.switches;

@@ -1,5 +1,5 @@
 use Rattle.std.proofs.Common.{◌≡◌, drop, map}
-use Rattle.bay_control.specs.declared.selection.Standing.{Standing}
+use Rattle.bay_control.specs.declared.selection.Ongoing.{Ongoing}
 use Rattle.bay_mms.specs.RequestViews.{naming}
 use Rattle.bay_mms.specs.Views.{data_in}
 use Rattle.bay_process.specs.Layout.{layout_of}
@@ -14,7 +14,7 @@ invariant-loop-i l = record {
       (writing l.initial.self l.initial.written)
       ≡ write_all l.client (map naming (drop l.i l.names)) (data_in (drop l.i l.values))
       (writing l.self l.written);
-  back : (standing : Standing)
+  back : (standing : Ongoing)
       → standing_again standing (bay_view l.self)
       ≡ standing_again standing (bay_view l.initial.self);
   switches : l.self.switches ≡ l.initial.self.switches;
