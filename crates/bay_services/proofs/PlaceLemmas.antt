@@ -9,6 +9,7 @@ use Rattle.bay_tree.specs.Rows.{IsHandle, name_at, names_of, place_of}
 use Rattle.bay_tree.specs.declared.row.Row.{Row}
 use Rattle.bay_tree.proofs.SearchLemmas.{place_of-found}
 use Rattle.bay_nodes.specs.Names.{control_names}
+use Rattle.bay_mms.specs.Pages.{NamesText, text_of_names}
 use Rattle.bay_process.proofs.NodeLemmas.{control-rows-stay}
 use Rattle.bay_process.specs.Controls.{AreAllControlRows, AreControlRows}
 use Rattle.bay_process.specs.declared.controls.ControlRows.{ControlRows}
@@ -141,6 +142,11 @@ handle-kept rows old row same there =
 pub selected-named : (rows : List Row) (row : ℕ) (name : List ℕ) → place_of rows name ≡ Some row
     → name_in (layout_of rows) row ≡ name
 selected-named rows row name at = name-here rows row ∙ (place_of-found rows name row at).1
+
+-- the texts of the names of a tree are those of a tree of the same layout
+pub names-kept : (rows old : List Row) (names : NamesText) → layout_of old ≡ layout_of rows
+    → names ≡ text_of_names (names_of old) → names ≡ text_of_names (names_of rows)
+names-kept rows old names same is = is ∙ ap (λ (l : Layout). text_of_names l.names) same
 
 -- a control's rows stay where they are in a tree of the same layout
 pub rows-kept : (rows old : List Row) (controls : List ControlRows) → layout_of old ≡ layout_of rows

@@ -261,7 +261,7 @@ fn block_of(
 /// What is left of an instruction as an entry.
 #[tactic(auto, using(crate::proofs::ViewLemmas::view_rules))]
 fn entry_in(resolved: Resolved, kind: Option<ElementaryType>) -> Option<TypedEntry>
-    ensures { option_map entry_view result ≡ typing.entry_in resolution_of kind }
+    ensures { option_map entry_view result ≡ typing.entry_in resolved kind }
 {
     match operation_in(resolved, kind) {
         Some(operation) => Some(TypedEntry::Operation(operation)),
@@ -271,7 +271,7 @@ fn entry_in(resolved: Resolved, kind: Option<ElementaryType>) -> Option<TypedEnt
 
 /// What is left of an instruction as an item.
 fn item_in(resolved: Resolved, kind: Option<ElementaryType>) -> Option<TypedItem>
-    ensures { option_map item_view result ≡ typing.item_in resolution_of kind }
+    ensures { option_map item_view result ≡ typing.item_in resolved kind }
 {
     if let Some(transfer) = transfer_in(resolved) {
         return Some(TypedItem::Transfer(transfer));
@@ -351,7 +351,7 @@ impl Walk {
     /// Goes behind an instruction.
     fn follow(&mut self, resolved: Resolved)
         ensures standing { standing_of self.new
-            ≡ spec.standing_after resolution_of (standing_of self.old) }
+            ≡ spec.standing_after resolved (standing_of self.old) }
         ensures items { self.new.items ≡ self.old.items }
     {
         self.arrive(target_of(resolved));
@@ -398,7 +398,7 @@ impl Walk {
     fn add_instruction(&mut self, resolved: Resolved) -> Result<(), AllocError>
         ensures items { OnOk result (map item_view self.new.items.items
             ≡ map item_view self.old.items.items
-            ++ option_to_list (typing.item_in resolution_of self.old.reach.kind)) }
+            ++ option_to_list (typing.item_in resolved self.old.reach.kind)) }
         ensures standing { OnOk result (standing_of self.new ≡ standing_of self.old) }
     {
         self.add(item_in(resolved, self.reach.kind))

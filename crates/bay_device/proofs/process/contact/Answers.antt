@@ -4,7 +4,7 @@ use Rattle.bay_process.specs.Layout.{layout_of, switches_of}
 use Rattle.bay_process.specs.Values.{rows_after_contact, tells}
 use Rattle.bay_services.specs.Views.{bay_view}
 use Rattle.bay_services.proofs.ViewLemmas.{there}
-use Rattle.bay_services.proofs.PlaceLemmas.{rows-kept}
+use Rattle.bay_services.proofs.PlaceLemmas.{names-kept, rows-kept}
 use Rattle.bay_device.proofs.ApartLemmas.{shows-contact}
 use Rattle.bay_device.proofs.ProcessLemmas.{named-there}
 use Rattle.bay_device.proofs.process.contact.Goals as goal
@@ -29,7 +29,7 @@ invariant_of-bay c =
     did.rows ∙ ap (λ (n : SwitchNames). rows_after_contact n c.args.position c.args.now d.tree)
     (d.placed k bound here).named in
     record {
-      listed = rw did.layout d.listed;
+      listed = names-kept _ d.tree d.names (sym did.layout) d.listed;
       placed = rw did.layout d.placed;
       controlled = rows-kept _ d.tree d.control_rows (sym did.layout) d.controlled;
       sized = d.sized;

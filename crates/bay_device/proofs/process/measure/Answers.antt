@@ -6,7 +6,7 @@ use Rattle.bay_process.specs.Names.{field_names}
 use Rattle.bay_process.specs.Values.{rows_after_measure, tells_measure}
 use Rattle.bay_process.proofs.FieldLemmas.{field-leaf_typed, field-named}
 use Rattle.bay_services.specs.Views.{bay_view}
-use Rattle.bay_services.proofs.PlaceLemmas.{rows-kept}
+use Rattle.bay_services.proofs.PlaceLemmas.{names-kept, rows-kept}
 use Rattle.bay_device.proofs.ApartLemmas.{shows-measure}
 use Rattle.bay_device.proofs.process.measure.Goals as goal
 
@@ -30,7 +30,7 @@ invariant_of-bay c =
     d.tree =
     rows ∙ ap (λ (n : StatusNames). rows_after_measure n c.args.value c.args.now d.tree) named in
     record {
-      listed = rw did.layout d.listed;
+      listed = names-kept _ d.tree d.names (sym did.layout) d.listed;
       placed = rw did.layout d.placed;
       controlled = rows-kept _ d.tree d.control_rows (sym did.layout) d.controlled;
       sized = d.sized;

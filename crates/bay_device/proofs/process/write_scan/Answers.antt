@@ -1,7 +1,7 @@
 use Rattle.std.proofs.Common.{◌≡◌, sym, length}
 use Rattle.bay_process.specs.Layout.{layout_of, switches_of}
 use Rattle.bay_process.specs.Scans.{outputs_put}
-use Rattle.bay_services.proofs.PlaceLemmas.{rows-kept}
+use Rattle.bay_services.proofs.PlaceLemmas.{names-kept, rows-kept}
 use Rattle.bay_device.proofs.ApartLemmas.{shows-scan}
 use Rattle.bay_device.proofs.process.write_scan.Goals as goal
 
@@ -16,7 +16,7 @@ invariant_of-bay c =
     ≡ outputs_put (layout_of d.tree) d.switches c.args.outputs.now c.args.now d.tree =
     rw c.as_slice.ensures at did.rows in
     record {
-      listed = rw did.layout d.listed;
+      listed = names-kept _ d.tree d.names (sym did.layout) d.listed;
       placed = rw did.layout d.placed;
       controlled = rows-kept _ d.tree d.control_rows (sym did.layout) d.controlled;
       sized = d.sized;

@@ -1,5 +1,5 @@
 use Rattle.std.proofs.Common.{sym}
-use Rattle.bay_services.proofs.PlaceLemmas.{rows-kept}
+use Rattle.bay_services.proofs.PlaceLemmas.{names-kept, rows-kept}
 use Rattle.bay_services.proofs.DecisionLemmas.{shows}
 use Rattle.bay_services.proofs.bay.ServedBay.advance.Goals as goal
 
@@ -10,7 +10,7 @@ pub invariant_of-self-2 : goal.invariant_of-self-2
 invariant_of-self-2 c =
     let d = c.args.self.now in
     record {
-      listed = rw c.show_selection.ensures.layout d.listed;
+      listed = names-kept _ d.tree d.names (sym c.show_selection.ensures.layout) d.listed;
       placed = rw c.show_selection.ensures.layout d.placed;
       controlled =
           rows-kept _ d.tree d.control_rows (sym c.show_selection.ensures.layout) d.controlled;

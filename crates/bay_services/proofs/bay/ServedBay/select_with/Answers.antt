@@ -1,5 +1,5 @@
 use Rattle.std.proofs.Common.{refl, sym}
-use Rattle.bay_services.proofs.PlaceLemmas.{rows-kept}
+use Rattle.bay_services.proofs.PlaceLemmas.{names-kept, rows-kept}
 use Rattle.bay_services.proofs.DecisionLemmas.{decided, shows, undone}
 use Rattle.bay_services.proofs.bay.ServedBay.select_with.Goals as goal
 
@@ -10,7 +10,7 @@ pub invariant_of-self : goal.invariant_of-self
 invariant_of-self c =
     let d = c.args.self.now in
     record {
-      listed = rw c.show_selection.ensures.layout d.listed;
+      listed = names-kept _ d.tree d.names (sym c.show_selection.ensures.layout) d.listed;
       placed = rw c.show_selection.ensures.layout d.placed;
       controlled =
           rows-kept _ d.tree d.control_rows (sym c.show_selection.ensures.layout) d.controlled;
