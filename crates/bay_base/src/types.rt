@@ -2,7 +2,7 @@
 ghost use Rattle.std.specs.Prelude.{◌≡◌};
 ghost use Rattle.bay_base.specs.Types.{same_type};
 
-/// An elementary type (IEC 61131-3:2003, table 10). Points, variables and slots have one.
+/// An elementary type (IEC 61131-3:2003, table 10): the type of a point, a variable or a slot.
 #[derive(Clone, Copy, Debug, PartialEq, Eq)]
 pub enum ElementaryType {
     /// FALSE or TRUE.
@@ -18,7 +18,7 @@ pub enum ElementaryType {
 }
 
 impl ElementaryType {
-    /// Whether two types are one.
+    /// Returns whether two types are the same.
     pub fn is(self, other: ElementaryType) -> bool
         ensures { result ≡ same_type self other }
     {
@@ -26,11 +26,11 @@ impl ElementaryType {
     }
 }
 
-/// A timer (IEC 61131-3:2003, 2.5.2.3.4).
+/// A kind of timer (IEC 61131-3:2003, 2.5.2.3.4).
 #[derive(Clone, Copy, Debug, PartialEq, Eq)]
 pub enum TimerKind {
-    /// TON: Q follows a TRUE of IN after the time PT.
+    /// TON: Q follows IN to TRUE after the time PT.
     OnDelay,
-    /// TOF: Q follows a FALSE of IN after the time PT.
+    /// TOF: Q follows IN to FALSE after the time PT.
     OffDelay,
 }

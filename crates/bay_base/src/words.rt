@@ -6,8 +6,9 @@ ghost use Rattle.bay_base.specs.Words as spec;
 
 use crate::names::same_name;
 
-/// A reserved word: an operator that is written as a name (IEC 61131-3:2003, table 52), a word of a
-/// program's frame and declarations, a type, or a truth value. No name may be spelled like one.
+/// A reserved word: an operator that is spelled as a name (IEC 61131-3:2003, table 52), a word of a
+/// program's frame and declarations, a type, or a truth value. A name must not be spelled like a
+/// reserved word.
 #[derive(Clone, Copy, Debug, PartialEq, Eq)]
 pub enum ReservedWord {
     Ld,
@@ -59,7 +60,7 @@ pub enum ReservedWord {
     False,
 }
 
-/// Each reserved word in upper case, once.
+/// All reserved words in upper case, each once.
 const RESERVED_WORDS: [(&str, ReservedWord); 47] = [
     ("LD", ReservedWord::Ld),
     ("LDN", ReservedWord::Ldn),
@@ -110,14 +111,14 @@ const RESERVED_WORDS: [(&str, ReservedWord); 47] = [
     ("FALSE", ReservedWord::False),
 ];
 
-/// All reserved words with their spellings.
+/// Returns all reserved words with their spellings.
 fn reserved_words() -> &'static [(&'static str, ReservedWord)]
     ensures { map (λ entry. (entry.0.now, entry.1)) result.now ≡ spec.reserved_words }
 {
     &RESERVED_WORDS
 }
 
-/// The first entry that a word is.
+/// Returns the first entry whose spelling is the given word.
 fn entry_of<'a>(
     entries: &'a [(&'static str, ReservedWord)],
     text: &str,
@@ -127,7 +128,7 @@ fn entry_of<'a>(
     entries.iter().find(|entry| same_name(text, entry.0))
 }
 
-/// The word of an entry.
+/// Returns the reserved word of an entry.
 fn word_of(entry: Option<&(&'static str, ReservedWord)>) -> Option<ReservedWord>
     ensures { result ≡ option_map (λ one. one.1) (option_copied entry.entry) }
 {
@@ -137,7 +138,7 @@ fn word_of(entry: Option<&(&'static str, ReservedWord)>) -> Option<ReservedWord>
     }
 }
 
-/// The reserved word that a word is, in letters of either case, if it is one.
+/// Returns the reserved word that a text spells, in letters of either case, or `None`.
 pub fn reserved_word(text: &str) -> Option<ReservedWord>
     ensures { result ≡ reserved_of text.now }
 {

@@ -17,13 +17,13 @@ use thiserror::Error;
 /// The most octets that a bay file, a program or an image may have.
 const FILE_LIMIT: usize = 16_777_216;
 
-/// How many names are tried beside that of a file that is written.
+/// How many temporary names are tried next to the file being written.
 const TRIES: u32 = 100;
 
-/// Why a file was not written whole.
+/// Why writing a file failed.
 #[derive(Clone, Copy, Debug, PartialEq, Eq, Error)]
 pub enum FileFault {
-    /// It can't be made, or a write failed.
+    /// The file can't be created, or a write failed.
     #[error("the file can't be written")]
     Failed,
     #[error("out of memory")]
@@ -32,11 +32,11 @@ pub enum FileFault {
 
 /// Files by their names.
 ///
-/// Its meaning is three relations: `reads files name gave` (a read of this name gave these octets,
-/// or this fault), `writes old name beside octets outcome new` (a write of these octets to this
-/// name, by way of a new file of that name beside it, led from the files before to those after with
-/// this outcome), and `same files one other is_same` (whether the names are of one file). Files in
-/// memory give their own; of those of a system nothing is known, and they keep the defaults.
+/// Its meaning is three relations. `reads files name gave`: reading this name gave these octets or
+/// this fault. `writes old name beside octets outcome new`: writing these octets to this name, by
+/// way of a new file named `beside`, led from the files before to those after with this outcome.
+/// `same files one other is_same`: whether both names are of one file. Files in memory give their
+/// own meaning. Nothing is known of the files of a system, and they keep the defaults.
 pub trait FileSystem {
     ghost reads: { Self → List ℕ → Result (List ℕ) ReadFault → Type 0 } = { λ _ _ _. Unit {0} };
 
@@ -44,30 +44,30 @@ pub trait FileSystem {
 
     ghost same: { Self → List ℕ → List ℕ → Bool → Type 0 } = { λ _ _ _ _. Unit {0} };
 
-    /// All octets of a file, which has at most 16,777,216.
+    /// Reads all octets of a file, at most 16,777,216.
     fn read(&self, alloc: Global, name: &str) -> Result<Vec<u8>, ReadFault>
         ensures ok { IfOk result (λ octets. reads self.now name.now (Ok octets.items)) }
         ensures err { IfErr result (λ fault. reads self.now name.now (Err fault)) };
 
-    /// Makes a file of these octets under the name beside, and gives it the other, in the place of
-    /// what had that; nothing else is touched. Where something has the name beside, it is
-    /// Ok(false), and nothing is done; where a call fails, nothing that was made stays.
+    /// Creates a file named `beside` with these octets, then renames it to `name`, replacing any
+    /// file of that name. Nothing else is touched. Returns `Ok(false)` and does nothing if the name
+    /// `beside` is taken. Leaves nothing behind if a call fails.
     fn write(&mut self, name: &str, beside: &str, octets: &[u8]) -> Result<bool, FileFault>
         ensures { writes self.old name.now beside.now octets.now result self.new };
 
-    /// Whether two names are known to be of one file.
+    /// Returns whether two names are known to be of one file.
     fn is_same(&self, alloc: Global, name: &str, other: &str) -> bool
         ensures { same self.now name.now other.now result };
 }
 
-/// What a command reads: a bay file, and a program or an image.
+/// The files that a command reads: a bay file, and a program or an image.
 #[derive(Drop)]
 pub struct BothFiles {
     pub bay: Vec<u8>,
     pub program: Vec<u8>,
 }
 
-/// The two files of a command, read in this order.
+/// Reads the two files of a command: the bay file first, then the program.
 pub fn read_both<F: FileSystem>(
     alloc: Global,
     files: &F,
@@ -97,7 +97,7 @@ impl<'a, R: Files> SystemFiles<'a, R> {
     }
 }
 
-/// A fault of reading, by the error that the system gave.
+/// Converts an error of the system to a fault of reading.
 fn read_fault(error: &io::Error) -> ReadFault {
     if error.kind() == ErrorKind::OutOfMemory {
         ReadFault::OutOfMemory
@@ -106,7 +106,7 @@ fn read_fault(error: &io::Error) -> ReadFault {
     }
 }
 
-/// A fault of writing, by the error that the system gave.
+/// Converts an error of the system to a fault of writing.
 fn file_fault(error: &io::Error) -> FileFault {
     if error.kind() == ErrorKind::OutOfMemory {
         FileFault::OutOfMemory
@@ -149,7 +149,7 @@ impl<R: Files> FileSystem for SystemFiles<'_, R> {
     }
 }
 
-/// Writes a new file of the name beside, and gives it the other.
+/// Writes the octets to the new file named `beside` and renames it to `name`.
 fn fill<R: Files>(
     rt: &R,
     mut file: R::File,
@@ -161,15 +161,15 @@ fn fill<R: Files>(
     fs::rename(rt, beside, name).map_err(|error| file_fault(&error))
 }
 
-/// The name beside a file's at the try with this number, from 0 on.
+/// Returns the temporary name of the try with this number, counted from 0.
 fn beside_name(alloc: Global, name: &str, number: u32) -> Result<String, AllocError>
     ensures { IfOk result (λ text. string_bytes text ≡ spec.beside_name name.now number) }
 {
     format!(in alloc; "{name}.part{number}")
 }
 
-/// Writes octets to a file of this name: all of them, or none. They go to a file beside it, under
-/// the first of a hundred names that nothing has, which then takes its place.
+/// Writes octets to a file of this name: all of them or none. Writes them to a new file next to it,
+/// under the first of a hundred names that is free, and then renames that file.
 pub fn write_whole<F: FileSystem>(
     alloc: Global,
     files: &mut F,

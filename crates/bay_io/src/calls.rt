@@ -7,36 +7,36 @@ ghost use Rattle.bay_io.specs.Calls.{ReadCall, WriteCall, reads, writes, flushes
 use std::io;
 use std::io::{Read, Write};
 
-/// Where octets are read from.
+/// A source of octets.
 ///
-/// Its meaning is `does old call new`: this call, with what it gave, may have led from the one
-/// state to the other. A source in memory gives its own; of another nothing is known, and it keeps
-/// the default. Who is proved for every source makes just the calls that it tells.
+/// Its meaning is `does old call new`: this call, with what it returned, may have led from the old
+/// state to the new one. A source in memory gives its own meaning. Nothing is known of any other
+/// source, and it keeps the default. Code proved for every source makes only the calls it states.
 pub trait Source {
     ghost remaining: { Self → Option (List ℕ) } = { λ _. None };
 
     ghost does: { Self → ReadCall → Self → Type 0 } = { λ _ _ _. Unit {0} };
 
-    /// Reads at most as many octets as there is room for; 0 are the end.
+    /// Reads at most as many octets as fit in `room`. A result of 0 means the end.
     fn read_octets(&mut self, room: &mut [u8]) -> io::Result<usize>
         ensures bound { ReadsAtMost result room.new }
         ensures bytes { ReadConsumes (remaining self.old) (remaining self.new) result room.new }
         ensures call { does self.old (reads (length room.old) result room.new) self.new };
 }
 
-/// Where octets are written to, with a meaning as that of a source.
+/// A sink for octets, with a meaning like that of a `Source`.
 pub trait Sink {
     ghost contents: { Self → Option (List ℕ) } = { λ _. None };
 
     ghost does: { Self → WriteCall → Self → Type 0 } = { λ _ _ _. Unit {0} };
 
-    /// Writes a front of the octets, and answers how many.
+    /// Writes a prefix of the octets and returns its length.
     fn write_octets(&mut self, octets: &[u8]) -> io::Result<usize>
         ensures bound { WritesAtMost result octets.now }
         ensures bytes { WriteAppends (contents self.old) (contents self.new) result octets.now }
         ensures call { does self.old (writes octets.now result) self.new };
 
-    /// Hands on what was written before.
+    /// Flushes what was written before.
     fn flush_octets(&mut self) -> io::Result<()>
         ensures bytes { Keeps (contents self.old) (contents self.new) }
         ensures call { does self.old (flushes result) self.new };

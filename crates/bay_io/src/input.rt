@@ -8,13 +8,13 @@ use crate::reader::WatchedReader;
 use std::alloc::Global;
 use thiserror::Error;
 
-/// How many octets are asked for at a time.
+/// How many octets a single read asks for.
 const PIECE: usize = 65_536;
 
-/// Why the input could not be had.
+/// Why reading the input failed.
 #[derive(Debug, Drop, Error)]
 pub enum ReadFault {
-    /// There is more than the limit.
+    /// There are more octets than the limit.
     #[error("there are too many octets")]
     TooLong,
     /// A read failed.
@@ -24,7 +24,8 @@ pub enum ReadFault {
     OutOfMemory,
 }
 
-/// Adds octets to what was kept, if all before were, and answers whether there was memory for all.
+/// Adds octets to those kept, if all octets before them were kept. Returns false if they were not,
+/// or if an allocation failed.
 fn keep(all: &mut Vec<u8>, is_whole: bool, octets: &[u8]) -> bool
     ensures { result ≡ true
         → (is_whole ≡ true) × (all.new.items ≡ all.old.items ++ octets.now) }
@@ -32,9 +33,9 @@ fn keep(all: &mut Vec<u8>, is_whole: bool, octets: &[u8]) -> bool
     is_whole && all.extend_from_slice(octets).is_ok()
 }
 
-/// All octets that the reader has left, if they are at most so many. It is read once more than that
-/// at most; a reader of which a read has failed is not read again. Where there is no memory for
-/// what was read, it is read on, as there may be too much.
+/// Reads all octets that the reader has left, if there are at most `limit`. Makes at most `limit` +
+/// 1 reads, and none after a failed read. If an allocation fails it reads on, because there may be
+/// too many octets.
 pub fn read_all<R: Source>(
     alloc: Global,
     reader: &mut WatchedReader<R>,

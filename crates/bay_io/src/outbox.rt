@@ -7,18 +7,18 @@ use itoa::Buffer;
 use std::marker::Model;
 use thiserror::Error;
 
-/// How many octets the buffer holds at most.
+/// The capacity of the buffer in octets.
 const ROOM: usize = 65_536;
 
-/// A text of at most so many octets is short.
+/// The most octets that a short text has.
 const SHORT: usize = 4;
 
-/// A write or a flush failed, or the writer took nothing of what it was given.
+/// A write or a flush failed, or a write accepted none of the octets it was given.
 #[derive(Clone, Copy, Debug, PartialEq, Eq, Error)]
 #[error("a write failed")]
 pub struct WriteFault;
 
-/// Adds a short text octet by octet, which costs less than a call that copies it.
+/// Adds a short text octet by octet, which is cheaper than a call that copies it.
 fn keep_octets(pending: &mut ArrayVec<u8, ROOM>, text: &[u8])
     requires { length pending.old.items + length text.now ≤ 65536 }
     ensures { pending.new.items ≡ pending.old.items ++ text.now }
@@ -28,7 +28,7 @@ fn keep_octets(pending: &mut ArrayVec<u8, ROOM>, text: &[u8])
     }
 }
 
-/// Adds a text that is mostly short where there is room for it, and answers whether there was.
+/// Adds a text that is usually short, if it fits. Returns whether it fitted.
 #[inline(always)]
 fn keep_short(pending: &mut ArrayVec<u8, ROOM>, text: &[u8]) -> bool
     requires { length pending.old.items ≤ 65536 }
@@ -46,7 +46,7 @@ fn keep_short(pending: &mut ArrayVec<u8, ROOM>, text: &[u8]) -> bool
     true
 }
 
-/// Octets that are not yet written, at most 65,536. It takes no memory beside its own.
+/// Octets that are not yet written, at most 65,536. Needs no memory beyond its own.
 #[derive(Drop)]
 pub struct Outbox {
     pending: ArrayVec<u8, ROOM>,
@@ -66,7 +66,7 @@ impl Model for Outbox {
 }
 
 impl Outbox {
-    /// A buffer with nothing in it.
+    /// Creates an empty buffer.
     pub fn new() -> Self
         ensures { result ≡ [] }
     {
@@ -76,7 +76,7 @@ impl Outbox {
         }
     }
 
-    /// Adds the text where the buffer has room for it, and answers whether it had.
+    /// Adds a text if it fits in the buffer. Returns whether it fitted.
     #[inline(always)]
     pub fn keep(&mut self, text: &[u8]) -> bool
         ensures { self.new ≡ (if result then self.old ++ text.now else self.old) }
@@ -84,8 +84,7 @@ impl Outbox {
         self.pending.try_extend_from_slice(text).is_ok()
     }
 
-    /// Adds a number's decimal digits where the buffer has room for them, and answers whether it
-    /// had.
+    /// Adds the decimal digits of a number if they fit in the buffer. Returns whether they fitted.
     #[inline(always)]
     pub fn keep_number(&mut self, number: u64) -> bool
         ensures { self.new ≡ (if result then self.old ++ decimal number else self.old) }
@@ -94,22 +93,22 @@ impl Outbox {
         keep_short(&mut self.pending, digits.as_bytes())
     }
 
-    /// Adds a text that is mostly short, like the id of a switch: of up to four octets faster than
-    /// `keep`.
+    /// Adds a text that is usually short, like the id of a switch, if it fits. Returns whether it
+    /// fitted. Faster than `keep` for up to four octets.
     pub fn keep_short(&mut self, text: &[u8]) -> bool
         ensures { self.new ≡ (if result then self.old ++ text.now else self.old) }
     {
         keep_short(&mut self.pending, text)
     }
 
-    /// What was added.
+    /// Returns the octets that were added.
     pub fn as_slice(&self) -> &[u8]
         ensures { result.now ≡ self.now }
     {
         self.pending.as_slice()
     }
 
-    /// Forgets what was added.
+    /// Removes all octets.
     pub fn clear(&mut self)
         ensures { self.new ≡ [] }
     {

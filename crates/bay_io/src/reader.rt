@@ -8,7 +8,7 @@ use crate::calls::Source;
 use std::io;
 use std::marker::Model;
 
-/// A reader that counts its reads, and knows whether one has failed.
+/// A reader that counts its reads and records whether one has failed.
 #[derive(Drop)]
 pub struct WatchedReader<R> {
     inner: R,
@@ -25,7 +25,7 @@ impl<R> Model for WatchedReader<R> {
 }
 
 impl<R> WatchedReader<R> {
-    /// A reader that was not read yet.
+    /// Wraps a reader before its first read.
     pub fn new(inner: R) -> Self
         ensures { result ≡ record { inner = inner; reads = 0; has_failed = false } }
     {
@@ -36,14 +36,14 @@ impl<R> WatchedReader<R> {
         }
     }
 
-    /// How often it was read, counted up to 18,446,744,073,709,551,615.
+    /// Returns the number of reads, counted up to 18,446,744,073,709,551,615.
     pub fn reads(&self) -> u64
         ensures { result ≡ self.now.reads }
     {
         self.reads
     }
 
-    /// Whether a read has failed.
+    /// Returns whether a read has failed.
     pub fn has_failed(&self) -> bool
         ensures { result ≡ self.now.has_failed }
     {
@@ -52,7 +52,7 @@ impl<R> WatchedReader<R> {
 }
 
 impl<R: Source> WatchedReader<R> {
-    /// Reads once, at most as many octets as there is room for; 0 are the end.
+    /// Reads once, at most as many octets as fit in `room`. A result of 0 means the end.
     pub fn read(&mut self, room: &mut [u8]) -> io::Result<usize>
         ensures bound { ReadsAtMost result room.new }
         ensures bytes { ReadConsumes (R.remaining self.old.inner) (R.remaining self.new.inner)

@@ -9,8 +9,8 @@ use crate::calls::Sink;
 use std::io;
 use std::marker::Model;
 
-/// A sink that knows whether a write or a flush has failed, or a write took nothing of what it
-/// was given, and whether it was flushed since its last write.
+/// A sink that records two things: whether a write or a flush has failed, or a write accepted none
+/// of the octets it was given; and whether the sink was flushed since its last write.
 #[derive(Drop)]
 pub struct Watched<W> {
     inner: W,
@@ -27,7 +27,7 @@ impl<W> Model for Watched<W> {
 }
 
 impl<W> Watched<W> {
-    /// A sink to which nothing was written yet, and which counts as not flushed.
+    /// Wraps a sink before its first write. It counts as not flushed.
     pub fn new(inner: W) -> Self
         ensures { result ≡ record { inner = inner; has_failed = false; is_flushed = false } }
     {
@@ -38,14 +38,15 @@ impl<W> Watched<W> {
         }
     }
 
-    /// Whether a write or a flush has failed, or a write took nothing of what it was given.
+    /// Returns whether a write or a flush has failed, or a write accepted none of the octets it was
+    /// given.
     pub fn has_failed(&self) -> bool
         ensures { result ≡ self.now.has_failed }
     {
         self.has_failed
     }
 
-    /// Whether it was flushed since its last write.
+    /// Returns whether the sink was flushed since its last write.
     pub fn is_flushed(&self) -> bool
         ensures { result ≡ self.now.is_flushed }
     {
@@ -53,7 +54,7 @@ impl<W> Watched<W> {
     }
 }
 
-/// Whether a write of a text failed, or took nothing of it.
+/// Returns whether a write of a text failed or accepted none of it.
 fn write_fails(text: &[u8], outcome: &io::Result<usize>) -> bool
     ensures { result ≡ spec.write_fails text.now outcome.now }
 {
@@ -64,7 +65,7 @@ fn write_fails(text: &[u8], outcome: &io::Result<usize>) -> bool
 }
 
 impl<W: Sink> Watched<W> {
-    /// Writes a front of the octets at once, and answers how many.
+    /// Writes a prefix of the octets in one call and returns its length.
     pub fn write(&mut self, octets: &[u8]) -> io::Result<usize>
         ensures bound { WritesAtMost result octets.now }
         ensures bytes { WriteAppends (W.contents self.old.inner) (W.contents self.new.inner) result

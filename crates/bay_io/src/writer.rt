@@ -13,8 +13,7 @@ use crate::watched::Watched;
 use itoa::Buffer;
 use std::marker::Model;
 
-/// Writes all of the text, or a front of it. A sink of which a write has failed is not written to
-/// again.
+/// Writes the whole text; on a fault only a prefix of it. Does not write to a sink that has failed.
 fn write_out<W: Sink>(sink: &mut Watched<W>, text: &[u8]) -> Result<(), WriteFault>
     ensures ok { OnOk result
         (Appends (W.contents sink.old.inner) (W.contents sink.new.inner) text.now) }
@@ -39,7 +38,7 @@ fn write_out<W: Sink>(sink: &mut Watched<W>, text: &[u8]) -> Result<(), WriteFau
     Ok(())
 }
 
-/// Flushes the sink. One of which a write has failed is not flushed.
+/// Flushes the sink. Does not flush a sink that has failed.
 fn flush_out<W: Sink>(sink: &mut Watched<W>) -> Result<(), WriteFault>
     ensures kept { Keeps (W.contents sink.old.inner) (W.contents sink.new.inner) }
     ensures flushed { OnOk result (sink.new.is_flushed ≡ true) }
@@ -56,8 +55,9 @@ fn flush_out<W: Sink>(sink: &mut Watched<W>) -> Result<(), WriteFault>
     }
 }
 
-/// A writer that knows whether a write or a flush has failed, or a write took nothing of what it
-/// was given, and whether it was flushed since its last write; with a buffer of 65,536 octets.
+/// A writer with a buffer of 65,536 octets that records two things: whether a write or a flush has
+/// failed, or a write accepted none of the octets it was given; and whether the sink was flushed
+/// since its last write.
 #[derive(Drop)]
 pub struct WatchedWriter<W> {
     sink: Watched<W>,
@@ -78,7 +78,7 @@ impl<W> Model for WatchedWriter<W> {
 }
 
 impl<W> WatchedWriter<W> {
-    /// A writer to which nothing was written yet, and which counts as not flushed.
+    /// Wraps a sink before its first write. It counts as not flushed.
     pub fn new(inner: W) -> Self
         ensures { result
             ≡ record { inner = inner; has_failed = false; is_flushed = false; pending = [] } }
@@ -89,14 +89,15 @@ impl<W> WatchedWriter<W> {
         }
     }
 
-    /// Whether a write or a flush has failed, or a write took nothing of what it was given.
+    /// Returns whether a write or a flush has failed, or a write accepted none of the octets it was
+    /// given.
     pub fn has_failed(&self) -> bool
         ensures { result ≡ self.now.has_failed }
     {
         self.sink.has_failed()
     }
 
-    /// Whether it was flushed since its last write.
+    /// Returns whether the sink was flushed since its last write.
     pub fn is_flushed(&self) -> bool
         ensures { result ≡ self.now.is_flushed }
     {
@@ -105,7 +106,7 @@ impl<W> WatchedWriter<W> {
 }
 
 impl<W: Sink> WatchedWriter<W> {
-    /// Writes out what is pending.
+    /// Writes out the buffer.
     fn write_pending(&mut self) -> Result<(), WriteFault>
         ensures ok { OnOk result
             (Appends (W.contents self.old.inner) (W.contents self.new.inner) self.old.pending) }
@@ -122,8 +123,8 @@ impl<W: Sink> WatchedWriter<W> {
         Ok(())
     }
 
-    /// Adds the text to the buffer that was just emptied, or writes out a text that is longer than
-    /// the buffer.
+    /// Adds the text to the empty buffer, or writes it out directly if it is longer than the
+    /// buffer.
     fn put_first(&mut self, text: &[u8])
         requires { self.old.pending ≡ [] }
         ensures { Puts W.contents W.does self.old text.now self.new }
@@ -133,7 +134,7 @@ impl<W: Sink> WatchedWriter<W> {
         }
     }
 
-    /// Writes out what is pending, and then adds the text.
+    /// Writes out the buffer and then adds the text.
     #[inline(never)]
     fn put_after_flush(&mut self, text: &[u8])
         ensures { Puts W.contents W.does self.old text.now self.new }
@@ -143,7 +144,7 @@ impl<W: Sink> WatchedWriter<W> {
         }
     }
 
-    /// Adds the text; where the buffer has no room for it, what is pending is written out before.
+    /// Adds the text. Writes out the buffer first if the text does not fit.
     #[inline(always)]
     pub fn put(&mut self, text: &[u8])
         ensures { Puts W.contents W.does self.old text.now self.new }
@@ -153,8 +154,8 @@ impl<W: Sink> WatchedWriter<W> {
         }
     }
 
-    /// Adds a text that is mostly short, like the id of a switch: of up to four octets faster than
-    /// `put`.
+    /// Adds a text that is usually short, like the id of a switch. Faster than `put` for up to four
+    /// octets.
     pub fn put_short(&mut self, text: &[u8])
         ensures { Puts W.contents W.does self.old text.now self.new }
     {
@@ -163,7 +164,7 @@ impl<W: Sink> WatchedWriter<W> {
         }
     }
 
-    /// Adds a number, in decimal digits.
+    /// Adds a number in decimal digits.
     #[inline(always)]
     pub fn put_number(&mut self, number: u64)
         ensures { Puts W.contents W.does self.old (decimal number) self.new }
@@ -173,7 +174,7 @@ impl<W: Sink> WatchedWriter<W> {
         }
     }
 
-    /// Writes out all, and flushes the sink.
+    /// Writes out the buffer and flushes the sink.
     pub fn finish(&mut self) -> Result<(), WriteFault>
         ensures { Finishes W.contents W.does self.old self.new result }
     {

@@ -3,21 +3,21 @@ ghost use Rattle.std.specs.Prelude.{◌≡◌, ◌+◌, ◌<◌, ◌≤◌, drop
 ghost use Rattle.bay_lines.specs.Fronts.{LiesIn, Whole, front, front_view, is_end, without_return};
 ghost use Rattle.bay_lines.specs.Fronts as spec;
 
-/// How many octets a line has at most, before its LF.
+/// The most octets of a line before its LF.
 const MOST: usize = 256;
 
-/// What stands in front of octets.
+/// What the octets begin with.
 #[derive(Clone, Copy, Debug, PartialEq, Eq)]
 pub enum Found {
-    /// No whole line yet.
+    /// No complete line yet.
     Waiting,
-    /// More octets than a line may have, and no end of it.
+    /// More octets than a line may have, without a line end.
     Overlong,
-    /// A line of this length, and its length with its end.
+    /// A complete line: its length, and its length with its line end.
     Whole { line: usize, end: usize },
 }
 
-/// Whether a line has a CR before its LF.
+/// Returns whether a line has a CR before its LF.
 fn ends_in_return(line: &[u8]) -> bool
     ensures { result ≡ spec.ends_in_return line.now }
 {
@@ -27,7 +27,7 @@ fn ends_in_return(line: &[u8]) -> bool
     }
 }
 
-/// The length of a line without the CR that may stand before its LF.
+/// Returns the length of a line without the CR that may come before its LF.
 fn length_of(line: &[u8]) -> usize
     ensures value { take result line.now ≡ without_return line.now }
     ensures within { result ≤ length line.now }
@@ -39,7 +39,7 @@ fn length_of(line: &[u8]) -> usize
     }
 }
 
-/// The line whose LF stands at a place.
+/// Returns the first line, whose LF is at index `at`.
 fn line_at(octets: &[u8], at: usize) -> Found
     requires within { at < length octets.now }
     requires short { at ≤ 256 }
@@ -53,14 +53,14 @@ fn line_at(octets: &[u8], at: usize) -> Found
     }
 }
 
-/// Where the first LF stands.
+/// Returns the index of the first LF.
 fn first_end(octets: &[u8]) -> Option<usize>
     ensures { result ≡ position is_end octets.now }
 {
     octets.iter().position(|octet| *octet == b'\n')
 }
 
-/// Where the LF of the line in front stands, if it has no more octets than it may have.
+/// Returns the index of the LF of the first line, if the line is not too long.
 fn end_in_reach(octets: &[u8]) -> Option<usize>
     ensures value { result ≡ position is_end (take 257 octets.now) }
     ensures within { IfSome result (λ at. (at < length octets.now) × (at ≤ 256)) }
@@ -68,7 +68,7 @@ fn end_in_reach(octets: &[u8]) -> Option<usize>
     first_end(&octets[..(MOST + 1).min(octets.len())])
 }
 
-/// The line in front, which has at most 256 octets before its LF; or why there is none.
+/// Returns the first line, which has at most 256 octets before its LF, or why there is none.
 pub fn line_in_front(octets: &[u8]) -> Found
     ensures value { front_view octets.now result ≡ front octets.now }
     ensures within { LiesIn (length octets.now) result }

@@ -4,7 +4,7 @@ ghost use Rattle.std.specs.Prelude.{◌≡◌, ◌+◌, ◌≤◌, ◌++◌, [],
 use std::alloc::{AllocError, Global};
 use std::marker::Model;
 
-/// At most so many octets, for which the room was taken at first.
+/// A buffer of at most `MOST` octets, allocated once when it is created.
 #[derive(Drop)]
 pub struct Kept<const MOST: usize> {
     octets: Vec<u8>,
@@ -22,7 +22,7 @@ impl<const MOST: usize> Model for Kept<MOST> {
 }
 
 impl<const MOST: usize> Kept<MOST> {
-    /// No octets yet.
+    /// Creates an empty buffer.
     pub fn new(alloc: Global) -> Result<Self, AllocError>
         ensures { IfOk result (λ k. k ≡ []) }
     {
@@ -30,7 +30,7 @@ impl<const MOST: usize> Kept<MOST> {
         Ok(Kept { octets })
     }
 
-    /// The octets, in order.
+    /// Returns the octets in order.
     pub fn as_slice(&self) -> &[u8]
         ensures value { result.now ≡ self.now }
         ensures most { length result.now ≤ MOST }
@@ -38,8 +38,7 @@ impl<const MOST: usize> Kept<MOST> {
         self.octets.as_slice()
     }
 
-    /// Adds octets where there is room for all of them, and answers whether there was. It takes no
-    /// memory.
+    /// Adds octets if all of them fit, and returns whether they did. Does not allocate.
     pub fn put(&mut self, octets: &[u8]) -> bool
         ensures fits { result ≡ nat_le (length self.old + length octets.now) MOST }
         ensures after { self.new ≡ (if result then self.old ++ octets.now else self.old) }
@@ -50,7 +49,7 @@ impl<const MOST: usize> Kept<MOST> {
         self.octets.extend_from_slice(octets).is_ok()
     }
 
-    /// Drops the first octets.
+    /// Drops the first `count` octets.
     pub fn drop_front(&mut self, count: usize)
         requires { count ≤ length self.old }
         ensures { self.new ≡ drop count self.old }

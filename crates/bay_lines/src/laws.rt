@@ -3,7 +3,7 @@ ghost use Rattle.std.specs.Prelude.{List};
 ghost use Rattle.bay_lines.specs.Cuttings.{LosesNothing, Move};
 
 /// However the octets are cut into pieces, and whenever a line is taken: the lines that were taken,
-/// each with its end, and then what is kept, are all that came.
+/// each with its end, followed by what is kept, are all octets that arrived.
 pub fn no_line_is_lost_repeated_or_joined()
     ensures { (moves : List Move) → LosesNothing moves }
 {}

@@ -9,11 +9,11 @@ use clap::builder::ValueParser;
 use clap::{Arg, ArgAction, Command};
 use std::alloc::{AllocError, Global};
 
-/// The version of the program, of its formats and of its fault numbers: CHANGELOG.md says what each
-/// brought.
+/// The version of the program, of its formats and of its fault numbers. CHANGELOG.md lists the
+/// changes of each version.
 const VERSION: &str = "0.9.0";
 
-/// The command with one more option, `--ID F`.
+/// Adds an optional option `--ID F` to the command.
 fn with_file<'a>(
     alloc: Global,
     command: Command<'a>,
@@ -34,7 +34,7 @@ fn with_file<'a>(
     Ok(command)
 }
 
-/// The command with one more option, `--ID F`, which has to be there.
+/// Adds a required option `--ID F` to the command.
 fn with_needed_file<'a>(
     alloc: Global,
     command: Command<'a>,
@@ -56,8 +56,8 @@ fn with_needed_file<'a>(
     Ok(command)
 }
 
-/// The command with one more option, `--ID VALUE`, whose value is a number from the least to the
-/// greatest, and which has to be there, or may.
+/// Adds an option `--ID VALUE` to the command, whose value is a number from `least` to `greatest`.
+/// It is required if `required` is true.
 fn with_number<'a>(
     alloc: Global,
     command: Command<'a>,
@@ -85,7 +85,7 @@ fn with_number<'a>(
     Ok(command)
 }
 
-/// The command with the options of a program, of which one has to be there, and not both.
+/// Adds the options of a program to the command. Exactly one of them is required.
 fn with_program<'a>(alloc: Global, command: Command<'a>) -> Result<Command<'a>, AllocError>
     ensures app { IfOk result (λ c. app_of c ≡ spec.with_program (app_of command.entry)) }
     ensures globals { IfOk result
@@ -98,7 +98,7 @@ fn with_program<'a>(alloc: Global, command: Command<'a>) -> Result<Command<'a>, 
     Ok(command)
 }
 
-/// `check`, with its options.
+/// Builds `check` with its options.
 fn check_command<'a>(alloc: Global) -> Result<Command<'a>, AllocError>
     ensures app { IfOk result (λ c. app_of c ≡ check_app) }
     ensures local { IfOk result (λ c. (fields_of c).has_globals ≡ false) }
@@ -110,7 +110,7 @@ fn check_command<'a>(alloc: Global) -> Result<Command<'a>, AllocError>
     Ok(command)
 }
 
-/// `serve`, with its options.
+/// Builds `serve` with its options.
 fn serve_command<'a>(alloc: Global) -> Result<Command<'a>, AllocError>
     ensures app { IfOk result (λ c. app_of c ≡ serve_app) }
     ensures local { IfOk result (λ c. (fields_of c).has_globals ≡ false) }
@@ -130,7 +130,7 @@ fn serve_command<'a>(alloc: Global) -> Result<Command<'a>, AllocError>
     Ok(command)
 }
 
-/// `compile`, with its options.
+/// Builds `compile` with its options.
 fn compile_command<'a>(alloc: Global) -> Result<Command<'a>, AllocError>
     ensures app { IfOk result (λ c. app_of c ≡ compile_app) }
     ensures local { IfOk result (λ c. (fields_of c).has_globals ≡ false) }
@@ -143,7 +143,7 @@ fn compile_command<'a>(alloc: Global) -> Result<Command<'a>, AllocError>
     Ok(command)
 }
 
-/// `replay`, which has none.
+/// Builds `replay`, which has no options.
 fn replay_command<'a>(alloc: Global) -> Command<'a>
     ensures app { app_of result ≡ replay_app }
     ensures local { (fields_of result).has_globals ≡ false }
@@ -151,7 +151,7 @@ fn replay_command<'a>(alloc: Global) -> Command<'a>
     Command::new(alloc, "replay").about("Replays the scenario on standard input")
 }
 
-/// The program, before its commands.
+/// Builds the program without its commands.
 fn program_command<'a>(alloc: Global) -> Result<Command<'a>, AllocError>
     ensures { IfOk result (λ c. app_of c ≡ program_app) }
 {
@@ -165,7 +165,7 @@ fn program_command<'a>(alloc: Global) -> Result<Command<'a>, AllocError>
     Ok(command)
 }
 
-/// The program with all that it can be asked for.
+/// Builds the program with all its commands.
 pub fn job_command<'a>(alloc: Global) -> Result<Command<'a>, AllocError>
     ensures { IfOk result (λ c. app_of c ≡ job_app) }
 {

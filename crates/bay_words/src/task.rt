@@ -7,19 +7,19 @@ pub enum Program<T> {
     Image(T),
 }
 
-/// What is to be done, with the names of its files and its numbers.
+/// A task, with the names of its files and its numbers.
 #[derive(Clone, Copy, Debug, PartialEq, Eq)]
 pub enum Task<T> {
-    /// A bay is loaded with a program, and what came of it is told.
+    /// Loads a bay with a program and reports the result.
     Check {
         bay: T,
         program: Program<T>,
     },
-    /// A scenario is replayed.
+    /// Replays a scenario.
     Replay,
-    /// Clients are served on a port of 127.0.0.1, from 1 on, for so many turns; the trace of the
-    /// process is read line by line, if there is one, and then the process itself is heard on a
-    /// port of its own, if it has one.
+    /// Serves clients on a port of 127.0.0.1, from 1 on, for the given number of turns. Reads the
+    /// trace of the process line by line, if there is one, and then listens to the process itself
+    /// on a port of its own, if it has one.
     Serve {
         bay: T,
         program: Program<T>,
@@ -28,7 +28,7 @@ pub enum Task<T> {
         trace: Option<T>,
         process: Option<u16>,
     },
-    /// A program is compiled to a file.
+    /// Compiles a program to a file.
     Compile {
         bay: T,
         logic: T,

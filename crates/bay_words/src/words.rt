@@ -15,7 +15,7 @@ use thiserror::Error;
 /// What the program does.
 #[derive(Clone, Copy, Debug, PartialEq, Eq)]
 pub enum Verb {
-    /// Loads a bay with a program or an image, and tells what came of it.
+    /// Loads a bay with a program or an image and reports the result.
     Check,
     /// Replays a scenario.
     Replay,
@@ -25,8 +25,7 @@ pub enum Verb {
     Compile,
 }
 
-/// What a command line asks for: what is to be done, the names of the files that were given, and
-/// the numbers.
+/// What a command line asks for: the verb, the names of the files that were given, and the numbers.
 #[derive(Debug, Drop)]
 pub struct Job {
     pub verb: Verb,
@@ -34,38 +33,38 @@ pub struct Job {
     pub bay: Option<String>,
     /// The program in Instruction List.
     pub logic: Option<String>,
-    /// The compiled program, in place of the program.
+    /// The compiled program, instead of the program in Instruction List.
     pub image: Option<String>,
-    /// Where the compiled program is written.
+    /// The file that the compiled program is written to.
     pub out: Option<String>,
-    /// The trace of the process that is served, line by line.
+    /// The trace of the process to serve, line by line.
     pub trace: Option<String>,
     /// The port of 127.0.0.1 on which clients are served, from 1 on.
     pub port: Option<u16>,
-    /// How many turns are served.
+    /// The number of turns to serve.
     pub turns: Option<u32>,
-    /// The port of 127.0.0.1 on which the process is heard, from 1 on.
+    /// The port of 127.0.0.1 on which the controller listens to the process, from 1 on.
     pub process: Option<u16>,
 }
 
-/// Why words ask for nothing that is done.
+/// Why the words ask for no task.
 #[derive(Debug, Drop, Error)]
 pub enum WordsFault {
-    /// The text says what is wrong with them, or is the help that they ask for.
+    /// The text says what is wrong with the words, or is the help that they ask for.
     #[error("{0}")]
     Refused(String),
     #[error("out of memory")]
     OutOfMemory,
 }
 
-/// The first value of an option.
+/// Returns the first value of an option.
 fn value_of<'a>(found: &ArgMatches<'a>, id: &str) -> Option<&'a str>
     ensures { option_map (λ s. s.now) result ≡ first_of id.now (rows_of (found_of found.now)) }
 {
     found.get_str(id)
 }
 
-/// The port that a value stands for: a number from 1 to 65,535.
+/// Returns the port that a value spells, a number from 1 to 65,535.
 fn port_of(value: &str) -> Option<u16>
     ensures { result ≡ number_of 1 65535 value.now }
 {
@@ -73,14 +72,14 @@ fn port_of(value: &str) -> Option<u16>
     if port == 0 { None } else { Some(port) }
 }
 
-/// The number of turns that a value stands for: one from 0 to 4,294,967,295.
+/// Returns the number of turns that a value spells, from 0 to 4,294,967,295.
 fn turns_of(value: &str) -> Option<u32>
     ensures { result ≡ number_of 0 4294967295 value.now }
 {
     value.parse::<u32>().ok()
 }
 
-/// The port that was given.
+/// Returns the port that was given.
 fn port_in(found: &ArgMatches<'_>) -> Option<u16>
     ensures { result ≡ spec.port_in (rows_of (found_of found.now)) }
 {
@@ -88,7 +87,7 @@ fn port_in(found: &ArgMatches<'_>) -> Option<u16>
     port_of(value)
 }
 
-/// The port of the process that was given.
+/// Returns the port of the process that was given.
 fn process_in(found: &ArgMatches<'_>) -> Option<u16>
     ensures { result ≡ spec.process_in (rows_of (found_of found.now)) }
 {
@@ -96,7 +95,7 @@ fn process_in(found: &ArgMatches<'_>) -> Option<u16>
     port_of(value)
 }
 
-/// The number of turns that was given.
+/// Returns the number of turns that was given.
 fn turns_in(found: &ArgMatches<'_>) -> Option<u32>
     ensures { result ≡ spec.turns_in (rows_of (found_of found.now)) }
 {
@@ -104,7 +103,7 @@ fn turns_in(found: &ArgMatches<'_>) -> Option<u32>
     turns_of(value)
 }
 
-/// The program or the image that was named, if it is one of the two.
+/// Returns the program or the image that was named, if exactly one of the two was.
 fn program_from<'a>(found: &ArgMatches<'a>) -> Option<Program<&'a str>>
     ensures { option_map program_view result ≡ program_in (rows_of (found_of found.now)) }
 {
@@ -116,7 +115,7 @@ fn program_from<'a>(found: &ArgMatches<'a>) -> Option<Program<&'a str>>
     }
 }
 
-/// What `check` asks for.
+/// Returns what `check` asks for.
 fn check_from<'a>(found: &ArgMatches<'a>) -> Option<Task<&'a str>>
     ensures { option_map task_view result ≡ check_in (rows_of (found_of found.now)) }
 {
@@ -125,7 +124,7 @@ fn check_from<'a>(found: &ArgMatches<'a>) -> Option<Task<&'a str>>
     Some(Task::Check { bay, program })
 }
 
-/// Whether the port of the process, if there is one, is another than that of the clients.
+/// Returns whether the port of the process, if there is one, differs from that of the clients.
 fn is_apart(port: u16, process: Option<u16>) -> bool
     ensures { result ≡ spec.is_apart port process }
 {
@@ -135,7 +134,7 @@ fn is_apart(port: u16, process: Option<u16>) -> bool
     }
 }
 
-/// What `serve` asks for.
+/// Returns what `serve` asks for.
 fn serve_from<'a>(found: &ArgMatches<'a>) -> Option<Task<&'a str>>
     ensures { option_map task_view result ≡ serve_in (rows_of (found_of found.now)) }
 {
@@ -158,7 +157,7 @@ fn serve_from<'a>(found: &ArgMatches<'a>) -> Option<Task<&'a str>>
     })
 }
 
-/// What `compile` asks for.
+/// Returns what `compile` asks for.
 fn compile_from<'a>(found: &ArgMatches<'a>) -> Option<Task<&'a str>>
     ensures { option_map task_view result ≡ compile_in (rows_of (found_of found.now)) }
 {
@@ -168,7 +167,7 @@ fn compile_from<'a>(found: &ArgMatches<'a>) -> Option<Task<&'a str>>
     Some(Task::Compile { bay, logic, out })
 }
 
-/// What a subcommand asks for with its options.
+/// Returns what a subcommand with its options asks for.
 fn named_task<'a>(name: &str, found: &ArgMatches<'a>) -> Option<Task<&'a str>>
     ensures { option_map task_view result
         ≡ spec.named_task name.now (rows_of (found_of found.now)) }
@@ -182,7 +181,7 @@ fn named_task<'a>(name: &str, found: &ArgMatches<'a>) -> Option<Task<&'a str>>
     }
 }
 
-/// What the words of a parse ask for.
+/// Returns what the parsed words ask for.
 fn task_from<'a>(matches: &ArgMatches<'a>) -> Option<Task<&'a str>>
     ensures { option_map task_view result ≡ spec.entered_task (subcommand_rows_of matches.now) }
 {
@@ -190,7 +189,7 @@ fn task_from<'a>(matches: &ArgMatches<'a>) -> Option<Task<&'a str>>
     named_task(name, found)
 }
 
-/// What a task does.
+/// Returns the verb of a task.
 fn verb_of(task: &Task<&str>) -> Verb
     ensures { result ≡ spec.verb_of (task_view task.now) }
 {
@@ -202,7 +201,7 @@ fn verb_of(task: &Task<&str>) -> Verb
     }
 }
 
-/// A copy of an option's value.
+/// Copies the value of an option.
 fn option_of(alloc: Global, found: &ArgMatches<'_>, id: &str) -> Result<Option<String>, AllocError>
     ensures { IfOk result (λ o. option_map string_bytes o
         ≡ first_of id.now (rows_of (found_of found.now))) }
@@ -216,7 +215,7 @@ fn option_of(alloc: Global, found: &ArgMatches<'_>, id: &str) -> Result<Option<S
     }
 }
 
-/// A verb with the values of its options.
+/// Makes a job of a verb and the values of its options.
 fn with_options(alloc: Global, found: &ArgMatches<'_>, verb: Verb) -> Result<Job, AllocError>
     ensures { IfOk result (λ j. job_view j ≡ spec.with_options (rows_of (found_of found.now)) verb) }
 {
@@ -241,7 +240,7 @@ fn with_options(alloc: Global, found: &ArgMatches<'_>, verb: Verb) -> Result<Job
     })
 }
 
-/// The job of a subcommand and its options, if they ask for a task.
+/// Returns the job of a subcommand and its options, if they ask for a task.
 fn named_job(alloc: Global, name: &str, found: &ArgMatches<'_>) -> Result<Option<Job>, AllocError>
     ensures { IfOk result
         (λ j. option_map job_view j ≡ spec.named_job name.now (rows_of (found_of found.now))) }
@@ -255,7 +254,7 @@ fn named_job(alloc: Global, name: &str, found: &ArgMatches<'_>) -> Result<Option
     }
 }
 
-/// The job that a parse found.
+/// Returns the job that was parsed.
 fn job_from(alloc: Global, matches: &ArgMatches<'_>) -> Result<Option<Job>, AllocError>
     ensures { IfOk result
         (λ j. option_map job_view j ≡ spec.entered_job (subcommand_rows_of matches.now)) }
@@ -266,7 +265,7 @@ fn job_from(alloc: Global, matches: &ArgMatches<'_>) -> Result<Option<Job>, Allo
     }
 }
 
-/// How a command is used that wants either a program or an image.
+/// Returns the usage of a command that requires either a program or an image.
 fn usage_of(name: &str) -> &'static str {
     match name {
         "serve" => {
@@ -276,7 +275,7 @@ fn usage_of(name: &str) -> &'static str {
     }
 }
 
-/// What is wrong with the options of a command of which `clap` takes each.
+/// Returns what is wrong with the options of a command, each of which `clap` accepts.
 fn wrong_options(found: &ArgMatches<'_>) -> &'static str {
     match program_from(found) {
         Some(_) => "--process wants another port than --port",
@@ -284,8 +283,8 @@ fn wrong_options(found: &ArgMatches<'_>) -> &'static str {
     }
 }
 
-/// The refusal of a command with both or neither of a program and an image, or with one port for
-/// clients and the process.
+/// Makes the refusal of a command with both or neither of a program and an image, or with one port
+/// for both the clients and the process.
 fn refused_options(alloc: Global, matches: &ArgMatches<'_>) -> WordsFault {
     let (wrong, usage) = match matches.subcommand() {
         Some((name, found)) => (wrong_options(found), usage_of(name)),
@@ -299,7 +298,7 @@ fn refused_options(alloc: Global, matches: &ArgMatches<'_>) -> WordsFault {
     }
 }
 
-/// The refusal of words, as `clap` says it.
+/// Makes the refusal of words in the words of `clap`.
 fn refused_by(alloc: Global, error: &Error) -> WordsFault
     ensures { kind_of error.now ≡ ErrorKind.OutOfMemory → result ≡ WordsFault.OutOfMemory }
 {
@@ -312,7 +311,7 @@ fn refused_by(alloc: Global, error: &Error) -> WordsFault
     }
 }
 
-/// What `clap` reads in words.
+/// Parses words with `clap`.
 fn matches_of<'a>(alloc: Global, words: &'a [&'a str]) -> Result<ArgMatches<'a>, WordsFault>
     ensures ok { IfOk result
         (λ m. asked_in (map (λ w. w.now) words.entry.now) ≡ subcommand_rows_of m) }
@@ -330,10 +329,10 @@ fn matches_of<'a>(alloc: Global, words: &'a [&'a str]) -> Result<ArgMatches<'a>,
     }
 }
 
-/// What the words after the program's name ask for: a check of a bay file and either a program or
-/// an image, a replay, to serve the same as a check on a port for a number of turns, which may have
-/// a trace and a process on another port, or to compile a bay file and a program to an image. Words
-/// that ask for help are refused with it.
+/// Returns what the words after the program's name ask for. A check takes a bay file and either a
+/// program or an image. A replay takes nothing. Serving takes what a check takes, a port and a
+/// number of turns, and optionally a trace and a process on another port. Compiling takes a bay
+/// file, a program and the file for the image. Words that ask for help are refused with the help.
 pub fn task_of<'a>(alloc: Global, words: &'a [&'a str]) -> Result<Task<&'a str>, WordsFault>
     ensures ok { IfOk result
         (λ t. task_in (map (λ w. w.now) words.entry.now) ≡ Some (task_view t)) }
@@ -347,7 +346,7 @@ pub fn task_of<'a>(alloc: Global, words: &'a [&'a str]) -> Result<Task<&'a str>,
     }
 }
 
-/// The same as a record of all options that were given.
+/// Like `task_of`, but returns a record of all options that were given.
 pub fn job_of<'a>(alloc: Global, words: &'a [&'a str]) -> Result<Job, WordsFault>
     ensures ok { IfOk result (λ j. job_in (map (λ w. w.now) words.entry.now) ≡ Some (job_view j)) }
     ensures refused { IfErr result

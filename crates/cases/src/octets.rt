@@ -3,7 +3,7 @@
 use anyhow::{Result, bail};
 use std::alloc::Global;
 
-/// Appends what one part spells: octets, or octets so many times.
+/// Appends the octets that one part spells, repeated if it has a count.
 fn append_part(alloc: Global, part: &str, octets: &mut Vec<u8>) -> Result<()> {
     let (digits, times) = part.split_once("*").unwrap_or((part, "1"));
     let piece = hex::decode(alloc, digits)?;
@@ -17,7 +17,7 @@ fn append_part(alloc: Global, part: &str, octets: &mut Vec<u8>) -> Result<()> {
     Ok(())
 }
 
-/// The octets that a word spells.
+/// Returns the octets that a word spells.
 pub fn octets_of(alloc: Global, word: &str) -> Result<Vec<u8>> {
     let mut octets = Vec::new(alloc);
     if word != "-" {
@@ -28,7 +28,7 @@ pub fn octets_of(alloc: Global, word: &str) -> Result<Vec<u8>> {
     Ok(octets)
 }
 
-/// Fails where octets aren't those that a word spells.
+/// Fails if the octets aren't those that a word spells.
 pub fn check_octets(alloc: Global, found: &[u8], word: &str) -> Result<()> {
     let wanted = octets_of(alloc, word)?;
     if found != wanted.as_slice() {

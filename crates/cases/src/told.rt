@@ -2,7 +2,7 @@
 use anyhow::{Result, bail};
 use std::alloc::Global;
 
-/// Fails where a case is not as it says.
+/// Fails if a case does not hold.
 pub fn check(holds: bool) -> Result<()> {
     if !holds {
         bail!("it is otherwise");
@@ -10,7 +10,7 @@ pub fn check(holds: bool) -> Result<()> {
     Ok(())
 }
 
-/// Fails where a text isn't the one that is wanted.
+/// Fails if a text isn't the expected one.
 pub fn check_text(found: &str, wanted: &str) -> Result<()> {
     if found != wanted {
         bail!("it is {found}");
@@ -18,7 +18,7 @@ pub fn check_text(found: &str, wanted: &str) -> Result<()> {
     Ok(())
 }
 
-/// Fails where the lines of a text aren't those that are wanted, and tells the first that differs.
+/// Fails if the lines of a text aren't the expected ones, and names the first that differs.
 pub fn check_lines(found: &str, wanted: &str) -> Result<()> {
     let mut lines = wanted.lines();
     for line in found.lines() {
@@ -30,7 +30,7 @@ pub fn check_lines(found: &str, wanted: &str) -> Result<()> {
     Ok(())
 }
 
-/// How many cases there were, how many came out otherwise than they say, and a line for each of
+/// The number of cases, the number of cases that came out differently, and a line for each of
 /// those.
 #[derive(Drop)]
 pub struct Told {
@@ -40,7 +40,7 @@ pub struct Told {
 }
 
 impl Told {
-    /// Of no case yet.
+    /// Starts with no case.
     pub fn new(alloc: Global) -> Told {
         Told {
             cases: 0,
@@ -49,7 +49,7 @@ impl Told {
         }
     }
 
-    /// Tells what came of the case of a line, which fails where it is not as it says.
+    /// Records the outcome of the case on a line. An error means that the case does not hold.
     pub fn tell(&mut self, line: &str, outcome: Result<()>) -> Result<()> {
         self.cases = self.cases.saturating_add(1);
         if let Err(error) = outcome {
@@ -59,8 +59,8 @@ impl Told {
         Ok(())
     }
 
-    /// All that is told: a line for each case that differs, and how many do. Fails where there was
-    /// no case at all.
+    /// Returns a line for each case that differs, and how many differ. Fails if there was no case
+    /// at all.
     pub fn finish(self) -> Result<String> {
         let Told {
             cases,

@@ -2,17 +2,17 @@
 use anyhow::{Result, bail};
 use std::alloc::Global;
 
-/// The first word of a line, and the others.
+/// Returns the first word of a line, and the others.
 pub fn first_word(line: &str) -> (&str, &str) {
     line.split_once(" ").unwrap_or((line, ""))
 }
 
-/// The words of a line.
+/// Returns the words of a line.
 pub fn words_of(alloc: Global, line: &str) -> Result<Vec<&str>> {
     Ok(line.split(" ").collect(alloc)?)
 }
 
-/// So many words of a line, and the others.
+/// Returns the first `count` words of a line, and the others.
 pub fn front_words(line: &str, count: usize) -> (&str, &str) {
     let mut rest = line;
     for _ in 0..count {
@@ -22,12 +22,12 @@ pub fn front_words(line: &str, count: usize) -> (&str, &str) {
     (front.trim_end(), rest)
 }
 
-/// Whether a line is a case: neither empty nor a note behind `#`.
+/// Returns whether a line is a case: neither empty nor a note that starts with `#`.
 pub fn is_case(line: &str) -> bool {
     !line.is_empty() && !line.starts_with("#")
 }
 
-/// Yes or no.
+/// Returns the truth value that a word spells. Fails for a word other than `true` and `false`.
 pub fn truth_of(word: &str) -> Result<bool> {
     match word {
         "true" => Ok(true),
