@@ -53,9 +53,9 @@ fn integer_of(content: &[u8]) -> Result<i64, BerFault>
     i64::try_from(signed_of(content)).map_err(|_| BerFault::BadContent)
 }
 
-/// The value of an integer's content (X.690 8.3): two's complement in 1 to 9 octets, the highest
-/// first, within 64 bits. Needless octets in front are read, which 8.3.2 forbids to write.
-/// BadContent where no value is spelled.
+/// Decodes the content of an integer (X.690 8.3): two's complement in 1 to 9 octets, the highest
+/// first, within 64 bits. Accepts redundant leading octets, which 8.3.2 forbids a sender to write.
+/// `BadContent` if the content spells no value.
 pub fn int_of(content: &[u8]) -> Result<i64, BerFault>
     ensures ok { IfOk result (λ value. IsInteger content.now value) }
     ensures only { (value : ℤ) → IsInteger content.now value → result ≡ Ok value }
@@ -83,9 +83,9 @@ fn bits_behind(unused: u8, octets: &[u8]) -> Result<Bits<'_>, BerFault>
     Ok(Bits { octets, count })
 }
 
-/// The bits of a bit string's content (X.690 8.6.2): the number of unused bits, and the octets. The
-/// values of the unused bits are not looked at. BadContent where no bits are spelled: no octet,
-/// more than 7 unused bits, unused bits and no octet behind, or 2^61 octets or more.
+/// Decodes the content of a bit string (X.690 8.6.2): the number of unused bits, then the octets.
+/// Ignores the values of the unused bits. `BadContent` if the content spells no bits: no octet,
+/// more than 7 unused bits, unused bits without octets, or 2^61 octets or more.
 pub fn bits_of(content: &[u8]) -> Result<Bits<'_>, BerFault>
     ensures ok { IfOk result (λ bits. IsBits content.now bits.octets.now bits.count) }
     ensures only { (b : BitString) → IsBits content.now b.octets b.count
@@ -101,8 +101,8 @@ pub fn bits_of(content: &[u8]) -> Result<Bits<'_>, BerFault>
     }
 }
 
-/// The value of a truth value's content (X.690 8.2): one octet, of which 0 is false and all else is
-/// true. BadContent for another number of octets.
+/// Decodes the content of a truth value (X.690 8.2): one octet; 0 is false, anything else is true.
+/// `BadContent` for another number of octets.
 pub fn bool_of(content: &[u8]) -> Result<bool, BerFault>
     ensures ok { IfOk result (λ value. IsTruth content.now value) }
     ensures only { (value : Bool) → IsTruth content.now value → result ≡ Ok value }

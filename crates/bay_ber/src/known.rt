@@ -28,9 +28,9 @@ fn add_known<'a>(known: &mut Few<'a>, value: Value<'a>, tags: &[Tag]) -> Option<
     Some(())
 }
 
-/// Of the values that the octets are, one after another, those whose tags are among these, in
-/// order; the others may be any (X.690 8.11). None where the octets are no values, or more than
-/// five have one of the tags.
+/// Returns those of the consecutive values in the octets whose tags are in `tags`, in order. The
+/// other values may be any (X.690 8.11). `None` if the octets are not values, or if more than five
+/// have one of the tags.
 pub fn known_values<'a>(octets: &'a [u8], tags: &[Tag]) -> Option<Few<'a>>
     ensures { result ≡ known_in tags.now octets.now }
 {

@@ -9,7 +9,7 @@ ghost use Rattle.bay_ber.specs.Writing.{element, element_length, integer_octets,
 ghost use Rattle.bay_ber.specs.Values.{Part, SpellAll, values_in};
 ghost use Rattle.bay_ber.specs.declared.tag.Tag.{Tag};
 
-/// At most one prefix of an input is spelled, in one way.
+/// At most one prefix of an input spells a value, and only in one way.
 pub fn one_spelling()
     ensures reading { (octets : List ℕ) (r s : Reading) → Begins octets r → Begins octets s
         → r ≡ s }
@@ -17,7 +17,7 @@ pub fn one_spelling()
         → a.front ≡ b.front }
 {}
 
-/// Octets are one value in one way, and a list of values in one way.
+/// Octets spell one value in at most one way, and a list of values in at most one way.
 pub fn one_list()
     ensures value { (octets : List ℕ) (p q : Part) → Spells octets p.tag p.content
         → Spells octets q.tag q.content → p ≡ q }
@@ -25,14 +25,14 @@ pub fn one_list()
         → ps ≡ qs }
 {}
 
-/// The values that octets are, as a function, are those that the octets spell and nothing else.
+/// The function `values_in` gives exactly the values that the octets spell.
 pub fn values_are_spelled()
     ensures { (octets : List ℕ) (parts : List Part) → AreOctets octets
         → (values_in octets ≡ Some parts) ↔ SpellAll octets parts }
 {}
 
-/// What is written is read back, whatever follows it: each octet is the identifier of a class, a
-/// form and a number, and the value under it is read as such, and each content as the value that
+/// What is written is read back, whatever follows it. Each octet is the identifier of its class,
+/// form and number. The value under a tag is read as that value, and each content as the value that
 /// was written.
 pub fn written_is_read()
     ensures octet { (octet : ℕ) → octet < 256
@@ -46,14 +46,14 @@ pub fn written_is_read()
     ensures truth { (value : Bool) → IsTruth (truth_octets value) value }
 {}
 
-/// How long what is written is.
+/// The length of what is written.
 pub fn written_is_as_long()
     ensures { (tag : Tag) (content : List ℕ)
         → length (element tag content) ≡ element_length (length content) }
 {}
 
-/// What is written is the shortest spelling: no octets that spell the same value, and no content of
-/// the same integer, are fewer.
+/// What is written is the shortest spelling: no shorter octets spell the same value, and no shorter
+/// content the same integer.
 pub fn written_is_shortest()
     ensures value { (octets content : List ℕ) (tag : Tag) → AreOctets octets
         → Spells octets tag content → length (element tag content) ≤ length octets }

@@ -3,8 +3,8 @@ ghost use Rattle.std.specs.Prelude.{◌≡◌, ◌≤◌, ◌++◌, drop, length
 
 use std::marker::Model;
 
-/// Octets that are to be sent, which contracts see as a list. In front of them may be room, into
-/// which lower layers write their heads, so that the octets are not copied.
+/// Octets to be sent, which contracts see as a list. There may be room in front of them, into which
+/// lower layers write their headers, so that the octets need not be copied.
 #[derive(Drop)]
 pub struct Outgoing {
     // The room, and the octets behind it.
@@ -24,7 +24,7 @@ impl Model for Outgoing {
 }
 
 impl Outgoing {
-    /// Octets with no room in front of them.
+    /// Wraps octets without room in front of them.
     pub fn new(octets: Vec<u8>) -> Self
         ensures { result ≡ octets.items }
     {
@@ -39,14 +39,14 @@ impl Outgoing {
         Outgoing { octets, first }
     }
 
-    /// The octets.
+    /// Returns the octets.
     pub fn as_slice(&self) -> &[u8]
         ensures { result.now ≡ self.now }
     {
         &self.octets[self.first..]
     }
 
-    /// Writes a head in front of the octets, if there is room for it.
+    /// Writes a header in front of the octets if there is room for it. Returns whether there was.
     pub fn front(&mut self, head: &[u8]) -> bool
         ensures { MatchBool result (self.new ≡ head.now ++ self.old) (self.new ≡ self.old) }
     {

@@ -12,20 +12,19 @@ pub enum Class {
     Private,
 }
 
-/// A tag: what stands before each value and says of which type it is. Readers give it and writers
-/// take it.
+/// A tag: it precedes each value and gives its type. Readers return it and writers take it.
 #[derive(Clone, Copy, Debug, PartialEq, Eq)]
 pub struct Tag {
     /// The class.
     pub class: Class,
-    /// Whether the content is itself made of values.
+    /// Whether the content itself consists of values.
     pub constructed: bool,
-    /// The number, 0 to 127. Numbers below 31 are written.
+    /// The number, 0 to 127. Only numbers below 31 are written.
     pub number: u8,
 }
 
 impl Tag {
-    /// A universal tag on a simple value.
+    /// Returns a universal tag for a primitive value.
     pub const fn universal(number: u8) -> Tag
         ensures { result ≡ record {
           class = Class.Universal;
@@ -40,7 +39,7 @@ impl Tag {
         }
     }
 
-    /// A universal tag on a value that is made of values.
+    /// Returns a universal tag for a constructed value.
     pub const fn universal_constructed(number: u8) -> Tag
         ensures { result ≡ record { class = Class.Universal; constructed = true; number = number } }
     {
@@ -51,7 +50,7 @@ impl Tag {
         }
     }
 
-    /// An application tag on a value that is made of values.
+    /// Returns an application tag for a constructed value.
     pub const fn application_constructed(number: u8) -> Tag
         ensures { result ≡ record {
           class = Class.Application;
@@ -66,7 +65,7 @@ impl Tag {
         }
     }
 
-    /// The tag of a sequence (X.690 8.9).
+    /// Returns the tag of a sequence (X.690 8.9).
     pub const fn sequence() -> Tag
         ensures { result ≡ record { class = Class.Universal; constructed = true; number = 16 } }
     {
@@ -77,7 +76,7 @@ impl Tag {
         }
     }
 
-    /// A context-specific tag on a simple value.
+    /// Returns a context-specific tag for a primitive value.
     pub const fn context(number: u8) -> Tag
         ensures { result ≡ record
             { class = Class.ContextSpecific; constructed = false; number = number } }
@@ -89,7 +88,7 @@ impl Tag {
         }
     }
 
-    /// A context-specific tag on a value that is made of values.
+    /// Returns a context-specific tag for a constructed value.
     pub const fn context_constructed(number: u8) -> Tag
         ensures { result ≡ record
             { class = Class.ContextSpecific; constructed = true; number = number } }
@@ -101,14 +100,14 @@ impl Tag {
         }
     }
 
-    /// Whether two tags are one.
+    /// Returns whether two tags are the same.
     pub fn is(self, other: Tag) -> bool
         ensures { result ≡ same_tag self other }
     {
         self == other
     }
 
-    /// The tag's one octet.
+    /// Returns the single octet of the tag.
     pub(crate) fn octet(self) -> u8
         requires { self.number < 31 }
         ensures { result ≡ octet_of self }

@@ -8,14 +8,14 @@ ghost use Rattle.bay_ber.specs.Reading as spec;
 use crate::fault::BerFault;
 use crate::tag::{Class, Tag};
 
-/// One value at the front of a list of octets, and the octets behind it.
+/// One value at the front of a list of octets, and the octets after it.
 #[derive(Clone, Copy)]
 pub struct Tlv<'a> {
     /// The tag.
     pub tag: Tag,
     /// The octets of the content.
     pub content: &'a [u8],
-    /// The octets behind the value.
+    /// The octets after the value.
     pub rest: &'a [u8],
 }
 
@@ -81,7 +81,7 @@ fn tag_at(octets: &[u8]) -> Result<(Tag, &[u8]), BerFault>
     }
 }
 
-/// The number whose octets these are, the highest first.
+/// Returns the number that the octets spell, the highest first.
 pub(crate) fn number_of(octets: &[u8]) -> u128
     requires { length octets.now ≤ 9 }
     ensures value { result ≡ spec_octets.number_of octets.now }
@@ -134,11 +134,10 @@ fn tlv_at(octets: &[u8]) -> Result<Tlv<'_>, BerFault>
     Ok(Tlv { tag, content, rest })
 }
 
-/// The value at the front of the octets (X.690 8.1), with slices of them as its content and the
-/// rest. Numbers of tags to 127 and lengths of one to five octets are read. This reads more than
-/// X.690 allows: a number below 31 may stand in a second tag octet too (8.1.2.2 and 8.1.2.4 have it
-/// in the first), and a length may have more octets than it needs, which 8.1.3.5 leaves to the
-/// sender.
+/// Reads the value at the front of the octets (X.690 8.1); its content and the rest are slices of
+/// them. Reads tag numbers up to 127 and lengths of one to five octets. Accepts more than X.690
+/// allows: a number below 31 may also use a second tag octet (8.1.2.2 and 8.1.2.4 put it in the
+/// first), and a length may have more octets than it needs, which 8.1.3.5 leaves to the sender.
 pub fn read_tlv(octets: &[u8]) -> Result<Tlv<'_>, BerFault>
     // What is read is spelled so at the front of the octets, and what is spelled so is read.
     ensures ok { IfOk result (λ tlv. Begins octets.now (reading_of tlv)) }

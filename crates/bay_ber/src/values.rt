@@ -20,7 +20,7 @@ pub struct Value<'a> {
 }
 
 impl<'a> Value<'a> {
-    /// The content, where the value has this tag.
+    /// Returns the content if the value has this tag.
     pub fn under(&self, tag: Tag) -> Option<&'a [u8]>
         ensures { option_map (λ content. content.now) result ≡ spec.under tag (part_of self.now) }
     {
@@ -32,7 +32,8 @@ impl<'a> Value<'a> {
     }
 }
 
-/// The value that the octets are (X.690 8.1); None where they are none, or octets follow it.
+/// Reads octets that are exactly one value (X.690 8.1). `None` if they are no value, or if octets
+/// follow it.
 pub fn whole_value(octets: &[u8]) -> Option<Value<'_>>
     ensures some { IfSome result (λ value. Spells octets.now value.tag value.content.now) }
     ensures only { (tag : Tag) (content : List ℕ) → Spells octets.now tag content
@@ -54,8 +55,8 @@ pub fn whole_value(octets: &[u8]) -> Option<Value<'_>>
     }
 }
 
-/// The first of the one value or the two values that the octets are, and the other where there is
-/// one (X.690 8.9.2); None where they are no values, or more than two.
+/// Reads octets that are exactly one or two values (X.690 8.9.2): the first, and the second if
+/// there is one. `None` if they are no values, or more than two.
 pub fn one_or_two(octets: &[u8]) -> Option<(Value<'_>, Option<Value<'_>>)>
     ensures { option_map (λ found. (part_of found.0, option_map part_of found.1)) result
         ≡ one_or_two_in octets.now }
@@ -76,8 +77,8 @@ pub fn one_or_two(octets: &[u8]) -> Option<(Value<'_>, Option<Value<'_>>)>
     }
 }
 
-/// The values that stand one after another in octets (X.690 8.9.2, 8.10.2), which contracts see as
-/// the octets that are left.
+/// An iterator over consecutive values in octets (X.690 8.9.2, 8.10.2), which contracts see as the
+/// octets that are left.
 #[derive(Drop)]
 pub struct Values<'a> {
     rest: &'a [u8],
@@ -92,15 +93,14 @@ impl<'a> Model for Values<'a> {
 }
 
 impl<'a> Values<'a> {
-    /// The values in these octets.
+    /// Starts at the first of these octets.
     pub fn new(octets: &'a [u8]) -> Values<'a>
         ensures { result ≡ octets.now }
     {
         Values { rest: octets }
     }
 
-    /// The next value; None where no octet is left. Where no value stands next, nothing is passed
-    /// over.
+    /// Reads the next value; `None` if no octet is left. Does not advance if no value comes next.
     pub fn next_value(&mut self) -> Result<Option<Value<'a>>, BerFault>
         ensures next { Next self.old result self.new }
         ensures exact { NextIn self.old result self.new }
@@ -139,7 +139,7 @@ impl<'a> Model for Few<'a> {
 }
 
 impl<'a> Few<'a> {
-    /// No values.
+    /// Creates an empty list.
     pub fn new() -> Few<'a>
         ensures { result ≡ [] }
     {
@@ -153,7 +153,7 @@ impl<'a> Few<'a> {
         }
     }
 
-    /// Puts a value behind the others; None where they are five.
+    /// Appends a value. `None` if there are already five.
     pub fn push(&mut self, value: Value<'a>) -> Option<()>
         ensures some { OnSome result
             ((self.new ≡ self.old ++ part_of value.entry ∷ []) × (length self.old + 1 ≤ 5)) }
@@ -167,7 +167,7 @@ impl<'a> Few<'a> {
         Some(())
     }
 
-    /// The values.
+    /// Returns the values.
     pub fn as_slice(&self) -> &[Value<'a>]
         ensures { map part_of result.now ≡ self.now }
     {
@@ -175,8 +175,8 @@ impl<'a> Few<'a> {
     }
 }
 
-/// The values that the octets are, one after another (X.690 8.9.2); None where they are no values,
-/// or more than five.
+/// Reads octets that are consecutive values (X.690 8.9.2). `None` if they are no values, or more
+/// than five.
 pub fn few_values(octets: &[u8]) -> Option<Few<'_>>
     ensures { result ≡ few_in octets.now }
 {

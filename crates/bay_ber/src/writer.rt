@@ -11,7 +11,7 @@ use crate::tag::Tag;
 use std::alloc::{AllocError, Global};
 use std::marker::Model;
 
-/// How many octets there are for heads in front of the text.
+/// How many octets are reserved for headers in front of the text.
 pub const HEADROOM: usize = 64;
 
 // How many octets a length needs behind the first.
@@ -133,7 +133,7 @@ fn small_of(value: i64) -> Option<u8>
     }
 }
 
-/// How many octets the content of an integer has.
+/// Returns the number of octets in the content of an integer.
 pub fn integer_length(value: i64) -> usize
     ensures value { result ≡ length (integer_octets value) }
     ensures few { result ≤ 8 }
@@ -141,7 +141,7 @@ pub fn integer_length(value: i64) -> usize
     without_needless(&value.to_be_bytes()).len()
 }
 
-/// How many octets a value takes whose content has so many.
+/// Returns the number of octets of a value whose content has `count` octets.
 pub fn element_length(count: u32) -> u64
     ensures { result ≡ spec.element_length count }
 {
@@ -153,8 +153,8 @@ pub fn element_length(count: u32) -> u64
     u64::from(count) + header
 }
 
-/// A writer of a text, which contracts see as a `Sheet`. Its room is taken once, when it is made. A
-/// text that is longer than the limit is not held, and the writer is over from then on.
+/// A writer of a text, which contracts see as a `Sheet`. Allocates its room once, when it is
+/// created. Does not hold a text longer than the limit; from then on the writer is over.
 #[derive(Drop)]
 pub struct Writer {
     // The room for heads, and the text behind it.
@@ -177,7 +177,7 @@ impl Model for Writer {
 }
 
 impl Writer {
-    /// A writer of a text of at most so many octets. All its room is taken here.
+    /// Creates a writer for a text of at most `limit` octets. Allocates all its room here.
     pub fn new(alloc: Global, limit: u32) -> Result<Self, AllocError>
         ensures { IfOk result (λ writer. writer ≡ empty limit) }
     {
@@ -192,7 +192,7 @@ impl Writer {
         })
     }
 
-    /// Begins again.
+    /// Starts again with an empty text and no headers.
     pub fn clear(&mut self)
         ensures { self.new ≡ empty self.old.limit }
     {
@@ -215,8 +215,8 @@ impl Writer {
         extend(&mut self.octets, octets);
     }
 
-    /// Begins a value that is made of values (X.690 8.9), and says where. Its content is what is
-    /// appended until `close`.
+    /// Begins a constructed value (X.690 8.9) and returns its position. What is appended until
+    /// `close` is its content.
     pub fn open(&mut self, tag: Tag) -> usize
         requires { tag.number < 31 }
         ensures start { IsEnd result self.old }
@@ -227,7 +227,7 @@ impl Writer {
         start
     }
 
-    /// Ends the value that begins at a place: its length is written, in the fewest octets.
+    /// Ends the value that begins at `start`: writes its length in the fewest octets.
     pub fn close(&mut self, start: usize)
         requires { IsOpen start self.old }
         ensures { self.new ≡ close_sheet self.old start }
@@ -243,7 +243,7 @@ impl Writer {
         write_length(&mut self.octets, HEADROOM + start + 1, count);
     }
 
-    /// Writes a string of octets (X.690 8.7), or a value whose content is given.
+    /// Writes an octet string (X.690 8.7), or any value whose content is given.
     pub fn octets(&mut self, tag: Tag, content: &[u8])
         requires { tag.number < 31 }
         ensures { self.new ≡ sheet_with self.old (element tag content.now) }
@@ -270,7 +270,7 @@ impl Writer {
         }
     }
 
-    /// Writes a truth value (X.690 8.2): TRUE is FF.
+    /// Writes a truth value (X.690 8.2). TRUE is FF.
     #[tactic(auto, unfolding(crate::specs::Writing::element, crate::specs::Writing::length_octets))]
     pub fn boolean(&mut self, tag: Tag, value: bool)
         requires { tag.number < 31 }
@@ -280,14 +280,14 @@ impl Writer {
         self.append(&[tag.octet(), 1, octet]);
     }
 
-    /// Whether the text was longer than the limit.
+    /// Returns whether the text was longer than the limit.
     pub fn is_over(&self) -> bool
         ensures { result ≡ is_none self.now.text }
     {
         self.over
     }
 
-    /// Writes octets in front of the text and the heads that are there.
+    /// Writes octets in front of the text and the headers already written.
     pub fn front(&mut self, head: &[u8])
         requires { length head.now + length self.old.heads ≤ HEADROOM }
         ensures { self.new ≡ record self.old { heads = head.now ++ self.old.heads } }
@@ -312,8 +312,8 @@ impl Writer {
         self.front(&[tag.octet(), 0x80 + needed as u8]);
     }
 
-    /// Makes the message the content of a value, whose head is written in front of it. A message
-    /// that is then longer than the limit, its heads among it, is not held either.
+    /// Makes the message the content of a value, and writes the header of that value in front of
+    /// it. A message that is then longer than the limit, its headers included, is not held either.
     pub fn wrap(&mut self, tag: Tag)
         requires tag { tag.number < 31 }
         requires room { length self.old.heads + 6 ≤ HEADROOM }
@@ -358,7 +358,7 @@ impl Writer {
         self.front_value(tag, without_needless(&value.to_be_bytes()));
     }
 
-    /// The heads and the text; None where it was longer than the limit.
+    /// Returns the headers and the text; `None` if they were longer than the limit.
     pub fn message(&self) -> Option<&[u8]>
         ensures { option_map (λ octets. octets.now) result ≡ message self.now }
     {
@@ -368,8 +368,8 @@ impl Writer {
         Some(&self.octets[self.first..])
     }
 
-    /// The heads and the text, as `message` gives them, with what room is left in front. The room
-    /// behind them is given back.
+    /// Returns the headers and the text, like `message`, with the room left in front of them. Frees
+    /// the room after them.
     pub fn finish(self) -> Option<Outgoing>
         ensures { result ≡ message self }
     {
@@ -386,7 +386,7 @@ impl Writer {
         Some(Outgoing::behind(octets, first))
     }
 
-    /// The heads and the text, of which it is known that they are held.
+    /// Returns the headers and the text, which must be held.
     pub fn finish_held(self) -> Outgoing
         requires { is_none (message self) ≡ false }
         ensures { Some result ≡ message self }

@@ -15,13 +15,13 @@ pub struct Bay {
     pub vendor: Text,
     /// The model, 1 to 64 characters from space to `~`.
     pub model: Text,
-    /// The software's revision, 1 to 64 characters from space to `~`.
+    /// The software revision, 1 to 64 characters from space to `~`.
     pub revision: Text,
-    /// How old a scan may be when a switch is operated, in milliseconds, 0 to 600,000.
+    /// The maximum age of a scan when a switch is operated, in milliseconds, 0 to 600,000.
     pub scan_max_age_ms: u32,
-    /// The rows of the tree in the order of its table, with the values of the start.
+    /// The rows of the tree in the order of its table, with their initial values.
     pub rows: Listing<Row>,
-    /// The points of the program: switch by switch, then the inputs, then meter by meter.
+    /// The points of the program: those of each switch, then the inputs, then those of each meter.
     pub points: Listing<Point>,
     /// The switches, 1 to 32, in the order of the file.
     pub switches: Listing<Switch>,
@@ -31,7 +31,7 @@ pub struct Bay {
     pub meters: Listing<Text>,
 }
 
-/// A variable by which the program reads or writes the bay.
+/// A variable through which the program reads or writes the bay.
 #[derive(Drop)]
 pub struct Point {
     /// The name in upper case.
@@ -39,18 +39,18 @@ pub struct Point {
     pub kind: ElementaryType,
     /// Whether the program may write it.
     pub writable: bool,
-    /// What it stands for.
+    /// The part of the bay that it stands for.
     pub source: Source,
 }
 
-/// What a point stands for.
+/// The part of the bay that a point stands for.
 #[derive(Clone, Copy, Debug, PartialEq, Eq)]
 pub enum Source {
-    /// A point of the switch at this place, counted from 0 in the order of the file.
+    /// A point of the switch at this index, counted from 0 in the order of the file.
     Switch { switch: usize, point: SwitchPoint },
-    /// The input at this place.
+    /// The input at this index.
     Input { input: usize },
-    /// A field of the meter at this place.
+    /// A field of the meter at this index.
     Meter { meter: usize, field: MeterField },
 }
 
@@ -63,9 +63,9 @@ pub enum SwitchPoint {
     Open,
     /// Whether it is closed.
     Closed,
-    /// Whether it may be opened, which the program writes.
+    /// Whether it may be opened. The program writes it.
     EnableOpen,
-    /// Whether it may be closed, which the program writes.
+    /// Whether it may be closed. The program writes it.
     EnableClose,
 }
 

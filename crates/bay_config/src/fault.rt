@@ -6,34 +6,34 @@ ghost use Rattle.bay_config.specs.Code.{code_of};
 use std::alloc::{AllocError, AllocFailed};
 use thiserror::Error;
 
-/// The first fault of a bay file. Nothing is left of a refused file.
+/// The first fault of a bay file. A refused file leaves nothing behind.
 #[derive(Clone, Copy, Debug, PartialEq, Eq, Error)]
 pub enum BayFault {
-    /// The text is no TOML document, or has more than 262,144 octets.
+    /// The text is not a TOML document, or has more than 262,144 octets.
     #[error("the text is not a TOML document, or is too long")]
     BadToml,
-    /// A section or a key that has to be there is missing.
+    /// A required section or key is missing.
     #[error("a section or a key is missing")]
     MissingKey,
-    /// A key is not one of its section, or the kind of control excludes it.
+    /// A key is unknown in its section, or the kind of control excludes it.
     #[error("a key is unknown, or the kind of control excludes it")]
     UnknownKey,
-    /// A value is of a wrong kind or out of its range, or a point has the name of a reserved word.
+    /// A value has a wrong kind or is out of its range, or a point has the name of a reserved word.
     #[error("a value is of a wrong kind or out of its range")]
     BadValue,
-    /// Two points have one name.
+    /// Two points have the same name.
     #[error("two points have one name")]
     DuplicateName,
     /// A section has too many entries.
     #[error("a section has too many entries")]
     TooMany,
-    /// There is no memory left.
+    /// Out of memory.
     #[error("out of memory")]
     OutOfMemory,
 }
 
 impl BayFault {
-    /// The number of the fault, 50 to 55; want of memory has none.
+    /// Returns the number of the fault, 50 to 55. Out of memory has none.
     pub fn code(self) -> Option<u8>
         ensures { result ≡ code_of self }
     {

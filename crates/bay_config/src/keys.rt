@@ -16,21 +16,21 @@ use bay_base::text::Text;
 use std::alloc::Global;
 use toml::{Table, Value};
 
-/// The value at a key.
+/// Returns the value at a key.
 pub fn find<'a>(table: &'a Table, key: &str) -> Option<&'a Value>
     ensures { option_map (λ v. view v.now) result ≡ get_member key.now (table_view table.now) }
 {
     table.get(key)
 }
 
-/// Whether the key is one of those that are known.
+/// Returns whether a key is one of the known keys.
 pub fn is_known(known: &[&str], key: &str) -> bool
     ensures { result ≡ list_any (λ k. bytes_eq key.now k.now) known.now }
 {
     known.iter().any(|one| key == *one)
 }
 
-/// Whether some key of the table is not known.
+/// Returns whether any key of the table is unknown.
 fn has_unknown_key(table: &Table, known: &[&str]) -> bool
     ensures { result ≡ list_any
         (λ key. not (list_any (λ k. bytes_eq (string_bytes key) k.now) known.now))
@@ -39,7 +39,7 @@ fn has_unknown_key(table: &Table, known: &[&str]) -> bool
     table.keys().any(|key| !is_known(known, key.as_str()))
 }
 
-/// Refuses a table with a key that is not known.
+/// Refuses a table with an unknown key.
 pub fn check_keys(table: &Table, known: &[&str]) -> Result<(), BayFault>
     ensures { result ≡ unless_refused
         (unknown_refusal (map (λ k. k.now) known.now) (table_view table.now))
@@ -96,7 +96,7 @@ fn is_description(text: &str) -> bool
     1 <= bytes.len() && bytes.len() <= 64 && has_printable_characters(bytes)
 }
 
-/// The identifier at a key, of at most so many characters.
+/// Reads the identifier at a key, of at most `most` characters.
 pub fn identifier_at(alloc: Global, table: &Table, key: &str, most: usize) -> Result<Text, BayFault>
     ensures { let file = table_view table.now in
         Gives OutOfMemory (λ x. x) result
@@ -112,7 +112,7 @@ pub fn identifier_at(alloc: Global, table: &Table, key: &str, most: usize) -> Re
     }
 }
 
-/// The description at a key.
+/// Reads the description at a key.
 pub fn description_at(alloc: Global, table: &Table, key: &str) -> Result<Text, BayFault>
     ensures { let file = table_view table.now in
         Gives OutOfMemory (λ x. x) result
@@ -128,7 +128,7 @@ pub fn description_at(alloc: Global, table: &Table, key: &str) -> Result<Text, B
     }
 }
 
-/// The number at a key, within the two bounds.
+/// Reads the number at a key, from `least` to `most`.
 pub fn number_at(table: &Table, key: &str, least: u32, most: u32) -> Result<u32, BayFault>
     ensures { let file = table_view table.now in
         result ≡ unless_refused

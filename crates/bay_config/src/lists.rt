@@ -10,14 +10,14 @@ ghost use Rattle.bay_config.specs.Section.{list_checks};
 use crate::fault::BayFault;
 use toml::Value;
 
-/// Whether each value is a table.
+/// Returns whether each value is a table.
 fn are_tables(values: &[Value]) -> bool
     ensures { result ≡ list_all (λ v. is_some (as_table (view v))) values.now }
 {
     values.iter().all(|value| value.is_table())
 }
 
-/// Refuses a list that has too few values, one that is no table, or too many.
+/// Refuses a list with too few values, with a value that is not a table, or with too many values.
 pub fn check_list(values: &[Value], least: usize, most: usize) -> Result<(), BayFault>
     ensures { result ≡ unless_refused (first_of (list_checks least most (items_view values.now)))
         tt }

@@ -36,7 +36,7 @@ fn nameplate_from(alloc: Global, table: &Table) -> Result<Nameplate, BayFault>
     })
 }
 
-/// The section `bay`.
+/// Reads the section `bay`.
 pub fn nameplate_at(alloc: Global, file: &Table) -> Result<Nameplate, BayFault>
     ensures { let f = table_view file.now in
         Gives OutOfMemory (λ x. x) result

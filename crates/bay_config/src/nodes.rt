@@ -9,7 +9,7 @@ use bay_nodes::names as names;
 use bay_nodes::names::{CONTROL, INTERLOCKING, METER, class_of, is_breaker, is_of};
 use std::alloc::{AllocError, Global};
 
-/// How many of the switches are breakers, or are none.
+/// Counts the switches that are breakers, or those that are not.
 fn count_of(switches: &[Switch], breakers: bool) -> usize
     ensures counted { result ≡ length (filter (is_of breakers) switches.now) }
     ensures bounded { result ≤ length switches.now }
@@ -20,8 +20,9 @@ fn count_of(switches: &[Switch], breakers: bool) -> usize
         .count()
 }
 
-/// The name of the logical node of the switch at a place of the bay's switches, from 0: XCBR for a
-/// breaker or XSWI for another switch, and its number among those, from 1 (IEC 61850-7-4).
+/// Returns the name of the logical node of the switch at an index of the bay's switches, from 0:
+/// XCBR for a breaker or XSWI for any other switch, and its number among those, from 1 (IEC
+/// 61850-7-4).
 pub fn node_name(alloc: Global, bay: &Bay, place: usize) -> Result<Text, AllocError>
     requires { place < length bay.now.switches }
     ensures { IfOk result (NamesPosition bay.now place) }
@@ -33,8 +34,8 @@ pub fn node_name(alloc: Global, bay: &Bay, place: usize) -> Result<Text, AllocEr
     Ok(name)
 }
 
-/// The name of the logical node of the interlocking of the switch at a place of the bay's switches,
-/// from 0: CILO and the place's number, from 1 (IEC 61850-7-4).
+/// Returns the name of the logical node of the interlocking of the switch at an index of the bay's
+/// switches, from 0: CILO and the number of the switch, from 1 (IEC 61850-7-4).
 pub fn interlocking_name(alloc: Global, bay: &Bay, place: usize) -> Result<Text, AllocError>
     requires { place < length bay.now.switches }
     ensures { IfOk result (NamesInterlocking bay.now place) }
@@ -44,8 +45,8 @@ pub fn interlocking_name(alloc: Global, bay: &Bay, place: usize) -> Result<Text,
     Ok(name)
 }
 
-/// The name of the logical node of the control of the switch at a place of the bay's switches, from
-/// 0: CSWI and the place's number, from 1 (IEC 61850-7-4).
+/// Returns the name of the logical node of the control of the switch at an index of the bay's
+/// switches, from 0: CSWI and the number of the switch, from 1 (IEC 61850-7-4).
 pub fn control_name(alloc: Global, bay: &Bay, place: usize) -> Result<Text, AllocError>
     requires { place < length bay.now.switches }
     ensures { IfOk result (NamesControl bay.now place) }
@@ -55,8 +56,8 @@ pub fn control_name(alloc: Global, bay: &Bay, place: usize) -> Result<Text, Allo
     Ok(name)
 }
 
-/// The name of the logical node of the meter at a place of the bay's meters, from 0: MMXU and the
-/// place's number, from 1 (IEC 61850-7-4).
+/// Returns the name of the logical node of the meter at an index of the bay's meters, from 0: MMXU
+/// and the number of the meter, from 1 (IEC 61850-7-4).
 pub fn meter_name(alloc: Global, bay: &Bay, place: usize) -> Result<Text, AllocError>
     requires { place < length bay.now.meters }
     ensures { IfOk result (NamesMeter bay.now place) }

@@ -15,7 +15,7 @@ use bay_base::types::ElementaryType;
 use bay_base::words::reserved_word;
 use std::alloc::{AllocError, Global};
 
-/// Adds a point: the name that its own begins with, what follows, and what it is.
+/// Adds a point. Its name is `id` in upper case followed by `ending`.
 fn push_point(
     alloc: Global,
     points: &mut Vec<Point>,
@@ -45,7 +45,7 @@ fn push_point(
     Ok(())
 }
 
-/// Adds the points that tell a switch's position, which the program reads.
+/// Adds the points with the position of a switch, which the program reads.
 fn push_position(
     alloc: Global,
     points: &mut Vec<Point>,
@@ -135,7 +135,7 @@ fn push_enables(
     Ok(())
 }
 
-/// Adds the points of the switch at a place.
+/// Adds the points of the switch at an index.
 fn push_points(
     alloc: Global,
     points: &mut Vec<Point>,
@@ -183,7 +183,7 @@ fn push_inputs(alloc: Global, points: &mut Vec<Point>, inputs: &[Text]) -> Resul
     Ok(())
 }
 
-/// Adds the point of a field of a meter.
+/// Adds the point of one field of a meter.
 fn push_field(
     alloc: Global,
     points: &mut Vec<Point>,
@@ -207,7 +207,7 @@ fn push_field(
     )
 }
 
-/// Adds the points of the meter at a place, which the program reads.
+/// Adds the points of the meter at an index, which the program reads.
 fn push_meter(
     alloc: Global,
     points: &mut Vec<Point>,
@@ -235,7 +235,7 @@ fn push_meters(alloc: Global, points: &mut Vec<Point>, meters: &[Text]) -> Resul
     Ok(())
 }
 
-/// The points of the switches, the inputs and the meters, in their order.
+/// Returns the points of the switches, the inputs and the meters, in their order.
 pub fn points_of(
     alloc: Global,
     switches: &[Switch],
@@ -251,14 +251,14 @@ pub fn points_of(
     Ok(Listing::new(points))
 }
 
-/// Whether a point has this name.
+/// Returns whether a point has this name.
 fn has_name(points: &[Point], name: &str) -> bool
     ensures { result ≡ list_any (λ p. bytes_eq name.now p.name) points.now }
 {
     points.iter().any(|point| name == point.name.as_str())
 }
 
-/// Whether two points have one name.
+/// Returns whether two points have the same name.
 fn has_twin(points: &[Point]) -> bool
     ensures { result ≡ spec.has_twin (map (λ p. p.name) points.now) }
 {
@@ -272,7 +272,7 @@ fn has_twin(points: &[Point]) -> bool
     false
 }
 
-/// Whether a point is named as a reserved word.
+/// Returns whether a point has the name of a reserved word.
 fn has_reserved_name(points: &[Point]) -> bool
     ensures { result ≡ list_any (λ p. is_some (reserved_of p.name)) points.now }
 {
@@ -281,7 +281,7 @@ fn has_reserved_name(points: &[Point]) -> bool
         .any(|point| reserved_word(point.name.as_str()).is_some())
 }
 
-/// Refuses two points of one name, and then a point that is named as a reserved word.
+/// Refuses two points of the same name, and then a point with the name of a reserved word.
 pub fn check_names(points: &[Point]) -> Result<(), BayFault>
     ensures { result ≡ unless_refused (names_refusal points.now) tt }
 {

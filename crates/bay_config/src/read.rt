@@ -36,7 +36,7 @@ struct Sections {
     meters: Listing<Text>,
 }
 
-/// The sections of a file, in their order.
+/// Reads the sections of a file, in their order.
 fn sections_at(alloc: Global, file: &Table) -> Result<Sections, BayFault>
     ensures { let f = table_view file.now in
         Gives OutOfMemory (λ x. x) result
@@ -62,14 +62,15 @@ fn sections_at(alloc: Global, file: &Table) -> Result<Sections, BayFault>
     })
 }
 
-/// What the sections come to: the points of the program and the rows of the tree.
+/// What is derived from the sections: the points of the program and the rows of the tree.
 #[derive(Drop)]
 struct Lists {
     points: Listing<Point>,
     rows: Listing<Row>,
 }
 
-/// The points, no two of one name and none named as a reserved word, and the rows.
+/// Returns the points and the rows. Refuses two points of the same name, and a point with the name
+/// of a reserved word.
 fn lists_of(alloc: Global, sections: &Sections) -> Result<Lists, BayFault>
     ensures { let s = sections.now in let points = points_of_all s.switches s.inputs s.meters in
         Gives OutOfMemory (λ x. x) result
@@ -84,7 +85,7 @@ fn lists_of(alloc: Global, sections: &Sections) -> Result<Lists, BayFault>
     Ok(Lists { points, rows })
 }
 
-/// The bay of sections and lists.
+/// Makes a bay of sections and lists.
 fn bay_with(sections: Sections, lists: Lists) -> Bay
     ensures { let n = sections.nameplate in result ≡ record {
       domain = n.domain;
@@ -119,7 +120,7 @@ fn bay_with(sections: Sections, lists: Lists) -> Bay
     }
 }
 
-/// The bay of a file's table.
+/// Reads the bay from the table of a file.
 fn bay_from(alloc: Global, file: &Table) -> Result<Bay, BayFault>
     ensures read { Gives OutOfMemory (λ x. x) result (bay_of_table (table_view file.now)) }
     ensures sound { IfOk result IsBay }
@@ -132,7 +133,7 @@ fn bay_from(alloc: Global, file: &Table) -> Result<Bay, BayFault>
 /// The most octets of a bay file.
 const MAX_OCTETS: usize = 262_144;
 
-/// The table of a bay file. A text that is too long is not parsed.
+/// Parses the table of a bay file. Does not parse a text that is too long.
 #[tactic(auto, unfolding(crate::specs::Bay::document_of))]
 fn document_at(alloc: Global, text: &str) -> Result<Table, BayFault>
     ensures { Gives OutOfMemory table_view result (ok_or (document_of text.now) BadToml) }
@@ -152,7 +153,7 @@ fn document_at(alloc: Global, text: &str) -> Result<Table, BayFault>
     }
 }
 
-/// Reads a bay from the text of its file, or says why the text is none.
+/// Reads a bay from the text of its file, or returns why the text is not a bay.
 pub fn read_bay(alloc: Global, text: &str) -> Result<Bay, BayFault>
     // The bay that the text describes, or its first refusal, unless memory ran out. A text of more
     // than 262,144 octets is refused, whatever it says.

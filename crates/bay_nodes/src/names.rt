@@ -15,14 +15,14 @@ pub const INTERLOCKING: &str = "CILO";
 /// The class of a meter.
 pub const METER: &str = "MMXU";
 
-/// Whether a switch is a circuit breaker.
+/// Returns whether a switch is a circuit breaker.
 pub fn is_breaker(kind: SwitchKind) -> bool
     ensures { result ≡ spec.is_breaker kind }
 {
     kind == SwitchKind::Breaker
 }
 
-/// Whether the switch is one of the breakers, or one of the others.
+/// Returns whether the switch is a breaker, or whether it is none if `breakers` is false.
 pub fn is_of(breakers: bool, switch: &Switch) -> bool
     ensures { result ≡ spec.is_of breakers switch.now }
 {
@@ -33,7 +33,8 @@ pub fn is_of(breakers: bool, switch: &Switch) -> bool
     }
 }
 
-/// The class of a switch's node: XCBR for a breaker, XSWI for another switch (IEC 61850-7-4).
+/// Returns the class of a switch's node: XCBR for a breaker, XSWI for any other switch (IEC
+/// 61850-7-4).
 pub fn class_of(kind: SwitchKind) -> &'static str
     ensures { result.now ≡ spec.class_of kind }
 {
@@ -43,7 +44,7 @@ pub fn class_of(kind: SwitchKind) -> &'static str
     }
 }
 
-/// The name of a node: its class and its number.
+/// Returns the name of a node: its class and its number.
 pub fn node_name(alloc: Global, class: &str, number: usize) -> Result<Text, AllocError>
     ensures { IfOk result (λ name. name ≡ spec.node_name class.now number) }
 {

@@ -1,7 +1,7 @@
 // The paths of the rows that are found by their names: what stands behind a node's name (IEC
 // 61850-8-1, names of variables).
 
-/// The paths of a data object, and of its value with the value's quality and moment (IEC
+/// The paths of a data object, its value, and the quality and time stamp of the value (IEC
 /// 61850-7-3).
 #[derive(Clone, Copy)]
 pub struct StatusPaths {
@@ -11,7 +11,7 @@ pub struct StatusPaths {
     pub time: &'static str,
 }
 
-/// A switch's position, below its own node and below that of its control.
+/// The position of a switch, below its own node and below the node of its control.
 pub const POSITION: StatusPaths = StatusPaths {
     object: "$ST$Pos",
     value: "$ST$Pos$stVal",
@@ -43,7 +43,7 @@ pub const CLOSING: StatusPaths = StatusPaths {
     time: "$ST$EnaCls$t",
 };
 
-/// The active power of all phases.
+/// The total active power of all phases.
 pub const ACTIVE_POWER: StatusPaths = StatusPaths {
     object: "$MX$TotW",
     value: "$MX$TotW$mag$i",
@@ -51,7 +51,7 @@ pub const ACTIVE_POWER: StatusPaths = StatusPaths {
     time: "$MX$TotW$t",
 };
 
-/// The reactive power of all phases.
+/// The total reactive power of all phases.
 pub const REACTIVE_POWER: StatusPaths = StatusPaths {
     object: "$MX$TotVAr",
     value: "$MX$TotVAr$mag$i",
@@ -67,7 +67,7 @@ pub const FREQUENCY: StatusPaths = StatusPaths {
     time: "$MX$Hz$t",
 };
 
-/// The current of each phase.
+/// The currents of the phases.
 pub const PHASE_A: StatusPaths = StatusPaths {
     object: "$MX$A$phsA",
     value: "$MX$A$phsA$cVal$mag$i",
@@ -92,8 +92,8 @@ pub const PHASE_C: StatusPaths = StatusPaths {
 /// Whether a switch is selected (IEC 61850-7-3, stSeld).
 pub const SELECTED: &str = "$ST$Pos$stSeld";
 
-/// By which a switch is selected, or selected with a value, operated, and its selection given up
-/// (IEC 61850-8-1).
+/// The objects that a client writes to select a switch, select it with value, operate it, and
+/// cancel its selection (IEC 61850-8-1).
 pub const SELECT: &str = "$CO$Pos$SBO";
 
 pub const SELECT_WITH_VALUE: &str = "$CO$Pos$SBOw";

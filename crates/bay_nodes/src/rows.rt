@@ -18,7 +18,7 @@ use bay_tree::leaf::{Dbpos, Leaf, Quality};
 use bay_tree::row::Row;
 use std::alloc::{AllocError, Global};
 
-/// The value that a row begins with; None for a structure.
+/// Returns the initial value of a row; `None` for a structure.
 fn leaf_from(
     alloc: Global,
     nameplate: &Nameplate,
@@ -45,7 +45,8 @@ fn leaf_from(
     Ok(Some(leaf))
 }
 
-/// A row of a node: the node's name, and then the path of the row within the node.
+/// Adds a row of a node. Its name is the node's name followed by the path of the row within the
+/// node.
 fn push_row(
     alloc: Global,
     rows: &mut Vec<Row>,
@@ -64,7 +65,7 @@ fn push_row(
     Ok(())
 }
 
-/// The rows of a node that a table holds.
+/// Adds the rows of a table to a node.
 fn push_table(
     alloc: Global,
     rows: &mut Vec<Row>,
@@ -82,7 +83,7 @@ fn push_table(
     Ok(())
 }
 
-/// A node whose rows a table holds.
+/// Adds a node with the rows of a table.
 fn push_node(
     alloc: Global,
     rows: &mut Vec<Row>,
@@ -98,7 +99,7 @@ fn push_node(
     Ok(())
 }
 
-/// The nodes of the device itself (IEC 61850-7-4, LLN0 and LPHD).
+/// Adds the nodes of the device itself (IEC 61850-7-4, LLN0 and LPHD).
 fn push_device(alloc: Global, rows: &mut Vec<Row>, nameplate: &Nameplate) -> Result<(), AllocError>
     ensures { IfOk result (λ _. rows.new.items
         ≡ rows.old.items ++ flat_map node_rows
@@ -109,7 +110,7 @@ fn push_device(alloc: Global, rows: &mut Vec<Row>, nameplate: &Nameplate) -> Res
     Ok(())
 }
 
-/// The node of a breaker or another switch (IEC 61850-7-4, XCBR and XSWI).
+/// Adds the node of a breaker or another switch (IEC 61850-7-4, XCBR and XSWI).
 fn push_position_node(
     alloc: Global,
     rows: &mut Vec<Row>,
@@ -127,7 +128,7 @@ fn push_position_node(
     Ok(())
 }
 
-/// What may be written to a switch that is selected by the rows of a table.
+/// Adds the writable rows of a switch that is selected by the rows of the table `select`.
 fn push_selection(
     alloc: Global,
     rows: &mut Vec<Row>,
@@ -148,7 +149,7 @@ fn push_selection(
     Ok(())
 }
 
-/// What may be written to a switch with this kind of control.
+/// Adds the writable rows of a switch with this kind of control.
 fn push_commands(
     alloc: Global,
     rows: &mut Vec<Row>,
@@ -177,7 +178,7 @@ fn push_commands(
     }
 }
 
-/// The node of the control of a switch (IEC 61850-7-4, CSWI).
+/// Adds the node of the control of a switch (IEC 61850-7-4, CSWI).
 fn push_control_node(
     alloc: Global,
     rows: &mut Vec<Row>,
@@ -212,7 +213,7 @@ fn push_control_node(
     Ok(())
 }
 
-/// The node of a switch with this number.
+/// Adds the node of the switch with this number.
 fn push_position(
     alloc: Global,
     rows: &mut Vec<Row>,
@@ -228,7 +229,7 @@ fn push_position(
     Ok(())
 }
 
-/// The node of a control with this number.
+/// Adds the node of the control with this number.
 fn push_control(
     alloc: Global,
     rows: &mut Vec<Row>,
@@ -244,7 +245,7 @@ fn push_control(
     Ok(())
 }
 
-/// The node of the interlocking with this number (IEC 61850-7-4, CILO).
+/// Adds the node of the interlocking with this number (IEC 61850-7-4, CILO).
 fn push_interlocking(
     alloc: Global,
     rows: &mut Vec<Row>,
@@ -266,7 +267,7 @@ fn push_interlocking(
     Ok(())
 }
 
-/// The node of the meter with this number (IEC 61850-7-4, MMXU).
+/// Adds the node of the meter with this number (IEC 61850-7-4, MMXU).
 fn push_meter(
     alloc: Global,
     rows: &mut Vec<Row>,
@@ -282,7 +283,7 @@ fn push_meter(
     Ok(())
 }
 
-/// The nodes of the breakers, or of the other switches, numbered from 1.
+/// Adds the nodes of the breakers, or of the other switches, numbered from 1.
 fn push_positions(
     alloc: Global,
     rows: &mut Vec<Row>,
@@ -303,7 +304,7 @@ fn push_positions(
     Ok(())
 }
 
-/// The nodes of the controls, numbered from 1.
+/// Adds the nodes of the controls, numbered from 1.
 fn push_controls(
     alloc: Global,
     rows: &mut Vec<Row>,
@@ -319,7 +320,7 @@ fn push_controls(
     Ok(())
 }
 
-/// The nodes of the switches' interlocking, numbered from 1.
+/// Adds the nodes of the interlocking of the switches, numbered from 1.
 fn push_interlockings(
     alloc: Global,
     rows: &mut Vec<Row>,
@@ -335,7 +336,7 @@ fn push_interlockings(
     Ok(())
 }
 
-/// The nodes of the meters, numbered from 1.
+/// Adds the nodes of the meters, numbered from 1.
 fn push_meters(
     alloc: Global,
     rows: &mut Vec<Row>,
@@ -351,8 +352,8 @@ fn push_meters(
     Ok(())
 }
 
-/// The rows of a bay's nodes with the values of the start: those of the device, the breakers, the
-/// other switches, the controls, the interlocking, and the meters.
+/// Returns the rows of a bay's nodes with their initial values: those of the device, the breakers,
+/// the other switches, the controls, the interlocking, and the meters.
 pub fn rows_of(
     alloc: Global,
     nameplate: &Nameplate,

@@ -4,19 +4,18 @@ use bay_base::text::Text;
 /// A switching device (IEC 61850-7-4, XCBR and XSWI) and the way it is controlled.
 #[derive(Debug, Drop)]
 pub struct Switch {
-    /// The name as the file spells it: a letter, then letters, digits and `_`, at most 16
+    /// The name as it is spelled in the file: a letter, then letters, digits and `_`, at most 16
     /// characters.
     pub id: Text,
     pub kind: SwitchKind,
     pub control: Control,
-    /// How long a selection lasts, in milliseconds, 1 to 600,000; 0 where `control` has no
-    /// selection.
+    /// How long a selection lasts, in milliseconds, 1 to 600,000; 0 if `control` has no selection.
     pub sbo_timeout_ms: u32,
-    /// How long the switch may travel, in milliseconds, 1 to 600,000; 0 where it is not controlled.
+    /// How long the switch may travel, in milliseconds, 1 to 600,000; 0 if it is not controlled.
     pub travel_ms: u32,
 }
 
-/// What a switch is for.
+/// The kind of a switch.
 #[derive(Clone, Copy, Debug, PartialEq, Eq)]
 pub enum SwitchKind {
     /// A circuit breaker.
@@ -30,12 +29,13 @@ pub enum SwitchKind {
 /// How a switch is controlled (IEC 61850-7-2, control model).
 #[derive(Clone, Copy, Debug, PartialEq, Eq)]
 pub enum Control {
-    /// Its status alone is shown.
+    /// Status only.
     Status,
     /// Direct control with normal security.
     Direct,
     /// Select before operate with normal security.
     Sbo,
-    /// Select before operate with enhanced security: select with value, and a report of the end.
+    /// Select before operate with enhanced security: select with value, and a report of the end of
+    /// the control.
     SboEnhanced,
 }

@@ -8,7 +8,7 @@ ghost use Rattle.bay_nodes.specs.declared.nameplate.Nameplate.{Nameplate};
 use crate::paths as paths;
 use crate::switch::{Control, SwitchKind};
 
-/// What a row begins with.
+/// The initial value of a row.
 #[derive(Clone, Copy)]
 pub enum InitialValue {
     /// No value: the row is a structure.
@@ -22,19 +22,19 @@ pub enum InitialValue {
     Int8(i8),
     /// A count or a measured value of 0.
     Int32,
-    /// A control's number, 0.
+    /// The number of a control, 0.
     Unsigned8,
     /// No octets.
     Octets,
     /// The empty reference.
     Reference,
-    /// The moment 0.
+    /// Time 0.
     Moment,
-    /// The maker, as the nameplate tells it.
+    /// The maker from the nameplate.
     Vendor,
-    /// The model.
+    /// The model from the nameplate.
     Model,
-    /// The software's revision.
+    /// The software revision from the nameplate.
     Revision,
 }
 
@@ -43,7 +43,7 @@ use InitialValue::{
     Structure, Unsigned8, Vendor,
 };
 
-/// The rows below LLN0.
+/// Returns the rows below LLN0.
 pub fn device_table() -> &'static [(&'static str, InitialValue)]
     ensures { (n : Nameplate)
         → map (line_row n) result.now ≡ node.rows_of_parts [] (node.device_parts n) }
@@ -73,7 +73,7 @@ pub fn device_table() -> &'static [(&'static str, InitialValue)]
     ]
 }
 
-/// The rows below LPHD1.
+/// Returns the rows below LPHD1.
 pub fn physical_table() -> &'static [(&'static str, InitialValue)]
     ensures { (n : Nameplate)
         → map (line_row n) result.now ≡ node.rows_of_parts [] (node.physical_parts n) }
@@ -94,7 +94,7 @@ pub fn physical_table() -> &'static [(&'static str, InitialValue)]
     ]
 }
 
-/// The first rows below XCBR and XSWI, up to the type of the switch.
+/// Returns the first rows below XCBR and XSWI, up to the type of the switch.
 pub fn position_table() -> &'static [(&'static str, InitialValue)]
     ensures { (n : Nameplate) → map (line_row n) result.now ≡ status_group }
 {
@@ -119,7 +119,7 @@ pub fn position_table() -> &'static [(&'static str, InitialValue)]
     ]
 }
 
-/// The rows of the type of a switch that is no breaker.
+/// Returns the rows with the type of a switch that is not a breaker.
 pub fn type_table(kind: SwitchKind) -> &'static [(&'static str, InitialValue)]
     ensures { (n : Nameplate) → map (line_row n) result.now ≡ type_rows kind }
 {
@@ -140,7 +140,7 @@ pub fn type_table(kind: SwitchKind) -> &'static [(&'static str, InitialValue)]
     }
 }
 
-/// The last rows below XCBR and XSWI.
+/// Returns the last rows below XCBR and XSWI.
 pub fn position_model_table() -> &'static [(&'static str, InitialValue)]
     ensures { (n : Nameplate) → map (line_row n) result.now ≡ position_model }
 {
@@ -151,7 +151,7 @@ pub fn position_model_table() -> &'static [(&'static str, InitialValue)]
     ]
 }
 
-/// The first rows below CSWI: the position of its switch, and whether it is selected.
+/// Returns the first rows below CSWI: the position of its switch, and whether it is selected.
 pub fn control_table() -> &'static [(&'static str, InitialValue)]
     ensures { (n : Nameplate) → map (line_row n) result.now ≡ control_group }
 {
@@ -165,21 +165,21 @@ pub fn control_table() -> &'static [(&'static str, InitialValue)]
     ]
 }
 
-/// The rows that hold what may be written.
+/// Returns the rows that group the writable rows.
 pub fn group_table() -> &'static [(&'static str, InitialValue)]
     ensures { (n : Nameplate) → map (line_row n) result.now ≡ group_row }
 {
     &[("$CO", Structure), ("$CO$Pos", Structure)]
 }
 
-/// The row by which a switch is selected.
+/// Returns the row that selects a switch.
 pub fn select_table() -> &'static [(&'static str, InitialValue)]
     ensures { (n : Nameplate) → map (line_row n) result.now ≡ select_row }
 {
     &[(paths::SELECT, Reference)]
 }
 
-/// The rows by which a switch is selected with a value.
+/// Returns the rows that select a switch with value.
 pub fn select_with_value_table() -> &'static [(&'static str, InitialValue)]
     ensures { (n : Nameplate)
         → map (line_row n) result.now
@@ -198,7 +198,7 @@ pub fn select_with_value_table() -> &'static [(&'static str, InitialValue)]
     ]
 }
 
-/// The rows by which a switch is operated.
+/// Returns the rows that operate a switch.
 pub fn operate_table() -> &'static [(&'static str, InitialValue)]
     ensures { (n : Nameplate)
         → map (line_row n) result.now
@@ -217,7 +217,7 @@ pub fn operate_table() -> &'static [(&'static str, InitialValue)]
     ]
 }
 
-/// The rows by which a selection is given up.
+/// Returns the rows that cancel a selection.
 pub fn cancel_table() -> &'static [(&'static str, InitialValue)]
     ensures { (n : Nameplate)
         → map (line_row n) result.now ≡ node.rows_of (codes "$CO$Pos") node.cancelling }
@@ -234,7 +234,7 @@ pub fn cancel_table() -> &'static [(&'static str, InitialValue)]
     ]
 }
 
-/// The rows that hold the control model (IEC 61850-7-3, ctlModel).
+/// Returns the rows with the control model (IEC 61850-7-3, ctlModel).
 pub fn control_model_table(control: Control) -> &'static [(&'static str, InitialValue)]
     ensures { (n : Nameplate) → map (line_row n) result.now ≡ control_model control }
 {
@@ -262,7 +262,7 @@ pub fn control_model_table(control: Control) -> &'static [(&'static str, Initial
     }
 }
 
-/// The rows below CILO.
+/// Returns the rows below CILO.
 pub fn interlocking_table() -> &'static [(&'static str, InitialValue)]
     ensures { (n : Nameplate)
         → map (line_row n) result.now ≡ node.rows_of_parts [] node.interlocking_parts }
@@ -280,7 +280,7 @@ pub fn interlocking_table() -> &'static [(&'static str, InitialValue)]
     ]
 }
 
-/// The rows below MMXU.
+/// Returns the rows below MMXU.
 pub fn meter_table() -> &'static [(&'static str, InitialValue)]
     ensures { (n : Nameplate)
         → map (line_row n) result.now ≡ node.rows_of_parts [] node.meter_parts }

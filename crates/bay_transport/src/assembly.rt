@@ -44,7 +44,7 @@ fn cut_out(octets: &mut Vec<u8>, at: usize, count: usize)
 }
 
 impl Assembly {
-    /// An assembly on which nothing has come.
+    /// Creates an assembly that has received nothing.
     pub(crate) fn new(alloc: Global, number: u16) -> Assembly
         ensures sound { IsSound result }
         ensures number { result.number ≡ number }
@@ -62,7 +62,7 @@ impl Assembly {
         }
     }
 
-    /// Forgets what came, and gives back the room that it took.
+    /// Forgets what was received and frees its buffers.
     pub(crate) fn release(&mut self)
         ensures sound { IsSound self.new }
         ensures number { self.new.number ≡ self.old.number }

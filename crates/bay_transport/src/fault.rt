@@ -13,25 +13,26 @@ pub enum TransportFault {
     /// A frame does not begin with 03, or its length is below 7 (RFC 1006 6).
     #[error("the octets are no TPKT")]
     BadTpkt,
-    /// A TPDU is not spelled, or is not one that may come now (X.224 13).
+    /// A TPDU is malformed or not allowed now (X.224 13).
     #[error("the TPDU is not spelled, or may not come now")]
     BadCotp,
-    /// A connection of another class than 0 is requested (X.224 13.3.3).
+    /// The request is for a class other than 0 (X.224 13.3.3).
     #[error("the class of the connection is not 0")]
     ClassRefused,
-    /// The data of the data TPDUs of one TSDU are more than 70,000 octets.
+    /// The data TPDUs of one TSDU hold more than 70,000 octets of data.
     #[error("the TSDU is too long")]
     TsduTooLong,
     /// An earlier piece was refused.
     #[error("the transport has failed")]
     Failed,
-    /// There is no room for the octets that have to be kept.
+    /// Out of memory for the octets that have to be kept.
     #[error("out of memory")]
     OutOfMemory,
 }
 
 impl TransportFault {
-    /// The fault's number: 10 to 14 in the order of the faults. Want of memory has none.
+    /// Returns the number of the fault: 10 to 14 in the order of the variants. Out of memory has
+    /// none.
     pub fn code(self) -> Option<u8>
         ensures { result ≡ code_of self }
     {

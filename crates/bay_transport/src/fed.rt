@@ -1,11 +1,11 @@
 // What a piece has come to.
 
-/// What octets have come to.
+/// What octets complete.
 #[derive(Clone, Copy)]
 pub enum Got {
-    /// Nothing yet: all octets were taken.
+    /// Nothing yet. All octets were taken.
     More,
-    /// A request for a connection; its answer is to be sent.
+    /// A request for a connection. Its answer has to be sent.
     Answer,
     /// A TSDU: the joined data of a group of data TPDUs.
     Tsdu,
@@ -13,11 +13,11 @@ pub enum Got {
     Ended,
 }
 
-/// What a piece has come to first.
+/// The first thing that a piece completes.
 #[derive(Clone, Copy)]
 pub struct Fed {
     /// The number of octets of the piece that were taken. The others have not been looked at.
     pub used: usize,
-    /// What they have come to.
+    /// What those octets complete.
     pub got: Got,
 }

@@ -3,31 +3,31 @@ ghost use Rattle.std.specs.Prelude.{◌≡◌, ◌<◌, ◌≤◌, length};
 ghost use Rattle.bay_transport.specs.Frame as spec;
 ghost use Rattle.bay_transport.specs.Connect as spec_connect;
 
-/// What stands at the front of a list of octets.
+/// What a list of octets begins with.
 #[derive(Clone, Copy)]
 pub enum Front {
-    /// No octet, or the beginning of a frame.
+    /// No octet, or an incomplete frame.
     Begun,
-    /// Octets that no frame begins with.
+    /// Octets that can't begin a frame.
     NoFrame,
-    /// A whole frame of so many octets.
+    /// A complete frame of this many octets.
     Whole(usize),
 }
 
-/// What a TPDU is.
+/// A kind of TPDU.
 #[derive(Clone, Copy)]
 pub enum Tpdu {
     /// A request for a connection (CR).
     Request,
     /// Data (DT).
     Data,
-    /// The end of the connection (DR), or the other side's notice of an error (ER).
+    /// The end of the connection (DR), or an error report from the other side (ER).
     Release,
     /// Any other.
     Unknown,
 }
 
-/// What the TPDU of this code is.
+/// Returns the kind of the TPDU with this code.
 pub(crate) fn tpdu_of(code: u8) -> Tpdu
     ensures { result ≡ spec.tpdu_of code }
 {
@@ -46,7 +46,7 @@ fn pair_of(high: u8, low: u8) -> usize
     high as usize * 256 + low as usize
 }
 
-/// What stands before a TPDU of so many octets in its frame.
+/// Returns the frame header of a TPDU of `count` octets.
 pub(crate) fn frame_header(count: usize) -> [u8; 4]
     requires { count ≤ 65_531 }
     ensures { result ≡ spec_connect.frame_header count }
@@ -55,7 +55,7 @@ pub(crate) fn frame_header(count: usize) -> [u8; 4]
     [3, 0, high, low]
 }
 
-/// What stands at the front of these octets.
+/// Returns what the octets begin with.
 pub(crate) fn front_of(octets: &[u8]) -> Front
     ensures front { result ≡ spec.front_of octets.now }
     ensures short { result ≡ Front.Begun → length octets.now < 65_535 }
@@ -77,8 +77,8 @@ pub(crate) fn front_of(octets: &[u8]) -> Front
     }
 }
 
-/// How many octets can follow the beginning of a frame before more has to be known: those up to the
-/// end of the length, or else those up to the end of the frame.
+/// Returns how many more octets an incomplete frame can take before more has to be known: the
+/// octets up to the end of the length field, or else those up to the end of the frame.
 pub(crate) fn wanted(begun: &[u8]) -> usize
     requires { spec.front_of begun.now ≡ Front.Begun }
     ensures wanted { result ≡ spec.octets_wanted begun.now }

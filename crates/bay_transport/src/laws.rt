@@ -5,16 +5,17 @@ ghost use Rattle.bay_transport.specs.Connect.{Parameter, parameter_octets, param
 ghost use Rattle.bay_transport.specs.Doings.{Doing, Delivers, Left, Stream, run_of, and_then, doings, after};
 ghost use Rattle.bay_transport.specs.Feeding.{CompletesDoing, GoesOn, IsGoing, size_agreed, size_after};
 
-/// A list of octets is whole frames followed by a rest that begins with no whole frame, in one way
-/// (RFC 1006 6).
+/// There is exactly one way to split a list of octets into complete frames and a rest that begins
+/// with no complete frame (RFC 1006 6).
 pub fn one_cutting()
     ensures cut { (octets : List ℕ) → IsCut octets (cut_of octets) }
     ensures only { (octets : List ℕ) (first second : Cut) → IsCut octets first → IsCut octets second
         → first ≡ second }
 {}
 
-/// What octets come to does not hang on how they are cut into pieces: the doings of a list and a
-/// piece are the list's, and then the piece's from what the list leaves.
+/// What octets complete does not depend on how they are cut into pieces. The doings of a list
+/// followed by a piece are the doings of the list, and then those of the piece from what the list
+/// leaves.
 pub fn any_cutting()
     ensures run { (number : ℕ) (left : Left) (octets piece : List ℕ)
         → run_of number left (octets ++ piece) ≡ and_then number (run_of number left octets) piece }
@@ -24,8 +25,8 @@ pub fn any_cutting()
         → after s (octets ++ piece) ≡ after (after s octets) piece }
 {}
 
-/// The octets of a piece that a feeding did not take do the rest of the piece's doings, from what
-/// is left then.
+/// The octets of a piece that one feeding did not take do the remaining doings of the piece,
+/// starting from what that feeding left.
 pub fn feeding_goes_on()
     ensures doings { (old new : Stream) (piece : List ℕ) (used : ℕ) (doing : Doing)
         → new ≡ after old (take used piece)
@@ -34,8 +35,8 @@ pub fn feeding_goes_on()
         → new ≡ after old (take used piece) → after old piece ≡ after new (drop used piece) }
 {}
 
-/// The size of a TPDU is agreed by an answer and stays until the connection ends or fails, and a
-/// TSDU comes only where one is agreed.
+/// An answer agrees the size of a TPDU. The size stays until the connection ends or fails. A TSDU
+/// arrives only while a size is agreed.
 pub fn one_size()
     ensures after { (s : Stream) (octets : List ℕ)
         → size_agreed (after s octets) ≡ size_after (size_agreed s) (doings s octets) }
@@ -43,13 +44,13 @@ pub fn one_size()
         → doings s octets ≡ Delivers tsdu ∷ later → IsSome (size_agreed s) }
 {}
 
-/// Octets that come to nothing leave a stream that goes on.
+/// Octets that complete nothing leave a stream that goes on.
 pub fn quiet_goes_on()
     ensures { (s : Stream) (octets : List ℕ) → IsGoing s.left → doings s octets ≡ []
         → IsGoing (after s octets).left }
 {}
 
-/// Octets are parameters in one way: just those that spell them (X.224 13.2.3).
+/// Octets spell parameters in exactly one way (X.224 13.2.3).
 pub fn one_reading()
     ensures { (octets : List ℕ) (ps : List Parameter) → (parameters_of octets ≡ Some ps)
         ↔ (octets ≡ parameter_octets ps) }

@@ -9,18 +9,18 @@ use crate::fault::TransportFault;
 use crate::fed::{Fed, Got};
 use std::alloc::Global;
 
-/// Whether more octets are taken.
+/// Whether the reader takes more octets.
 #[derive(Clone, Copy)]
 pub enum ReaderState {
-    /// They are.
+    /// It takes more octets.
     Open,
     /// The connection has ended.
     Closed,
-    /// Octets were refused, or there was no room for them.
+    /// Octets were refused, or an allocation failed.
     Refused,
 }
 
-/// What a transport keeps between pieces.
+/// The state that a transport keeps between pieces.
 #[derive(Drop)]
 pub struct Reader {
     pub(crate) state: ReaderState,
@@ -28,7 +28,7 @@ pub struct Reader {
 }
 
 impl Reader {
-    /// A reader to which nothing has come.
+    /// Creates a reader that has received nothing.
     pub(crate) fn new(alloc: Global, number: u16) -> Reader
         ensures kept { IsKept result }
         ensures received { received_of result
@@ -51,7 +51,7 @@ impl Reader {
         self.assembly.release();
     }
 
-    /// Takes no more octets, as after an end.
+    /// Stops taking octets, as after the end of the connection.
     pub(crate) fn end(&mut self)
         ensures kept { IsKept self.new }
         ensures ended { received_of self.new
@@ -60,8 +60,8 @@ impl Reader {
         self.stop(ReaderState::Closed);
     }
 
-    /// Takes octets up to the end of the TPDU that completes something, or all, and says how many
-    /// and what is completed.
+    /// Takes octets up to the end of the TPDU that completes something, or all of them. Returns how
+    /// many it took and what they complete.
     pub(crate) fn feed(&mut self, piece: &[u8]) -> Result<Fed, TransportFault>
         requires { IsKept self.old }
         ensures kept { IsKept self.new }

@@ -210,9 +210,9 @@ fn respond(
     Ok(size)
 }
 
-/// Writes the answer to a request on the association of this number, and gives the size agreed in
-/// octets. The body stands behind the request's length indicator and code; `again` says that a
-/// request came before.
+/// Writes the answer to a request on the association with this number, and returns the agreed size
+/// in octets. `body` is what follows the length indicator and the code of the request. `again` says
+/// that an earlier request came.
 pub(crate) fn answer(
     reply: &mut Vec<u8>,
     number: u16,

@@ -12,8 +12,8 @@ use crate::wrap::{header, wrap};
 use std::alloc::{AllocError, Global};
 use std::marker::Model;
 
-/// One connection, on the association of a number, which contracts see as what its octets leave and
-/// the octets of what they completed last.
+/// One connection, on the association with this number. Contracts see it as what its octets leave,
+/// and the octets of what they completed last.
 #[derive(Drop)]
 pub struct Transport {
     reader: Reader,
@@ -30,8 +30,8 @@ impl Model for Transport {
 }
 
 impl Transport {
-    /// A connection before its first octet. The number is sent as the reference of this side (X.224
-    /// 13.4).
+    /// Creates a connection before its first octet. The number is sent as the reference of this
+    /// side (X.224 13.4).
     pub fn new(alloc: Global, number: u16) -> Transport
         ensures { result ≡ record {
           stream = record { number = number; left = start };
@@ -44,16 +44,15 @@ impl Transport {
     }
 
     /// Takes the octets of the piece up to the end of the first TPDU that completes something, and
-    /// says what that is: a request for a connection, a TSDU, or the end of the connection. `shown`
-    /// lends the answer to the request, and the TSDU. The caller feeds the octets behind them
-    /// again. Where nothing is completed all octets are taken. After an end no octet is taken, and
-    /// the answer is `Ended` again.
+    /// returns what that is: a request for a connection, a TSDU, or the end of the connection.
+    /// `shown` lends the answer to the request, or the TSDU. The caller feeds the remaining octets
+    /// again. Takes all octets if they complete nothing. After the end of the connection it takes
+    /// no octet and returns `Ended` again.
     ///
-    /// A refusal is for good: later pieces are answered `Failed`, as they are after want of memory.
-    /// A piece without octets takes no memory.
-    /// No more is kept than 70,000 octets of an unfinished TSDU, an unfinished frame (less than
-    /// 65,535 octets), and 70,000 octets of what is shown. After an end or a refusal nothing is
-    /// kept: the buffers are given back.
+    /// A refusal is final: later pieces return `Failed`, also after an allocation failed. A piece
+    /// without octets does not allocate. Keeps at most 70,000 octets of an unfinished TSDU, an
+    /// unfinished frame (less than 65,535 octets), and 70,000 octets of what is shown. Keeps
+    /// nothing after an end or a refusal: the buffers are freed.
     pub fn feed(&mut self, piece: &[u8]) -> Result<Fed, TransportFault>
         ensures within { IfOk result (λ fed. fed.used ≤ length piece.now) }
         // What is answered is the first doing of the piece, and a refusal is the fault that the
@@ -72,24 +71,23 @@ impl Transport {
         self.reader.feed(piece)
     }
 
-    /// The octets of what was completed last: the answer to a request for a connection, which is to
-    /// be sent, or a TSDU. None before the first, and after an end or a refusal.
+    /// Returns the octets of what was completed last: the answer to a request for a connection,
+    /// which has to be sent, or a TSDU. Empty before the first, and after an end or a refusal.
     pub fn shown(&self) -> &[u8]
         ensures { result.now ≡ self.now.shown }
     {
         self.reader.assembly.shown.as_slice()
     }
 
-    /// Ends the connection from this side: no more octets are taken, and the buffers are given
-    /// back.
+    /// Ends the connection from this side: takes no more octets, and frees the buffers.
     pub fn end(&mut self)
         ensures { self.new ≡ record { stream = end_of_stream self.old.stream; shown = [] } }
     {
         self.reader.end();
     }
 
-    /// The size agreed for a TPDU in octets, where a request came and the connection has neither
-    /// ended nor failed.
+    /// Returns the agreed size of a TPDU in octets, if a request came and the connection has
+    /// neither ended nor failed.
     pub fn agreed_size(&self) -> Option<usize>
         ensures { result ≡ size_agreed self.now.stream }
     {
@@ -99,8 +97,8 @@ impl Transport {
         }
     }
 
-    /// What stands before a TSDU of so many octets where one data TPDU of the size agreed holds it,
-    /// so that these octets and then the TSDU's are what `wrap` gives; None where it takes several.
+    /// Returns the header of a TSDU of `count` octets if one data TPDU of the agreed size holds it;
+    /// `None` if it takes several. The header followed by the TSDU is what `wrap` returns.
     pub fn header(&self, count: usize) -> Option<[u8; 7]>
         requires { IsSome (size_agreed self.now.stream) }
         ensures exact { IfSome result (λ header. (tsdu : List ℕ) → length tsdu ≡ count
@@ -116,13 +114,13 @@ impl Transport {
         }
     }
 
-    /// The data TPDUs in which a TSDU is sent, each in its frame and of at most the size agreed, an
-    /// empty TSDU in one of them (X.224 13.7). The octets of the TSDU are those of the front and
-    /// then the rest, so that what another layer writes before its user's octets need not be joined
-    /// with them: each octet is copied once.
+    /// Returns the data TPDUs that send a TSDU, each in its frame and of at most the agreed size.
+    /// An empty TSDU takes one of them (X.224 13.7). The TSDU is `front` followed by `rest`. So
+    /// what another layer writes before the octets of its user need not be joined with them: each
+    /// octet is copied once.
     ///
-    /// The front has at most 125 octets, which is what the smallest data TPDU holds, and the TSDU
-    /// at most 70,000.
+    /// `front` has at most 125 octets, which fit in the smallest data TPDU, and the TSDU at most
+    /// 70,000.
     pub fn wrap(&self, front: &[u8], rest: &[u8]) -> Result<Vec<u8>, AllocError>
         requires agreed { IsSome (size_agreed self.now.stream) }
         requires front { length front.now ≤ 125 }

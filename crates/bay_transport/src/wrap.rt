@@ -48,8 +48,8 @@ fn frames_length(room: usize, count: usize) -> usize
     count + (full + 1) * BEFORE_DATA
 }
 
-/// What stands before a TSDU of so many octets in the one frame that holds it; None where it takes
-/// several data TPDUs of at most this size.
+/// Returns the header of a TSDU of `count` octets in a single frame; `None` if it takes several
+/// data TPDUs of at most this size.
 pub(crate) fn header(size: usize, count: usize) -> Option<[u8; BEFORE_DATA]>
     requires { IsSize size }
     ensures exact { IfSome result (λ header. (tsdu : List ℕ) → length tsdu ≡ count
@@ -63,8 +63,8 @@ pub(crate) fn header(size: usize, count: usize) -> Option<[u8; BEFORE_DATA]>
     Some([version, reserved, high, low, 2, 0xF0, 0x80])
 }
 
-/// The data TPDUs of a TSDU, each of at most this size in octets. Its octets are the front and then
-/// the rest.
+/// Returns the data TPDUs of a TSDU, each of at most `size` octets. The TSDU is `front` followed by
+/// `rest`.
 pub(crate) fn wrap(
     alloc: Global,
     size: usize,

@@ -6,19 +6,19 @@ ghost use Rattle.bay_tree.specs.Code.{code_of, names_code_of};
 use std::alloc::AllocError;
 use thiserror::Error;
 
-/// Why a look-up or a write is refused. Neither takes memory, and nothing is changed.
+/// Why a look-up or a write is refused. Neither allocates, and a refusal changes nothing.
 #[derive(Clone, Copy, Debug, PartialEq, Eq, Error)]
 pub enum TreeFault {
     /// No row has the name.
     #[error("no row has this name")]
     NoSuchName,
-    /// The row is a structure, or its value is of another type.
+    /// The row is a structure, or its value has another type.
     #[error("the value is of another type than the row's")]
     WrongType,
 }
 
 impl TreeFault {
-    /// The fault's number: 40 for an unknown name, 41 for another type.
+    /// Returns the number of the fault: 40 for an unknown name, 41 for another type.
     pub fn code(self) -> u8
         ensures { result ≡ code_of self }
     {
@@ -35,13 +35,13 @@ pub enum NamesFault {
     /// No row has the name that the page is to follow.
     #[error("no row has this name")]
     NoSuchName,
-    /// There is no room for the copies of the names.
+    /// Out of memory for the copies of the names.
     #[error("out of memory")]
     OutOfMemory,
 }
 
 impl NamesFault {
-    /// The fault's number: 40 for an unknown name; want of memory has none.
+    /// Returns the number of the fault: 40 for an unknown name. Out of memory has none.
     pub fn code(self) -> Option<u8>
         ensures { result ≡ names_code_of self }
     {

@@ -6,10 +6,10 @@ use crate::row::Row;
 use std::alloc::{AllocError, Global};
 use std::collections::BTreeMap;
 
-/// The places of rows by their names.
+/// The places of the rows by their names.
 pub type Index = BTreeMap<String, usize>;
 
-/// The index of these rows.
+/// Builds the index of these rows.
 pub fn index_of(alloc: Global, rows: &[Row]) -> Result<Index, AllocError>
     ensures places { IfOk result (λ index. IsIndex rows.now index) }
     ensures texts { IsOk result → AreTexts rows.now }

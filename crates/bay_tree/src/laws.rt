@@ -4,8 +4,8 @@ ghost use Rattle.bay_tree.specs.declared.leaf.Leaf.{Leaf};
 ghost use Rattle.bay_tree.specs.declared.row.Row.{Row};
 ghost use Rattle.bay_tree.specs.Rows.{IsTree, IsHandle, leaf_at, leaves_at, name_at, names_of, place_of, with_leaf};
 
-/// A value that is written to a row is that row's, and each other row keeps its own: so do the rows
-/// of any handles among which the written row's is not. No name changes.
+/// Writing a value to a row gives that row the value and leaves all other rows as they were. So the
+/// rows of any handles without the written one keep their values. No name changes.
 pub fn a_write_is_to_one_row()
     ensures own { (rows : List Row) (row : ℕ) (leaf : Leaf) → IsHandle rows row
         → leaf_at (with_leaf rows row leaf) row ≡ Some leaf }
@@ -18,8 +18,8 @@ pub fn a_write_is_to_one_row()
         → name_at (with_leaf rows row leaf) other ≡ name_at rows other }
 {}
 
-/// A name is at the handle of a row exactly where it is that row's name. Where a name is follows
-/// from the names of the rows, so it stays so with each new value.
+/// The handle of a name is a row exactly if the row has that name. The handle of a name depends
+/// only on the names of the rows, so it stays the same when values change.
 pub fn a_row_stands_at_its_name()
     ensures named { (rows : List Row) (row : ℕ) (name : List ℕ) → IsTree rows → IsHandle rows row
         → (place_of rows name ≡ Some row) ↔ (name_at rows row ≡ name) }

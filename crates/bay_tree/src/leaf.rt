@@ -25,7 +25,7 @@ pub enum Quality {
     Invalid,
 }
 
-/// A leaf's value, of one of the eleven types of this profile.
+/// The value of a leaf, of one of the eleven types of this profile.
 #[derive(Debug, Drop)]
 pub enum Leaf {
     /// A BOOLEAN.
@@ -48,7 +48,7 @@ pub enum Leaf {
     Utc(u64),
 }
 
-/// The type of a leaf's value, which never changes.
+/// The type of a leaf's value. It never changes.
 #[derive(Clone, Copy, Debug, PartialEq, Eq)]
 pub enum LeafType {
     Truth,
@@ -65,7 +65,7 @@ pub enum LeafType {
 }
 
 impl Leaf {
-    /// The type of this value.
+    /// Returns the type of this value.
     #[inline(always)]
     pub fn leaf_type(&self) -> LeafType
         ensures { result ≡ leaf_type_of self.now }

@@ -6,7 +6,7 @@ ghost use Rattle.bay_tree.specs.Names.{IsNamed, IsWordAt, parent_of, word_of};
 use bay_base::text::Text;
 use std::marker::Model;
 
-/// A name, which contracts see as the list of its octets, with the place of its last word.
+/// A name, which contracts see as the list of its octets, with the position of its last word.
 #[derive(Debug, Drop)]
 pub struct Name {
     text: Text,
@@ -25,7 +25,7 @@ impl Model for Name {
 }
 
 impl Name {
-    /// The name that a text is.
+    /// Makes a name of a text.
     pub fn new(text: Text) -> Self
         ensures { result ≡ text }
     {
@@ -33,14 +33,14 @@ impl Name {
         Name { text, word }
     }
 
-    /// The name as it stands.
+    /// Returns the name as a string slice.
     pub fn as_str(&self) -> &str
         ensures { result.now ≡ self.now }
     {
         self.text.as_str()
     }
 
-    /// The last word.
+    /// Returns the last word.
     pub fn word(&self) -> &str
         ensures word { result.now ≡ word_of self.now }
         ensures named { IsNamed (parent_of self.now) result.now self.now }
@@ -49,7 +49,7 @@ impl Name {
     }
 }
 
-/// The parent's name: what stands before the last `$`; None for a name of one word.
+/// Returns the parent's name, which is what precedes the last `$`; `None` for a name of one word.
 pub fn parent(name: &str) -> Option<&str>
     ensures { option_copied result ≡ parent_of name.now }
 {
@@ -59,7 +59,7 @@ pub fn parent(name: &str) -> Option<&str>
     }
 }
 
-/// The last word.
+/// Returns the last word.
 fn last_word(name: &str) -> &str
     ensures word { result.now ≡ word_of name.now }
     ensures named { IsNamed (parent_of name.now) result.now name.now }
@@ -70,7 +70,7 @@ fn last_word(name: &str) -> &str
     }
 }
 
-/// Where the last word begins.
+/// Returns the position where the last word begins.
 fn word_start(name: &str) -> usize
     ensures { IsWordAt name.now result }
 {

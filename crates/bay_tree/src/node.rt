@@ -10,19 +10,19 @@ use crate::name::{Name, parent};
 use crate::row::Row;
 use std::alloc::{AllocError, Global};
 
-/// A row, with the places of the rows that a client goes to from it.
+/// A row, with the places of the rows that a client can go to from it.
 #[derive(Debug, Drop)]
 pub struct Node {
     pub name: Name,
-    /// The value; None for a structure.
+    /// The value; `None` for a structure.
     pub leaf: Option<Leaf>,
     /// The first row below it.
     pub below: Option<usize>,
-    /// The next row beside it.
+    /// The next row with the same parent.
     pub beside: Option<usize>,
 }
 
-/// Nodes for these rows, without links.
+/// Makes nodes of these rows, without links.
 pub fn nodes_of(alloc: Global, rows: Vec<Row>) -> Result<Vec<Node>, AllocError>
     ensures { IfOk result (λ nodes. nodes.items ≡ map unlinked_node rows.items) }
 {
@@ -38,7 +38,7 @@ pub fn nodes_of(alloc: Global, rows: Vec<Row>) -> Result<Vec<Node>, AllocError>
     Ok(nodes)
 }
 
-/// The place of the row that a row stands below.
+/// Returns the place of the parent of the row at `place`.
 fn place_above(nodes: &[Node], index: &Index, place: usize) -> Option<usize>
     requires within { place < length nodes.now }
     requires indexed { IsIndex (rows_of nodes.now) index.now }
@@ -49,7 +49,7 @@ fn place_above(nodes: &[Node], index: &Index, place: usize) -> Option<usize>
     index.get(above).copied()
 }
 
-/// Puts a row before those below its parent.
+/// Links a row as the first below its parent.
 fn put_below(nodes: &mut [Node], place: usize, above: usize)
     requires place { place < length nodes.old }
     requires above { above < length nodes.old }

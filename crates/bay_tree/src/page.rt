@@ -8,7 +8,7 @@ use bay_base::listing::Listing;
 use bay_base::text::Text;
 use std::alloc::{AllocError, Global};
 
-/// The first names that follow a name, and whether there are more.
+/// The first names after a given one, and whether there are more.
 #[derive(Debug, Drop)]
 pub struct Names {
     /// Copies of the names, in order.
@@ -16,7 +16,7 @@ pub struct Names {
     pub more: bool,
 }
 
-/// The first nodes, as many as there are up to the count.
+/// Returns the first `count` nodes, or all if there are fewer.
 fn first_nodes(nodes: &[Node], count: usize) -> &[Node]
     ensures { result.now ≡ take count nodes.now }
 {
@@ -27,7 +27,7 @@ fn first_nodes(nodes: &[Node], count: usize) -> &[Node]
     }
 }
 
-/// Copies of the names of the first nodes, as many as there are up to the count.
+/// Copies the names of the first `count` nodes, or of all if there are fewer.
 pub(crate) fn first_names(
     alloc: Global,
     nodes: &[Node],

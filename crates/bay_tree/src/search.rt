@@ -8,7 +8,7 @@ use crate::name::parent;
 use crate::row::Row;
 use std::alloc::{AllocError, Global};
 
-/// Whether a row is the first with its name.
+/// Returns whether the row at `place` is the first with its name.
 fn is_first(rows: &[Row], index: &Index, place: usize) -> bool
     requires within { place < length rows.now }
     requires indexed { IsIndex rows.now index.now }
@@ -20,7 +20,7 @@ fn is_first(rows: &[Row], index: &Index, place: usize) -> bool
     }
 }
 
-/// Whether a row's name has no parent, or its parent is a structure before the row.
+/// Returns whether the name of a row has no parent, or its parent is a structure before the row.
 fn is_below_structure(rows: &[Row], index: &Index, place: usize) -> bool
     requires within { place < length rows.now }
     requires indexed { IsIndex rows.now index.now }
@@ -36,8 +36,8 @@ fn is_below_structure(rows: &[Row], index: &Index, place: usize) -> bool
     }
 }
 
-/// Whether rows make a tree: their names are distinct, and each name's parent is a structure before
-/// it. It makes an index of the names, and so takes memory.
+/// Returns whether rows make a tree: their names are distinct, and the parent of each name is a
+/// structure before it. Allocates an index of the names.
 pub fn is_tree(alloc: Global, rows: &[Row]) -> Result<bool, AllocError>
     ensures { IfOk result (λ is. IsTrue is ↔ IsTree rows.now) }
 {

@@ -18,7 +18,7 @@ use bay_base::listing::Listing;
 use std::alloc::{AllocError, Global};
 use std::marker::Model;
 
-/// The place of a row in the tree that gave it.
+/// The place of a row in the tree that returned it.
 #[derive(Clone, Copy, Debug, PartialEq, Eq)]
 pub struct Handle {
     index: usize,
@@ -53,8 +53,8 @@ impl Model for Tree {
     ghost invariant = { λ t. IsArena t.nodes.items t.index };
 }
 
-/// Gives a place a value. A plain value that follows one of its own type is written over it, which
-/// saves the move of a whole leaf.
+/// Writes a value to a place. A plain value overwrites a value of its own type in place, which
+/// saves moving a whole leaf.
 #[inline(always)]
 fn put_leaf(place: &mut Option<Leaf>, leaf: Leaf)
     ensures { place.new ≡ Some leaf }
@@ -85,7 +85,7 @@ fn put_leaf(place: &mut Option<Leaf>, leaf: Leaf)
 }
 
 impl Tree {
-    /// The tree of these rows, in their order.
+    /// Builds the tree of these rows, in their order.
     pub fn build(alloc: Global, rows: Vec<Row>) -> Result<Self, AllocError>
         requires { IsTree rows.items }
         ensures { IfOk result (λ tree. tree ≡ rows.items) }
@@ -96,7 +96,7 @@ impl Tree {
         Ok(Tree { nodes, index })
     }
 
-    /// The handle of the row with this name.
+    /// Returns the handle of the row with this name.
     pub fn find(&self, name: &str) -> Result<Handle, TreeFault>
         ensures place { result ≡ ok_or (place_of self.now name.now) TreeFault.NoSuchName }
         ensures found { IfOk result
@@ -112,7 +112,8 @@ impl Tree {
         }
     }
 
-    /// The handle of the row with this name, as octets: what is no text names nothing.
+    /// Returns the handle of the row with this name, given as octets. Octets that are not valid
+    /// text name no row.
     pub fn find_octets(&self, name: &[u8]) -> Result<Handle, TreeFault>
         ensures place { result ≡ ok_or (place_of self.now name.now) TreeFault.NoSuchName }
         ensures found { IfOk result
@@ -130,7 +131,7 @@ impl Tree {
         }
     }
 
-    /// The value of a row; None for a structure.
+    /// Returns the value of a row; `None` for a structure.
     #[inline(always)]
     pub fn get(&self, handle: Handle) -> Option<&Leaf>
         requires { IsHandle self.now handle }
@@ -140,7 +141,7 @@ impl Tree {
         self.nodes[handle.index].leaf.as_ref()
     }
 
-    /// Whether a row has a value of this type.
+    /// Returns whether a row has a value of this type.
     #[inline(always)]
     fn has_leaf_type(&self, handle: Handle, leaf_type: LeafType) -> bool
         requires { IsHandle self.now handle }
@@ -152,7 +153,7 @@ impl Tree {
         }
     }
 
-    /// Gives a row a new value of the same type. A refused call changes nothing.
+    /// Writes a new value of the same type to a row. A refusal changes nothing.
     #[inline(always)]
     pub fn set(&mut self, handle: Handle, leaf: Leaf) -> Result<(), TreeFault>
         requires { IsHandle self.old handle }
@@ -176,7 +177,8 @@ impl Tree {
         Ok(())
     }
 
-    /// The first row below a structure; None for a leaf and for a structure without rows.
+    /// Returns the first row below a structure; `None` for a leaf, and for a structure without
+    /// rows.
     pub fn below(&self, handle: Handle) -> Option<Handle>
         requires { IsHandle self.now handle }
         ensures first { result ≡ first_below self.now handle }
@@ -188,8 +190,8 @@ impl Tree {
         Some(Handle { index })
     }
 
-    /// The next row below the same parent; None for a row of one word, and after the parent's last
-    /// row.
+    /// Returns the next row with the same parent; `None` for a row with a name of one word, and
+    /// after the parent's last row.
     pub fn beside(&self, handle: Handle) -> Option<Handle>
         requires { IsHandle self.now handle }
         ensures next { result ≡ next_beside self.now handle }
@@ -201,7 +203,7 @@ impl Tree {
         Some(Handle { index })
     }
 
-    /// The first of all rows; None where there is none.
+    /// Returns the first row of the tree; `None` if there is none.
     pub fn first(&self) -> Option<Handle>
         ensures place { result ≡ place_if self.now 0 }
         ensures there { IfSome result (IsHandle self.now) }
@@ -213,7 +215,7 @@ impl Tree {
         }
     }
 
-    /// The row behind a row, in the order of all rows; None for the last.
+    /// Returns the next row in the order of all rows; `None` after the last.
     pub fn next(&self, handle: Handle) -> Option<Handle>
         requires { IsHandle self.now handle }
         ensures place { result ≡ place_if self.now (handle + 1) }
@@ -228,7 +230,7 @@ impl Tree {
         }
     }
 
-    /// The name of a row.
+    /// Returns the name of a row.
     pub fn name(&self, handle: Handle) -> &str
         requires { IsHandle self.now handle }
         ensures { result.now ≡ name_at self.now handle }
@@ -236,7 +238,7 @@ impl Tree {
         self.nodes[handle.index].name.as_str()
     }
 
-    /// The last word of a row's name.
+    /// Returns the last word of a row's name.
     pub fn word(&self, handle: Handle) -> &str
         requires { IsHandle self.now handle }
         ensures word { result.now ≡ word_of (name_at self.now handle) }
@@ -246,8 +248,8 @@ impl Tree {
         self.nodes[handle.index].name.word()
     }
 
-    /// The first names that follow a row's, or the first of all where no name is given, and whether
-    /// there are more. Want of memory changes nothing.
+    /// Returns the first `count` names that follow the row with a name, or the first of all if no
+    /// name is given, and whether there are more. A failed allocation changes nothing.
     pub fn names_after(&self, after: Option<&str>, count: usize) -> Result<Names, NamesFault>
         ensures page { IfOk result
             (λ page. page ≡ page_after self.now (option_copied after.entry) count) }
@@ -266,7 +268,8 @@ impl Tree {
         })
     }
 
-    /// The same after a name that is given as octets: what is no text is the name of no row.
+    /// Like `names_after`, with the name given as octets. Octets that are not valid text name no
+    /// row.
     pub fn names_after_octets(
         &self,
         after: Option<&[u8]>,
@@ -287,8 +290,8 @@ impl Tree {
         }
     }
 
-    /// The place of the first row behind the row of a name, which is given as octets; without a
-    /// name that of the first row. NoSuchName where no row has the name.
+    /// Returns the place of the first row after the row with a name, given as octets; without a
+    /// name the place of the first row. `NoSuchName` if no row has the name.
     pub fn place_after(&self, after: Option<&[u8]>) -> Result<usize, NamesFault>
         ensures rows { IfOk result
             (λ start. drop start self.now ≡ rows_after self.now (option_copied after.entry)) }
@@ -308,7 +311,7 @@ impl Tree {
         }
     }
 
-    /// Where the rows after a name begin; without a name at the first.
+    /// Returns the place where the rows after a name begin; without a name the first place.
     fn start_after(&self, after: Option<&str>) -> Option<usize>
         ensures start { result ≡ spec.start_after self.now (option_copied after.entry) }
         ensures within { IfSome result (λ start. start ≤ length self.now) }
