@@ -67,7 +67,7 @@ pub const FREQUENCY: StatusPaths = StatusPaths {
     time: "$MX$Hz$t",
 };
 
-/// The currents of the phases.
+/// The current of phase A. `PHASE_B` and `PHASE_C` are those of the other phases.
 pub const PHASE_A: StatusPaths = StatusPaths {
     object: "$MX$A$phsA",
     value: "$MX$A$phsA$cVal$mag$i",
@@ -92,8 +92,8 @@ pub const PHASE_C: StatusPaths = StatusPaths {
 /// Whether a switch is selected (IEC 61850-7-3, stSeld).
 pub const SELECTED: &str = "$ST$Pos$stSeld";
 
-/// The objects that a client writes to select a switch, select it with value, operate it, and
-/// cancel its selection (IEC 61850-8-1).
+/// The objects by which a client selects a switch, selects it with value, operates it, and cancels
+/// its selection (IEC 61850-8-1).
 pub const SELECT: &str = "$CO$Pos$SBO";
 
 pub const SELECT_WITH_VALUE: &str = "$CO$Pos$SBOw";

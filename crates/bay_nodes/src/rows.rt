@@ -128,7 +128,7 @@ fn push_position_node(
     Ok(())
 }
 
-/// Adds the writable rows of a switch that is selected by the rows of the table `select`.
+/// Adds the control rows (`$CO`) of a switch that is selected by the rows of the table `select`.
 fn push_selection(
     alloc: Global,
     rows: &mut Vec<Row>,
@@ -149,7 +149,7 @@ fn push_selection(
     Ok(())
 }
 
-/// Adds the writable rows of a switch with this kind of control.
+/// Adds the control rows (`$CO`) of a switch with this kind of control.
 fn push_commands(
     alloc: Global,
     rows: &mut Vec<Row>,

@@ -165,21 +165,21 @@ pub fn control_table() -> &'static [(&'static str, InitialValue)]
     ]
 }
 
-/// Returns the rows that group the writable rows.
+/// Returns the rows that group the control rows.
 pub fn group_table() -> &'static [(&'static str, InitialValue)]
     ensures { (n : Nameplate) → map (line_row n) result.now ≡ group_row }
 {
     &[("$CO", Structure), ("$CO$Pos", Structure)]
 }
 
-/// Returns the row that selects a switch.
+/// Returns the row by which a switch is selected.
 pub fn select_table() -> &'static [(&'static str, InitialValue)]
     ensures { (n : Nameplate) → map (line_row n) result.now ≡ select_row }
 {
     &[(paths::SELECT, Reference)]
 }
 
-/// Returns the rows that select a switch with value.
+/// Returns the rows by which a switch is selected with value.
 pub fn select_with_value_table() -> &'static [(&'static str, InitialValue)]
     ensures { (n : Nameplate)
         → map (line_row n) result.now
@@ -198,7 +198,7 @@ pub fn select_with_value_table() -> &'static [(&'static str, InitialValue)]
     ]
 }
 
-/// Returns the rows that operate a switch.
+/// Returns the rows by which a switch is operated.
 pub fn operate_table() -> &'static [(&'static str, InitialValue)]
     ensures { (n : Nameplate)
         → map (line_row n) result.now
@@ -217,7 +217,7 @@ pub fn operate_table() -> &'static [(&'static str, InitialValue)]
     ]
 }
 
-/// Returns the rows that cancel a selection.
+/// Returns the rows by which a selection is cancelled.
 pub fn cancel_table() -> &'static [(&'static str, InitialValue)]
     ensures { (n : Nameplate)
         → map (line_row n) result.now ≡ node.rows_of (codes "$CO$Pos") node.cancelling }
