@@ -56,7 +56,7 @@ fn associate_of<'a>(parts: &[Value<'a>]) -> Option<Carried<'a>>
     }
 }
 
-/// The user information of the request for an association (AARQ) that octets are.
+/// Reads octets as a request for an association (AARQ) and returns its user information.
 #[tactic(auto, unfolding(crate::specs::Acse::associate_in))]
 pub(crate) fn associate_in(octets: &[u8]) -> Option<Carried<'_>>
     ensures { option_map carried_view result ≡ spec.associate_in octets.now }
@@ -67,7 +67,7 @@ pub(crate) fn associate_in(octets: &[u8]) -> Option<Carried<'_>>
     associate_of(known.as_slice())
 }
 
-/// The content of the request for a release (RLRQ) that octets are.
+/// Reads octets as a request for a release (RLRQ) and returns its content.
 pub(crate) fn release_in(octets: &[u8]) -> Option<&[u8]>
     ensures { option_map (λ o. o.now) result ≡ spec.release_in octets.now }
 {

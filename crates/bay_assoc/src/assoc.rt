@@ -33,7 +33,7 @@ impl Model for Assoc {
 }
 
 impl Assoc {
-    /// An association of which nothing was heard.
+    /// Creates an association that has received nothing.
     pub fn new(alloc: Global) -> Assoc
         ensures { result ≡ Phase.Idle }
     {
@@ -43,12 +43,12 @@ impl Assoc {
         }
     }
 
-    /// Hears a TSDU: a request for an association, or for a release, with its answer; a PDU of MMS,
-    /// which is a slice of the TSDU; or an abort. Nothing is kept of a TSDU but the contexts and
-    /// the size that were agreed.
+    /// Handles a TSDU: a request for an association or for a release, with its answer; a PDU of
+    /// MMS, which is a slice of the TSDU; or an abort. Keeps nothing of a TSDU except the agreed
+    /// contexts and size.
     ///
-    /// A refusal is for good: later TSDUs are answered `Failed`, as they are after want of memory.
-    /// After a release and an abort every TSDU is refused.
+    /// A refusal is final: later TSDUs return `Failed`, also after an allocation failed. After a
+    /// release or an abort every TSDU is refused.
     pub fn on_tsdu<'a>(&mut self, tsdu: &'a [u8]) -> Result<Heard<'a>, AssocFault>
         ensures heard { Hears self.old tsdu.now result self.new }
         // Memory is wanting only where an answer is due: not for a request of another mode.
@@ -67,21 +67,22 @@ impl Assoc {
         Ok(heard)
     }
 
-    /// Whether the association is open.
+    /// Returns whether the association is open.
     pub fn is_open(&self) -> bool
         ensures { IsTrue result ↔ IsSome (association_terms self.now) }
     {
         matches!(self.phase, Phase::Open(_))
     }
 
-    /// Ends the association from this side: later TSDUs are refused as after an abort.
+    /// Ends the association from this side. Later TSDUs are refused as after an abort.
     pub fn end(&mut self)
         ensures { self.new ≡ Phase.Over }
     {
         self.phase = Phase::Over;
     }
 
-    /// The octets of the largest PDU of MMS, as agreed: 256 to 65,000. The association is open.
+    /// Returns the agreed size of the largest PDU of MMS in octets, 256 to 65,000. The association
+    /// must be open.
     pub fn pdu_size(&self) -> u32
         requires { IsSome (association_terms self.now) }
         ensures size { IfSome (association_terms self.now) (λ terms. result ≡ terms.size) }
@@ -94,9 +95,9 @@ impl Assoc {
         }
     }
 
-    /// What stands before a PDU of MMS of so many octets in the TSDU that it is sent in: the octets
-    /// of the TSDU are these, at most 21, and then the PDU. So a PDU within the size agreed makes a
-    /// TSDU of at most 65,021 octets. The association is open.
+    /// Returns what precedes a PDU of MMS of `count` octets in its TSDU. The TSDU consists of these
+    /// octets, at most 21, and then the PDU. So a PDU within the agreed size makes a TSDU of at
+    /// most 65,021 octets. The association must be open.
     pub fn front(&self, count: u32) -> ArrayVec<u8, 21>
         requires open { IsSome (association_terms self.now) }
         requires short { count ≤ 65_000 }

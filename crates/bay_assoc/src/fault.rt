@@ -10,21 +10,21 @@ use thiserror::Error;
 /// `Failed`.
 #[derive(Clone, Copy, Debug, Error)]
 pub enum AssocFault {
-    /// The TSDU is no SPDU that is known here (X.225 8.3).
+    /// The TSDU is not an SPDU that is known here (X.225 8.3).
     #[error("the TSDU is no SPDU")]
     BadSession,
-    /// The user data of the session are no PPDU (ISO 8823-1 8.2).
+    /// The user data of the session are not a PPDU (ISO 8823-1 8.2).
     #[error("the user data of the session are no PPDU")]
     BadPresentation,
-    /// No context of ACSE or none of MMS is offered with the Basic Encoding Rules, or a value comes
+    /// No context is offered for ACSE or none for MMS with the Basic Encoding Rules, or a value is
     /// in a context that was not accepted.
     #[error("the presentation context is missing")]
     NoContext,
-    /// A value is no APDU of ACSE that may come now (ISO 8650-1 9), or proposes nothing that can be
-    /// read.
+    /// A value is not an APDU of ACSE that is allowed now (ISO 8650-1 9), or proposes nothing that
+    /// can be read.
     #[error("the value is no APDU of ACSE")]
     BadAcse,
-    /// The SPDU may not come now.
+    /// The SPDU is not allowed now.
     #[error("the SPDU may not come now")]
     OutOfPhase,
     /// The proposed size of a PDU of MMS is below 256 octets.
@@ -33,13 +33,14 @@ pub enum AssocFault {
     /// An earlier TSDU was refused.
     #[error("the association has failed")]
     Failed,
-    /// There is no room for the answer.
+    /// Out of memory for the answer.
     #[error("out of memory")]
     OutOfMemory,
 }
 
 impl AssocFault {
-    /// The fault's number: 20 to 26 in the order of the faults. Want of memory has none.
+    /// Returns the number of the fault: 20 to 26 in the order of the variants. Out of memory has
+    /// none.
     pub fn code(self) -> Option<u8>
         ensures { result ≡ code_of self }
     {

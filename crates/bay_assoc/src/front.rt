@@ -69,7 +69,7 @@ fn id_length(id: u16) -> u32
     }
 }
 
-/// The octets of a DATA TRANSFER before the value of so many octets that it carries in a context.
+/// Returns the octets of a DATA TRANSFER before its value of `count` octets in the context `id`.
 pub(crate) fn front(id: u16, count: u32) -> ArrayVec<u8, 21>
     requires { count ≤ 65_000 }
     ensures text { (value : List ℕ) → length value ≡ count

@@ -20,7 +20,7 @@ use bay_mms::request::{Proposal, read_initiate};
 use bay_mms::response::{Agreed, write_agreed};
 use std::alloc::{AllocError, Global};
 
-/// The identifiers of the presentation contexts that were accepted.
+/// The identifiers of the accepted presentation contexts.
 #[derive(Clone, Copy)]
 pub struct Accepted {
     /// The context of ACSE.
@@ -29,19 +29,19 @@ pub struct Accepted {
     pub mms: u16,
 }
 
-/// What an open association has agreed on.
+/// The terms agreed for an open association.
 #[derive(Clone, Copy)]
 pub struct AssociationTerms {
-    /// The contexts that values come in.
+    /// The contexts of the values.
     pub contexts: Accepted,
-    /// The octets of the largest PDU of MMS.
+    /// The size of the largest PDU of MMS in octets.
     pub size: u32,
 }
 
 /// The phase of an association.
 #[derive(Clone, Copy)]
 pub enum Phase {
-    /// Nothing was heard.
+    /// Nothing was received.
     Idle,
     /// The association was requested and answered.
     Open(AssociationTerms),
@@ -51,16 +51,16 @@ pub enum Phase {
     Failed,
 }
 
-/// What is heard of a TSDU.
+/// The meaning of a TSDU.
 #[derive(Drop)]
 pub enum Heard<'a> {
-    /// A request for an association; the TSDU that answers it is to be sent.
+    /// A request for an association. The TSDU that answers it has to be sent.
     Answer(Vec<u8>),
     /// A PDU of MMS.
     Mms(&'a [u8]),
-    /// A request for a release; the TSDU that answers it is to be sent, and nothing more is read.
+    /// A request for a release. The TSDU that answers it has to be sent, and nothing more is read.
     Released(Vec<u8>),
-    /// An abort, which is not answered.
+    /// An abort, which has no answer.
     Aborted,
 }
 
@@ -324,7 +324,7 @@ fn heard_open<'a>(
     }
 }
 
-/// What is heard of a TSDU in a phase, and the phase after it.
+/// Returns the meaning of a TSDU in a phase, and the next phase.
 #[tactic(auto, unfolding(crate::specs::Hearing::hearing))]
 pub(crate) fn hear<'a>(
     alloc: Global,

@@ -12,8 +12,8 @@ ghost use Rattle.bay_assoc.specs.SpelledRefusals.{IsRefused};
 ghost use Rattle.bay_assoc.specs.SpelledSession.{IsSpdu};
 ghost use Rattle.bay_assoc.specs.SpelledValues.{IsUser, IsRequest, IsAssociate};
 
-/// A TSDU is heard in one way: what is spelled by the layers' relations is heard as that and
-/// nothing else, in the phase that follows; and what is heard is spelled so.
+/// A TSDU has at most one meaning. What the relations of the layers spell is heard as exactly that,
+/// with the phase that follows; and what is heard is spelled that way.
 pub fn one_hearing()
     ensures heard { (old new : Phase) (octets : List ℕ) (h : Hearing) → IsHeard old octets h new
         → hearing old octets ≡ Ok (h, new) }
@@ -23,8 +23,8 @@ pub fn one_hearing()
         → IsHeard old octets h new → IsHeard old octets k next → (h ≡ k) × (new ≡ next) }
 {}
 
-/// Octets that are spelled as an SPDU, as user data, as a request for a connection or as one for an
-/// association are read as that, and so are spelled in one way.
+/// Octets that spell an SPDU, user data, a request for a connection or a request for an association
+/// are read as that. So they are spelled in one way.
 pub fn one_spelling()
     ensures spdu { (octets : List ℕ) (s : Spdu) → IsSpdu octets s → spdu_in octets ≡ Some s }
     ensures user { (octets : List ℕ) (c : Carried) → IsUser octets c → user_in octets ≡ Some c }
@@ -34,7 +34,7 @@ pub fn one_spelling()
         → associate_in octets ≡ Some c }
 {}
 
-/// Octets that are read as an SPDU, as user data, as a request for a connection or as one for an
+/// Octets that are read as an SPDU, user data, a request for a connection or a request for an
 /// association spell it.
 pub fn read_is_spelled()
     ensures spdu { (octets : List ℕ) (s : Spdu) → AreOctets octets → spdu_in octets ≡ Some s
@@ -47,8 +47,8 @@ pub fn read_is_spelled()
         → associate_in octets ≡ Some c → IsAssociate octets c }
 {}
 
-/// A TSDU has one fault at most: it is refused with a fault exactly where it is spelled so, of the
-/// outermost layer whose spelling is wrong.
+/// A TSDU has at most one fault. It is refused with a fault exactly if its spelling has that fault,
+/// which is that of the outermost layer with a wrong spelling.
 pub fn one_fault()
     ensures { (phase : Phase) (octets : List ℕ) (fault : AssocFault) → AreOctets octets
         → (hearing phase octets ≡ Err fault) ↔ IsRefused phase octets fault }

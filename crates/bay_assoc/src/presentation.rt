@@ -30,8 +30,8 @@ const CONTEXTS_MAX: usize = 16;
 
 const SELECTOR_MAX: usize = 16;
 
-/// A presentation context that is offered: its identifier, and whether it offers ACSE or MMS with
-/// the Basic Encoding Rules.
+/// An offered presentation context: its identifier, and whether it offers ACSE or MMS with the
+/// Basic Encoding Rules.
 #[derive(Clone, Copy)]
 pub struct Context {
     pub id: u16,
@@ -39,7 +39,7 @@ pub struct Context {
     pub is_mms: bool,
 }
 
-/// A value, and the context that it is in.
+/// A value and the identifier of its context.
 #[derive(Clone, Copy)]
 pub struct Carried<'a> {
     pub id: i64,
@@ -54,7 +54,7 @@ fn integer_under(value: &Value<'_>) -> Option<i64>
     int_of(value.under(Tag::universal(2))?).ok()
 }
 
-/// The content of the one value that octets are, where it has this tag.
+/// Reads octets as exactly one value and returns its content if it has this tag.
 pub(crate) fn content_under<'a>(octets: &'a [u8], tag: Tag) -> Option<&'a [u8]>
     ensures { option_map (λ o. o.now) result ≡ spec.content_under tag octets.now }
 {
@@ -226,7 +226,7 @@ fn carried_as<'a>(id: &Value<'_>, value: &Value<'a>) -> Option<Carried<'a>>
     Some(Carried { id, value })
 }
 
-/// The value that parts carry, and its context.
+/// Reads the value that parts carry, and its context.
 pub(crate) fn carried_of<'a>(parts: &[Value<'a>]) -> Option<Carried<'a>>
     ensures { option_map carried_view result ≡ spec.carried_of (map part_of parts.now) }
 {
@@ -254,7 +254,7 @@ fn carried_under<'a>(value: &Value<'a>) -> Option<Carried<'a>>
     carried_in(value.under(Tag::application_constructed(1))?)
 }
 
-/// The value that user data of the session carry, and its context.
+/// Reads the value that user data of the session carry, and its context.
 #[tactic(auto, unfolding(crate::specs::Presentation::user_in))]
 pub(crate) fn user_in(octets: &[u8]) -> Option<Carried<'_>>
     ensures { option_map carried_view result ≡ spec.user_in octets.now }
@@ -391,7 +391,7 @@ fn request_of<'a>(alloc: Global, parts: &[Value<'a>]) -> Result<Connect<'a>, Ass
     normal_as(alloc, parameters)
 }
 
-/// The request for a connection (CP) that octets are, among other fields.
+/// Reads octets as a request for a connection (CP), which may have other fields.
 #[tactic(auto, unfolding(crate::specs::Presentation::request_in, crate::specs::Presentation::mode_in))]
 pub(crate) fn request_in(alloc: Global, octets: &[u8]) -> Result<Connect<'_>, AssocFault>
     ensures request { Gives AssocFault.OutOfMemory connect_view result

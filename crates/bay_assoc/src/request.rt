@@ -4,12 +4,12 @@ ghost use Rattle.std.specs.Option.{ForSome};
 
 use crate::presentation::{Carried, Context};
 
-/// What a request for a connection has.
+/// The fields of a request for a connection.
 #[derive(Drop)]
 pub struct Connect<'a> {
-    /// The selector of the one called, where it came, of at most 16 octets.
+    /// The called selector, if it is present, at most 16 octets.
     pub called: Option<&'a [u8]>,
-    /// The contexts that are offered, at most 16.
+    /// The offered contexts, at most 16.
     pub contexts: Vec<Context>,
     /// The user data.
     pub user: Carried<'a>,

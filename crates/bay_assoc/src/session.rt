@@ -12,15 +12,15 @@ use std::marker::Model;
 // The code of a parameter that is user data.
 const USER_DATA: u8 = 0xC1;
 
-/// An identifier and the octets that the length behind it counts: an SPDU, a parameter or a group
-/// of parameters.
+/// An identifier and the octets that the length after it counts: an SPDU, a parameter or a group of
+/// parameters.
 #[derive(Clone, Copy)]
 pub struct Unit<'a> {
     pub identifier: u8,
     pub content: &'a [u8],
 }
 
-/// How often user data stand among parameters.
+/// How often user data occur among the parameters.
 #[derive(Clone, Copy)]
 pub enum UserData<'a> {
     Missing,
@@ -35,13 +35,13 @@ pub enum Spdu<'a> {
     Connect(&'a [u8]),
     /// ACCEPT (AC).
     Accept,
-    /// FINISH (FN), with its user data where they came.
+    /// FINISH (FN), with its user data if present.
     Finish(Option<&'a [u8]>),
     /// DISCONNECT (DN).
     Disconnect,
     /// ABORT (AB).
     Abort,
-    /// DATA TRANSFER (DT) behind a GIVE TOKENS, with its user data.
+    /// DATA TRANSFER (DT) after a GIVE TOKENS, with its user data.
     Transfer(&'a [u8]),
 }
 
@@ -106,8 +106,7 @@ fn unit_at(octets: &[u8]) -> Option<(Unit<'_>, &[u8])>
     }
 }
 
-/// The units that stand one after another in octets, which contracts see as the octets that are
-/// left.
+/// An iterator over consecutive units in octets, which contracts see as the octets that are left.
 #[derive(Drop)]
 pub struct Units<'a> {
     rest: &'a [u8],
@@ -121,13 +120,13 @@ impl<'a> Model for Units<'a> {
     ghost view = { λ u. u.rest.now };
 }
 
-/// What stands next among units.
+/// What comes next among units.
 pub enum Next<'a> {
     /// No octet is left.
     End,
     /// A unit.
     Unit(Unit<'a>),
-    /// No unit stands there.
+    /// Octets that are no unit.
     Bad,
 }
 
@@ -239,7 +238,7 @@ fn unit_in(octets: &[u8]) -> Option<Unit<'_>>
     }
 }
 
-/// The SPDU that a TSDU is.
+/// Reads a TSDU as an SPDU.
 #[tactic(auto, unfolding(crate::specs::Session::spdu_in))]
 pub(crate) fn spdu_in(tsdu: &[u8]) -> Option<Spdu<'_>>
     ensures { option_map spdu_view result ≡ spec.spdu_in tsdu.now }

@@ -47,7 +47,7 @@ fn append_unit(out: &mut Vec<u8>, identifier: u8, content: &[u8]) -> Result<(), 
     Ok(())
 }
 
-/// An ACCEPT with user data.
+/// Writes an ACCEPT with user data.
 pub(crate) fn accept(alloc: Global, user: &[u8]) -> Result<Vec<u8>, AllocError>
     requires { length user.now < 65_000 }
     ensures text { IfOk result (λ octets. octets.items ≡ accept_text user.now) }
@@ -178,7 +178,7 @@ fn put_connected(
     writer.close(start);
 }
 
-/// The answer to a request for a connection (CPA), with a value of ACSE.
+/// Writes the answer to a request for a connection (CPA), with a value of ACSE.
 pub(crate) fn connected(
     alloc: Global,
     called: Option<&[u8]>,
@@ -232,7 +232,7 @@ fn put_associated(writer: &mut Writer, mms: u16, pdu: &[u8])
     writer.close(start);
 }
 
-/// The answer to a request for an association (AARE), with a PDU of MMS.
+/// Writes the answer to a request for an association (AARE), with a PDU of MMS.
 pub(crate) fn associated(alloc: Global, mms: u16, pdu: &[u8]) -> Result<Outgoing, AllocError>
     requires { length pdu.now ≤ 200 }
     ensures text { IfOk result (λ octets. octets ≡ associated_text mms pdu.now) }
@@ -261,7 +261,7 @@ fn release_user(alloc: Global, acse: u16) -> Result<Outgoing, AllocError>
     Ok(writer.finish_held())
 }
 
-/// The DISCONNECT that answers a request for a release, with its RLRE.
+/// Writes the DISCONNECT that answers a request for a release, with its RLRE.
 pub(crate) fn released(alloc: Global, acse: u16) -> Result<Vec<u8>, AllocError>
     ensures text { IfOk result
         (λ octets. octets.items ≡ disconnect_text (user_text acse release_text)) }

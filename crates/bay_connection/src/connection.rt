@@ -13,8 +13,8 @@ use bay_ber::outgoing::Outgoing;
 use std::alloc::{AllocError, Global};
 use std::marker::Model;
 
-/// One client, on the association of a number, which contracts see as what its octets leave (of the
-/// stream, and the phase of the association) and the PDU of MMS that was heard last.
+/// One client, on the association with a number. Contracts see it as what its octets leave (of the
+/// stream, and the phase of the association) and the last received PDU of MMS.
 #[derive(Drop)]
 pub struct Connection {
     line: Line,
@@ -32,8 +32,8 @@ impl Model for Connection {
 }
 
 impl Connection {
-    /// A connection before its first octet. The number is sent as the reference of this side (X.224
-    /// 13.4).
+    /// Creates a connection before its first octet. The number is sent as the reference of this
+    /// side (X.224 13.4).
     pub fn new(alloc: Global, number: u16) -> Connection
         ensures { result ≡ record {
           talk = record {
@@ -48,14 +48,14 @@ impl Connection {
         }
     }
 
-    /// Takes the octets of the piece up to the end of the first thing that they come to, and says
-    /// what that is. The caller feeds the octets behind them again. Where they come to nothing all
-    /// octets are taken.
+    /// Takes the octets of the piece up to the end of the first thing that they complete, and
+    /// returns what that is. The caller feeds the remaining octets again. Takes all octets if they
+    /// complete nothing.
     ///
-    /// A release, an end, an abort and a fault are for good: the buffers are given back, and from
-    /// then on no octet is taken and the answer is `Ended`. So it is after want of memory. Before
-    /// that, no more is kept than 70,000 octets of an unfinished TSDU, an unfinished frame, and
-    /// 70,000 octets of the TSDU that was completed last.
+    /// A release, an end, an abort and a fault are final: the buffers are freed, and from then on
+    /// the connection takes no octet and returns `Ended`. The same holds after an allocation
+    /// failed. Until then it keeps at most 70,000 octets of an unfinished TSDU, an unfinished
+    /// frame, and 70,000 octets of the last complete TSDU.
     pub fn feed(&mut self, piece: &[u8]) -> Result<Fed, AllocError>
         ensures within { IfOk result (λ fed. fed.used ≤ length piece.now) }
         // What is answered is what the piece comes to first, and what is left is what the octets
@@ -82,21 +82,22 @@ impl Connection {
         }
     }
 
-    /// The PDU of MMS that the last feeding came to; no octets where it came to something else.
+    /// Returns the PDU of MMS that the last `feed` completed; empty if it completed something else.
     pub fn pdu(&self) -> &[u8]
         ensures { result.now ≡ self.now.pdu }
     {
         self.line.pdu()
     }
 
-    /// Whether the association is open, so that PDUs of MMS can be sent.
+    /// Returns whether the association is open, so that PDUs of MMS can be sent.
     pub fn is_open(&self) -> bool
         ensures { IsTrue result ↔ IsSome (association_terms self.now.talk.phase) }
     {
         self.line.assoc.is_open()
     }
 
-    /// The octets of the largest PDU of MMS, as agreed: 256 to 65,000. The association is open.
+    /// Returns the agreed size of the largest PDU of MMS in octets, 256 to 65,000. The association
+    /// must be open.
     pub fn pdu_size(&self) -> u32
         requires { IsSome (association_terms self.now.talk.phase) }
         ensures size { IfSome (association_terms self.now.talk.phase)
@@ -107,10 +108,10 @@ impl Connection {
         self.line.assoc.pdu_size()
     }
 
-    /// The octets in which a PDU of MMS is sent: a TSDU in the context of MMS, in data TPDUs of the
-    /// size agreed. Where one TPDU holds it and there is room in front of the PDU, nothing is
-    /// copied. The association is open, and the PDU has at most 65,000 octets, as one within the
-    /// size agreed has.
+    /// Returns the octets that send a PDU of MMS: a TSDU in the context of MMS, in data TPDUs of
+    /// the agreed size. Copies nothing if one TPDU holds it and there is room in front of the PDU.
+    /// The association must be open, and the PDU must have at most 65,000 octets, as has any within
+    /// the agreed size.
     pub fn send(&self, pdu: Outgoing) -> Result<Outgoing, AllocError>
         requires open { IsSome (association_terms self.now.talk.phase) }
         requires short { length pdu ≤ 65_000 }

@@ -1,28 +1,29 @@
 // What a piece of a client's octets comes to.
 
-/// What octets have come to.
+/// What octets complete.
 #[derive(Drop)]
 pub enum LineEvent {
-    /// Nothing yet: all octets were taken.
+    /// Nothing yet. All octets were taken.
     Nothing,
-    /// A request for a connection or for an association; these octets answer it and are to be sent.
+    /// A request for a connection or for an association. These octets answer it and have to be
+    /// sent.
     Answer(Vec<u8>),
     /// A PDU of MMS, which `Connection::pdu` lends.
     Mms,
-    /// A request for a release; these octets answer it and are to be sent. The connection is over.
+    /// A request for a release. These octets answer it and have to be sent. The connection is over.
     Released(Vec<u8>),
     /// The client has ended the connection or aborted the association. The connection is over.
     Ended,
-    /// The octets were refused, by the fault of this number: 10 to 13 of the transport, 20 to 25 of
-    /// the association. The connection is over.
+    /// The octets were refused with the fault of this number: 10 to 13 of the transport, 20 to 25
+    /// of the association. The connection is over.
     Fault(u8),
 }
 
-/// What a piece has come to first.
+/// The first thing that a piece completes.
 #[derive(Drop)]
 pub struct Fed {
     /// The number of octets of the piece that were taken. The others have not been looked at.
     pub used: usize,
-    /// What they have come to.
+    /// What those octets complete.
     pub heard: LineEvent,
 }

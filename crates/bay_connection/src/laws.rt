@@ -4,8 +4,8 @@ ghost use Rattle.bay_transport.specs.Feeding.{IsGoing};
 ghost use Rattle.bay_connection.specs.Talk.{Talk, Indication, comes_to, indications, left_by};
 ghost use Rattle.bay_connection.specs.Feeding.{Comes, GoesOn, IsContinued, and_then};
 
-/// What octets come to does not hang on how they are cut into pieces: what a list and a piece come
-/// to is the list's, and then the piece's from what the list leaves.
+/// What octets complete does not depend on how they are cut into pieces. A list followed by a piece
+/// completes what the list completes, and then what the piece completes from what the list leaves.
 pub fn any_cutting()
     ensures told { (t : Talk) (octets piece : List ℕ)
         → comes_to t (octets ++ piece)
@@ -17,8 +17,8 @@ pub fn any_cutting()
         → left_by t (octets ++ piece) ≡ left_by (left_by t octets) piece }
 {}
 
-/// The octets of a piece that a feeding did not take come to the rest of what the piece comes to,
-/// from what is left then.
+/// The octets of a piece that one feeding did not take complete the rest of what the piece
+/// completes, starting from what that feeding left.
 pub fn feeding_goes_on()
     ensures indications { (old new : Talk) (piece : List ℕ) (used : ℕ) (indication : Indication)
         → new ≡ left_by old (take used piece)
@@ -27,8 +27,8 @@ pub fn feeding_goes_on()
         → new ≡ left_by old (take used piece) → left_by old piece ≡ left_by new (drop used piece) }
 {}
 
-/// A connection of which octets are taken goes on behind octets that come to nothing, to an answer
-/// or to a PDU of MMS.
+/// A connection that takes octets goes on after octets that complete nothing, an answer or a PDU of
+/// MMS.
 pub fn heard_goes_on()
     ensures quiet { (t : Talk) (octets : List ℕ) → IsGoing t.stream.left → indications t octets ≡ []
         → IsGoing (left_by t octets).stream.left }

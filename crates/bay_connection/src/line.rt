@@ -17,7 +17,7 @@ use bay_transport::fed::Got;
 use bay_transport::transport::Transport;
 use std::alloc::{AllocError, Global};
 
-/// The two layers, and what was heard last.
+/// The two layers, and what was received last.
 #[derive(Drop)]
 pub struct Line {
     alloc: Global,
@@ -28,7 +28,7 @@ pub struct Line {
 }
 
 impl Line {
-    /// A line on which nothing has come.
+    /// Creates a line that has received nothing.
     pub(crate) fn new(alloc: Global, number: u16) -> Line
         ensures kept { IsKept result }
         ensures client { client_of result
@@ -46,7 +46,7 @@ impl Line {
         }
     }
 
-    /// Ends both layers: no more octets are taken, and their buffers are given back.
+    /// Ends both layers: takes no more octets, and frees their buffers.
     pub(crate) fn close(&mut self)
         ensures kept { IsKept self.new }
         ensures closed { talk_of self.new ≡ talk_over self.old.transport.stream }
@@ -57,7 +57,7 @@ impl Line {
         self.assoc.end();
     }
 
-    /// The PDU of MMS that was heard last.
+    /// Returns the last received PDU of MMS.
     pub(crate) fn pdu(&self) -> &[u8]
         requires { IsKept self.now }
         ensures { result.now ≡ pdu_of self.now }
@@ -83,7 +83,7 @@ impl Line {
         Ok(Outgoing::new(octets))
     }
 
-    /// The octets in which a PDU of MMS is sent.
+    /// Returns the octets that send a PDU of MMS.
     pub(crate) fn send(&self, mut pdu: Outgoing) -> Result<Outgoing, AllocError>
         requires kept { IsKept self.now }
         requires open { IsSome (association_terms self.now.assoc) }
@@ -182,7 +182,7 @@ impl Line {
         }
     }
 
-    /// Takes octets of the piece up to the end of what completes something, or all.
+    /// Takes octets of the piece up to the end of what completes something, or all of them.
     pub(crate) fn feed(&mut self, piece: &[u8]) -> Result<Fed, AllocError>
         requires { IsKept self.old }
         ensures kept { OnOk result (IsKept self.new) }

@@ -14,7 +14,7 @@ pub enum AddCause {
     /// Another association has selected the switch.
     #[error("another association has selected the switch")]
     SelectFailed,
-    /// The switch is where it is asked to go.
+    /// The switch already has the requested position.
     #[error("the switch is where it is asked to go")]
     PositionReached,
     /// The request is a test.
@@ -38,7 +38,7 @@ pub enum AddCause {
 }
 
 impl AddCause {
-    /// The standard's number of the cause.
+    /// Returns the number that the standard gives the cause.
     pub fn code(self) -> u8
         ensures { result ≡ code_of self }
     {

@@ -5,19 +5,20 @@ ghost use Rattle.bay_control.specs.Requests as spec;
 
 use bay_config::bay::Control;
 
-/// The control of a switch, as the bay file has it.
+/// The control of a switch as the bay file defines it.
 #[derive(Clone, Copy, Debug)]
 pub struct SwitchControl {
-    /// The kind (IEC 61850-7-3, ctlModel).
+    /// The control model (IEC 61850-7-3, ctlModel).
     pub model: Control,
-    /// How long a selection stands, in milliseconds (IEC 61850-7-3, sboTimeout).
+    /// How long a selection lasts, in milliseconds (IEC 61850-7-3, sboTimeout).
     pub sbo_timeout_ms: u32,
     /// How long an execution lasts, in milliseconds.
     pub travel_ms: u32,
 }
 
 impl SwitchControl {
-    /// The switch is selected before it is operated, with normal or enhanced security.
+    /// Returns whether the switch must be selected before it is operated, with normal or enhanced
+    /// security.
     pub(crate) fn is_sbo(self) -> bool
         ensures { result ≡ spec.is_sbo self.model }
     {
@@ -28,7 +29,7 @@ impl SwitchControl {
 impl Default for SwitchControl {
     ghost is_default = { λ c. c ≡ no_control };
 
-    /// The control of a switch that has none.
+    /// Returns the control of a switch that has none.
     fn default() -> Self {
         SwitchControl {
             model: Control::Status,
@@ -38,7 +39,7 @@ impl Default for SwitchControl {
     }
 }
 
-/// A span of milliseconds that began at a moment is over.
+/// Returns whether `span` milliseconds from `since` are over.
 pub(crate) fn is_over(since: u64, span: u32, now: u64) -> bool
     ensures { result ≡ nat_le (since + span) now }
 {

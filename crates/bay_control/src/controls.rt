@@ -17,14 +17,14 @@ use bay_config::bay::{Bay, Control, Switch};
 use bay_tree::leaf::Dbpos;
 use std::marker::Model;
 
-/// The controls of a bay's switches, which contracts see as what the bay file says of each, the
+/// The controls of a bay's switches. Contracts see them as what the bay file says of each, the
 /// selected switch and the operating one. At most one switch is selected, by one association, and
 /// at most one is operating.
 ///
-/// Switches are named by their places in the bay file, from 0; one that is not there has no
-/// control. Moments are in milliseconds since 1970, and what has run out at a moment counts as
-/// ended at it: a selection after `sbo_timeout_ms`, an execution after `travel_ms`. Each request
-/// first ends what has run out; `advance` tells of it.
+/// Switches are named by their index in the bay file, from 0; a missing switch has no control.
+/// Times are in milliseconds since 1970. Whatever expires at a time counts as ended at that time: a
+/// selection after `sbo_timeout_ms`, an execution after `travel_ms`. Each request first ends what
+/// has expired; `advance` reports it.
 #[derive(Drop)]
 pub struct Controls {
     controls: ArrayVec<SwitchControl, 32>,
@@ -44,7 +44,7 @@ impl Model for Controls {
     } };
 }
 
-/// What the bay file says of each switch's control.
+/// Returns what the bay file says of each switch's control.
 fn controls_of(switches: &[Switch]) -> ArrayVec<SwitchControl, 32>
     requires { length switches.now ≤ 32 }
     ensures { result.items ≡ spec.controls_of switches.now }
@@ -61,8 +61,8 @@ fn controls_of(switches: &[Switch]) -> ArrayVec<SwitchControl, 32>
 }
 
 impl Controls {
-    /// The controls of a bay's switches, of which there are at most 32. Nothing is selected, and
-    /// nothing is operating.
+    /// Creates the controls of a bay's switches, of which there may be at most 32. Nothing is
+    /// selected, and nothing is operating.
     pub fn new(bay: &Bay) -> Self
         requires { length bay.now.switches ≤ 32 }
         ensures { result ≡ initial (spec.controls_of bay.now.switches) }
@@ -74,7 +74,7 @@ impl Controls {
         }
     }
 
-    /// The control of a switch.
+    /// Returns the control of a switch.
     fn control(&self, switch: usize) -> SwitchControl
         ensures { result ≡ control_of self.now.controls switch }
     {
@@ -84,7 +84,7 @@ impl Controls {
         }
     }
 
-    /// The selection's time is over.
+    /// Returns whether the selection has expired.
     fn is_selection_over(&self, now: u64) -> bool
         ensures { (if result then None else self.now.selection)
             ≡ selection_at now self.now.controls self.now.selection }
@@ -98,7 +98,7 @@ impl Controls {
         }
     }
 
-    /// The execution that still lasts at a moment.
+    /// Returns the execution that still lasts at a time.
     fn lasting_execution(&self, now: u64) -> Option<Execution>
         ensures { result ≡ execution_at now self.now.controls self.now.execution }
     {
@@ -111,8 +111,8 @@ impl Controls {
         }
     }
 
-    /// Ends what has run out, and gives the switch whose execution has. Mostly nothing is selected
-    /// and nothing is operating, which is seen at once.
+    /// Ends what has expired, and returns the switch whose execution has. Returns at once in the
+    /// usual case that nothing is selected and nothing is operating.
     #[inline(always)]
     pub fn advance(&mut self, now: u64) -> Option<usize>
         ensures run_out { result ≡ run_out now self.old.controls self.old.execution }
@@ -124,7 +124,7 @@ impl Controls {
         self.end(now)
     }
 
-    /// Ends what has run out, and gives the switch whose execution has.
+    /// Ends what has expired, and returns the switch whose execution has.
     #[inline(never)]
     fn end(&mut self, now: u64) -> Option<usize>
         ensures run_out { result ≡ run_out now self.old.controls self.old.execution }
@@ -141,7 +141,8 @@ impl Controls {
         }
     }
 
-    /// Refuses a select, with value or without, that the controls as they stand do not allow.
+    /// Refuses a select, with value or without, that the current state of the controls does not
+    /// allow.
     fn check_select(
         &self,
         is_supported: bool,
@@ -165,12 +166,12 @@ impl Controls {
         Ok(())
     }
 
-    /// Selects a switch of a control with normal security (Select). The association that has
-    /// selected it renews its time.
+    /// Selects a switch whose control has normal security (Select). The association that has
+    /// already selected it renews its time.
     ///
-    /// The first of these refuses: the switch is no such one, 1; it is operating, 12; another
-    /// association has selected it, 3; another switch is selected, 14. A refused select leaves what
-    /// is selected.
+    /// The first of these refuses: the switch has no such control, 1; it is operating, 12; another
+    /// association has selected it, 3; another switch is selected, 14. A refused select does not
+    /// change the selection.
     pub fn select(&mut self, association: u16, switch: usize, now: u64) -> Result<(), AddCause>
         ensures answer { result ≡ (select_outcome association switch now self.old).answer }
         ensures after { self.new ≡ (select_outcome association switch now self.old).after }
@@ -187,11 +188,11 @@ impl Controls {
         Ok(())
     }
 
-    /// Selects a switch of a control with enhanced security, for the position and the originator
-    /// that are asked for (SelectWithValue). The association that has selected it renews its time,
-    /// and what it asked for before is forgotten.
+    /// Selects a switch whose control has enhanced security, for the requested position and
+    /// originator (SelectWithValue). The association that has already selected it renews its time,
+    /// and its previous request is forgotten.
     ///
-    /// It is refused as `select` is, and then where it is a test, 8.
+    /// Refuses like `select`, and then a test, 8.
     pub fn select_with(
         &mut self,
         association: u16,
@@ -220,7 +221,7 @@ impl Controls {
         Ok(())
     }
 
-    /// Refuses an operate that the controls as they stand or the view do not allow.
+    /// Refuses an operate that the current state of the controls or the view does not allow.
     fn check_operate(
         &self,
         association: u16,
@@ -257,14 +258,15 @@ impl Controls {
         Ok(())
     }
 
-    /// Operates a switch, as far as the view allows it (Operate). An operate by the association
-    /// that has selected the switch ends the selection, accepted or not; an accepted one starts the
+    /// Operates a switch if the view allows it (Operate). An operate by the association that has
+    /// selected the switch ends the selection, accepted or not. An accepted operate starts the
     /// execution.
     ///
-    /// The first of these refuses: the switch has no control, 1; it is to be selected first and the
-    /// association has not, or with enhanced security for something else, 18; a test, 8; the switch
-    /// is operating, 12; another switch is, 14; the position is reached, 5; the scan is not fresh,
-    /// or the interlocking does not release the operation, 10.
+    /// The first of these refuses: the switch has no control, 1; it must be selected first, and the
+    /// association has not selected it, or has selected it with enhanced security for something
+    /// else, 18; a test, 8; the switch is operating, 12; another switch is operating, 14; the
+    /// position is reached, 5; the scan is not fresh, or the interlocking does not release the
+    /// operation, 10.
     pub fn operate(
         &mut self,
         association: u16,
@@ -294,9 +296,9 @@ impl Controls {
 
     /// Ends the association's selection of a switch (Cancel).
     ///
-    /// The first of these refuses: the switch is not selected before it is operated, 1; it is
-    /// operating, 12; the association has not selected it, 18. A refused cancel leaves what is
-    /// selected.
+    /// The first of these refuses: the switch need not be selected before it is operated, 1; it is
+    /// operating, 12; the association has not selected it, 18. A refused cancel does not change the
+    /// selection.
     pub fn cancel(&mut self, association: u16, switch: usize, now: u64) -> Result<(), AddCause>
         ensures answer { result ≡ (cancel_outcome association switch now self.old).answer }
         ensures after { self.new ≡ (cancel_outcome association switch now self.old).after }
@@ -315,7 +317,7 @@ impl Controls {
         Ok(())
     }
 
-    /// Ends the selection of an association, which is closed.
+    /// Ends the selection of a closed association.
     pub fn drop_owner(&mut self, association: u16)
         ensures { self.new ≡ without_association association self.old }
     {
@@ -328,7 +330,7 @@ impl Controls {
         }
     }
 
-    /// Takes the position of a switch, and tells whether it ends the switch's execution.
+    /// Takes the position of a switch. Returns whether it ends the execution of the switch.
     pub fn contact(&mut self, switch: usize, position: Dbpos) -> bool
         ensures ended { result ≡ spec.is_done switch position self.old.execution }
         ensures after { self.new ≡ after_contact switch position self.old }
@@ -340,22 +342,22 @@ impl Controls {
         is_ended
     }
 
-    /// The switch that is selected, as far as the controls were advanced (IEC 61850-7-3, stSeld).
+    /// Returns the selected switch, as of the last `advance` (IEC 61850-7-3, stSeld).
     pub fn selected(&self) -> Option<usize>
         ensures { result ≡ selected_switch self.now.selection }
     {
         self.selection.as_ref().map(|s| s.switch)
     }
 
-    /// Whether a switch is selected with enhanced security, so that its client is told of what
-    /// becomes of its requests.
+    /// Returns whether the control of a switch has enhanced security, so that its client is told
+    /// the outcome of its requests.
     pub fn is_enhanced(&self, switch: usize) -> bool
         ensures { result ≡ spec_requests.is_enhanced (control_of self.now.controls switch).model }
     {
         matches!(self.control(switch).model, Control::SboEnhanced)
     }
 
-    /// What is selected and what is operating, to be put back where a request is to have had no
+    /// Returns what is selected and what is operating, to restore it if a request is to have no
     /// effect.
     pub fn standing(&self) -> Ongoing
         ensures { result ≡ standing_of self.now }
@@ -366,7 +368,7 @@ impl Controls {
         }
     }
 
-    /// Puts back what was selected and what was operating.
+    /// Restores what was selected and what was operating.
     pub fn restore(&mut self, standing: Ongoing)
         ensures { self.new ≡ with_standing standing self.old }
     {

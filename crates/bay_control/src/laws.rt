@@ -6,15 +6,15 @@ ghost use Rattle.bay_control.specs.Decisions.{State, with_standing, standing_of}
 ghost use Rattle.bay_control.specs.declared.selection.Ongoing.{Ongoing};
 ghost use Rattle.bay_control.specs.Happenings.{Call, Leads, act_of, entries_of, is_open_after, is_orderly_call, outcome_of};
 
-/// Whatever happens to controls with no selection, whichever associations are open, each accepted
-/// operate of an SBO switch is backed by a select.
+/// Whatever happens to controls that start without a selection, and whichever associations are
+/// open: each accepted operate of an SBO switch is backed by a select.
 pub fn operates_are_backed()
     ensures { (entries : List Entry) (open_before open_after : ℕ → Bool) (before after : State) →
         Leads entries open_before before open_after after → before.selection ≡ None
         → AreBacked before.controls entries }
 {}
 
-/// Runs are made of calls: none, one, or those of two runs.
+/// Runs consist of calls: no call, one call, or the calls of two runs.
 pub fn calls_lead()
     ensures none { (is_open : ℕ → Bool) (s : State) → Leads [] is_open s is_open s }
     ensures one { (call : Call) (now : ℕ) (open_before open_after : ℕ → Bool) (s : State)
@@ -29,7 +29,7 @@ pub fn calls_lead()
         Leads (first ++ next) open_before before open_after after }
 {}
 
-/// What was standing before some calls is put back as if they had not been made.
+/// Restoring what was standing before some calls has the effect that they were never made.
 pub fn restoring_undoes()
     ensures calls { (standing : Ongoing) (call : Call) (now : ℕ) (s : State) →
         with_standing standing (outcome_of call now s).after ≡ with_standing standing s }

@@ -6,7 +6,7 @@ ghost use Rattle.bay_control.specs.Requests as spec;
 use arrayvec::ArrayVec;
 use bay_tree::leaf::Dbpos;
 
-/// Who asks for a control (IEC 61850-7-3, Originator).
+/// The originator of a control (IEC 61850-7-3, Originator).
 #[derive(Debug, Drop)]
 pub struct Origin {
     /// The category (orCat).
@@ -16,14 +16,14 @@ pub struct Origin {
 }
 
 impl Origin {
-    /// The two are the same.
+    /// Returns whether two originators are the same.
     pub(crate) fn is_same(&self, other: &Origin) -> bool
         ensures { result ≡ same_origin self.now other.now }
     {
         self.cat == other.cat && self.ident.as_slice() == other.ident.as_slice()
     }
 
-    /// A copy, which takes no memory.
+    /// Copies the originator. Does not allocate.
     pub(crate) fn duplicate(&self) -> Origin
         ensures { result ≡ self.now }
     {
@@ -36,23 +36,23 @@ impl Origin {
     }
 }
 
-/// What a select with value is granted for: a position and who asks.
+/// What a select with value is granted for: a position and the originator.
 #[derive(Debug, Drop)]
 pub struct Choice {
-    /// Close the switch, and not open it (ctlVal).
+    /// Whether to close the switch and not open it (ctlVal).
     pub on: bool,
     pub origin: Origin,
 }
 
 impl Choice {
-    /// This is what a request asks for.
+    /// Returns whether this is what a request asks for.
     pub(crate) fn is_asked(&self, ask: &Ask) -> bool
         ensures { result ≡ same_choice (asked_choice ask.now) self.now }
     {
         ask.on == self.on && ask.origin.is_same(&self.origin)
     }
 
-    /// A copy, which takes no memory.
+    /// Copies the choice. Does not allocate.
     pub(crate) fn duplicate(&self) -> Choice
         ensures { result ≡ self.now }
     {
@@ -66,28 +66,28 @@ impl Choice {
 /// A request to operate a switch, or to select it with value (IEC 61850-7-2, 20: Oper and SBOw).
 #[derive(Debug, Drop)]
 pub struct Ask {
-    /// Close the switch, and not open it (ctlVal).
+    /// Whether to close the switch and not open it (ctlVal).
     pub on: bool,
-    /// It is a test, which moves nothing (Test).
+    /// Whether it is a test, which moves nothing (Test).
     pub test: bool,
     pub origin: Origin,
 }
 
-/// What a decision sees of the switch.
+/// What a decision knows of the switch.
 #[derive(Clone, Copy, Debug)]
 pub struct View {
     /// The position.
     pub pos: Dbpos,
-    /// The last scan is fresh: no input has changed since, and it is not too old.
+    /// Whether the last scan is fresh: no input has changed since, and it is not too old.
     pub fresh: bool,
-    /// The interlocking releases opening (IEC 61850-7-4, CILO: EnaOpn).
+    /// Whether the interlocking releases opening (IEC 61850-7-4, CILO: EnaOpn).
     pub ena_opn: bool,
-    /// The interlocking releases closing (EnaCls).
+    /// Whether the interlocking releases closing (EnaCls).
     pub ena_cls: bool,
 }
 
 impl View {
-    /// The interlocking releases the operation.
+    /// Returns whether the interlocking releases the operation.
     pub(crate) fn is_released(self, on: bool) -> bool
         ensures { result ≡ spec.is_released on self }
     {
@@ -95,7 +95,7 @@ impl View {
     }
 }
 
-/// The position is the one that is asked for.
+/// Returns whether the position is the requested one.
 pub(crate) fn is_reached(on: bool, position: Dbpos) -> bool
     ensures { result ≡ spec.is_reached on position }
 {

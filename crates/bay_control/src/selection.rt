@@ -9,17 +9,17 @@ use bay_tree::leaf::Dbpos;
 /// A switch that an association has selected.
 #[derive(Debug, Drop)]
 pub struct Selection {
-    /// The place of the switch in the bay file, from 0.
+    /// The index of the switch in the bay file, from 0.
     pub switch: usize,
     pub association: u16,
-    /// The moment of the last select, in milliseconds since 1970.
+    /// The time of the last select, in milliseconds since 1970.
     pub since: u64,
     /// What a select with value was granted for.
     pub choice: Option<Choice>,
 }
 
 impl Selection {
-    /// A copy, which takes no memory.
+    /// Copies the selection. Does not allocate.
     pub(crate) fn duplicate(&self) -> Selection
         ensures { result ≡ self.now }
     {
@@ -35,22 +35,22 @@ impl Selection {
 /// A switch that is operating.
 #[derive(Clone, Copy, Debug)]
 pub struct Execution {
-    /// The place of the switch in the bay file, from 0.
+    /// The index of the switch in the bay file, from 0.
     pub switch: usize,
-    /// The moment of the operate, in milliseconds since 1970.
+    /// The time of the operate, in milliseconds since 1970.
     pub start: u64,
-    /// It is closing, and not opening.
+    /// Whether it is closing and not opening.
     pub on: bool,
 }
 
-/// What is selected and what is operating, taken from controls to be put back.
+/// What is selected and what is operating, taken from the controls to be restored.
 #[derive(Debug, Drop)]
 pub struct Ongoing {
     pub selection: Option<Selection>,
     pub execution: Option<Execution>,
 }
 
-/// The association has selected the switch.
+/// Returns whether the association has selected the switch.
 pub(crate) fn is_selected_by(selection: &Option<Selection>, association: u16, switch: usize) -> bool
     ensures { result ≡ spec.is_selected_by association switch selection.now }
 {
@@ -59,7 +59,7 @@ pub(crate) fn is_selected_by(selection: &Option<Selection>, association: u16, sw
         .is_some_and(|s| s.association == association && s.switch == switch)
 }
 
-/// Another association has selected the switch.
+/// Returns whether another association has selected the switch.
 pub(crate) fn is_selected_by_other(
     selection: &Option<Selection>,
     association: u16,
@@ -72,14 +72,14 @@ pub(crate) fn is_selected_by_other(
         .is_some_and(|s| s.association != association && s.switch == switch)
 }
 
-/// Another switch is selected.
+/// Returns whether another switch is selected.
 pub(crate) fn other_is_selected(selection: &Option<Selection>, switch: usize) -> bool
     ensures { result ≡ spec.other_is_selected switch selection.now }
 {
     selection.as_ref().is_some_and(|s| s.switch != switch)
 }
 
-/// A select with value was granted for what is asked for.
+/// Returns whether a select with value was granted for what is asked for.
 pub(crate) fn is_chosen(selection: &Option<Selection>, ask: &Ask) -> bool
     ensures { result ≡ spec.is_chosen (asked_choice ask.now) selection.now }
 {
@@ -94,21 +94,21 @@ pub(crate) fn is_chosen(selection: &Option<Selection>, ask: &Ask) -> bool
     }
 }
 
-/// The switch is operating.
+/// Returns whether the switch is operating.
 pub(crate) fn is_executing(execution: Option<Execution>, switch: usize) -> bool
     ensures { result ≡ spec.is_executing switch execution }
 {
     execution.is_some_and(|e| e.switch == switch)
 }
 
-/// Another switch is operating.
+/// Returns whether another switch is operating.
 pub(crate) fn other_is_executing(execution: Option<Execution>, switch: usize) -> bool
     ensures { result ≡ spec.other_is_executing switch execution }
 {
     execution.is_some_and(|e| e.switch != switch)
 }
 
-/// A position of the switch tells that its execution is done.
+/// Returns whether a position of the switch means that its execution is done.
 pub(crate) fn is_done(execution: Option<Execution>, switch: usize, position: Dbpos) -> bool
     ensures { result ≡ spec.is_done switch position execution }
 {

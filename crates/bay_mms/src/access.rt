@@ -16,7 +16,7 @@ use std::alloc::{AllocError, Global};
 // A request names at most so many variables.
 const VARIABLES_MAX: usize = 32;
 
-/// A variable that is named, and whether only a part of it is asked for.
+/// A named variable, and whether only a part of it is asked for.
 #[derive(Clone, Copy)]
 pub struct VariableSpecification<'a> {
     pub name: ObjectName<'a>,
@@ -50,7 +50,7 @@ fn name_as<'a>(value: &Value<'a>) -> Option<ObjectName<'a>>
     }
 }
 
-/// The name that octets are.
+/// Reads octets as a name.
 #[tactic(auto, unfolding(crate::specs::Grammar::name_in))]
 pub(crate) fn name_in(octets: &[u8]) -> Option<ObjectName<'_>>
     ensures { option_map naming result ≡ spec.name_in octets.now }
@@ -164,8 +164,8 @@ fn listed<'a>(
     }
 }
 
-/// The names of the variables that a value asks for: as many as there are data, where that is
-/// given. It takes no memory for no variables.
+/// Reads the names of the variables that a value asks for. There must be `count` of them if `count`
+/// is given. Does not allocate for no variables.
 #[tactic(auto, unfolding(crate::specs::Grammar::names_as))]
 pub(crate) fn names_as<'a>(
     alloc: Global,

@@ -13,16 +13,16 @@ use bay_tree::leaf::Dbpos;
 // An originator's identity has at most so many octets.
 const IDENTITY_MAX: usize = 64;
 
-/// Who controls (IEC 61850-7-3, Originator).
+/// The originator of a control (IEC 61850-7-3, Originator).
 #[derive(Clone, Copy, Debug)]
 pub struct Origin<'a> {
     /// The category.
     pub or_cat: i8,
-    /// The identity, at most 64 octets where it was read.
+    /// The identity, at most 64 octets if it was read.
     pub or_ident: &'a [u8],
 }
 
-/// What an enhanced select or an operate asks for (IEC 61850-8-1, SBOw and Oper).
+/// The parameters of a select with value or an operate (IEC 61850-8-1, SBOw and Oper).
 #[derive(Clone, Copy, Debug)]
 pub struct Operate<'a> {
     /// On or off.
@@ -32,14 +32,14 @@ pub struct Operate<'a> {
     /// The eight octets of a utc-time.
     pub t: [u8; 8],
     pub test: bool,
-    /// The two bits of Check, as a position has them.
+    /// The two bits of Check, read as a position.
     pub check: Dbpos,
 }
 
-/// What a cancel asks for (IEC 61850-8-1, Cancel).
+/// The parameters of a cancel (IEC 61850-8-1, Cancel).
 #[derive(Clone, Copy, Debug)]
 pub struct Cancel<'a> {
-    /// On or off, as in what is cancelled.
+    /// On or off, as in the request that is cancelled.
     pub ctl_val: bool,
     pub origin: Origin<'a>,
     pub ctl_num: u8,
@@ -70,10 +70,10 @@ fn in_range<'a>(shape: &Shape<'a>) -> Option<Cancel<'a>>
     })
 }
 
-/// The operate, or the enhanced select, that data are. WrongShape where they are of another shape:
-/// no six parts, a part of another kind, a T that has not eight octets, a Check that has not two
-/// bits. Then OutOfRange, where ctlNum is outside 0 to 255, orCat outside -128 to 127, or orIdent
-/// longer than 64 octets.
+/// Reads data as an operate or a select with value. `WrongShape` if they have another shape: not
+/// six parts, a part of another kind, a T without eight octets, or a Check without two bits.
+/// Otherwise `OutOfRange` if ctlNum is outside 0 to 255, orCat is outside -128 to 127, or orIdent
+/// is longer than 64 octets.
 pub fn operate_of<'a>(given: &Data<'a>) -> Result<Operate<'a>, ControlFault>
     ensures { result_view operating result ≡ operate_in (datum_of given.now) }
 {
@@ -89,7 +89,7 @@ pub fn operate_of<'a>(given: &Data<'a>) -> Result<Operate<'a>, ControlFault>
     })
 }
 
-/// The cancel that data are; with the faults of `operate_of`, over five parts, since a cancel has
+/// Reads data as a cancel, with the faults of `operate_of`. A cancel has five parts, because it has
 /// no Check.
 pub fn cancel_of<'a>(given: &Data<'a>) -> Result<Cancel<'a>, ControlFault>
     ensures { result_view cancelling result ≡ cancel_in (datum_of given.now) }

@@ -13,7 +13,7 @@ use bay_tree::leaf::Leaf;
 use bay_tree::tree::{Handle, Tree};
 use std::alloc::{AllocError, Global};
 
-/// Data (ISO 9506-2, Data), whose octets and texts lie elsewhere.
+/// Data (ISO 9506-2, Data). Its octets and texts are borrowed.
 #[derive(Debug, Drop)]
 pub enum Data<'a> {
     /// The data of the parts, in order.
@@ -26,7 +26,7 @@ pub enum Data<'a> {
     Text(&'a [u8]),
     /// The eight octets of a utc-time.
     Utc([u8; 8]),
-    /// Data of another kind, as it was received.
+    /// Data of another kind, as received.
     Other(Value<'a>),
 }
 
@@ -55,7 +55,7 @@ fn leaf_data(leaf: &Leaf) -> Data<'_>
     }
 }
 
-/// Puts data behind others.
+/// Appends data.
 pub(crate) fn push_data<'a>(parts: &mut Vec<Data<'a>>, part: Data<'a>) -> Result<(), AllocError>
     ensures { OnOk result (data_in parts.new.items
         ≡ data_in parts.old.items ++ datum_of part.entry ∷ []) }
@@ -64,8 +64,8 @@ pub(crate) fn push_data<'a>(parts: &mut Vec<Data<'a>>, part: Data<'a>) -> Result
     Ok(())
 }
 
-/// The data of a row (IEC 61850-8-1, the mapping of values to MMS data): a leaf's value, or those
-/// of the rows below it.
+/// Returns the data of a row (IEC 61850-8-1, the mapping of values to MMS data): the value of a
+/// leaf, or the data of the rows below a structure.
 pub fn data_of<'a>(alloc: Global, tree: &'a Tree, handle: Handle) -> Result<Data<'a>, AllocError>
     requires { IsHandle tree.now handle }
     ensures { IfOk result (λ found. datum_of found ≡ data_at tree.now handle) }
@@ -88,12 +88,12 @@ pub fn data_of<'a>(alloc: Global, tree: &'a Tree, handle: Handle) -> Result<Data
 /// A type (ISO 9506-2, TypeSpecification).
 #[derive(Debug, Drop)]
 pub enum TypeSpec<'a> {
-    /// The names and the types of the components, in order.
+    /// The names and types of the components, in order.
     Structure(Vec<(&'a str, TypeSpec<'a>)>),
-    /// A simple type without a size: the number of its tag.
+    /// A simple type without a size, by the number of its tag.
     Plain(u8),
-    /// A simple type of a size: the number of its tag, and so many bits, octets or characters;
-    /// below 0, at most so many.
+    /// A simple type with a size: the number of its tag, and its size in bits, octets or
+    /// characters. A negative size is a maximum.
     Sized(u8, i16),
 }
 
@@ -129,8 +129,8 @@ fn push_component<'a>(
     Ok(())
 }
 
-/// The type of a row (IEC 61850-8-1): a leaf's, or a structure of the types of the rows below it,
-/// each under the last word of its name.
+/// Returns the type of a row (IEC 61850-8-1): that of a leaf, or a structure of the types of the
+/// rows below it, each named by the last word of its name.
 pub fn type_spec_of<'a>(
     alloc: Global,
     tree: &'a Tree,

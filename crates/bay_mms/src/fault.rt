@@ -5,13 +5,13 @@ ghost use Rattle.bay_mms.specs.Code.{code_of, control_code_of};
 use std::alloc::AllocError;
 use thiserror::Error;
 
-/// Why a text is not written.
+/// Why encoding a text failed.
 #[derive(Clone, Copy, Debug, Error)]
 pub enum EncodeFault {
-    /// The text has more octets than it may have.
+    /// The text has more octets than allowed.
     #[error("the text is too long")]
     TooLong,
-    /// There is no room for the text.
+    /// Out of memory for the text.
     #[error("out of memory")]
     OutOfMemory,
 }
@@ -26,26 +26,27 @@ impl From<AllocError> for EncodeFault {
     }
 }
 
-/// Why octets are no request that is served.
+/// Why octets are not a request that is served.
 #[derive(Clone, Copy, Debug, Error)]
 pub enum MmsFault {
-    /// The octets are not spelled as a request. With the invoke id, where one can be read.
+    /// The octets do not spell a request. Holds the invoke id if one can be read.
     #[error("the octets are no request")]
     BadPdu(Option<u32>),
-    /// The service is none that is served, or it asks for alternate access or a named list. With
-    /// the invoke id.
+    /// The service is not served, or it asks for alternate access or a named list. Holds the invoke
+    /// id.
     #[error("the service is not known")]
     UnknownService(u32),
-    /// More than 32 variables are read or written. With the invoke id.
+    /// The request reads or writes more than 32 variables. Holds the invoke id.
     #[error("there are too many variables")]
     TooMany(u32),
-    /// There is no room for the request.
+    /// Out of memory for the request.
     #[error("out of memory")]
     OutOfMemory,
 }
 
 impl MmsFault {
-    /// The fault's number, 30 to 32 in the order of the faults; None for want of memory.
+    /// Returns the number of the fault, 30 to 32 in the order of the variants. Out of memory has
+    /// none.
     pub fn code(self) -> Option<u8>
         ensures { result ≡ code_of self }
     {
@@ -58,19 +59,19 @@ impl MmsFault {
     }
 }
 
-/// Why data are no control that is done (ISO 9506-2, DataAccessError).
+/// Why data are not a control that is performed (ISO 9506-2, DataAccessError).
 #[derive(Clone, Copy, Debug, Error)]
 pub enum ControlFault {
     /// The data have another shape.
     #[error("the data are of another type")]
     WrongShape,
-    /// A number or an identity of the data is out of range.
+    /// A number or an identity in the data is out of range.
     #[error("a value is out of range")]
     OutOfRange,
 }
 
 impl ControlFault {
-    /// The number of the error that a write is answered with: 7 (type-inconsistent) or 11
+    /// Returns the number of the error that answers the write: 7 (type-inconsistent) or 11
     /// (object-value-invalid).
     pub fn code(self) -> u8
         ensures { result ≡ control_code_of self }
@@ -82,16 +83,16 @@ impl ControlFault {
     }
 }
 
-/// Why a part of a request is not read, before its invoke id is known.
+/// Why reading a part of a request failed, before its invoke id is known.
 #[derive(Clone, Copy)]
 pub(crate) enum Refusal {
-    /// It is badly spelled.
+    /// The spelling is wrong.
     Bad,
-    /// It is spelled, and not served.
+    /// The spelling is right, but the request is not served.
     Unknown,
     /// It has too many variables.
     Many,
-    /// There is no room for it.
+    /// Out of memory for the part.
     OutOfMemory,
 }
 

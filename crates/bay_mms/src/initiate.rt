@@ -11,7 +11,7 @@ use bay_ber::known::known_values;
 use bay_ber::tag::Tag;
 use bay_ber::values::Value;
 
-/// The integer under a tag.
+/// Returns the integer with this tag.
 #[tactic(auto, unfolding(crate::specs::Grammar::integer_under))]
 pub(crate) fn integer_under(tag: Tag, value: &Value<'_>) -> Option<i64>
     ensures { result ≡ spec.integer_under tag (part_of value.now) }
@@ -139,7 +139,7 @@ fn proposal_of(
     })
 }
 
-/// The proposal that values are.
+/// Reads values as a proposal.
 pub(crate) fn initiate_of(parts: &[Value<'_>]) -> Option<Proposal>
     ensures { result ≡ spec.initiate_of (map part_of parts.now) }
 {

@@ -25,8 +25,8 @@ ghost use Rattle.bay_mms.specs.declared.request.Proposal.{Proposal};
 ghost use Rattle.bay_mms.specs.declared.response.Response.{Response};
 
 /// What is written is read back as one value of BER (X.690 8.1): data under their tags, which have
-/// one octet, with their contents, and responses and reports under the tags of their PDUs. The text
-/// of data that stand in it as they are is received as these data.
+/// one octet, with their contents; responses and reports under the tags of their PDUs. Data that
+/// are plain in their text are received as the same data.
 pub fn written_is_read()
     ensures datum { (datum : Datum) → (datum_tag datum).number < 31
         → length (datum_text datum) < 4294967296
@@ -43,10 +43,10 @@ pub fn written_is_read()
         → IsOneValue (report_text names values) (constructed 3) }
 {}
 
-/// Octets ask at most one request: what is in the relation by whole nested spellings is read as
-/// that request, and what is read as a request is in the relation. So is what an association is
-/// opened with. What is answered of octets is that request or the fault that they have, want of
-/// memory aside.
+/// Octets ask for at most one request. Octets that spell a request by complete nested values are
+/// read as that request, and octets that are read as a request spell it. The same holds for the
+/// initiate that opens an association. The answer to octets is that request or the fault that they
+/// have, unless memory runs out.
 pub fn one_request()
     ensures asked { (octets : List ℕ) (request : Message) → Asks request octets
         → answer_to octets ≡ Ok request }
@@ -60,8 +60,8 @@ pub fn one_request()
         → (initiate_in octets ≡ Some proposal) ↔ IsInitiate octets proposal }
 {}
 
-/// Each fault has its own relation: a service that is not served, too many variables; and a bad PDU
-/// is what is left, with the invoke id that stands at its front.
+/// Each fault has its own relation: a service that is not served, and too many variables. Anything
+/// else is a bad PDU, with the invoke id at its front.
 pub fn one_fault()
     ensures unknown { (octets : List ℕ) (id : ℕ) → AreOctets octets
         → (answer_to octets ≡ Err (MmsFault.UnknownService id)) ↔ AsksUnknown id octets }
@@ -71,9 +71,9 @@ pub fn one_fault()
         → (answer_to octets ≡ Err (MmsFault.BadPdu known)) ↔ AsksNothing octets known }
 {}
 
-/// Controls and their data: which data are read as an operate or a cancel; the text of an operate,
-/// as reports have it, is that of the data that it was read from; its data stand in their text as
-/// they are, and are read as the operate where it is in range.
+/// Controls and their data: which data are read as an operate or a cancel. The text of an operate,
+/// as in reports, is the text of the data that it was read from. The data of an operate in range
+/// are plain in their text, and are read back as that operate.
 pub fn a_control_is_its_data()
     ensures operate { (given : Datum) (o : Operate) → (operate_as given ≡ Some o)
         ↔ IsOperate given o }

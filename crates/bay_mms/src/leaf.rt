@@ -9,9 +9,9 @@ use bay_ber::tag::Tag;
 use bay_ber::writer::Writer;
 use bay_tree::leaf::{Dbpos, Leaf, Quality};
 
-/// A moment in milliseconds since 1970 as a utc-time (IEC 61850-8-1, the mapping of TimeStamp):
-/// four octets of seconds, three of the fraction of a second rounded down, and the quality 2A.
-/// Seconds past 2^32 are counted from 0 again.
+/// Converts a time in milliseconds since 1970 to a utc-time (IEC 61850-8-1, the mapping of
+/// TimeStamp): four octets of seconds, three octets of the fraction of a second rounded down, and
+/// the quality 2A. Seconds from 2^32 on start again at 0.
 pub(crate) fn utc_octets(ms: u64) -> [u8; 8]
     ensures { result ≡ spec.utc_octets ms }
 {
@@ -22,7 +22,7 @@ pub(crate) fn utc_octets(ms: u64) -> [u8; 8]
     [s1, s2, s3, s4, f1, f2, f3, 0x2A]
 }
 
-/// The octet of a position's two bits.
+/// Returns the octet with the two bits of a position.
 pub(crate) fn position_octets(position: Dbpos) -> &'static [u8]
     ensures { result.now ≡ position_octet position ∷ [] }
 {
@@ -34,7 +34,7 @@ pub(crate) fn position_octets(position: Dbpos) -> &'static [u8]
     }
 }
 
-/// The octets of a quality's thirteen bits.
+/// Returns the octets with the thirteen bits of a quality.
 pub(crate) fn quality_octets(quality: Quality) -> &'static [u8]
     ensures { result.now ≡ quality_octet quality ∷ 0 ∷ [] }
 {

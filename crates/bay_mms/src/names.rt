@@ -14,8 +14,8 @@ use bay_tree::tree::Tree;
 use std::alloc::{AllocError, Global};
 use std::marker::Model;
 
-/// The names of a tree as responses list them, one behind another, and where each ends. They are
-/// written once, and a page is a part of them.
+/// The names of a tree as responses list them, one after another, and where each ends. They are
+/// written once, and a page copies a part of them.
 #[derive(Drop)]
 pub struct NameTexts {
     octets: Outgoing,
@@ -101,7 +101,7 @@ fn begin(ends: &[usize], place: usize) -> usize
 }
 
 impl NameTexts {
-    /// The texts of a tree's names, in the order of its rows.
+    /// Writes the texts of a tree's names, in the order of its rows.
     pub fn of_tree(alloc: Global, tree: &Tree) -> Result<Self, AllocError>
         ensures { IfOk result (λ names. names ≡ text_of_names (names_of tree.now)) }
     {

@@ -85,10 +85,10 @@ fn put_page(writer: &mut Writer, id: u32, texts: &[u8], more: bool)
     writer.close(start);
 }
 
-/// The response, under an invoke id, that lists the names behind a name, or from the first on: as
-/// many as fit a PDU of this size, and at most 100; and whether more follow. NoSuchName where no
-/// row has the name. It has at most as many octets as its size says. The texts are those of the
-/// tree's names.
+/// Writes the response, with an invoke id, that lists the names after a name, or from the first on
+/// without one. It lists as many as fit in a PDU of `size` octets, at most 100, and says whether
+/// more follow. `NoSuchName` if no row has the name. The response has at most `size` octets.
+/// `names` must be the texts of the tree's names.
 pub fn write_page(
     alloc: Global,
     id: u32,

@@ -7,7 +7,7 @@ use crate::fault::EncodeFault;
 use bay_ber::outgoing::Outgoing;
 use bay_ber::writer::Writer;
 
-/// What a writer holds.
+/// Returns what a writer holds.
 pub(crate) fn finish(writer: Writer) -> Result<Outgoing, EncodeFault>
     ensures { Gives EncodeFault.OutOfMemory (λ octets. octets) result
         (or_long (message writer)) }

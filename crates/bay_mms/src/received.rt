@@ -93,7 +93,7 @@ fn read_datum<'a>(alloc: Global, value: &Value<'a>, depth: u8) -> Result<Data<'a
     }
 }
 
-/// The data that octets are, one after another, each at most so deep.
+/// Reads octets as consecutive data, each nested at most `depth` deep.
 #[cycle(received)]
 pub(crate) fn read_data<'a>(
     alloc: Global,

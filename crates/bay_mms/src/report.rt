@@ -16,10 +16,10 @@ use bay_ber::tag::Tag;
 use bay_ber::writer::Writer;
 use std::alloc::Global;
 
-/// Why a control is refused or ended (IEC 61850-8-1, LastApplError). Its Error is 0.
+/// Why a control was refused or ended (IEC 61850-8-1, LastApplError). Its Error is 0.
 #[derive(Clone, Copy)]
 pub struct ControlError<'a> {
-    /// The control, CntrlObj: its domain, `/` and its item.
+    /// The control (CntrlObj): its domain, `/` and its item.
     pub object: &'a str,
     pub origin: Origin<'a>,
     pub ctl_num: u8,
@@ -230,8 +230,8 @@ fn put_failed(
     writer.close(report);
 }
 
-/// The text of the report that a control was refused (IEC 61850-8-1, LastApplError; ISO 9506-2,
-/// informationReport); TooLong where it has more octets than the size.
+/// Writes the report that a control was refused (IEC 61850-8-1, LastApplError; ISO 9506-2,
+/// informationReport). `TooLong` if it has more than `size` octets.
 #[tactic(auto, using(bay_ber::proofs::SheetLemmas::message_put))]
 pub fn write_failure(
     alloc: Global,
@@ -246,9 +246,9 @@ pub fn write_failure(
     finish(writer)
 }
 
-/// The text of the report that a control of this item of a domain has done what it was asked for
-/// (IEC 61850-8-1, the positive CommandTermination): the operate, as it was written. TooLong where
-/// it has more octets than the size.
+/// Writes the report that the control with this item of a domain has done what it was asked for
+/// (IEC 61850-8-1, positive CommandTermination): the operate, as it was written. `TooLong` if it
+/// has more than `size` octets.
 #[tactic(auto, using(bay_ber::proofs::SheetLemmas::message_put))]
 pub fn write_termination(
     alloc: Global,
@@ -265,9 +265,9 @@ pub fn write_termination(
     finish(writer)
 }
 
-/// The text of the report that a control of this item of a domain has failed (IEC 61850-8-1, the
+/// Writes the report that the control with this item of a domain has failed (IEC 61850-8-1,
 /// negative CommandTermination): one report of two variables, LastApplError and then the operate,
-/// as it was written. TooLong where it has more octets than the size.
+/// as it was written. `TooLong` if it has more than `size` octets.
 #[tactic(auto, using(bay_ber::proofs::SheetLemmas::message_put))]
 pub fn write_failed_termination(
     alloc: Global,

@@ -19,18 +19,18 @@ use bay_ber::tlv::read_tlv;
 use bay_ber::values::{Value, few_values, one_or_two, whole_value};
 use std::alloc::Global;
 
-/// The name of an object (ISO 9506-2, ObjectName), in any octets.
+/// The name of an object (ISO 9506-2, ObjectName), in arbitrary octets.
 #[derive(Clone, Copy, Debug)]
 pub enum ObjectName<'a> {
-    /// A name of the device's own.
+    /// A name in the VMD, the device itself.
     Vmd(&'a [u8]),
     /// An item of a domain.
     Domain { domain: &'a [u8], item: &'a [u8] },
-    /// A name of the association.
+    /// A name in the association.
     Association(&'a [u8]),
 }
 
-/// Where names are asked for (ISO 9506-2, GetNameList, objectScope).
+/// The scope in which names are asked for (ISO 9506-2, GetNameList, objectScope).
 #[derive(Clone, Copy, Debug)]
 pub enum Scope<'a> {
     Vmd,
@@ -38,27 +38,27 @@ pub enum Scope<'a> {
     Association,
 }
 
-/// What is proposed for an association (ISO 9506-2, InitiateRequestPDU).
+/// The proposal for an association (ISO 9506-2, InitiateRequestPDU).
 #[derive(Clone, Copy, Debug)]
 pub struct Proposal {
-    /// The octets of the largest PDU.
+    /// The size of the largest PDU in octets.
     pub size: Option<i64>,
-    /// How many requests of the one who calls may be outstanding, 1 or more.
+    /// The most outstanding requests of the calling side, 1 or more.
     pub calling: i64,
-    /// How many of the one who is called.
+    /// The most outstanding requests of the called side, 1 or more.
     pub called: i64,
-    /// How deep data may nest.
+    /// The deepest nesting of data.
     pub nesting: Option<i64>,
     /// The first three parameter conformance blocks, in the three highest bits; the others are 0.
     pub parameters: u8,
 }
 
-/// A confirmed service that is asked for.
+/// A request for a confirmed service.
 #[derive(Drop)]
 pub enum Call<'a> {
-    /// Who makes the device.
+    /// The maker of the device.
     Identify,
-    /// The names of the objects of a class, behind a name where one is given.
+    /// The names of the objects of a class, after a name if one is given.
     Names {
         class: i64,
         scope: Scope<'a>,
@@ -68,21 +68,21 @@ pub enum Call<'a> {
     Attributes(ObjectName<'a>),
     /// The values of at most 32 variables.
     Read(Vec<ObjectName<'a>>),
-    /// Values for at most 32 variables, as many as variables.
+    /// Values for at most 32 variables, one for each variable.
     Write {
         names: Vec<ObjectName<'a>>,
         values: Vec<Data<'a>>,
     },
 }
 
-/// A request of a client.
+/// A request from a client.
 #[derive(Drop)]
 pub enum Request<'a> {
-    /// An association is to be opened.
+    /// Opens an association.
     Initiate(Proposal),
-    /// The association is to be closed.
+    /// Closes the association.
     Conclude,
-    /// A service is asked for, under an invoke id.
+    /// Asks for a service, with an invoke id.
     Confirmed { id: u32, call: Call<'a> },
 }
 
@@ -178,8 +178,8 @@ fn proposal_in(content: &[u8]) -> Option<Proposal>
     initiate_of(parts.as_slice())
 }
 
-/// What an initiate that the octets are proposes (ISO 9506-2, InitiateRequestPDU); None where they
-/// are none. It takes no memory.
+/// Reads octets as an initiate and returns its proposal (ISO 9506-2, InitiateRequestPDU). `None` if
+/// they are no initiate. Does not allocate.
 #[tactic(auto, unfolding(crate::specs::Grammar::initiate_in))]
 pub fn read_initiate(octets: &[u8]) -> Option<Proposal>
     ensures { result ≡ initiate_in octets.now }
@@ -238,11 +238,11 @@ fn answer_to<'a>(alloc: Global, octets: &'a [u8]) -> Result<Request<'a>, MmsFaul
     message_as(alloc, known, &value)
 }
 
-/// The request that octets are (ISO 9506-2, in the profile of IEC 61850-8-1), whose names, texts
-/// and data are slices of the octets. BadPdu where they are spelled as none, with the invoke id
-/// where one stands at their front; UnknownService for a service that is not served, for alternate
-/// access and for a named list; TooMany for more than 32 variables in a request that is spelled in
-/// all else. Data nests at most 10 deep. Only a read or a write takes memory, and not one of no
+/// Reads octets as a request (ISO 9506-2, in the profile of IEC 61850-8-1). Its names, texts and
+/// data are slices of the octets. `BadPdu` if they spell no request, with the invoke id if one is
+/// at their front. `UnknownService` for a service that is not served, for alternate access and for
+/// a named list. `TooMany` for more than 32 variables in a request that is otherwise well spelled.
+/// Data may nest at most 10 deep. Allocates only for a read or a write, and not for one of no
 /// variables.
 pub fn read_request<'a>(alloc: Global, octets: &'a [u8]) -> Result<Request<'a>, MmsFault>
     ensures { IsAnswer octets.now result }

@@ -23,25 +23,25 @@ use std::alloc::{AllocError, Global};
 /// Why a request is answered with an error (ISO 9506-2, ServiceError).
 #[derive(Clone, Copy)]
 pub enum ErrorClass {
-    /// There is no such object: 2 of the class access.
+    /// There is no such object: error 2 of the class access.
     NoSuchObject,
-    /// Resources are wanting: 0 of the class resource.
+    /// Resources are lacking: error 0 of the class resource.
     Resource,
 }
 
 /// Why a request is rejected (ISO 9506-2, RejectPDU).
 #[derive(Clone, Copy)]
 pub enum RejectReason {
-    /// The service of a confirmed request is not known.
+    /// The service of a confirmed request is unknown.
     UnrecognizedService,
-    /// The request is no PDU that is read here.
+    /// The request is not a PDU that is read here.
     InvalidPdu,
 }
 
-/// What answers a confirmed request, but for reads and writes, which `results` answers.
+/// The answer to a confirmed request, except for reads and writes, which `results` answers.
 #[derive(Clone, Copy)]
 pub enum Service<'a> {
-    /// Who makes the device, which model it is, and of which revision.
+    /// The maker, the model and the revision of the device.
     Identify {
         vendor: &'a str,
         model: &'a str,
@@ -59,19 +59,19 @@ pub enum Service<'a> {
     },
 }
 
-/// What is agreed of an association (ISO 9506-2, InitiateResponsePDU), in version 1 of the
+/// What is agreed for an association (ISO 9506-2, InitiateResponsePDU), in version 1 of the
 /// protocol.
 #[derive(Clone, Copy)]
 pub struct Agreed {
-    /// The octets of the largest PDU.
+    /// The size of the largest PDU in octets.
     pub size: u32,
-    /// How many requests of the one who called may be outstanding, and how many of the one called.
+    /// The most outstanding requests of the calling side; `called` is that of the called side.
     pub calling: u32,
     pub called: u32,
-    /// How deep data may nest, where it was proposed.
+    /// The deepest nesting of data, if it was proposed.
     pub nesting: Option<i64>,
     /// The first three parameter conformance blocks, in the three highest bits. The other bits are
-    /// not looked at.
+    /// ignored.
     pub parameters: u8,
 }
 
@@ -82,7 +82,7 @@ pub enum Response<'a> {
     Initiate(Agreed),
     /// The answer to a conclude.
     Conclude,
-    /// The answer to a confirmed request of this invoke id.
+    /// The answer to the confirmed request with this invoke id.
     Confirmed {
         id: u32,
         service: Service<'a>,
@@ -92,7 +92,7 @@ pub enum Response<'a> {
         id: u32,
         class: ErrorClass,
     },
-    /// A reject, with the invoke id where it was read.
+    /// A reject, with the invoke id if it was read.
     Reject {
         id: Option<u32>,
         reason: RejectReason,
@@ -333,8 +333,8 @@ fn put_response(writer: &mut Writer, response: &Response<'_>)
     }
 }
 
-/// The text of a response, which is the one canonical spelling (ISO 9506-2); TooLong where it has
-/// more octets than the size. The handles in it are of its trees.
+/// Writes a response in its one canonical spelling (ISO 9506-2). `TooLong` if it has more than
+/// `size` octets. Its handles must be of its trees.
 #[tactic(auto, using(bay_ber::proofs::SheetLemmas::message_put))]
 pub fn write_response(
     alloc: Global,
@@ -350,8 +350,8 @@ pub fn write_response(
     finish(writer)
 }
 
-/// The answer to an initiate (ISO 9506-2, InitiateResponsePDU), which is the one canonical spelling
-/// and has at most 200 octets.
+/// Writes the answer to an initiate (ISO 9506-2, InitiateResponsePDU) in its one canonical
+/// spelling, at most 200 octets.
 #[tactic(auto, using(bay_ber::proofs::SheetLemmas::message_put, crate::proofs::AgreedLemmas::agreed_short, crate::proofs::AgreedLemmas::agreed_within))]
 pub fn write_agreed(alloc: Global, agreed: Agreed) -> Result<Outgoing, AllocError>
     ensures text { IfOk result (λ octets. octets ≡ agreed_text agreed) }
@@ -362,8 +362,7 @@ pub fn write_agreed(alloc: Global, agreed: Agreed) -> Result<Outgoing, AllocErro
     Ok(writer.finish_held())
 }
 
-/// A confirmed error under an invoke id (ISO 9506-2, Confirmed-ErrorPDU), which has at most 60
-/// octets.
+/// Writes a confirmed error with an invoke id (ISO 9506-2, Confirmed-ErrorPDU), at most 60 octets.
 #[tactic(auto, using(bay_ber::proofs::SheetLemmas::message_put, crate::proofs::ShortLemmas::error_short, crate::proofs::ShortLemmas::error_within))]
 pub fn write_error(alloc: Global, id: u32, class: ErrorClass) -> Result<Outgoing, AllocError>
     ensures text { IfOk result (λ octets. octets ≡ error_text id class) }
@@ -374,8 +373,7 @@ pub fn write_error(alloc: Global, id: u32, class: ErrorClass) -> Result<Outgoing
     Ok(writer.finish_held())
 }
 
-/// A reject, with the invoke id where it was read (ISO 9506-2, RejectPDU), which has at most 60
-/// octets.
+/// Writes a reject, with the invoke id if it was read (ISO 9506-2, RejectPDU), at most 60 octets.
 #[tactic(auto, using(bay_ber::proofs::SheetLemmas::message_put, crate::proofs::ShortLemmas::reject_short, crate::proofs::ShortLemmas::reject_within))]
 pub fn write_reject(
     alloc: Global,
@@ -390,7 +388,7 @@ pub fn write_reject(
     Ok(writer.finish_held())
 }
 
-/// The answer to a conclude (ISO 9506-2, Conclude-ResponsePDU), which has two octets.
+/// Writes the answer to a conclude (ISO 9506-2, Conclude-ResponsePDU), two octets.
 #[tactic(auto, using(bay_ber::proofs::SheetLemmas::message_put, crate::proofs::ShortLemmas::concluded_within))]
 pub fn write_conclude(alloc: Global) -> Result<Outgoing, AllocError>
     ensures { IfOk result (λ octets. octets ≡ concluded_text) }

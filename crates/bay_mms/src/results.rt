@@ -23,9 +23,9 @@ use bay_tree::tree::{Handle, Tree};
 use std::alloc::{AllocError, Global};
 use std::marker::Model;
 
-/// The results of a read so far, which contracts see as their octets, beside the size that the
-/// response may have. Each call appends one result, in the order of the variables. TooLong comes
-/// where the results alone have more octets than the size; they are then given up.
+/// The results of a read so far, which contracts see as their octets, next to the size that the
+/// response may have. Each call appends one result, in the order of the variables. Returns
+/// `TooLong` and drops the results if they alone have more octets than that size.
 #[derive(Drop)]
 pub struct ReadResponse {
     results: Writer,
@@ -42,7 +42,7 @@ impl Model for ReadResponse {
 }
 
 impl ReadResponse {
-    /// No result yet.
+    /// Creates a response without results.
     pub fn new(alloc: Global, size: u32) -> Result<Self, AllocError>
         ensures { IfOk result (λ response. response ≡ no_results size) }
     {
@@ -51,7 +51,7 @@ impl ReadResponse {
         })
     }
 
-    /// The data of a row of a tree.
+    /// Appends the data of a row of a tree.
     pub fn value(&mut self, tree: &Tree, handle: Handle) -> Result<(), EncodeFault>
         requires { IsHandle tree.now handle }
         ensures added { Adds self.old.size self.old.octets result self.new.octets
@@ -62,7 +62,7 @@ impl ReadResponse {
         held(&mut self.results)
     }
 
-    /// A text in the place of a row's own.
+    /// Appends a text in place of the text of a row.
     pub fn text(&mut self, text: &str) -> Result<(), EncodeFault>
         ensures added { Adds self.old.size self.old.octets result self.new.octets
             (text_result text.now) }
@@ -72,7 +72,7 @@ impl ReadResponse {
         held(&mut self.results)
     }
 
-    /// The number of an error (ISO 9506-2, DataAccessError).
+    /// Appends the number of an error (ISO 9506-2, DataAccessError).
     pub fn failure(&mut self, cause: u8) -> Result<(), EncodeFault>
         ensures added { Adds self.old.size self.old.octets result self.new.octets
             (failure_result cause) }
@@ -82,7 +82,7 @@ impl ReadResponse {
         held(&mut self.results)
     }
 
-    /// The response under an invoke id; TooLong where it has more octets than the size.
+    /// Returns the response with an invoke id. `TooLong` if it has more octets than the size.
     pub fn finish(self, id: u32) -> Result<Outgoing, EncodeFault>
         ensures { Gives EncodeFault.OutOfMemory (λ octets. octets) result
             (text_within self.size (read_text id self.octets)) }
@@ -159,7 +159,7 @@ impl Model for WriteResponse {
 }
 
 impl WriteResponse {
-    /// No result yet.
+    /// Creates a response without results.
     pub fn new(alloc: Global) -> Self
         ensures { result ≡ [] }
     {
@@ -169,7 +169,7 @@ impl WriteResponse {
         }
     }
 
-    /// The variable was written.
+    /// Appends that the variable was written.
     pub fn success(&mut self) -> Result<(), AllocError>
         ensures { OnOk result (self.new ≡ self.old ++ success_result) }
     {
@@ -177,7 +177,7 @@ impl WriteResponse {
         Ok(())
     }
 
-    /// The number of an error (ISO 9506-2, DataAccessError).
+    /// Appends the number of an error (ISO 9506-2, DataAccessError).
     pub fn failure(&mut self, cause: u8) -> Result<(), AllocError>
         ensures { OnOk result (self.new ≡ self.old ++ failure_result cause) }
     {
@@ -185,7 +185,7 @@ impl WriteResponse {
         Ok(())
     }
 
-    /// The response under an invoke id; TooLong where it has more octets than the size.
+    /// Returns the response with an invoke id. `TooLong` if it has more than `size` octets.
     #[tactic(auto, using(bay_ber::proofs::SheetLemmas::sheet_rules, bay_ber::proofs::SheetLemmas::message_put))]
     pub fn finish(self, id: u32, size: u32) -> Result<Outgoing, EncodeFault>
         ensures { Gives EncodeFault.OutOfMemory (λ octets. octets) result

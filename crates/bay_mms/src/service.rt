@@ -204,8 +204,8 @@ fn listing(content: &[u8]) -> Option<Call<'_>>
     names_of(parts.as_slice())
 }
 
-/// The service that a value asks for. Only a read or a write takes memory, and not one of no
-/// variables.
+/// Reads the service that a value asks for. Allocates only for a read or a write, and not for one
+/// of no variables.
 #[tactic(auto, unfolding(crate::specs::Grammar::service_as))]
 pub(crate) fn service_as<'a>(alloc: Global, value: &Value<'a>) -> Result<Call<'a>, Refusal>
     ensures asked { Gives Refusal.OutOfMemory asking result (spec.service_as (part_of value.now)) }

@@ -8,7 +8,7 @@ ghost use Rattle.bay_mms.specs.ControlViews.{shaping};
 use crate::data::Data;
 use bay_tree::leaf::Dbpos;
 
-/// A control whose numbers may be in any range, and whose identity of any length.
+/// A control with numbers in any range and an identity of any length.
 #[derive(Clone, Copy)]
 pub struct Shape<'a> {
     pub ctl_val: bool,
@@ -180,7 +180,7 @@ fn operate_of<'a>(parts: &[Data<'a>]) -> Option<(Shape<'a>, Dbpos)>
     }
 }
 
-/// What is cancelled, where data have the shape of a Cancel.
+/// Reads the control in data with the shape of a Cancel.
 #[tactic(auto, unfolding(crate::specs::Controls::cancel_as))]
 pub(crate) fn cancel_as<'a>(given: &Data<'a>) -> Option<Shape<'a>>
     ensures { option_map shaping result ≡ spec.cancel_as (datum_of given.now) }
@@ -188,7 +188,7 @@ pub(crate) fn cancel_as<'a>(given: &Data<'a>) -> Option<Shape<'a>>
     cancel_of(parts_as(given)?)
 }
 
-/// What is operated, with its checks, where data have the shape of an Oper.
+/// Reads the control and its checks in data with the shape of an Oper.
 #[tactic(auto, unfolding(crate::specs::Controls::operate_as))]
 pub(crate) fn operate_as<'a>(given: &Data<'a>) -> Option<(Shape<'a>, Dbpos)>
     ensures { option_map (λ found. record { control = shaping found.0; check = found.1 }) result

@@ -62,8 +62,8 @@ pub(crate) fn put_type(writer: &mut Writer, tree: &Tree, handle: Handle)
     }
 }
 
-/// The text of the data of a row (IEC 61850-8-1, the mapping of values to MMS data); TooLong where
-/// it has more octets than the size.
+/// Writes the data of a row (IEC 61850-8-1, the mapping of values to MMS data). `TooLong` if they
+/// have more than `size` octets.
 #[tactic(auto, using(bay_ber::proofs::SheetLemmas::message_put))]
 pub fn write_value(
     alloc: Global,
@@ -80,8 +80,8 @@ pub fn write_value(
     finish(writer)
 }
 
-/// The text of the type of a row (ISO 9506-2, TypeSpecification); TooLong where it has more octets
-/// than the size.
+/// Writes the type of a row (ISO 9506-2, TypeSpecification). `TooLong` if it has more than `size`
+/// octets.
 #[tactic(auto, using(bay_ber::proofs::SheetLemmas::message_put))]
 pub fn write_type(
     alloc: Global,

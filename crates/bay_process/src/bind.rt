@@ -15,7 +15,7 @@ use bay_config::bay::{Point, Source, Switch, SwitchPoint};
 use il_image::image::ImagePoint;
 use std::alloc::{AllocError, Global};
 
-/// Whether an image's point is this point of the bay.
+/// Returns whether a point of an image is this point of the bay.
 fn is_same(point: &ImagePoint, other: &Point) -> bool
     ensures { result ≡ is_image_point point.now other.now }
 {
@@ -24,7 +24,7 @@ fn is_same(point: &ImagePoint, other: &Point) -> bool
         && point.writable == other.writable
 }
 
-/// What an image's point stands for in the bay, if it is one of the bay's.
+/// Returns what a point of an image stands for in the bay, if the bay has it.
 fn source_of(bay: &[Point], point: &ImagePoint) -> Option<Source>
     ensures { result ≡ spec_sources.source_of bay.now point.now }
 {
@@ -32,8 +32,8 @@ fn source_of(bay: &[Point], point: &ImagePoint) -> Option<Source>
     Some(found.source)
 }
 
-/// What those of an image's points stand for that may be written, or those that may not, in their
-/// order.
+/// Returns what the points of an image stand for, in their order: the writable ones or, if
+/// `writable` is false, the others.
 pub fn sources_of(
     alloc: Global,
     writable: bool,
@@ -54,7 +54,7 @@ pub fn sources_of(
     Ok(sources)
 }
 
-/// Whether this is a point of the switch at a place.
+/// Returns whether a source is this point of the switch at an index.
 fn is_point(source: Source, switch: usize, point: SwitchPoint) -> bool
     ensures { result ≡ spec.is_point switch point source }
 {
@@ -67,7 +67,7 @@ fn is_point(source: Source, switch: usize, point: SwitchPoint) -> bool
     }
 }
 
-/// The place of a point of the switch at a place, if it is among these.
+/// Returns the place of a point of a switch among the sources, if it is there.
 fn output_place(writes: &[Source], switch: usize, point: SwitchPoint) -> Option<usize>
     ensures { result ≡ position (spec.is_point switch point) writes.now }
 {
@@ -76,8 +76,7 @@ fn output_place(writes: &[Source], switch: usize, point: SwitchPoint) -> Option<
         .position(|source| is_point(*source, switch, point))
 }
 
-/// The places of the interlocking values of the switch at a place, among the points that may be
-/// written.
+/// Returns the places of the interlocking values of a switch among the writable points.
 fn outputs_at(writes: &[Source], switch: usize) -> SwitchOutputs
     ensures { result ≡ spec_layout.outputs_at writes.now switch }
 {
@@ -87,7 +86,7 @@ fn outputs_at(writes: &[Source], switch: usize) -> SwitchOutputs
     }
 }
 
-/// The switches of a bay with their rows, and the places of their interlocking values.
+/// Binds the switches of a bay to their rows and to the places of their interlocking values.
 pub fn bind_switches(
     alloc: Global,
     switches: Vec<Switch>,
@@ -109,7 +108,7 @@ pub fn bind_switches(
     Ok(bound)
 }
 
-/// The value FALSE for each input.
+/// Returns the value FALSE for each input.
 pub fn falses(alloc: Global, inputs: &[Text]) -> Result<Truths, AllocError>
     ensures { IfOk result (λ values. values ≡ map (λ _. false) inputs.now) }
 {
@@ -120,7 +119,7 @@ pub fn falses(alloc: Global, inputs: &[Text]) -> Result<Truths, AllocError>
     Ok(Truths::new(values))
 }
 
-/// That no interlocking value was written yet, for each switch.
+/// Returns, for each switch, that no interlocking value was written yet.
 pub fn nothing_told(alloc: Global, switches: &[BoundSwitch]) -> Result<ToldValues, AllocError>
     ensures { IfOk result (λ told. told ≡ map (λ _. None) switches.now) }
 {

@@ -15,23 +15,23 @@ use bay_nodes::paths::{CANCEL, OPERATE, SELECT, SELECT_WITH_VALUE, SELECTED};
 use bay_tree::tree::{Handle, Tree};
 use std::alloc::{AllocError, Global};
 
-/// Where the rows of a switch's control stand: the one that tells whether the switch is selected,
-/// and those by which it is controlled, as many as its kind of control has.
+/// The handles of the rows of a switch's control: the row that says whether the switch is selected,
+/// and the rows that control it, as far as its kind of control has them.
 #[derive(Clone, Copy, Debug)]
 pub struct ControlRows {
     /// Whether the switch is selected: `stSeld`.
     pub selected: Handle,
-    /// By which it is selected: `SBO`.
+    /// Selects it: `SBO`.
     pub select: Option<Handle>,
-    /// By which it is selected with a value: `SBOw`.
+    /// Selects it with value: `SBOw`.
     pub select_with_value: Option<Handle>,
-    /// By which it is operated: `Oper`.
+    /// Operates it: `Oper`.
     pub operate: Option<Handle>,
-    /// By which its selection is given up: `Cancel`.
+    /// Cancels its selection: `Cancel`.
     pub cancel: Option<Handle>,
 }
 
-/// The handle of the row at a path from a node, if the tree has it.
+/// Returns the handle of the row at a path of a node, if the tree has it.
 fn handle_at(
     alloc: Global,
     tree: &Tree,
@@ -47,7 +47,7 @@ fn handle_at(
     }
 }
 
-/// The handle of the row that tells whether the switch of a control is selected.
+/// Returns the handle of the row that says whether the switch of a control is selected.
 fn selected_at(alloc: Global, tree: &Tree, node: &str) -> Result<Handle, AllocError>
     requires { HasLeaf tree.now (control_names_of node.now).selected leaf_type.Truth }
     ensures { IfOk result (λ handle. place_of tree.now (control_names_of node.now).selected
@@ -59,7 +59,7 @@ fn selected_at(alloc: Global, tree: &Tree, node: &str) -> Result<Handle, AllocEr
     }
 }
 
-/// The rows of the controls of so many switches, in their order.
+/// Returns the rows of the controls of `count` switches, in their order.
 pub fn control_rows(
     alloc: Global,
     tree: &Tree,
@@ -89,8 +89,8 @@ pub fn control_rows(
     Ok(controls)
 }
 
-/// The rows of a control stay where they are with each new value of a row. Does nothing; its
-/// contract is the law.
+/// The rows of a control stay in place when the value of a row changes. Does nothing; its contract
+/// is the law.
 pub fn control_rows_stay()
     ensures { (before after : List Row) (names : ControlNames) (handles : declared.ControlRows)
         → layout_of before ≡ layout_of after → AreControlRows before names handles

@@ -12,7 +12,7 @@ use bay_config::bay::MeterField;
 use bay_tree::leaf::{Leaf, Quality};
 use bay_tree::tree::{Handle, Tree};
 
-/// Where the measured values of a meter stand.
+/// The handles of the measured values of a meter.
 #[derive(Clone, Copy, Debug)]
 pub struct MeterRows {
     pub tot_w: StatusRows,
@@ -23,16 +23,16 @@ pub struct MeterRows {
     pub phase_c: StatusRows,
 }
 
-/// A meter of the bay, and where its values stand in the tree.
+/// A meter of the bay, with the handles of its values in the tree.
 #[derive(Drop)]
 pub struct BoundMeter {
-    /// Its id as the bay file spells it.
+    /// Its id as it is spelled in the bay file.
     pub id: Text,
     pub rows: MeterRows,
 }
 
 impl MeterRows {
-    /// Where the value of a field stands.
+    /// Returns the rows of a field.
     pub fn field(self, field: MeterField) -> StatusRows
         ensures { result ≡ field_rows self field }
     {
@@ -47,7 +47,7 @@ impl MeterRows {
     }
 }
 
-/// Whether a number stands there.
+/// Returns whether a row holds this number.
 fn is_number(tree: &Tree, handle: Handle, number: i32) -> bool
     requires { HasLeafType (layout_of tree.now) handle leaf_type.Int32 }
     ensures { result ≡ spec.is_number number
@@ -56,7 +56,7 @@ fn is_number(tree: &Tree, handle: Handle, number: i32) -> bool
     number == count_at(tree, handle)
 }
 
-/// Takes a measured value, and answers whether that changed it or its quality.
+/// Takes a measured value. Returns whether the value or its quality changed.
 pub fn take_measure(tree: &mut Tree, rows: StatusRows, value: i32, now: u64) -> bool
     requires { AreStatusRows (layout_of tree.old) leaf_type.Int32 rows }
     ensures changed { result

@@ -13,7 +13,7 @@ use bay_nodes::paths::{ACTIVE_POWER, FREQUENCY, PHASE_A, PHASE_B, PHASE_C, REACT
 use bay_tree::tree::Tree;
 use std::alloc::{AllocError, Global};
 
-/// The names of the nodes of each meter (IEC 61850-7-4, MMXU), in the order of the meters.
+/// Returns the names of the nodes of the meters (IEC 61850-7-4, MMXU), in the order of the meters.
 pub fn all_meter_nodes(alloc: Global, bay: &Bay) -> Result<Vec<Text>, AllocError>
     ensures sized { IfOk result (λ nodes. length nodes.items ≡ length bay.now.meters) }
     ensures named { IfOk result (λ nodes. AreAllMeters bay.now nodes.items) }
@@ -26,7 +26,7 @@ pub fn all_meter_nodes(alloc: Global, bay: &Bay) -> Result<Vec<Text>, AllocError
     Ok(all)
 }
 
-/// The rows of the meter with this node.
+/// Returns the rows of the meter with this node.
 fn meter_rows(alloc: Global, tree: &Tree, node: &str) -> Result<MeterRows, AllocError>
     requires { HasMeterLeaves tree.now (meter_names_of node.now) }
     ensures { IfOk result (AreMeterRowsOf (layout_of tree.now) (meter_names_of node.now)) }
@@ -47,7 +47,7 @@ fn meter_rows(alloc: Global, tree: &Tree, node: &str) -> Result<MeterRows, Alloc
     })
 }
 
-/// The meters with their rows.
+/// Binds the meters to their rows.
 pub fn bind_meters(
     alloc: Global,
     tree: &Tree,

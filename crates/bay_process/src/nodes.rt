@@ -24,7 +24,7 @@ pub struct Nodes {
     pub interlocking: Text,
 }
 
-/// The names of the nodes of the switch at a place.
+/// Returns the names of the nodes of the switch at an index.
 fn nodes_at(alloc: Global, bay: &Bay, place: usize) -> Result<Nodes, AllocError>
     requires { place < length bay.now.switches }
     ensures { IfOk result (AreNodesOf bay.now place) }
@@ -39,7 +39,7 @@ fn nodes_at(alloc: Global, bay: &Bay, place: usize) -> Result<Nodes, AllocError>
     })
 }
 
-/// The names of the nodes of each switch, in the order of the switches.
+/// Returns the names of the nodes of the switches, in the order of the switches.
 pub fn all_nodes(alloc: Global, bay: &Bay) -> Result<Vec<Nodes>, AllocError>
     ensures sized { IfOk result (λ nodes. length nodes.items ≡ length bay.now.switches) }
     ensures named { IfOk result (λ nodes. AreAllNodes bay.now nodes.items) }
@@ -52,7 +52,7 @@ pub fn all_nodes(alloc: Global, bay: &Bay) -> Result<Vec<Nodes>, AllocError>
     Ok(all)
 }
 
-/// The handle of the row with this name, which has a value.
+/// Returns the handle of the row with this name, which must have a value.
 fn handle_of(tree: &Tree, name: &str) -> Handle
     requires { leaf_of name.now tree.now ≢ None }
     ensures { IsFound tree.now name.now result }
@@ -63,7 +63,7 @@ fn handle_of(tree: &Tree, name: &str) -> Handle
     }
 }
 
-/// The handle of the row at a path from a node, which has a value.
+/// Returns the handle of the row at a path of a node, which must have a value.
 fn handle_at(alloc: Global, tree: &Tree, node: &str, path: &str) -> Result<Handle, AllocError>
     requires { leaf_of (node.now ++ path.now) tree.now ≢ None }
     ensures { IfOk result (IsFound tree.now (node.now ++ path.now)) }
@@ -72,7 +72,7 @@ fn handle_at(alloc: Global, tree: &Tree, node: &str, path: &str) -> Result<Handl
     Ok(handle_of(tree, name.as_str()))
 }
 
-/// The rows of a value at its paths from a node: the value, its quality and its moment.
+/// Returns the rows at the paths of a node: the value, its quality and its time stamp.
 pub fn status_rows(
     alloc: Global,
     tree: &Tree,
@@ -92,7 +92,7 @@ pub fn status_rows(
     })
 }
 
-/// The rows of a switch: those of its node, of its control and of its interlocking.
+/// Returns the rows of a switch: those of its node, of its control and of its interlocking.
 fn switch_rows(alloc: Global, tree: &Tree, nodes: &Nodes) -> Result<SwitchRows, AllocError>
     requires { HasSwitch tree.now (nodes_names nodes.now) }
     ensures { IfOk result (AreRowsOf (layout_of tree.now) (nodes_names nodes.now)) }
@@ -114,7 +114,7 @@ fn switch_rows(alloc: Global, tree: &Tree, nodes: &Nodes) -> Result<SwitchRows, 
     })
 }
 
-/// The rows of each switch, in the order of the switches.
+/// Returns the rows of the switches, in the order of the switches.
 pub fn all_switch_rows(
     alloc: Global,
     tree: &Tree,

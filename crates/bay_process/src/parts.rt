@@ -24,13 +24,13 @@ use std::alloc::{AllocError, Global};
 #[derive(Drop)]
 pub struct WiredMachine {
     pub machine: Machine,
-    /// What the points stand for that the program only reads, and those that it may write, in the
-    /// order of its points.
+    /// What the read-only points stand for, in the order of the points; `writes` is the same for
+    /// the writable ones.
     pub reads: Vec<Source>,
     pub writes: Vec<Source>,
 }
 
-/// A machine with a verified image, before its first scan.
+/// Creates a machine with a verified image, before its first scan.
 fn machine_of(alloc: Global, verified: Verified) -> Result<Machine, AllocError>
     ensures { IfOk result (λ machine. machine ≡ held_first verified) }
 {
@@ -40,7 +40,7 @@ fn machine_of(alloc: Global, verified: Verified) -> Result<Machine, AllocError>
     }
 }
 
-/// A machine with a verified image, before its first scan, on the points of a bay.
+/// Creates a machine with a verified image, before its first scan, on the points of a bay.
 pub fn wired_machine(
     alloc: Global,
     bay: &[Point],
@@ -59,14 +59,14 @@ pub fn wired_machine(
     })
 }
 
-/// The names of the nodes of a bay's switches and meters, in their orders.
+/// The names of the nodes of a bay's switches and meters, each in their order.
 #[derive(Drop)]
 pub struct NodeNames {
     pub switches: Vec<Nodes>,
     pub meters: Vec<Text>,
 }
 
-/// The names of the nodes of a bay's switches and meters.
+/// Returns the names of the nodes of a bay's switches and meters.
 pub fn node_names(alloc: Global, bay: &Bay) -> Result<NodeNames, AllocError>
     ensures switches_sized { IfOk result
         (λ nodes. length nodes.switches.items ≡ length bay.now.switches) }
@@ -80,17 +80,17 @@ pub fn node_names(alloc: Global, bay: &Bay) -> Result<NodeNames, AllocError>
     Ok(NodeNames { switches, meters })
 }
 
-/// The tree of a bay's rows, and where its switches and meters stand in it.
+/// The tree of a bay's rows, with its switches and meters bound to it.
 #[derive(Drop)]
 pub struct BoundRows {
     pub tree: Tree,
     pub switches: Vec<BoundSwitch>,
     pub meters: Vec<BoundMeter>,
-    /// That no interlocking value was written yet.
+    /// States that no interlocking value was written yet.
     pub told: ToldValues,
 }
 
-/// The switches of a bay with their rows, which their nodes name, and the places of their
+/// Binds the switches of a bay to the rows that their nodes name, and to the places of their
 /// interlocking values.
 fn bound_switches(
     alloc: Global,
@@ -109,7 +109,8 @@ fn bound_switches(
     Ok(bound)
 }
 
-/// The tree of a bay's rows, and its switches and meters with the rows that their nodes name.
+/// Builds the tree of a bay's rows, and binds its switches and meters to the rows that their nodes
+/// name.
 pub fn bound_rows(
     alloc: Global,
     rows: Vec<Row>,

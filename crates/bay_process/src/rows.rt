@@ -11,7 +11,7 @@ ghost use Rattle.bay_process.specs.Layout.{layout_of, name_in, status_in, HasLea
 use bay_tree::leaf::{Dbpos, Leaf, Quality};
 use bay_tree::tree::{Handle, Tree};
 
-/// Where a value, its quality and its moment stand.
+/// The handles of a value, its quality and its time stamp.
 #[derive(Clone, Copy, Debug)]
 pub struct StatusRows {
     pub value: Handle,
@@ -19,12 +19,12 @@ pub struct StatusRows {
     pub time: Handle,
 }
 
-/// Where the values of a switch stand that a step writes.
+/// The handles of the values of a switch that a step writes.
 #[derive(Clone, Copy, Debug)]
 pub struct SwitchRows {
     /// Its position: `Pos` of its XCBR or XSWI.
     pub position: StatusRows,
-    /// Its position as its control repeats it: `Pos` of its CSWI.
+    /// The same position in its control: `Pos` of its CSWI.
     pub control: StatusRows,
     /// How often it reached an end position: `OpCnt`.
     pub operations: StatusRows,
@@ -34,7 +34,7 @@ pub struct SwitchRows {
     pub ena_cls: StatusRows,
 }
 
-/// Writes a value of the type that stands there.
+/// Writes a value, which must have the type of the row.
 #[inline(always)]
 pub fn put(tree: &mut Tree, handle: Handle, leaf: Leaf)
     requires { HasLeafType (layout_of tree.old) handle (leaf_type_of leaf) }
@@ -47,7 +47,7 @@ pub fn put(tree: &mut Tree, handle: Handle, leaf: Leaf)
     }
 }
 
-/// Writes a value, its quality and its moment.
+/// Writes a value, its quality and its time stamp.
 #[inline(always)]
 pub fn put_status(tree: &mut Tree, rows: StatusRows, value: Leaf, quality: Quality, now: u64)
     requires { AreStatusRows (layout_of tree.old) (leaf_type_of value) rows }
@@ -60,7 +60,7 @@ pub fn put_status(tree: &mut Tree, rows: StatusRows, value: Leaf, quality: Quali
     put(tree, rows.time, Leaf::Utc(now));
 }
 
-/// The position that stands there.
+/// Returns the position that a row holds.
 pub fn position_at(tree: &Tree, handle: Handle) -> Dbpos
     requires { HasLeafType (layout_of tree.now) handle leaf_type.Dbpos }
     ensures { leaf_of (name_in (layout_of tree.now) handle) tree.now ≡ Some (leaves.Dbpos result) }
@@ -94,7 +94,7 @@ fn truth_at(tree: &Tree, handle: Handle) -> bool
     }
 }
 
-/// The number that stands there.
+/// Returns the number that a row holds.
 pub fn count_at(tree: &Tree, handle: Handle) -> i32
     requires { HasLeafType (layout_of tree.now) handle leaf_type.Int32 }
     ensures { leaf_of (name_in (layout_of tree.now) handle) tree.now ≡ Some (leaves.Int32 result) }
@@ -105,7 +105,7 @@ pub fn count_at(tree: &Tree, handle: Handle) -> i32
     }
 }
 
-/// Whether a position stands there.
+/// Returns whether a row holds this position.
 pub fn is_position(tree: &Tree, handle: Handle, position: Dbpos) -> bool
     requires { HasLeafType (layout_of tree.now) handle leaf_type.Dbpos }
     ensures { result ≡ spec.is_position position
@@ -114,7 +114,7 @@ pub fn is_position(tree: &Tree, handle: Handle, position: Dbpos) -> bool
     position == position_at(tree, handle)
 }
 
-/// Whether a quality stands there.
+/// Returns whether a row holds this quality.
 pub fn is_quality(tree: &Tree, handle: Handle, quality: Quality) -> bool
     requires { HasLeafType (layout_of tree.now) handle leaf_type.Quality }
     ensures value { result ≡ spec.is_quality quality
@@ -124,7 +124,7 @@ pub fn is_quality(tree: &Tree, handle: Handle, quality: Quality) -> bool
     quality == quality_at(tree, handle)
 }
 
-/// Whether a truth value stands there.
+/// Returns whether a row holds this truth value.
 pub fn is_truth(tree: &Tree, handle: Handle, value: bool) -> bool
     requires { HasLeafType (layout_of tree.now) handle leaf_type.Truth }
     ensures value { result ≡ spec.is_truth value

@@ -2,22 +2,23 @@
 use crate::rows::SwitchRows;
 use bay_config::bay::Switch;
 
-/// Where the interlocking values of a switch stand among the outputs of a scan, if the program
-/// names their points.
+/// The places of a switch's interlocking values among the outputs of a scan, if the program names
+/// their points.
 #[derive(Clone, Copy, Debug)]
 pub struct SwitchOutputs {
     pub ena_opn: Option<usize>,
     pub ena_cls: Option<usize>,
 }
 
-/// Whether a switch may be opened, and closed (IEC 61850-7-4, CILO: EnaOpn and EnaCls).
+/// Whether a switch may be opened and closed (IEC 61850-7-4, CILO: EnaOpn and EnaCls).
 #[derive(Clone, Copy)]
 pub struct Enabled {
     pub may_open: bool,
     pub may_close: bool,
 }
 
-/// A switch, where its values stand in the tree, and where a scan leaves its interlocking values.
+/// A switch, with the handles of its values in the tree, and the places where a scan leaves its
+/// interlocking values.
 #[derive(Drop)]
 pub struct BoundSwitch {
     pub switch: Switch,

@@ -21,28 +21,28 @@ impl Model for Truths {
 }
 
 impl Truths {
-    /// These values. It takes no memory.
+    /// Holds these values. Does not allocate.
     pub fn new(values: Vec<bool>) -> Self
         ensures { result ≡ values.items }
     {
         Truths { values }
     }
 
-    /// How many there are.
+    /// Returns the number of values.
     pub fn count(&self) -> usize
         ensures { result ≡ length self.now }
     {
         self.values.len()
     }
 
-    /// The value at a place, if there is one.
+    /// Returns the value at an index, if there is one.
     pub fn get(&self, place: usize) -> Option<bool>
         ensures { result ≡ slice_get self.now place }
     {
         self.values.as_slice().get(place).copied()
     }
 
-    /// Gives a place a new value.
+    /// Sets the value at an index.
     pub fn set(&mut self, place: usize, value: bool)
         requires { place < length self.old }
         ensures { self.new ≡ slice_set self.old place value }
@@ -51,7 +51,7 @@ impl Truths {
     }
 }
 
-/// The interlocking values of the switches as the last scan wrote them; nothing before the first
+/// The interlocking values of the switches as the last scan wrote them; `None` before the first
 /// scan.
 #[derive(Drop)]
 pub struct ToldValues {
@@ -68,14 +68,14 @@ impl Model for ToldValues {
 }
 
 impl ToldValues {
-    /// These values. It takes no memory.
+    /// Holds these values. Does not allocate.
     pub fn new(values: Vec<Option<Enabled>>) -> Self
         ensures { result ≡ values.items }
     {
         ToldValues { values }
     }
 
-    /// What was written of the switch at a place, if anything was.
+    /// Returns what was written for the switch at an index, if anything was.
     pub fn get(&self, place: usize) -> Option<Enabled>
         requires { place < length self.now }
         ensures { result ≡ told_at self.now place }
@@ -83,7 +83,7 @@ impl ToldValues {
         self.values[place]
     }
 
-    /// Keeps what was written of the switch at a place.
+    /// Records what was written for the switch at an index.
     pub fn set(&mut self, place: usize, enabled: Enabled)
         requires { place < length self.old }
         ensures { self.new ≡ slice_set self.old place (Some enabled) }
