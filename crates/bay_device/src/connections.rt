@@ -7,8 +7,8 @@ use crate::event::ASSOCIATIONS;
 use bay_connection::connection::Connection;
 use std::marker::Model;
 
-/// The connections of the associations that are open, which contracts see as what the octets of
-/// each have left. Octets are taken of each.
+/// The connections of the open associations. All of them take octets. Contracts see them as what
+/// the octets of each have left.
 #[derive(Drop)]
 pub struct Connections {
     places: [Option<Connection>; ASSOCIATIONS],
@@ -26,7 +26,7 @@ impl Model for Connections {
     ghost invariant = { λ c. AreEight (talks c.places) };
 }
 
-/// The lowest place at which there is no connection.
+/// Returns the lowest place without a connection.
 fn free_place_in(places: &[Option<Connection>; ASSOCIATIONS]) -> Option<usize>
     ensures lowest { result ≡ position is_none places.now }
     ensures within { IfSome result (λ place. place < 8) }
@@ -34,7 +34,7 @@ fn free_place_in(places: &[Option<Connection>; ASSOCIATIONS]) -> Option<usize>
     places.iter().position(|place| place.is_none())
 }
 
-/// Takes the connection at a place out.
+/// Removes and returns the connection at a place.
 fn take_at(places: &mut [Option<Connection>; ASSOCIATIONS], place: usize) -> Option<Connection>
     requires { place < 8 }
     ensures value { result ≡ slice_index_or places.old place None }
@@ -43,7 +43,7 @@ fn take_at(places: &mut [Option<Connection>; ASSOCIATIONS], place: usize) -> Opt
     places[place].take()
 }
 
-/// Puts a connection at a place, or none.
+/// Puts a connection, or none, at a place.
 fn put_at(
     places: &mut [Option<Connection>; ASSOCIATIONS],
     place: usize,
@@ -56,7 +56,7 @@ fn put_at(
 }
 
 impl Connections {
-    /// No association is open.
+    /// Creates the connections with no association open.
     pub fn new() -> Self
         ensures { result ≡ replicate 8 None }
     {
@@ -65,14 +65,14 @@ impl Connections {
         }
     }
 
-    /// There is a place for each of the eight. It does nothing: its callers learn this.
+    /// States that there are eight places. Does nothing; its callers learn this from its contract.
     pub fn are_eight(&self)
         ensures { length self.now ≡ 8 }
     {
         let _ = &self.places;
     }
 
-    /// Whether the association at a place is open.
+    /// Returns whether the association at a place is open.
     pub fn is_open(&self, place: usize) -> bool
         requires { place < 8 }
         ensures { result ≡ is_some (unwrap_or (slice_get self.now place) None) }
@@ -80,7 +80,7 @@ impl Connections {
         self.places[place].is_some()
     }
 
-    /// The lowest place at which no association is open.
+    /// Returns the lowest place at which no association is open.
     pub fn free_place(&self) -> Option<usize>
         ensures lowest { result ≡ position is_none self.now }
         ensures within { IfSome result (λ place. place < 8) }
@@ -88,7 +88,7 @@ impl Connections {
         free_place_in(&self.places)
     }
 
-    /// Takes the connection at a place out, which is not open then.
+    /// Removes and returns the connection at a place, which is then not open.
     pub fn take(&mut self, place: usize) -> Option<Connection>
         requires { place < 8 }
         ensures value { talk_in result ≡ unwrap_or (slice_get self.old place) None }
@@ -98,7 +98,7 @@ impl Connections {
         take_at(&mut self.places, place)
     }
 
-    /// Puts a connection at a place, or none.
+    /// Puts a connection, or none, at a place.
     pub fn put(&mut self, place: usize, connection: Option<Connection>)
         requires within { place < 8 }
         requires going { IfSome connection (λ c. IsGoing c.talk.stream.left) }

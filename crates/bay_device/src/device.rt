@@ -40,10 +40,10 @@ use il_image::encode::encode;
 use std::alloc::{AllocError, Global};
 use std::marker::Model;
 
-/// A device, which contracts see as its state: what the bay file says, the rows of its tree, the
+/// A device. Contracts see it as its state: what the bay file says, the rows of its tree, the
 /// values of its inputs, the machine with its program, its controls, the moments of the last event
 /// and the last scan, and what the octets of its clients have left. Its two parts are in boxes, so
-/// that a device is let go in two calls.
+/// that a device is dropped in two calls.
 #[derive(Drop)]
 pub struct Device {
     alloc: Global,
@@ -74,7 +74,7 @@ fn closed_by(association: u16, why: Option<Why>) -> Option<(u16, Why)>
 }
 
 impl Device {
-    /// The device of a state, without clients.
+    /// Makes the device of a state, without clients.
     pub(crate) fn of_state(alloc: Global, state: Box<DeviceState>) -> Result<Self, AllocError>
         ensures { IfOk result (λ device. device ≡ state_view (replicate 8 None) state.value) }
     {
@@ -86,14 +86,14 @@ impl Device {
         })
     }
 
-    /// The size of the program, and what a scan takes at most. It goes over the code once.
+    /// Returns the size of the program and the most that a scan takes. Walks the code once.
     pub fn report(&self) -> Report
         ensures { IsReport self.now.machine.image result }
     {
         report_of(self.state.machine.verified())
     }
 
-    /// The octets of the program's image, in version 2 of the format.
+    /// Returns the octets of the program's image, in version 2 of the format.
     pub fn image(&self) -> Result<Vec<u8>, AllocError>
         ensures { IfOk result (λ octets. octets.items ≡ image_octets Two self.now.machine.image) }
     {
@@ -309,13 +309,14 @@ impl Device {
         }
     }
 
-    /// Does one event, at a moment in milliseconds since 1970. A refused event changes nothing.
-    /// Want of memory closes the association whose octets came, and changes nothing else: the PDUs
-    /// before it stand, and the one that it comes in does nothing.
+    /// Handles one event at a moment in milliseconds since 1970. A refused event changes nothing.
+    /// If an allocation fails, the association whose octets came is closed and nothing else
+    /// changes: the PDUs before the failure stand, and the PDU in which it occurs has no effect.
     ///
-    /// The first of these refuses: the moment is too large, 114; it is before the last event's,
-    /// 110; the association's number is not 1 to 8, or it is not open, 111; it is open, 112; there
-    /// is no such switch, input or meter, 113.
+    /// The first of these refuses: the moment is too large, 114; it is before that of the last
+    /// event, 110; the number of the association is not 1 to 8, or the association is not open,
+    /// 111; the association to open is already open, 112; there is no such switch, input or meter,
+    /// 113.
     pub fn step(&mut self, now: u64, event: Event<'_>) -> Result<Step, StepFault>
         // There is a choice with which the answer and the device are the outcome;
         ensures steps { Steps now event.entry self.old result self.new }
@@ -354,8 +355,8 @@ impl Device {
         self.do_event(now, event)
     }
 
-    /// Does a list of events, one after the other, and keeps each answer. Where there is no room
-    /// for the answers, no event is done.
+    /// Handles a list of events in order and returns their answers. If an allocation for the
+    /// answers fails, no event is handled.
     pub fn run(
         &mut self,
         events: &[(u64, Event<'_>)],
@@ -405,14 +406,14 @@ impl Device {
         Ok(answers)
     }
 
-    /// The moment of the last accepted event, in milliseconds since 1970; 0 before the first.
+    /// Returns the time of the last accepted event, in milliseconds since 1970; 0 before the first.
     pub fn moment(&self) -> u64
         ensures { result ≡ self.now.moment }
     {
         self.state.moment
     }
 
-    /// Whether the association with this number is open.
+    /// Returns whether the association with this number is open.
     pub fn is_open(&self, association: u16) -> bool
         ensures { result ≡ is_some (connection_at (spec.place_of association) self.now) }
     {
@@ -422,7 +423,7 @@ impl Device {
         }
     }
 
-    /// The lowest number of an association that is not open.
+    /// Returns the lowest number of an association that is not open.
     pub fn free_association(&self) -> Option<u16>
         ensures lowest { result
             ≡ option_map (λ place. place + 1) (position is_none self.now.connections) }
@@ -432,49 +433,49 @@ impl Device {
         Some(place as u16 + 1)
     }
 
-    /// How many switches the bay has.
+    /// Returns the number of switches in the bay.
     pub fn switch_count(&self) -> usize
         ensures { result ≡ length self.now.switches }
     {
         self.state.bay.switches.as_slice().len()
     }
 
-    /// The place of the switch with this id, whatever the case of its letters.
+    /// Returns the index of the switch with this id, ignoring the case of its letters.
     pub fn switch(&self, id: &str) -> Option<usize>
         ensures { result ≡ switch_place self.now id.now }
     {
         self.state.switch(id)
     }
 
-    /// How many inputs the bay has.
+    /// Returns the number of inputs in the bay.
     pub fn input_count(&self) -> usize
         ensures { result ≡ length self.now.input_values }
     {
         self.state.input_values.count()
     }
 
-    /// The place of the input with this name, whatever the case of its letters.
+    /// Returns the index of the input with this name, ignoring the case of its letters.
     pub fn input(&self, name: &str) -> Option<usize>
         ensures { result ≡ input_place self.now name.now }
     {
         self.state.input_place(name)
     }
 
-    /// How many meters the bay has.
+    /// Returns the number of meters in the bay.
     pub fn meter_count(&self) -> usize
         ensures { result ≡ length self.now.meters }
     {
         self.state.meters.as_slice().len()
     }
 
-    /// The place of the meter with this id, whatever the case of its letters.
+    /// Returns the index of the meter with this id, ignoring the case of its letters.
     pub fn meter(&self, id: &str) -> Option<usize>
         ensures { result ≡ meter_place self.now id.now }
     {
         self.state.meter_place(id)
     }
 
-    /// The id of the switch at a place, as the bay file spells it.
+    /// Returns the id of the switch at an index, as it is spelled in the bay file.
     pub fn id(&self, switch: usize) -> Option<&str>
         ensures { option_map (λ id. id.now) result
             ≡ option_map (λ s. s.id) (slice_get self.now.switches switch) }
@@ -482,15 +483,15 @@ impl Device {
         self.state.id(switch)
     }
 
-    /// Whether the switch at a place may be opened, and whether it may be closed (IEC 61850-7-4,
-    /// CILO).
+    /// Returns whether the switch at an index may be opened, and whether it may be closed (IEC
+    /// 61850-7-4, CILO).
     pub fn ena(&self, switch: usize) -> Option<(bool, bool)>
         ensures { result ≡ enabled_of self.now switch }
     {
         self.state.ena(switch)
     }
 
-    /// The tree of the device's values, to read.
+    /// Returns the tree of the device's values, for reading.
     pub fn tree(&self) -> &Tree
         ensures { result.now ≡ self.now.rows }
     {

@@ -7,19 +7,19 @@ ghost use Rattle.bay_device.specs.Outcomes.{due_without};
 use crate::event::Sent;
 use bay_ber::outgoing::Outgoing;
 
-/// The octets that tell the client of an association of the end of what is operating; each is left
-/// out where its PDU has more octets than are agreed.
+/// The octets that report to the client of an association the end of what is operating. Each is
+/// left out if its PDU has more octets than agreed.
 #[derive(Drop)]
 pub struct Due {
     /// The number of the association that operates.
     pub association: u16,
     /// The switch has reached its position.
     pub positive: Option<Outgoing>,
-    /// It has not reached it in time.
+    /// It has not reached its position in time.
     pub negative: Option<Outgoing>,
 }
 
-/// What is sent to an association, if it is anything.
+/// Returns what is sent to an association, if there are octets.
 fn sent_to(association: u16, octets: Option<Outgoing>) -> Option<Sent>
     ensures { result ≡ spec.sent_to association octets }
 {
@@ -32,7 +32,7 @@ fn sent_to(association: u16, octets: Option<Outgoing>) -> Option<Sent>
     }
 }
 
-/// Tells that the switch has reached its position. Nothing is due then.
+/// Reports that the switch has reached its position. Nothing is due afterwards.
 pub fn reached(due: &mut Option<Due>) -> Option<Sent>
     ensures sent { result ≡ spec.reached_report due.old }
     ensures none { due.new ≡ None }
@@ -43,7 +43,7 @@ pub fn reached(due: &mut Option<Due>) -> Option<Sent>
     }
 }
 
-/// Tells that it has not reached it in time. Nothing is due then.
+/// Reports that the switch has not reached its position in time. Nothing is due afterwards.
 pub fn missed(due: &mut Option<Due>) -> Option<Sent>
     ensures sent { result ≡ spec.missed_report due.old }
     ensures none { due.new ≡ None }
@@ -54,7 +54,7 @@ pub fn missed(due: &mut Option<Due>) -> Option<Sent>
     }
 }
 
-/// Forgets what was due to an association, which is closed.
+/// Forgets what was due to a closed association.
 pub fn forget(due: &mut Option<Due>, association: u16)
     ensures { due.new ≡ due_without association due.old }
 {

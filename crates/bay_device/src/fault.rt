@@ -13,14 +13,14 @@ use il_verify::fault::VerifyFault;
 use std::alloc::{AllocError, AllocFailed};
 use thiserror::Error;
 
-/// Why a bay and a program or an image are not loaded.
+/// Why loading a bay with a program or an image failed.
 #[derive(Clone, Copy, Debug, PartialEq, Eq, Error)]
 pub enum LoadFault {
     /// The number of the fault, and for a fault of the program (60 to 79) its line, counted from 1;
-    /// else 0.
+    /// otherwise line 0.
     #[error("fault {code} at line {line}")]
     Refused { code: u8, line: usize },
-    /// There is not enough memory.
+    /// Out of memory.
     #[error("out of memory")]
     OutOfMemory,
 }
@@ -113,19 +113,20 @@ impl<T: Drop> From<AllocFailed<T>> for LoadFault {
     }
 }
 
-/// Why an event is refused. Nothing is changed.
+/// Why an event is refused. A refused event changes nothing.
 #[derive(Clone, Copy, Debug, PartialEq, Eq, Error)]
 pub enum StepFault {
-    /// The moment is past the last that a time stamp can tell.
+    /// The moment is later than a time stamp can hold.
     #[error("the moment is too large")]
     MomentTooLarge,
-    /// The moment is before the last event's.
+    /// The moment is before that of the last event.
     #[error("the moment is before the last event's")]
     TimeWentBack,
-    /// The association's number is not 1 to 8, or octets or an end come of one that is not open.
+    /// The number of the association is not 1 to 8, or octets or a close arrive for one that is not
+    /// open.
     #[error("there is no such association")]
     NoSuchAssociation,
-    /// The association that is to be opened is open.
+    /// The association to open is already open.
     #[error("the association is already open")]
     AlreadyOpen,
     /// There is no such switch, input or meter.
@@ -134,8 +135,8 @@ pub enum StepFault {
 }
 
 impl StepFault {
-    /// The fault's number: 114 moment too large, 110 time went back, 111 no such association, 112
-    /// already open, 113 no such point.
+    /// Returns the number of the fault: 114 moment too large, 110 time went back, 111 no such
+    /// association, 112 already open, 113 no such point.
     pub fn code(self) -> u8
         ensures { result ≡ step_code_of self }
     {

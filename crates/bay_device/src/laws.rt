@@ -3,8 +3,8 @@ ghost use Rattle.std.specs.Prelude.{◌≡◌};
 ghost use Rattle.bay_device.specs.Device.{State, inputs_of};
 ghost use Rattle.bay_device.specs.Fresh.{IsSameProcess};
 
-/// Where the process tells the same, each program of the bay reads the same: no contact, no input
-/// and no measure is left out.
+/// If the process is the same, each program of the bay reads the same. No contact, no input and no
+/// measured value is left out.
 pub fn programs_read_the_process()
     ensures { (s t : State) → t.switches ≡ s.switches → t.meters ≡ s.meters → t.reads ≡ s.reads
         → IsSameProcess s t → inputs_of t ≡ inputs_of s }

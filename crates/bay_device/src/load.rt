@@ -58,7 +58,8 @@ use il_verify::verify::{Verified, verify};
 use std::alloc::{AllocError, Global};
 use std::mem::replace;
 
-/// Where the controls of so many switches stand in a tree, which then shows that none is selected.
+/// Returns the rows of the controls of `count` switches in a tree, and makes the tree show that
+/// none is selected.
 fn shown_rows(
     alloc: Global,
     tree: &mut Tree,
@@ -75,7 +76,7 @@ fn shown_rows(
     Ok(Listing::new(rows))
 }
 
-/// A bay as its clients see it, and what else a device's state takes from its bay.
+/// A bay as its clients see it, and what else the state of a device takes from its bay.
 #[derive(Drop)]
 pub struct BoundBay {
     pub bay: ServedBay,
@@ -85,7 +86,7 @@ pub struct BoundBay {
     pub told: ToldValues,
 }
 
-/// Takes the items of a list out, which has none then. It takes no memory.
+/// Takes the items out of a list, which is empty afterwards. Does not allocate.
 fn take_items<T>(alloc: Global, list: &mut Listing<T>) -> Vec<T>
     ensures value { result.items ≡ list.old }
     ensures after { list.new ≡ [] }
@@ -93,7 +94,7 @@ fn take_items<T>(alloc: Global, list: &mut Listing<T>) -> Vec<T>
     replace(list, Listing::new(Vec::new(alloc))).into_vec()
 }
 
-/// A bay with nothing selected, whose switches and meters are bound to the rows of its tree.
+/// Makes a bay with nothing selected, whose switches and meters are bound to the rows of its tree.
 fn bound_bay(alloc: Global, mut bay: Box<Bay>, writes: &[Source]) -> Result<BoundBay, AllocError>
     requires { IsBay bay.value }
     ensures { IfOk result (IsBoundBay bay.value writes.now) }
@@ -133,7 +134,7 @@ fn bound_bay(alloc: Global, mut bay: Box<Bay>, writes: &[Source]) -> Result<Boun
     })
 }
 
-/// The state of a device of a bay and a verified image, before its first event.
+/// Makes the state of a device from a bay and a verified image, before its first event.
 fn state_of(
     alloc: Global,
     bay: Box<Bay>,
@@ -174,7 +175,7 @@ fn state_of(
     Ok(state)
 }
 
-/// The device of a bay and a verified image.
+/// Makes the device from a bay and a verified image.
 fn device_of(alloc: Global, bay: Box<Bay>, verified: Verified) -> Result<Device, AllocError>
     requires bay { IsBay bay.value }
     requires verified { IsVerified bay.value.points verified }
@@ -184,7 +185,7 @@ fn device_of(alloc: Global, bay: Box<Bay>, verified: Verified) -> Result<Device,
     Device::of_state(alloc, state)
 }
 
-/// The image, verified for these points.
+/// Verifies the image for these points.
 fn verified_for(alloc: Global, image: Image, points: &[Point]) -> Result<Verified, LoadFault>
     ensures same { IfOk result (λ verified. verified ≡ image) }
     ensures accepted { IfOk result (λ verified. IsVerified points.now image) }
@@ -199,7 +200,7 @@ fn verified_for(alloc: Global, image: Image, points: &[Point]) -> Result<Verifie
     }
 }
 
-/// The device of a bay and a checked program.
+/// Makes the device from a bay and a checked program.
 fn load_checked(alloc: Global, bay: Box<Bay>, typed: Typed) -> Result<Device, LoadFault>
     requires bay { IsBay bay.value }
     requires checked { (program : PlainProgram)
@@ -214,7 +215,7 @@ fn load_checked(alloc: Global, bay: Box<Bay>, typed: Typed) -> Result<Device, Lo
     Ok(device)
 }
 
-/// The device of a bay and a program.
+/// Makes the device from a bay and a program.
 fn load_program(alloc: Global, bay: Box<Bay>, program: &Program<'_>) -> Result<Device, LoadFault>
     requires { IsBay bay.value }
     ensures device { Gives OutOfMemory (λ device. device) result
@@ -227,7 +228,7 @@ fn load_program(alloc: Global, bay: Box<Bay>, program: &Program<'_>) -> Result<D
     load_checked(alloc, bay, typed)
 }
 
-/// The program of a text; what a text reads as is one program, or one fault.
+/// Reads the program in a text. A text reads as exactly one program or one fault.
 fn program_in<'a>(alloc: Global, logic: &'a str) -> Result<Program<'a>, TextFault>
     ensures ok { IfOk result (λ program. program_of logic.now ≡ Ok (plain_program program)) }
     ensures refused { IfErr result
@@ -237,7 +238,7 @@ fn program_in<'a>(alloc: Global, logic: &'a str) -> Result<Program<'a>, TextFaul
     Ok(program)
 }
 
-/// The device of a bay and the text of a program.
+/// Makes the device from a bay and the text of a program.
 fn load_text(alloc: Global, bay: Box<Bay>, logic: &str) -> Result<Device, LoadFault>
     requires { IsBay bay.value }
     ensures device { Gives OutOfMemory (λ device. device) result
@@ -250,7 +251,7 @@ fn load_text(alloc: Global, bay: Box<Bay>, logic: &str) -> Result<Device, LoadFa
     load_program(alloc, bay, &program)
 }
 
-/// The device of the texts of a bay file and a program, stage by stage.
+/// Makes the device from the texts of a bay file and a program, stage by stage.
 fn load_texts(alloc: Global, bay: &str, logic: &str) -> Result<Device, LoadFault>
     ensures device { Gives OutOfMemory (λ device. device) result
         (of_bay (bay_of bay.now) (program_of logic.now)) }
@@ -263,9 +264,9 @@ fn load_texts(alloc: Global, bay: &str, logic: &str) -> Result<Device, LoadFault
     load_text(alloc, boxed, logic)
 }
 
-/// The device of a bay file and a program, before its first event. A fault of the bay file (50 to
-/// 55) comes before one of the program's text (60 to 64), that before one of its checks (70 to 79),
-/// and that before 85, where the program's image would be too long.
+/// Makes the device from a bay file and a program, before its first event. A fault of the bay file
+/// (50 to 55) precedes one of the program's text (60 to 64). That precedes a fault of its checks
+/// (70 to 79), and that precedes 85, for a program whose image would be too long.
 pub fn load(alloc: Global, bay: &str, logic: &str) -> Result<Device, LoadFault>
     ensures device { Gives OutOfMemory (λ device. device) result
         (of_bay (bay_of bay.now) (program_of logic.now)) }
@@ -287,7 +288,7 @@ pub fn load(alloc: Global, bay: &str, logic: &str) -> Result<Device, LoadFault>
     load_texts(alloc, bay, logic)
 }
 
-/// The device of a bay and an image.
+/// Makes the device from a bay and an image.
 fn load_decoded(alloc: Global, bay: Box<Bay>, image: Image) -> Result<Device, LoadFault>
     requires { IsBay bay.value }
     ensures ok { IfOk result (λ device. LoadsImage bay.value image (Ok device)) }
@@ -298,7 +299,7 @@ fn load_decoded(alloc: Global, bay: Box<Bay>, image: Image) -> Result<Device, Lo
     Ok(device)
 }
 
-/// The device of a bay and the octets of an image.
+/// Makes the device from a bay and the octets of an image.
 fn load_octets(alloc: Global, bay: Box<Bay>, image: &[u8]) -> Result<Device, LoadFault>
     requires { IsBay bay.value }
     ensures ok { IfOk result (λ device. LoadsRead bay.value (image_spelled image.now) (Ok device)) }
@@ -309,9 +310,9 @@ fn load_octets(alloc: Global, bay: Box<Bay>, image: &[u8]) -> Result<Device, Loa
     load_decoded(alloc, bay, image)
 }
 
-/// The device of a bay file and the octets of an image, before its first event. A fault of the bay
-/// file (50 to 55) comes before one of the octets (80 to 83), and that before one of the image (90
-/// to 100).
+/// Makes the device from a bay file and the octets of an image, before its first event. A fault of
+/// the bay file (50 to 55) precedes one of the octets (80 to 83), and that precedes one of the
+/// image (90 to 100).
 pub fn load_image(alloc: Global, bay: &str, image: &[u8]) -> Result<Device, LoadFault>
     ensures ok { IfOk result
         (λ device. Loads (bay_of bay.now) (image_spelled image.now) (Ok device)) }

@@ -13,7 +13,7 @@ use bay_process::rows::{SwitchRows, is_truth};
 use bay_process::switch::Enabled;
 use bay_tree::tree::Tree;
 
-/// The interlocking values that stand in the tree.
+/// Returns the interlocking values that the tree holds.
 fn enabled_at(tree: &Tree, rows: &SwitchRows) -> Enabled
     requires { AreSwitchRows (layout_of tree.now) rows.now }
     ensures may_open { result.may_open
@@ -28,7 +28,7 @@ fn enabled_at(tree: &Tree, rows: &SwitchRows) -> Enabled
 }
 
 impl DeviceState {
-    /// The place of the input with this name, whatever the case of its letters.
+    /// Returns the index of the input with this name, ignoring the case of its letters.
     pub fn input_place(&self, name: &str) -> Option<usize>
         ensures { (connections : List (Option Talk))
             → result ≡ spec.input_place (state_view connections self.now) name.now }
@@ -36,7 +36,7 @@ impl DeviceState {
         self.tables.inputs.place_of(self.inputs.as_slice(), name)
     }
 
-    /// The place of the meter with this id, whatever the case of its letters.
+    /// Returns the index of the meter with this id, ignoring the case of its letters.
     pub fn meter_place(&self, id: &str) -> Option<usize>
         ensures { (connections : List (Option Talk))
             → result ≡ spec.meter_place (state_view connections self.now) id.now }
@@ -44,7 +44,7 @@ impl DeviceState {
         self.tables.meters.place_of(self.meters.as_slice(), id)
     }
 
-    /// The place of the switch with this id, whatever the case of its letters.
+    /// Returns the index of the switch with this id, ignoring the case of its letters.
     pub fn switch(&self, id: &str) -> Option<usize>
         ensures { (connections : List (Option Talk))
             → result ≡ switch_place (state_view connections self.now) id.now }
@@ -54,7 +54,7 @@ impl DeviceState {
             .place_of(self.bay.switches.as_slice(), id)
     }
 
-    /// The id of the switch at a place, as the bay file spells it.
+    /// Returns the id of the switch at an index, as it is spelled in the bay file.
     pub fn id(&self, switch: usize) -> Option<&str>
         ensures { option_map (λ id. id.now) result
             ≡ option_map (λ s. s.id) (slice_get (switches_of self.now.bay.switches) switch) }
@@ -65,7 +65,7 @@ impl DeviceState {
         }
     }
 
-    /// Whether the switch at a place may be opened, and whether it may be closed.
+    /// Returns whether the switch at an index may be opened, and whether it may be closed.
     pub fn ena(&self, switch: usize) -> Option<(bool, bool)>
         ensures { (connections : List (Option Talk))
             → result ≡ enabled_of (state_view connections self.now) switch }

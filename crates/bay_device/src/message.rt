@@ -20,7 +20,7 @@ use bay_services::answer::{Answer, Command, Ending};
 use bay_services::client::Client;
 use std::alloc::{AllocError, Global};
 
-/// What an event has made so far: octets that are to be sent, and switches that are to be operated.
+/// What an event has produced so far: octets to send, and switches to operate.
 #[derive(Drop)]
 pub struct Made {
     pub sent: Vec<Sent>,
@@ -28,7 +28,7 @@ pub struct Made {
 }
 
 impl Made {
-    /// Nothing is made yet.
+    /// Starts with nothing.
     pub fn new(alloc: Global) -> Made
         ensures sent { result.sent.items ≡ [] }
         ensures commands { result.commands.items ≡ [] }
@@ -40,7 +40,7 @@ impl Made {
     }
 }
 
-/// The octets in which a report is sent, if there is one.
+/// Returns the octets that send a report, if there is one.
 fn framed(connection: &Connection, report: Option<Outgoing>) -> Result<Option<Outgoing>, AllocError>
     requires open { IsSome (association_terms connection.now.talk.phase) }
     requires short { IfSome report (λ pdu. length pdu ≤ 65_000) }
@@ -55,7 +55,7 @@ fn framed(connection: &Connection, report: Option<Outgoing>) -> Result<Option<Ou
     }
 }
 
-/// What will tell an association of the end of what it operates.
+/// Returns what will report to an association the end of what it operates.
 fn due_of(connection: &Connection, association: u16, ending: Ending) -> Result<Due, AllocError>
     requires open { IsSome (association_terms connection.now.talk.phase) }
     requires short { AreShort ending }
@@ -71,7 +71,7 @@ fn due_of(connection: &Connection, association: u16, ending: Ending) -> Result<D
     })
 }
 
-/// The same, if it operates something of which it is to be told.
+/// Like `due_of`, or `None` if the association operates nothing whose end is reported.
 fn due_if(
     connection: &Connection,
     association: u16,
@@ -91,7 +91,7 @@ fn due_if(
     }
 }
 
-/// What is due of a new execution takes the place of what was.
+/// Replaces what is due by what is due for a new execution, if there is one.
 fn replace_due(due: &mut Option<Due>, new: Option<Due>)
     ensures { due.new ≡ later_due due.old new }
 {
@@ -124,8 +124,8 @@ fn send_all(
     Ok(())
 }
 
-/// Makes of an answer what is to be sent and done, and gives what will tell of the end of what it
-/// operates. Where there is no memory, more may be made than before.
+/// Adds what an answer sends and operates, and returns what will report the end of what it
+/// operates. More may be added than before if an allocation fails.
 fn reply(
     connection: &Connection,
     association: u16,
@@ -153,8 +153,8 @@ fn reply(
     due_if(connection, association, answer.ending)
 }
 
-/// Answers a PDU and does what it asks for; where there is no memory, the selection and the
-/// execution may be changed, and more be made than before.
+/// Answers a PDU and does what it asks for. If an allocation fails, the selection and the execution
+/// may have changed, and more may have been added than before.
 fn answer(
     alloc: Global,
     state: &mut DeviceState,
@@ -183,8 +183,8 @@ fn answer(
     Ok(())
 }
 
-/// Answers a PDU of an association and does what it asks for. Where there is no memory it changes
-/// nothing.
+/// Answers a PDU of an association and does what it asks for. Changes nothing if an allocation
+/// fails.
 pub fn message(
     alloc: Global,
     now: u64,

@@ -39,7 +39,7 @@ fn send(association: u16, octets: Vec<u8>, made: &mut Made) -> Result<(), AllocE
     Ok(())
 }
 
-/// Does what was heard on an association, or says why the association is to be closed.
+/// Handles what an association received, or returns why the association has to be closed.
 fn hear(
     alloc: Global,
     now: u64,
@@ -83,8 +83,8 @@ fn hear(
     }
 }
 
-/// Takes octets up to the end of what they come to first and does it, or takes all of them, and
-/// says how many.
+/// Takes octets up to the end of the first thing that they complete and handles it, or takes all of
+/// them. Returns how many it took.
 fn turn(
     alloc: Global,
     now: u64,
@@ -115,7 +115,7 @@ fn turn(
     Ok(fed.used)
 }
 
-/// Does what the octets of an association come to, in order, up to what closes it.
+/// Handles what the octets of an association complete, in order, up to what closes it.
 pub fn drain(
     alloc: Global,
     now: u64,

@@ -20,8 +20,7 @@ use bay_services::bay::ServedBay;
 use bay_tree::leaf::Dbpos;
 use il_scan::points::Outputs;
 
-/// Takes the position of the switch at a place, and answers whether that changed its value or its
-/// quality.
+/// Takes the position of the switch at an index. Returns whether its value or its quality changed.
 pub fn contact(bay: &mut ServedBay, now: u64, switch: usize, position: Dbpos) -> bool
     requires { switch < length bay.old.switches }
     ensures changed { (s : Switch) → slice_get (switches_of bay.old.switches) switch ≡ Some s
@@ -39,7 +38,7 @@ pub fn contact(bay: &mut ServedBay, now: u64, switch: usize, position: Dbpos) ->
     take_position(&mut bay.tree, &rows, position, now)
 }
 
-/// Tells the controls of the position of the switch at a place, and answers whether that ends its
+/// Tells the controls the position of the switch at an index. Returns whether that ends its
 /// execution.
 pub fn reach(bay: &mut ServedBay, switch: usize, position: Dbpos) -> bool
     ensures done { result ≡ is_done switch position bay.old.controls.execution }
@@ -51,8 +50,8 @@ pub fn reach(bay: &mut ServedBay, switch: usize, position: Dbpos) -> bool
     bay.controls.contact(switch, position)
 }
 
-/// Takes a measured value of the meter at a place, and answers whether that changed it or its
-/// quality.
+/// Takes a measured value of the meter at an index. Returns whether the value or its quality
+/// changed.
 pub fn measure(
     bay: &mut ServedBay,
     now: u64,
@@ -75,7 +74,7 @@ pub fn measure(
     take_measure(&mut bay.tree, rows.field(field), value, now)
 }
 
-/// Gives each switch's interlocking values the values of their points.
+/// Writes the values of their points to the interlocking values of all switches.
 pub fn write_scan(bay: &mut ServedBay, told: &mut ToldValues, outputs: &Outputs<'_>, now: u64)
     requires interlocked { AreInterlocked (layout_of bay.old.tree) bay.old.switches }
     requires told { AreTold bay.old.tree told.old }

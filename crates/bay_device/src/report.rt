@@ -6,18 +6,18 @@ ghost use Rattle.bay_device.specs.Report.{IsCount, IsReport};
 use il_image::read::instr_at;
 use il_verify::verify::Verified;
 
-/// The size of a program's code, and what a scan of it takes at most.
+/// The size of a program's code, and the most that a scan of it takes.
 #[derive(Clone, Copy, Debug, PartialEq, Eq)]
 pub struct Report {
-    /// The number of the code's instructions.
+    /// The number of instructions in the code.
     pub instructions: u32,
-    /// The most values that lie on the stack before an instruction: 0 to 32.
+    /// The most values on the stack before an instruction, 0 to 32.
     pub depth: u32,
-    /// The most instructions that a scan executes, HALT among them.
+    /// The most instructions that a scan executes, including HALT.
     pub budget: u32,
 }
 
-/// The number of instructions in code.
+/// Counts the instructions in code.
 fn instruction_count(code: &[u8]) -> u32
     requires code { IsCode code.now }
     requires size { length code.now ≤ 65_535 }
@@ -32,7 +32,7 @@ fn instruction_count(code: &[u8]) -> u32
     count
 }
 
-/// The report of a verified image.
+/// Makes the report of a verified image.
 pub(crate) fn report_of(verified: &Verified) -> Report
     ensures { IsReport verified.now result }
 {

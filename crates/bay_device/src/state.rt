@@ -16,36 +16,36 @@ use bay_process::values::{ToldValues, Truths};
 use bay_services::bay::ServedBay;
 use il_scan::machine::Machine;
 
-/// A device, as load makes it and steps change it. No part of it hands out an allocator or can
-/// grow, so a step takes no memory.
+/// The state of a device, as loading makes it and steps change it. No part of it hands out an
+/// allocator or can grow, so it does not allocate in a step.
 #[derive(Drop)]
 pub struct DeviceState {
     /// The bay as its clients see it.
     pub bay: ServedBay,
-    /// How old a scan may be when a switch is operated, in milliseconds.
+    /// The maximum age of a scan when a switch is operated, in milliseconds.
     pub scan_max_age_ms: u32,
-    /// The names of the inputs, in the order of the bay file, and their values.
+    /// The names of the inputs, in the order of the bay file; `input_values` are their values.
     pub inputs: Listing<Text>,
     pub input_values: Truths,
     /// The meters, in the order of the bay file.
     pub meters: Listing<BoundMeter>,
     /// The interlocking values as the last scan wrote them.
     pub told: ToldValues,
-    /// Where the ids of the switches, the names of the inputs and the ids of the meters stand.
+    /// The places of the ids of the switches, the names of the inputs and the ids of the meters.
     pub tables: NameTables,
-    /// What the points stand for that the program only reads, and those that it may write, in the
-    /// order of its points.
+    /// What the read-only points stand for, in the order of the points; `writes` is the same for
+    /// the writable ones.
     pub reads: Listing<Source>,
     pub writes: Listing<Source>,
     pub machine: Machine,
-    /// The moment of the last accepted event, in milliseconds since 1970.
+    /// The time of the last accepted event, in milliseconds since 1970.
     pub moment: u64,
-    /// The moment of the last scan.
+    /// The time of the last scan.
     pub last_scan: Option<u64>,
-    /// Whether a value or a quality of a contact, an input or a measure has changed since the last
-    /// scan.
+    /// Whether a value or a quality of a contact, an input or a measured value has changed since
+    /// the last scan.
     pub is_stale: bool,
-    /// What will tell a client of the end of what is operating.
+    /// What will report to a client the end of what is operating.
     pub due: Option<Due>,
     ghost bound: { AreBound (layout_of bay.tree) writes bay.switches },
     ghost metered: { AreMetersBound (layout_of bay.tree) meters },

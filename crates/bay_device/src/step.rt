@@ -29,7 +29,7 @@ use bay_services::bay::ServedBay;
 use bay_tree::leaf::Dbpos;
 use il_scan::machine::Machine;
 
-/// The first of two.
+/// Returns the first, or the later if there is no first.
 fn or_else(first: Option<Sent>, later: Option<Sent>) -> Option<Sent>
     ensures { result ≡ spec_outcomes.or_else first later }
 {
@@ -39,8 +39,8 @@ fn or_else(first: Option<Sent>, later: Option<Sent>) -> Option<Sent>
     }
 }
 
-/// Runs the program once on the positions, the inputs and the measures as they stand, and counts
-/// its steps.
+/// Runs the program once on the current positions, inputs and measured values. Returns the number
+/// of its steps.
 fn run_program(
     machine: &mut Machine,
     bay: &ServedBay,
@@ -68,8 +68,8 @@ fn run_program(
 }
 
 impl DeviceState {
-    /// Whether the last scan is fresh at a moment: nothing that it read has changed since, and it
-    /// is not too old.
+    /// Returns whether the last scan is fresh at a time: nothing that it read has changed since,
+    /// and it is not too old.
     pub fn is_fresh(&self, now: u64) -> bool
         ensures { (connections : List (Option Talk))
             → result ≡ spec.is_fresh now (state_view connections self.now) }
@@ -81,7 +81,7 @@ impl DeviceState {
         is_recent && !self.is_stale
     }
 
-    /// Ends what has run out at a moment, and tells of an execution that has.
+    /// Ends what has expired at a time, and reports the end of an expired execution.
     pub fn advance(&mut self, now: u64) -> Option<Sent>
         ensures sent { (connections : List (Option Talk))
             → result ≡ ended_at now (state_view connections self.old) }
@@ -98,7 +98,7 @@ impl DeviceState {
         }
     }
 
-    /// Takes the position of the switch at a place, and tells of the execution that it ends.
+    /// Takes the position of the switch at an index, and reports the execution that it ends.
     fn take_contact(&mut self, now: u64, switch: usize, position: Dbpos) -> Option<Sent>
         requires { switch < length self.old.bay.switches }
         ensures sent { (connections : List (Option Talk))
@@ -117,7 +117,7 @@ impl DeviceState {
         }
     }
 
-    /// The switch at a place reports a position.
+    /// Handles a position that the switch at an index reports.
     pub fn contact(
         &mut self,
         now: u64,
@@ -136,7 +136,7 @@ impl DeviceState {
         Ok(or_else(over, reached))
     }
 
-    /// The input at a place has a value.
+    /// Handles a value of the input at an index.
     pub fn input(&mut self, now: u64, input: usize, value: bool) -> Result<Option<Sent>, StepFault>
         ensures { (connections : List (Option Talk))
             → IsQuiet result (state_view connections self.new)
@@ -152,7 +152,7 @@ impl DeviceState {
         Ok(over)
     }
 
-    /// A field of the meter at a place has a value.
+    /// Handles a value of a field of the meter at an index.
     pub fn measure(
         &mut self,
         now: u64,
@@ -174,8 +174,8 @@ impl DeviceState {
         Ok(over)
     }
 
-    /// Runs the program once on the positions, the inputs and the measures as they stand, and
-    /// counts its steps.
+    /// Runs the program once on the current positions, inputs and measured values. Returns the
+    /// number of its steps.
     pub fn scan(&mut self, now: u64) -> u32
         ensures after { (connections : List (Option Talk))
             → state_view connections self.new ≡ after_scan now (state_view connections self.old) }
@@ -198,7 +198,7 @@ impl DeviceState {
         steps
     }
 
-    /// Ends the selection of an association, which is closed, and forgets what is due to it.
+    /// Ends the selection of a closed association, and forgets what is due to it.
     pub fn drop_owner(&mut self, association: u16)
         ensures { (connections : List (Option Talk))
             → state_view connections self.new

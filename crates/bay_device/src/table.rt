@@ -9,16 +9,16 @@ use bay_base::text::Text;
 use bay_process::meter::BoundMeter;
 use bay_process::switch::BoundSwitch;
 
-/// How many keys there are.
+/// The number of keys.
 const KEYS: usize = 64;
 
-/// What has a name.
+/// Something that has a name.
 pub trait Named {
     ghost use Rattle.std.specs.Prelude.{List, ℕ};
 
     ghost name: { Self → List ℕ };
 
-    /// The name.
+    /// Returns the name.
     fn name(&self) -> &str
         ensures { result.now ≡ name self.now };
 }
@@ -47,7 +47,7 @@ impl Named for BoundMeter {
     }
 }
 
-/// The key of a name, which is the same whatever the case of its letters.
+/// Returns the key of a name. The case of its letters does not change the key.
 fn key_of(name: &str) -> usize
     ensures key { result ≡ spec.key_of name.now }
     ensures within { result < 64 }
@@ -59,22 +59,22 @@ fn key_of(name: &str) -> usize
     key
 }
 
-/// Whether a name is this name, whatever the case of its letters. Mostly it is spelled alike, which
-/// is seen at once.
+/// Returns whether two names are the same, ignoring the case of their letters. The usual case of
+/// the same spelling is fast.
 fn is_named(own: &str, name: &str) -> bool
     ensures { result ≡ same_name own.now name.now }
 {
     own == name || same_name(own, name)
 }
 
-/// For each key a place before which no name has it.
+/// For each key, a place before which no name has that key.
 #[derive(Drop)]
 pub struct NameTable {
     pub firsts: [usize; KEYS],
 }
 
 impl NameTable {
-    /// Notes that a name with this key stands at a place.
+    /// Records that a name with this key is at a place.
     fn note(&mut self, key: usize, place: usize)
         requires { key < 64 }
         ensures { self.new.firsts ≡ with_place_of key place self.old.firsts }
@@ -84,7 +84,7 @@ impl NameTable {
         }
     }
 
-    /// The table of the names of these items.
+    /// Makes the table of the names of these items.
     pub fn new<T: Named>(items: &[T]) -> Self
         ensures { IsTable (map T.name items.now) result.firsts }
     {
@@ -97,7 +97,8 @@ impl NameTable {
         table
     }
 
-    /// The place of the first of these items with this name, whatever the case of its letters.
+    /// Returns the index of the first of these items with this name, ignoring the case of its
+    /// letters.
     pub fn place_of<T: Named>(&self, items: &[T], name: &str) -> Option<usize>
         requires { IsTable (map T.name items.now) self.now.firsts }
         ensures { result ≡ position (λ item. same_name (T.name item) name.now) items.now }
@@ -119,7 +120,7 @@ pub struct NameTables {
     pub meters: NameTable,
 }
 
-/// The tables of the ids of these switches, of these names of inputs, and of the ids of these
+/// Makes the tables of the ids of these switches, of these names of inputs, and of the ids of these
 /// meters.
 pub fn tables_of(switches: &[BoundSwitch], inputs: &[Text], meters: &[BoundMeter]) -> NameTables
     ensures { AreTables switches.now inputs.now meters.now result }

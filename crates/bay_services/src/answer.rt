@@ -1,33 +1,32 @@
 // What a PDU comes to.
 use bay_ber::outgoing::Outgoing;
 
-/// A switch is to be operated.
+/// A command to operate a switch.
 #[derive(Clone, Copy, Debug, PartialEq, Eq)]
 pub struct Command {
-    /// The place of the switch in the bay file, from 0.
+    /// The index of the switch in the bay file, from 0.
     pub switch: usize,
-    /// It is to be closed, and not opened.
+    /// Whether to close it and not open it.
     pub on: bool,
 }
 
-/// The PDUs of MMS that tell a client of the end of what it operates (IEC 61850-8-1,
-/// CommandTermination); each is left out where it has more octets than are agreed.
+/// The PDUs of MMS that report to a client the end of its operate (IEC 61850-8-1,
+/// CommandTermination). Each is left out if it has more octets than agreed.
 #[derive(Drop)]
 pub struct Ending {
     /// The switch has reached its position.
     pub positive: Option<Outgoing>,
-    /// It has not reached it in time.
+    /// It has not reached its position in time.
     pub negative: Option<Outgoing>,
 }
 
-/// What a PDU of a client is answered, and what it asks of others than the bay.
+/// The answer to a PDU of a client, and what the PDU asks for outside the bay.
 #[derive(Drop)]
 pub struct Answer {
-    /// The PDUs of MMS that are to be sent, in their order: reports that controls are refused, and
-    /// then the response.
+    /// The PDUs of MMS to send, in order: reports that controls are refused, and then the response.
     pub sent: Vec<Outgoing>,
-    /// The switches that are to be operated.
+    /// The switches to operate.
     pub commands: Vec<Command>,
-    /// For an operate of a switch with enhanced security, what will tell of its end.
+    /// The reports of the end, for an operate of a switch with enhanced security.
     pub ending: Option<Ending>,
 }

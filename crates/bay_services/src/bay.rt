@@ -14,8 +14,8 @@ use bay_process::controls::ControlRows;
 use bay_process::switch::BoundSwitch;
 use bay_tree::tree::Tree;
 
-/// A bay as its clients see it: its name and its nameplate, the tree of its values, its switches
-/// and their controls. The tree shows which switch is selected.
+/// A bay as its clients see it: its name and nameplate, the tree of its values, its switches and
+/// their controls. The tree shows which switch is selected.
 #[derive(Drop)]
 pub struct ServedBay {
     /// The name of the logical device.
@@ -24,11 +24,11 @@ pub struct ServedBay {
     pub model: Text,
     pub revision: Text,
     pub tree: Tree,
-    /// The texts of the names of the tree's rows, which never change.
+    /// The texts of the names of the tree's rows. They never change.
     pub names: NameTexts,
     /// The switches, in the order of the bay file.
     pub switches: Listing<BoundSwitch>,
-    /// Where the values of their controls stand, in the same order.
+    /// The handles of the values of their controls, in the same order.
     pub control_rows: Listing<ControlRows>,
     pub controls: Controls,
     ghost listed: { names ≡ text_of_names (layout_of tree).names },

@@ -43,7 +43,7 @@ pub fn show(tree: &mut Tree, rows: &[ControlRows], selected: Option<usize>)
     }
 }
 
-/// Lets the tree show which switch is selected.
+/// Shows in the tree which switch is selected.
 fn show_selection(tree: &mut Tree, rows: &Listing<ControlRows>, controls: &Controls)
     requires { AreAllControlRows tree.old rows.now }
     ensures rows { tree.new ≡ rows_shown (selected_switch controls.now.selection) (length rows.now)
@@ -116,7 +116,7 @@ impl ServedBay {
         answer
     }
 
-    /// What a decision sees of a switch.
+    /// Returns what a decision knows of a switch.
     fn view(&self, client: Client, switch: usize) -> View
         requires { switch < length self.now.switches }
         ensures { result ≡ view_of client switch (bay_view self.now) }
@@ -159,7 +159,7 @@ impl ServedBay {
         answer
     }
 
-    /// What is selected and what is operating, to be put back.
+    /// Returns what is selected and what is operating, to be restored.
     pub fn standing(&self) -> Ongoing
         ensures value { result ≡ standing_of self.now.controls }
         ensures own { standing_again result (bay_view self.now) ≡ bay_view self.now }
@@ -167,7 +167,7 @@ impl ServedBay {
         self.controls.standing()
     }
 
-    /// Puts back what was selected and what was operating.
+    /// Restores what was selected and what was operating.
     pub fn restore(&mut self, standing: Ongoing)
         ensures after { bay_view self.new ≡ standing_again standing (bay_view self.old) }
         ensures switches { self.new.switches ≡ self.old.switches }
@@ -177,7 +177,7 @@ impl ServedBay {
         show_selection(&mut self.tree, &self.control_rows, &self.controls);
     }
 
-    /// Ends what has run out at a moment, and gives the switch whose execution has.
+    /// Ends what has expired at a time, and returns the switch whose execution has.
     pub fn advance(&mut self, now: u64) -> Option<usize>
         ensures run_out { result
             ≡ run_out now self.old.controls.controls self.old.controls.execution }
@@ -194,7 +194,7 @@ impl ServedBay {
         run_out
     }
 
-    /// Ends the selection of an association, which is closed.
+    /// Ends the selection of a closed association.
     pub fn drop_owner(&mut self, association: u16)
         ensures after { bay_view self.new
             ≡ with_controls (without_association association self.old.controls)

@@ -15,7 +15,8 @@ ghost use Rattle.bay_tree.specs.Rows.{with_leaf_of};
 ghost use Rattle.bay_tree.specs.declared.leaf.Leaf.{Leaf};
 ghost use Rattle.bay_tree.specs.declared.row.Row.{Row};
 
-/// The rows show which switch is selected whatever is written to a row that tells of no selection.
+/// The rows still show which switch is selected after any write to a row that does not say whether
+/// a switch is selected.
 pub fn selection_stays_shown()
     ensures { (controls : State) (count : ℕ) (rows : List Row) (name : List ℕ) (value : Leaf)
         → ((k : ℕ) → bytes_eq name (control_names k).selected ≡ false)
@@ -23,10 +24,11 @@ pub fn selection_stays_shown()
         → ShowSelection controls count (with_leaf_of name value rows) }
 {}
 
-/// The commands of an answer are those of the operates that it accepts, in their order: one for
-/// each, and no other. Each comes while the last scan is fresh, the interlocking releases it and no
-/// switch is operating; where each switch takes some time there is one at most. No client changes a
-/// value of the tree but which switch is selected, nor what is operating.
+/// The commands of an answer are exactly those of the operates that it accepts, one for each and in
+/// their order. Each comes while the last scan is fresh, the interlocking releases it and no switch
+/// is operating. There is at most one if each switch takes some time. No client changes a value of
+/// the tree other than which switch is selected, and no client changes an execution that still
+/// lasts.
 pub fn commands_are_released()
     ensures operated { (c : Client) (pdu : List ℕ) (b : Bay)
         → (pdu_answer c pdu b).commands ≡ operates_in (entries_in c pdu b) }
@@ -38,17 +40,17 @@ pub fn commands_are_released()
         → Leaves c.now b (pdu_answer c pdu b).after }
 {}
 
-/// What a PDU of an open association asks of the controls leads them from those before it to those
-/// after it: what is seen of that are its entries. No request opens or closes an association.
+/// What a PDU of an open association asks of the controls leads from the controls before it to
+/// those after it, with the entries that are seen of it. No request opens or closes an association.
 pub fn requests_lead()
     ensures { (c : Client) (pdu : List ℕ) (b : Bay) (opens : ℕ → Bool) → opens c.association ≡ true
         → Leads (entries_in c pdu b) opens b.controls opens (pdu_answer c pdu b).after.controls }
 {}
 
-/// What the octets of a response tell, beside the names of a bay's variables, is what the PDU asked
-/// of the controls and what was accepted of it: a select by a text that is not empty, another
-/// request by a success. The response is the first PDU of an answer, past the reports that come
-/// before that to a write, whatever is sent behind it.
+/// The octets of a response, with the names of a bay's variables, tell what the PDU asked of the
+/// controls and what was accepted of it: a select by a text that is not empty, any other request by
+/// a success. The response is the first PDU of an answer after the reports that precede the
+/// response to a write, whatever is sent after it.
 pub fn answers_tell()
     ensures { (c : Client) (pdu : List ℕ) (named b : Bay) (later : List (List ℕ)) → c.size ≤ 65000
         → AreNamedAlike named b

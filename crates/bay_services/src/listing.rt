@@ -144,7 +144,7 @@ impl ServedBay {
         }
     }
 
-    /// The names of a class behind a name, under an invoke id.
+    /// Writes the names of a class after a name, with an invoke id.
     pub(crate) fn write_listing(
         &self,
         alloc: Global,

@@ -28,7 +28,7 @@ use std::alloc::Global;
 const NO_SUCH_OBJECT: u8 = 10;
 
 impl ServedBay {
-    /// The row of the variable of this name, which is named by the bay's domain.
+    /// Returns the row of the variable with this name, which must be in the bay's domain.
     pub(crate) fn row_named(&self, name: &ObjectName<'_>) -> Option<Handle>
         ensures row { result ≡ spec_rows.row_named (bay_view self.now) (naming name.now) }
         ensures found { IfSome result (IsFound self.now.tree) }
@@ -45,7 +45,7 @@ impl ServedBay {
         }
     }
 
-    /// The control that a row is a part of.
+    /// Returns the part of a control that a row is, if it is one.
     pub(crate) fn target(&self, row: Handle) -> Option<Target>
         requires { IsFound self.now.tree row }
         ensures target { result
@@ -152,7 +152,7 @@ impl ServedBay {
         }
     }
 
-    /// Reads variables in their order; each sees what those before it did.
+    /// Reads variables in order. Each read sees the effects of those before it.
     pub(crate) fn read_all(
         &mut self,
         alloc: Global,

@@ -18,7 +18,7 @@ fn lost(fault: EncodeFault) -> Result<Option<Outgoing>, AllocError>
     }
 }
 
-/// A PDU that was made, if it has no more octets than it may have.
+/// Returns a PDU that was made, or `None` if it has more octets than allowed.
 pub fn fitting(made: Result<Outgoing, EncodeFault>) -> Result<Option<Outgoing>, AllocError>
     ensures pdu { (size : ℕ) (pdu : List ℕ)
         → Gives EncodeFault.OutOfMemory (λ octets. octets) made (text_within size pdu)

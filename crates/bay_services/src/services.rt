@@ -313,9 +313,9 @@ impl ServedBay {
 
     /// Answers the octets that a client sent as a PDU of MMS, and does what they ask for.
     ///
-    /// Each PDU of the answer has at most 65,000 octets, and so have the reports of an end. A
-    /// response of more octets than are agreed is an error of the class resource in its place, and
-    /// then nothing is done. Where there is no memory, nothing is done and nothing is to be sent.
+    /// Each PDU of the answer has at most 65,000 octets, and so has each report of an end. If a
+    /// response has more octets than agreed, an error of the class resource is sent instead and
+    /// nothing is done. If an allocation fails, nothing is done and nothing is sent.
     pub fn answer(
         &mut self,
         alloc: Global,

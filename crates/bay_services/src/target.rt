@@ -24,7 +24,7 @@ pub enum ControlPart {
 /// A part of the control of a switch.
 #[derive(Clone, Copy)]
 pub struct Target {
-    /// The place of the switch in the bay file, from 0.
+    /// The index of the switch in the bay file, from 0.
     pub switch: usize,
     pub part: ControlPart,
 }
@@ -53,7 +53,7 @@ fn part_at(rows: &ControlRows, handle: Handle) -> Option<ControlPart>
     }
 }
 
-/// The part of the control of a switch that a row is.
+/// Returns the part of the control of a switch that a row is, if it is one.
 pub fn target_at(_tree: &Tree, rows: &[ControlRows], handle: Handle) -> Option<Target>
     requires named { AreAllControlRows _tree.now rows.now }
     requires found { place_of _tree.now (name_at _tree.now handle) ≡ Some handle }

@@ -40,15 +40,15 @@ const NO_SUCH_OBJECT: u8 = 10;
 
 const DENIED: u8 = 3;
 
-/// A part of a switch's control, by the row that names it.
+/// A part of a switch's control, with the row that names it.
 #[derive(Clone, Copy)]
 struct Part {
-    /// The place of the switch in the bay file, from 0.
+    /// The index of the switch in the bay file, from 0.
     switch: usize,
     row: Handle,
 }
 
-/// What a write has made so far, beside what it did to the bay.
+/// What a write has produced so far, besides its effects on the bay.
 #[derive(Drop)]
 pub struct Written {
     /// The results of the variables.
@@ -90,7 +90,7 @@ fn control_of<'a>(operate: &Operate<'a>) -> Cancel<'a>
 }
 
 impl ServedBay {
-    /// The object that a row is, as a control is named: its domain, `/` and its item.
+    /// Returns the object of a row as a control is named: its domain, `/` and its item.
     pub(crate) fn object(&self, alloc: Global, row: Handle) -> Result<Text, AllocError>
         requires { IsHandle self.now.tree row }
         ensures { IfOk result (λ object. object
@@ -398,7 +398,7 @@ impl ServedBay {
         }
     }
 
-    /// Writes variables in their order; each sees what those before it did.
+    /// Writes variables in order. Each write sees the effects of those before it.
     pub(crate) fn write_all(
         &mut self,
         alloc: Global,
