@@ -89,8 +89,8 @@ pub fn control_rows(
     Ok(controls)
 }
 
-/// The rows of a control stay in place when the value of a row changes. Does nothing; its contract
-/// is the law.
+/// Returns the rows of a control stay in place when the value of a row changes. Does nothing; its
+/// contract is the law.
 pub fn control_rows_stay()
     ensures { (before after : List Row) (names : ControlNames) (handles : declared.ControlRows)
         → layout_of before ≡ layout_of after → AreControlRows before names handles

@@ -86,7 +86,7 @@ pub struct BoundRows {
     pub tree: Tree,
     pub switches: Vec<BoundSwitch>,
     pub meters: Vec<BoundMeter>,
-    /// States that no interlocking value was written yet.
+    /// The interlocking values written so far: none.
     pub told: ToldValues,
 }
 

@@ -50,7 +50,8 @@ pub fn quiet_goes_on()
         → IsGoing (after s octets).left }
 {}
 
-/// Octets spell parameters in exactly one way (X.224 13.2.3).
+/// Octets spell parameters in at most one way, and only octets that spell them are read as
+/// parameters (X.224 13.2.3).
 pub fn one_reading()
     ensures { (octets : List ℕ) (ps : List Parameter) → (parameters_of octets ≡ Some ps)
         ↔ (octets ≡ parameter_octets ps) }
