@@ -89,7 +89,7 @@ pub fn control_rows(
     Ok(controls)
 }
 
-/// Returns the rows of a control stay in place when the value of a row changes. Does nothing; its
+/// The rows of a control stay in place when the value of a row changes. Does nothing; its
 /// contract is the law.
 pub fn control_rows_stay()
     ensures { (before after : List Row) (names : ControlNames) (handles : declared.ControlRows)
