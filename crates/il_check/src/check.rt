@@ -18,26 +18,26 @@ use bay_config::bay::Point;
 use il_text::program::Program;
 use std::alloc::Global;
 
-/// Checks a program against the bay's points, and resolves its names.
+/// Checks a program against the bay's points and resolves its names.
 ///
-/// Of each declaration: an external's name is a point's (70), no name is declared twice (71), an
-/// external's type is its point's and an initial literal fits its variable (72), and at most 512
-/// externals and variables and 64 timers are declared (79). Of each instruction: its names are
-/// declared (70) and mean what is wanted, and each type is the one that is wanted (72); the current
-/// result is set where it is used (73); a jump goes to a label (75) that stands below (74); the
-/// instruction can be reached (76); what it stores into may be written (77); a divisor is a literal
-/// other than 0 (78). No two labels have one name (71), and there are at most 256 (79). At most 16
-/// parentheses stand within one another: the 17th is 79, and what is in it isn't judged. Where ways
-/// with different types of the result meet, it is not set. Where an instruction can't be reached,
-/// its types and the result are not judged. The case of letters in names isn't significant.
+/// For each declaration: an external's name is a point's (70), no name is declared twice (71), an
+/// external has its point's type and an initial literal fits its variable (72), and at most 512
+/// externals and variables and 64 timers are declared (79). For each instruction: its names are
+/// declared (70), its names mean what the instruction needs and every type is the required one
+/// (72), the current result is set where it is used (73), a jump goes to a label (75) below it
+/// (74), the instruction is reachable (76), its target is writable (77), and a divisor is a literal
+/// other than 0 (78). No two labels have the same name (71), and there are at most 256 labels (79).
+/// Parentheses nest at most 16 deep: the 17th is 79, and its contents are not checked. Where paths
+/// with different types of the result meet, the result is not set. Types and the result are not
+/// checked in an unreachable instruction. Names are case-insensitive.
 ///
-/// A program that no text gives may have a literal whose number is none of its type's, which fits
-/// nothing (72), or an external whose name is no name, of 1 to 64 letters, digits and underscores,
-/// which is no point's (70).
+/// A program that was not read from a text may have a typed literal whose number is outside its
+/// type, which fits nothing (72), or an external whose name does not consist of 1 to 64 letters,
+/// digits and underscores, which is no point's (70).
 ///
-/// The answer is the typed program, or of the first faulty line the fault of the lowest number
-/// (IEC 61131-3:2003, 2.4.3 and 3.2). A name that is looked up takes no memory; memory can be
-/// wanting only where the program declares something or has an item.
+/// Returns the typed program, or the fault with the lowest number on the first faulty line (IEC
+/// 61131-3:2003, 2.4.3 and 3.2). Looking up a name does not allocate. Out of memory is possible
+/// only if the program declares something or has an item.
 pub fn check(alloc: Global, program: &Program<'_>, points: &[Point]) -> Result<Typed, CheckFault>
     // The checked program, or the fault of the first faulty line with the lowest number, unless
     // memory ran out.
@@ -58,7 +58,7 @@ pub fn check(alloc: Global, program: &Program<'_>, points: &[Point]) -> Result<T
     Ok(typed)
 }
 
-/// The typed program, or the fault that is answered; what holds of either is said at `check`.
+/// Returns the typed program, or the fault to report; `check` states what holds of each.
 fn checked(alloc: Global, program: &Program<'_>, points: &[Point]) -> Result<Typed, CheckFault>
     ensures checked { Gives OutOfMemory checked_view result
         (checked_of points.now (plain_program program.now)) }

@@ -26,13 +26,13 @@ use il_text::program::{Declaration, DeclaredType, Literal, Scope};
 use std::alloc::{AllocError, Global};
 use std::collections::BTreeMap;
 
-/// The most externals and variables that a program may declare.
+/// The maximum number of externals and variables that a program may declare.
 const MAX_SLOTS: usize = 512;
 
-/// The most timers that a program may declare.
+/// The maximum number of timers that a program may declare.
 const MAX_TIMERS: usize = 64;
 
-/// What is declared: what each name means, and the fault that is answered, if there is one.
+/// The declarations so far: what each name means, and the fault to report, if any.
 #[derive(Drop)]
 pub(crate) struct Declarations {
     pub(crate) alloc: Global,
@@ -43,10 +43,10 @@ pub(crate) struct Declarations {
     pub(crate) found: Option<CheckFault>,
 }
 
-/// The most characters of a name.
+/// The maximum length of a name, in characters.
 const MAX_NAME: usize = 64;
 
-/// Whether an octet may stand in a name, letters in either case.
+/// Whether an octet may stand in a name, case-insensitively.
 fn may_stand(octet: u8) -> bool
     ensures { result ≡ spec.may_stand octet }
 {
@@ -60,7 +60,7 @@ fn all_may_stand(octets: &[u8]) -> bool
     octets.iter().all(|octet| may_stand(*octet))
 }
 
-/// Whether this is 1 to 64 letters, digits and underscores.
+/// Whether a name consists of 1 to 64 letters, digits and underscores.
 fn is_name(name: &str) -> bool
     ensures { result ≡ spec.is_name name.now }
 {
@@ -68,7 +68,7 @@ fn is_name(name: &str) -> bool
     0 < octets.len() && octets.len() <= MAX_NAME && all_may_stand(octets)
 }
 
-/// The first point with this name, letters in either case.
+/// Returns the first point with this name, case-insensitively.
 fn named_point<'a>(points: &'a [Point], name: &str) -> Option<&'a Point>
     ensures { option_copied result ≡ spec.named_point points.now name.now }
 {
@@ -77,7 +77,7 @@ fn named_point<'a>(points: &'a [Point], name: &str) -> Option<&'a Point>
         .find(|point| same_name(point.name.as_str(), name))
 }
 
-/// The point with this name; what is no name names none.
+/// Returns the point with this name. A malformed name gives `None`.
 fn point_of<'a>(points: &'a [Point], name: &str) -> Option<&'a Point>
     ensures { option_copied result ≡ spec.point_of points.now name.now }
 {
@@ -98,7 +98,7 @@ fn is_external(scope: Scope) -> bool
     }
 }
 
-/// The value, if it is one of this type.
+/// Returns the value if it is of this type.
 fn of_type(kind: ElementaryType, value: Option<Value>) -> Option<Value>
     ensures { result ≡ spec.of_type kind value }
 {
@@ -108,7 +108,7 @@ fn of_type(kind: ElementaryType, value: Option<Value>) -> Option<Value>
     }
 }
 
-/// The value of a type that a literal is, if it is one.
+/// Returns the value of a literal as one of this type, or `None` if it is not one.
 fn literal_value(kind: ElementaryType, literal: Literal) -> Option<Value>
     ensures { result ≡ spec.literal_value kind literal }
 {
@@ -118,7 +118,7 @@ fn literal_value(kind: ElementaryType, literal: Literal) -> Option<Value>
     }
 }
 
-/// The value that a variable of a type begins with, if the literal fits it.
+/// Returns the initial value of a variable of this type, or `None` if the literal does not fit it.
 fn initial_in(kind: ElementaryType, literal: Option<Literal>) -> Option<Value>
     ensures { result ≡ spec.initial_in kind literal }
 {
@@ -128,7 +128,7 @@ fn initial_in(kind: ElementaryType, literal: Option<Literal>) -> Option<Value>
     }
 }
 
-/// Whether the point has this type; where there is none, nothing is wrong with its type.
+/// Whether the point has this type. Without a point, no type is wrong.
 fn is_kind_of(point: Option<&Point>, kind: ElementaryType) -> bool
     ensures { result ≡ spec.is_kind_of (option_copied point.entry) kind }
 {
@@ -153,7 +153,7 @@ fn is_typed(declaration: Declaration<'_>, point: Option<&Point>) -> bool
     }
 }
 
-/// Whether the program may write the point, if it is there.
+/// Whether there is a point and the program may write it.
 fn is_writable(point: Option<&Point>) -> bool
     ensures { result ≡ spec.is_writable (option_copied point.entry) }
 {
@@ -163,8 +163,8 @@ fn is_writable(point: Option<&Point>) -> bool
     }
 }
 
-/// The fault that is answered after a declaration, of which it is known whether its name is
-/// declared before, and whether there is room for one more.
+/// Returns the fault to report after a declaration, given whether its name was already declared and
+/// whether there is no room for one more.
 fn declaration_fault(
     found: Option<CheckFault>,
     point: Option<&Point>,
@@ -186,7 +186,7 @@ fn declaration_fault(
 }
 
 impl Declarations {
-    /// Nothing is declared.
+    /// Creates an empty set of declarations.
     fn new(alloc: Global) -> Self
         ensures nothing { (points : List Point) → StandsFor points [] result }
         ensures no_fault { result.found ≡ None }
@@ -201,7 +201,7 @@ impl Declarations {
         }
     }
 
-    /// Whether one variable or timer more is too many.
+    /// Whether one more variable or timer would be too many.
     fn is_full(&self, kind: DeclaredType) -> bool
         ensures { result ≡ spec.is_full (counts_in self.now) kind }
     {
@@ -213,7 +213,7 @@ impl Declarations {
         }
     }
 
-    /// What a name means that is declared next.
+    /// Returns what the name declared next will mean.
     fn next_meaning(&self, scope: Scope, kind: DeclaredType, point: Option<&Point>) -> Meaning
         ensures { result ≡ spec.meaning_at (counts_in self.now) scope kind
             (option_copied point.entry) }
@@ -233,7 +233,7 @@ impl Declarations {
         }
     }
 
-    /// Adds an external of a type, if its point is there.
+    /// Adds an external of a type, if its point exists.
     fn add_external(
         &mut self,
         name: Text,
@@ -256,7 +256,7 @@ impl Declarations {
         Ok(())
     }
 
-    /// Adds a variable, if its initial value is right.
+    /// Adds a variable, if its initial value is valid.
     fn add_variable(&mut self, name: Text, initial: Option<Value>) -> Result<(), AllocError>
         ensures variables { OnOk result
             (self.new.variables.items
@@ -280,7 +280,7 @@ impl Declarations {
         Ok(())
     }
 
-    /// Adds what a declaration declares, whose name in upper case is given.
+    /// Adds what a declaration declares, under its name in upper case.
     fn add(
         &mut self,
         name: Text,
@@ -299,7 +299,7 @@ impl Declarations {
         }
     }
 
-    /// Takes one declaration.
+    /// Processes one declaration.
     fn declare(&mut self, points: &[Point], declaration: &Declaration<'_>) -> Result<(), AllocError>
         ensures { OnOk result (Takes points.now (declared_of declaration.now) self.old self.new) }
     {
@@ -315,7 +315,7 @@ impl Declarations {
     }
 }
 
-/// All declarations of a program.
+/// Processes all declarations of a program.
 pub(crate) fn declare_all(
     alloc: Global,
     points: &[Point],

@@ -9,46 +9,46 @@ use thiserror::Error;
 /// Why a program is refused, with the line of the fault, counted from 1.
 #[derive(Clone, Copy, Debug, PartialEq, Eq, Error)]
 pub enum CheckFault {
-    /// A name is not declared, or an external's name is no point.
+    /// A name is not declared, or an external's name is not a point's.
     #[error("the name is unknown")]
     UnknownName { line: usize },
-    /// A name is declared twice, or two labels have it.
+    /// A name is declared twice, or two labels have the same name.
     #[error("the name is declared twice")]
     DuplicateName { line: usize },
-    /// A type is not the one that is wanted, or a name does not mean what is wanted.
+    /// A type is not the required one, or a name does not mean what the instruction needs.
     #[error("the type is not the one that is wanted")]
     TypeMismatch { line: usize },
-    /// The result is used where it is not set.
+    /// The current result is used where it is not set.
     #[error("the result is not set")]
     UnsetResult { line: usize },
     /// A jump goes to a label above.
     #[error("the jump goes backward")]
     BackwardJump { line: usize },
-    /// A jump goes to a label that is not there.
+    /// A jump goes to a label that does not exist.
     #[error("the label is unknown")]
     UnknownLabel { line: usize },
-    /// An instruction can't be reached.
+    /// An instruction is unreachable.
     #[error("the instruction can't be reached")]
     Unreachable { line: usize },
-    /// What may only be read is written.
+    /// Something read-only is written.
     #[error("the variable may only be read")]
     ReadOnly { line: usize },
     /// A divisor is not a literal, or is 0.
     #[error("the divisor is not a literal other than 0")]
     ZeroDivisor { line: usize },
-    /// More than 512 variables, 64 timers or 256 labels are declared, or more than 16 parentheses
-    /// stand within one another.
+    /// More than 512 externals and variables, 64 timers or 256 labels are declared, or parentheses
+    /// nest more than 16 deep.
     #[error("too many names are declared, or parentheses are too deep")]
     TooMany { line: usize },
-    /// There is not enough memory for the program.
+    /// Out of memory.
     #[error("out of memory")]
     OutOfMemory,
 }
 
 impl CheckFault {
-    /// The fault's number: 70 unknown name, 71 duplicate name, 72 type mismatch, 73 unset result,
-    /// 74 backward jump, 75 unknown label, 76 unreachable, 77 read-only, 78 zero divisor, 79 too
-    /// many; want of memory has none.
+    /// Returns the fault's number: 70 unknown name, 71 duplicate name, 72 type mismatch, 73 unset
+    /// result, 74 backward jump, 75 unknown label, 76 unreachable, 77 read-only, 78 zero divisor,
+    /// 79 too many; `None` for out of memory.
     pub fn code(self) -> Option<u8>
         ensures { result ≡ code_of self }
     {
@@ -67,7 +67,7 @@ impl CheckFault {
         }
     }
 
-    /// The line of the fault, counted from 1, or 0 for want of memory.
+    /// Returns the line of the fault, counted from 1, or 0 for out of memory.
     pub fn line(self) -> usize
         ensures { result ≡ line_of self }
     {

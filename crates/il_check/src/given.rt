@@ -5,16 +5,16 @@ use crate::typed::{Slot, TypedOperand};
 use bay_base::types::ElementaryType;
 use il_text::program::{Condition, Conversion, Input, Operator, StoreKind};
 
-/// What a declared name means.
+/// The meaning of a declared name.
 #[derive(Clone, Copy)]
 pub enum Meaning {
-    /// A variable of a type, and whether the program may write it.
+    /// A variable: its slot, its type, and whether the program may write it.
     Variable {
         slot: Slot,
         kind: ElementaryType,
         writable: bool,
     },
-    /// The timer at this place.
+    /// The timer at this index.
     Timer(usize),
 }
 
@@ -26,31 +26,32 @@ pub struct KnownOperand {
     pub writable: bool,
 }
 
-/// What the text gives as an operand or a target.
+/// An operand or a target as the text gives it.
 #[derive(Clone, Copy)]
 pub enum Given {
-    /// A name that is not declared.
+    /// An undeclared name.
     Missing,
-    /// A timer's name as a variable, or a variable's name as a timer.
+    /// A timer's name used as a variable, a variable's name used as a timer, or a literal whose
+    /// number is outside its type.
     Misused,
-    /// An operand of a type.
+    /// An operand that has a type.
     Known(KnownOperand),
     /// A number without a type.
     Number(i64),
 }
 
-/// What a call runs.
+/// The timer that a call names.
 #[derive(Clone, Copy)]
 pub enum Called {
-    /// A name that is not declared.
+    /// An undeclared name.
     Missing,
     /// The name of a variable.
     Misused,
-    /// The timer at this place.
+    /// The timer at this index.
     Timer(usize),
 }
 
-/// What a call gives to one input.
+/// An argument of a call: an input and the operand given to it.
 #[derive(Clone, Copy)]
 pub struct GivenArgument {
     pub input: Input,
@@ -65,7 +66,7 @@ pub enum GivenArguments {
     Two(GivenArgument, GivenArgument),
 }
 
-/// An instruction with what its names mean (IEC 61131-3:2003, table 52).
+/// An instruction with its names resolved (IEC 61131-3:2003, table 52).
 #[derive(Clone, Copy)]
 pub enum Resolved {
     Load {
@@ -85,7 +86,8 @@ pub enum Resolved {
     },
     Not,
     Convert(Conversion),
-    /// A jump to the first label of its name, by the label's number, if there is one.
+    /// A jump to the first label of its name, given by the label's number, or `None` if there is no
+    /// such label.
     Jump {
         condition: Condition,
         label: Option<usize>,

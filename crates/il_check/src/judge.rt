@@ -13,7 +13,8 @@ use crate::rules::{
 use bay_base::types::ElementaryType;
 use il_text::program::Operator;
 
-/// Whether the first label of a name is this one, behind so many others.
+/// Whether no label of a name comes before this one, which has `passed` labels before it. `number`
+/// is that of the first label with the name.
 fn is_first(passed: usize, number: Option<usize>) -> bool
     ensures { result ≡ spec.is_first passed number }
 {
@@ -23,11 +24,11 @@ fn is_first(passed: usize, number: Option<usize>) -> bool
     }
 }
 
-/// The most labels that a program may have.
+/// The maximum number of labels in a program.
 const MAX_LABELS: usize = 256;
 
-/// Where an instruction stands: whether it can be reached, behind how many labels, and how many
-/// parentheses may yet stand around it within one another.
+/// The position of an instruction: whether it is reachable, how many labels precede it, and how
+/// many levels of parentheses may still open there.
 #[derive(Clone, Copy)]
 pub(crate) struct Context {
     pub(crate) is_reached: bool,
@@ -35,7 +36,8 @@ pub(crate) struct Context {
     pub(crate) room: usize,
 }
 
-/// The fault that is answered after what an instruction names and what types it works on.
+/// Returns the fault to report after checking an instruction's names and types, the result it uses,
+/// and whether it jumps back.
 fn note_typing(
     found: Option<CheckFault>,
     context: Context,
@@ -59,8 +61,8 @@ fn note_typing(
     note_if(found, is_back, CheckFault::BackwardJump { line })
 }
 
-/// The fault that is answered after where an instruction stands, and what it jumps to, writes and
-/// divides by.
+/// Returns the fault to report after checking whether an instruction is reachable, and what it
+/// jumps to, writes and divides by.
 fn note_others(
     found: Option<CheckFault>,
     is_reached: bool,
@@ -81,7 +83,7 @@ fn note_others(
     note_if(found, is_zero, CheckFault::ZeroDivisor { line })
 }
 
-/// The fault that is answered after an instruction.
+/// Returns the fault to report after an instruction.
 pub(crate) fn note_instruction(
     found: Option<CheckFault>,
     context: Context,
@@ -96,7 +98,7 @@ pub(crate) fn note_instruction(
     note_others(found, context.is_reached, line, resolved)
 }
 
-/// The fault that is answered after an operator with a parenthesis.
+/// Returns the fault to report after an operator that opens a parenthesis.
 pub(crate) fn note_opening(
     found: Option<CheckFault>,
     is_reached: bool,
@@ -109,7 +111,7 @@ pub(crate) fn note_opening(
     note_if(found, divides(operator), CheckFault::ZeroDivisor { line })
 }
 
-/// The operator of a parenthesis, and the type of what the parenthesis gives.
+/// The operator of a parenthesis, and the type of the parenthesis's result.
 #[derive(Clone, Copy)]
 pub(crate) struct Closing {
     pub(crate) operator: Operator,
@@ -117,7 +119,7 @@ pub(crate) struct Closing {
     pub(crate) inner: Option<ElementaryType>,
 }
 
-/// The fault that is answered after the `)` of a parenthesis.
+/// Returns the fault to report after the `)` of a parenthesis.
 #[tactic(auto, using(crate::proofs::NotedLemmas::note_rules))]
 pub(crate) fn note_closing(
     found: Option<CheckFault>,
@@ -141,8 +143,8 @@ pub(crate) fn note_closing(
     note_if(found, !is_reached, CheckFault::Unreachable { line })
 }
 
-/// The fault that is answered after a label behind so many others, of which the first of its name
-/// is given.
+/// Returns the fault to report after a label with `passed` labels before it. `number` is that of
+/// the first label with its name.
 #[tactic(auto, using(crate::proofs::NotedLemmas::note_rules))]
 pub(crate) fn note_label(
     found: Option<CheckFault>,

@@ -11,8 +11,8 @@ use il_text::program::Item;
 use std::alloc::{AllocError, Global};
 use std::collections::BTreeMap;
 
-/// The number of the first label of each name, in upper case, and for each label what jumps bring
-/// so far: nothing.
+/// The number of the first label of each name, in upper case, and for each label what jumps have
+/// brought to it so far: nothing.
 #[derive(Drop)]
 pub(crate) struct Labels {
     pub(crate) numbers: BTreeMap<String, usize>,
@@ -20,7 +20,7 @@ pub(crate) struct Labels {
 }
 
 impl Labels {
-    /// Adds a label of this name, which has the next number.
+    /// Adds a label with this name and the next number.
     fn add(&mut self, alloc: Global, name: &str) -> Result<(), AllocError>
         ensures { OnOk result (AddsLabels ((names.upper name.now, vec_len self.old.arrivals) ∷ [])
             self.old self.new) }
@@ -32,7 +32,7 @@ impl Labels {
         Ok(())
     }
 
-    /// The label that an item is, if it is one. A label within a parenthesis is none.
+    /// Adds the label if the item is one. A label inside a parenthesis does not count.
     #[tactic(auto, using(crate::proofs::EntryLemmas::entry_rules))]
     fn add_item(&mut self, alloc: Global, item: &Item<'_>) -> Result<(), AllocError>
         ensures { OnOk result (AddsLabels (label_in (vec_len self.old.arrivals) (entry_of item.now))
@@ -45,7 +45,7 @@ impl Labels {
     }
 }
 
-/// All labels of a program.
+/// Collects all labels of a program.
 pub(crate) fn all_labels(alloc: Global, items: &[Item<'_>]) -> Result<Labels, AllocError>
     ensures stands { IfOk result (λ l. StandsAs (labels_from 0 (map entry_of items.now)) l) }
     ensures memory { IfErr result (λ e. 0 < length items.now) }

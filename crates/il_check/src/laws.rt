@@ -16,18 +16,19 @@ ghost use Rattle.il_check.specs.RightProgram.{IsRightProgram};
 ghost use Rattle.il_check.specs.WellTyped.{items_faults};
 ghost use Rattle.il_check.specs.declared.fault.CheckFault.{CheckFault};
 
-/// The items of a program have no fault exactly where some labelling makes every instruction right:
-/// a type of the current result for each label, or none, such that each instruction is reached and
-/// right on what comes to it, and each way to a label brings its type or the label is unset.
+/// The items of a program have no fault exactly where some labelling makes every instruction right.
+/// A labelling gives each label a type of the current result, or none, such that each instruction
+/// is reached and right for the result it receives, and each path to a label brings the label's
+/// type or the label is unset.
 pub fn some_labelling()
     ensures { (points : List Point) (program : text.PlainProgram) →
         (items_faults (names_in points program) program.items (initial_standing program) ≡ [])
         ↔ IsWellTyped (names_in points program) program.items }
 {}
 
-/// The checks find the least types: with whatever labelling the items of a front of a program are
-/// right, the type of the current result behind them is the one that the checks have there, or it
-/// is unset.
+/// The checks find the least types: for any labelling under which the first items of a program are
+/// right, the type of the current result after them is the one that the checks have there, or the
+/// result is unset.
 pub fn least_types()
     ensures { (points : List Point) (program : text.PlainProgram) (front more : List text.Entry)
         (labels : Labelling) (t : Option ElementaryType) →
@@ -43,25 +44,25 @@ pub fn right_programs_pass()
         → ((c : Checked) × (checked_of points program ≡ Ok c)) ↔ IsRightProgram points program }
 {}
 
-/// The fault that is answered is one of those that were found, and none of them stands on a line
-/// before it, or on its line with a lower number.
+/// The reported fault is one of those found, and none of them is on an earlier line, or on the same
+/// line with a lower number.
 pub fn answered_fault_is_least()
     ensures { (faults : List CheckFault) (fault : CheckFault) → least_fault faults ≡ Some fault
         → IsLeast fault faults }
 {}
 
-/// A name means its own place: what the name of the n-th external means is the n-th external, and
-/// so of variables and timers; what a name means is declared by that name; and what it means as a
-/// label is the number of the label of that name.
+/// A name means its own place: the name of the n-th external means the n-th external, and likewise
+/// for variables and timers; what a name means is declared under that name; and as a label, a name
+/// means the number of the label with that name.
 pub fn a_name_means_its_own_place()
     ensures { (points : List Point) (program : text.PlainProgram) (c : Checked)
         → checked_of points program ≡ Ok c
         → MeanOwnPlaces (names_in points program) c program.items }
 {}
 
-/// A right program keeps all that it says: what is left of a program of the grammar, with its
-/// places put back into names, is its declarations and its items, each in its order, with the same
-/// operators, modifiers, operands and nesting. An external is the point of its name.
+/// A right program keeps everything it says: the checked form of a program of the grammar, with
+/// places replaced by names again, is its declarations and its items, each in its order, with the
+/// same operators, modifiers, operands and nesting. An external is the point of its name.
 pub fn a_right_program_keeps_all_that_it_says()
     ensures { (points : List Point) (program : text.PlainProgram) (c : Checked)
         → checked_of points program ≡ Ok c → list_all is_outer program.items ≡ true

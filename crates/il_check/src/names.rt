@@ -8,14 +8,14 @@ use crate::given::Meaning;
 use std::alloc::{AllocError, Global};
 use std::collections::BTreeMap;
 
-/// What the names of variables and timers mean, and the numbers of labels, by names in upper case.
+/// The meanings of variables' and timers' names, and the numbers of labels, by names in upper case.
 #[derive(Drop)]
 pub(crate) struct Names {
     pub(crate) meanings: BTreeMap<String, Meaning>,
     pub(crate) labels: BTreeMap<String, usize>,
 }
 
-/// A name in upper case.
+/// Copies a name in upper case.
 pub(crate) fn upper_case(alloc: Global, name: &str) -> Result<String, AllocError>
     ensures { IfOk result (λ copy. string_bytes copy ≡ base.upper name.now) }
 {
@@ -24,7 +24,7 @@ pub(crate) fn upper_case(alloc: Global, name: &str) -> Result<String, AllocError
     Ok(copy)
 }
 
-/// Writes a name in upper case in the place of what the buffer holds.
+/// Replaces the contents of the buffer by a name in upper case.
 fn put_upper(buffer: &mut String, name: &str) -> Result<(), AllocError>
     ensures { OnOk result (string_bytes buffer.new ≡ base.upper name.now) }
 {
@@ -34,7 +34,7 @@ fn put_upper(buffer: &mut String, name: &str) -> Result<(), AllocError>
     Ok(())
 }
 
-/// Gives a name its meaning, unless it has one. Whether it had one.
+/// Gives a name its meaning unless it has one. Returns true if it already had one.
 pub(crate) fn add_meaning(
     meanings: &mut BTreeMap<String, Meaning>,
     name: String,
@@ -53,7 +53,7 @@ pub(crate) fn add_meaning(
     Ok(false)
 }
 
-/// Gives a label its number, unless it has one.
+/// Gives a label its number unless it has one.
 pub(crate) fn add_label(
     labels: &mut BTreeMap<String, usize>,
     name: String,
@@ -71,7 +71,7 @@ pub(crate) fn add_label(
 }
 
 impl Names {
-    /// What a name means, if it is declared.
+    /// Returns the meaning of a name, or `None` if it is not declared.
     pub(crate) fn meaning(
         &self,
         buffer: &mut String,
@@ -83,7 +83,7 @@ impl Names {
         Ok(self.meanings.get(buffer.as_str()).copied())
     }
 
-    /// The number of the first label of a name, if there is one.
+    /// Returns the number of the first label of a name, or `None` if there is none.
     pub(crate) fn label(&self, buffer: &mut String, name: &str) -> Result<Option<usize>, AllocError>
         ensures { IfOk result (λ found. found ≡ (names_of self.now).label name.now) }
     {

@@ -44,7 +44,7 @@ impl Model for Typed {
         })) };
 }
 
-/// What a checked program is made of.
+/// The parts of a checked program.
 #[derive(Drop)]
 pub(crate) struct Parts {
     pub externals: Vec<External>,
@@ -56,7 +56,7 @@ pub(crate) struct Parts {
 impl Typed {
     ghost use Rattle.il_check.specs.PartsView.{parts_view};
 
-    /// The program of these parts. It takes no memory.
+    /// Creates the program of these parts. Does not allocate.
     pub(crate) fn of_parts(parts: Parts) -> Self
         requires { IsSound (checked_view (parts_view parts)) }
         ensures { result ≡ parts_view parts }
@@ -75,29 +75,29 @@ impl Typed {
         }
     }
 
-    /// The externals, in the order of their declarations.
+    /// Returns the externals in the order of their declarations.
     pub fn externals(&self) -> &[External]
         ensures { result.now ≡ self.now.externals }
     {
         self.externals.as_slice()
     }
 
-    /// The variables, in the order of their declarations.
+    /// Returns the variables in the order of their declarations.
     pub fn variables(&self) -> &[Variable]
         ensures { result.now ≡ self.now.variables }
     {
         self.variables.as_slice()
     }
 
-    /// The timers, in the order of their declarations.
+    /// Returns the timers in the order of their declarations.
     pub fn timers(&self) -> &[Timer]
         ensures { result.now ≡ self.now.timers }
     {
         self.timers.as_slice()
     }
 
-    /// The items, in the order of the text. The program is what the checks make of one without a
-    /// fault, and it is well typed.
+    /// Returns the items in the order of the text. The program is the result of checking a program
+    /// without a fault, and it is well typed.
     pub fn items(&self) -> &[TypedItem]
         ensures value { result.now ≡ self.now.items }
         ensures sound { IsSound (checked_view self.now) }

@@ -4,14 +4,14 @@ ghost use Rattle.il_check.specs.WellTyped as spec;
 
 use bay_base::types::ElementaryType;
 
-/// Whether a place can be reached, and the type of the current result there, if it is set.
+/// Whether a place is reachable, and the type of the current result there, if it is set.
 #[derive(Clone, Copy)]
 pub struct Reach {
     pub is_reached: bool,
     pub kind: Option<ElementaryType>,
 }
 
-/// A place to which no way leads.
+/// A place that no path leads to.
 pub(crate) fn unreached() -> Reach
     ensures { result ≡ spec.no_reach }
 {
@@ -21,7 +21,7 @@ pub(crate) fn unreached() -> Reach
     }
 }
 
-/// Whether both results are set, to one type.
+/// Whether both results are set and have the same type.
 fn same_result(first: Option<ElementaryType>, second: Option<ElementaryType>) -> bool
     ensures { result ≡ spec.same_result first second }
 {
@@ -31,7 +31,7 @@ fn same_result(first: Option<ElementaryType>, second: Option<ElementaryType>) ->
     }
 }
 
-/// The type of a result that has the first type on one way and the second on the other.
+/// Returns the type of a result that has the first type on one path and the second on the other.
 fn join_types(
     first: Option<ElementaryType>,
     second: Option<ElementaryType>,
@@ -45,7 +45,7 @@ fn join_types(
     }
 }
 
-/// The join of what two ways to a place bring.
+/// Joins what two paths bring to the same place.
 pub(crate) fn join(first: Reach, second: Reach) -> Reach
     ensures { result ≡ spec.join first second }
 {

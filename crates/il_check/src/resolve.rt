@@ -16,8 +16,8 @@ use il_text::program::{
 };
 use std::alloc::AllocError;
 
-/// The value of a literal that has a type, if its number is one of the type's. A TIME is at most
-/// 2,147,483,647 ms.
+/// Returns the value of a typed literal, or `None` if its number is outside its type. A TIME is at
+/// most 2,147,483,647 ms.
 pub(crate) fn typed_value(literal: Literal) -> Option<Value>
     ensures { result ≡ spec.typed_value literal }
 {
@@ -31,8 +31,7 @@ pub(crate) fn typed_value(literal: Literal) -> Option<Value>
     }
 }
 
-/// A literal's value as an operand, which may only be read; a number that is none of its type's is
-/// misused.
+/// Returns a literal's value as a read-only operand. A number outside its type is `Misused`.
 fn known(value: Option<Value>) -> Given
     ensures { result ≡ spec.given_of value }
 {
@@ -46,7 +45,7 @@ fn known(value: Option<Value>) -> Given
     }
 }
 
-/// A number without a type, which is one of LINT at least.
+/// Returns a number without a type as an operand; it must be at least a LINT.
 fn number_given(number: i64) -> Given
     ensures { result ≡ spec.number_given number }
 {
@@ -57,7 +56,7 @@ fn number_given(number: i64) -> Given
     }
 }
 
-/// A literal as an operand.
+/// Returns a literal as an operand.
 fn literal_given(literal: Literal) -> Given
     ensures { result ≡ spec.literal_given literal }
 {
@@ -67,7 +66,7 @@ fn literal_given(literal: Literal) -> Given
     }
 }
 
-/// What a name means as a variable.
+/// Returns what a name means as a variable.
 fn variable_given(meaning: Option<Meaning>) -> Given
     ensures { result ≡ spec.variable_given meaning }
 {
@@ -88,7 +87,7 @@ fn variable_given(meaning: Option<Meaning>) -> Given
     }
 }
 
-/// The type of an output of a timer.
+/// Returns the type of a timer's output.
 fn output_type(output: Output) -> ElementaryType
     ensures { result ≡ spec.output_type output }
 {
@@ -98,7 +97,7 @@ fn output_type(output: Output) -> ElementaryType
     }
 }
 
-/// What a name means as the timer of an output.
+/// Returns what a name means as the timer of an output.
 fn output_given(meaning: Option<Meaning>, output: Output) -> Given
     ensures { result ≡ spec.output_given meaning output }
 {
@@ -113,7 +112,7 @@ fn output_given(meaning: Option<Meaning>, output: Output) -> Given
     }
 }
 
-/// Whether a literal is other than 0 and FALSE.
+/// Whether a literal is neither 0 nor FALSE.
 fn is_nonzero_literal(literal: Literal) -> bool
     ensures { result ≡ spec.is_nonzero_literal literal }
 {
@@ -127,7 +126,7 @@ fn is_nonzero_literal(literal: Literal) -> bool
     }
 }
 
-/// Whether an operand is a literal other than 0.
+/// Whether an operand is a literal other than 0 and FALSE.
 fn is_nonzero(operand: Operand<'_>) -> bool
     ensures { result ≡ spec.is_nonzero (source_of operand.entry) }
 {
@@ -137,7 +136,7 @@ fn is_nonzero(operand: Operand<'_>) -> bool
     }
 }
 
-/// What a name means as a timer that is called.
+/// Returns what a name means as the timer of a call.
 fn called_of(meaning: Option<Meaning>) -> Called
     ensures { result ≡ spec.called_of meaning }
 {
@@ -149,7 +148,7 @@ fn called_of(meaning: Option<Meaning>) -> Called
 }
 
 impl Names {
-    /// What a symbolic variable means: a variable, or an output of a timer.
+    /// Resolves a symbolic variable: a variable, or an output of a timer.
     fn variable(
         &self,
         buffer: &mut String,
@@ -166,7 +165,7 @@ impl Names {
         }
     }
 
-    /// What an operand means.
+    /// Resolves an operand.
     fn operand(&self, buffer: &mut String, operand: Operand<'_>) -> Result<Given, AllocError>
         ensures { IfOk result (λ given. given
             ≡ spec.source_given (names_of self.now) (source_of operand.entry)) }
@@ -177,7 +176,7 @@ impl Names {
         }
     }
 
-    /// What a call gives to one input.
+    /// Resolves an argument of a call.
     fn argument(
         &self,
         buffer: &mut String,
@@ -192,7 +191,7 @@ impl Names {
         })
     }
 
-    /// What a call gives to its inputs.
+    /// Resolves the arguments of a call.
     fn arguments(
         &self,
         buffer: &mut String,
@@ -212,7 +211,7 @@ impl Names {
         }
     }
 
-    /// A call with what its names mean.
+    /// Resolves the names of a call.
     fn call(
         &self,
         buffer: &mut String,
@@ -228,8 +227,7 @@ impl Names {
         Ok(Resolved::Call { called, arguments })
     }
 
-    /// An instruction with what its names mean. No memory is taken for a name of at most 64
-    /// characters.
+    /// Resolves the names of an instruction. Does not allocate for names of at most 64 characters.
     pub(crate) fn resolve(
         &self,
         buffer: &mut String,

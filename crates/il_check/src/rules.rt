@@ -9,7 +9,8 @@ use bay_base::types::ElementaryType;
 use il_image::value::Value;
 use il_text::program::{Condition, Conversion, Input, Operator, StoreKind};
 
-/// The value of a type that a number without a type stands for; no number is a TIME.
+/// Returns the value of this type that an untyped number stands for, or `None` if there is none. No
+/// number is a TIME.
 pub(crate) fn number_in(kind: ElementaryType, number: i64) -> Option<Value>
     ensures { result ≡ spec.number_in kind number }
 {
@@ -19,7 +20,7 @@ pub(crate) fn number_in(kind: ElementaryType, number: i64) -> Option<Value>
     }
 }
 
-/// The operand as one of a type, if it can be one.
+/// Returns the operand as one of this type, or `None` if it cannot be one.
 pub(crate) fn operand_in(kind: ElementaryType, given: Given) -> Option<TypedOperand>
     ensures { result ≡ spec.operand_in kind given }
 {
@@ -39,14 +40,15 @@ pub(crate) fn operand_in(kind: ElementaryType, given: Given) -> Option<TypedOper
     }
 }
 
-/// Whether the operand can be one of the type.
+/// Whether the operand can be of the type.
 fn fits(kind: ElementaryType, given: Given) -> bool
     ensures { result ≡ spec.fits kind given }
 {
     operand_in(kind, given).is_some()
 }
 
-/// The type that a number has by itself.
+/// Returns the type of an untyped number when it is loaded: the first of INT, DINT and LINT that
+/// holds it.
 fn own_type(number: i64) -> ElementaryType
     ensures { result ≡ spec.own_type number }
 {
@@ -59,7 +61,7 @@ fn own_type(number: i64) -> ElementaryType
     }
 }
 
-/// The type of what a load gives.
+/// Returns the type of the result of a load.
 pub(crate) fn load_type(given: Given) -> Option<ElementaryType>
     ensures { result ≡ spec.load_type given }
 {
@@ -70,7 +72,7 @@ pub(crate) fn load_type(given: Given) -> Option<ElementaryType>
     }
 }
 
-/// Whether this is BOOL, the only type that is negated and that decides.
+/// Whether this is BOOL, the only type that can be negated or tested.
 fn is_boolean(kind: ElementaryType) -> bool
     ensures { result ≡ spec.is_boolean kind }
 {
@@ -87,7 +89,7 @@ fn is_number(kind: ElementaryType) -> bool
     }
 }
 
-/// Whether an operator takes a type on both sides.
+/// Whether an operator accepts a type on both sides.
 fn takes(operator: Operator, kind: ElementaryType) -> bool
     ensures { result ≡ spec.takes operator kind }
 {
@@ -101,7 +103,7 @@ fn takes(operator: Operator, kind: ElementaryType) -> bool
     }
 }
 
-/// The type of what an operator gives.
+/// Returns the type of an operator's result.
 fn gives(operator: Operator, kind: ElementaryType) -> ElementaryType
     ensures { result ≡ spec.gives operator kind }
 {
@@ -119,7 +121,7 @@ fn gives(operator: Operator, kind: ElementaryType) -> ElementaryType
     }
 }
 
-/// The type behind an operator.
+/// Returns the type of the current result after an operator.
 pub(crate) fn given_type(
     operator: Operator,
     result_type: Option<ElementaryType>,
@@ -142,21 +144,21 @@ pub(crate) fn divides(operator: Operator) -> bool
     }
 }
 
-/// Whether an operand of the type may be negated, if it is: only a BOOL may.
+/// Whether a negation, if there is one, is allowed for the type: only a BOOL may be negated.
 fn may_negate(negated: bool, kind: ElementaryType) -> bool
     ensures { result ≡ spec.may_negate negated kind }
 {
     !negated || is_boolean(kind)
 }
 
-/// Whether the operator, which may negate its operand, works on the type.
+/// Whether the operator, with its operand negated or not, works on the type.
 fn works(operator: Operator, negated: bool, kind: ElementaryType) -> bool
     ensures { result ≡ spec.works operator negated kind }
 {
     takes(operator, kind) && may_negate(negated, kind)
 }
 
-/// Whether a store writes the result as it is.
+/// Whether a store writes the result unchanged.
 fn is_plain(kind: StoreKind) -> bool
     ensures { result ≡ spec.is_plain kind }
 {
@@ -166,7 +168,7 @@ fn is_plain(kind: StoreKind) -> bool
     }
 }
 
-/// Whether a jump or a return looks at the result.
+/// Whether a jump or a return depends on the current result.
 fn is_conditional(condition: Condition) -> bool
     ensures { result ≡ spec.is_conditional condition }
 {
@@ -176,7 +178,7 @@ fn is_conditional(condition: Condition) -> bool
     }
 }
 
-/// The type of what a conversion takes.
+/// Returns the type that a conversion takes.
 fn converted_from(conversion: Conversion) -> ElementaryType
     ensures { result ≡ spec.converted_from conversion }
 {
@@ -186,7 +188,7 @@ fn converted_from(conversion: Conversion) -> ElementaryType
     }
 }
 
-/// The type of what a conversion gives.
+/// Returns the type that a conversion gives.
 fn converted_to(conversion: Conversion) -> ElementaryType
     ensures { result ≡ spec.converted_to conversion }
 {
@@ -196,7 +198,7 @@ fn converted_to(conversion: Conversion) -> ElementaryType
     }
 }
 
-/// The type of an input of a timer.
+/// Returns the type of a timer's input.
 pub(crate) fn input_type(input: Input) -> ElementaryType
     ensures { result ≡ spec.input_type input }
 {
@@ -206,14 +208,14 @@ pub(crate) fn input_type(input: Input) -> ElementaryType
     }
 }
 
-/// Whether an argument has its input's type.
+/// Whether an argument fits its input's type.
 fn argument_fits(argument: GivenArgument) -> bool
     ensures { result ≡ spec.argument_fits argument }
 {
     fits(input_type(argument.input), argument.given)
 }
 
-/// Whether each argument has its input's type.
+/// Whether each argument fits its input's type.
 fn arguments_fit(arguments: GivenArguments) -> bool
     ensures { result ≡ spec.arguments_fit arguments }
 {
@@ -224,7 +226,7 @@ fn arguments_fit(arguments: GivenArguments) -> bool
     }
 }
 
-/// Whether what is called is a timer.
+/// Whether the called name is a timer's.
 fn is_timer(called: Called) -> bool
     ensures { result ≡ spec.is_timer called }
 {
@@ -234,7 +236,7 @@ fn is_timer(called: Called) -> bool
     }
 }
 
-/// Whether a value of this type may be loaded, negated or not; where there is none, nothing may.
+/// Whether a value of this type may be loaded, negated or not. Without a type, nothing may.
 fn may_load(negated: bool, kind: Option<ElementaryType>) -> bool
     ensures { result ≡ spec.may_load negated kind }
 {
@@ -244,7 +246,7 @@ fn may_load(negated: bool, kind: Option<ElementaryType>) -> bool
     }
 }
 
-/// Whether the instruction is right where the current result has this type.
+/// Whether the instruction is right if the current result has this type.
 fn allows(resolved: Resolved, kind: ElementaryType) -> bool
     ensures { result ≡ spec.allows resolved kind }
 {
@@ -268,7 +270,7 @@ fn allows(resolved: Resolved, kind: ElementaryType) -> bool
     }
 }
 
-/// Whether the instruction looks at the current result.
+/// Whether the instruction uses the current result.
 fn uses_result(resolved: Resolved) -> bool
     ensures { result ≡ spec.uses_result resolved }
 {
@@ -280,7 +282,7 @@ fn uses_result(resolved: Resolved) -> bool
     }
 }
 
-/// Whether no type that the result may have makes the instruction right.
+/// Whether the instruction is wrong for every type that the current result may have.
 pub(crate) fn is_wrong(resolved: Resolved, kind: Option<ElementaryType>) -> bool
     ensures { result ≡ spec.is_wrong resolved kind }
 {
@@ -296,14 +298,14 @@ pub(crate) fn is_wrong(resolved: Resolved, kind: Option<ElementaryType>) -> bool
     }
 }
 
-/// Whether the instruction uses a result that is not set.
+/// Whether the instruction uses a current result that is not set.
 pub(crate) fn is_unset(resolved: Resolved, kind: Option<ElementaryType>) -> bool
     ensures { result ≡ spec.is_unset resolved kind }
 {
     uses_result(resolved) && kind.is_none()
 }
 
-/// The type of the result behind the instruction, if it is set there.
+/// Returns the type of the current result after the instruction, or `None` if it is not set there.
 pub(crate) fn type_after(resolved: Resolved, kind: Option<ElementaryType>) -> Option<ElementaryType>
     ensures { result ≡ spec.type_after resolved kind }
 {
@@ -317,7 +319,7 @@ pub(crate) fn type_after(resolved: Resolved, kind: Option<ElementaryType>) -> Op
     }
 }
 
-/// Whether what a parenthesis gives may have this type.
+/// Whether the result of a parenthesis may have this type.
 fn may_be(kind: ElementaryType, inner: Option<ElementaryType>) -> bool
     ensures { result ≡ spec.may_be kind inner }
 {
@@ -327,7 +329,7 @@ fn may_be(kind: ElementaryType, inner: Option<ElementaryType>) -> bool
     }
 }
 
-/// Whether the operator of a parenthesis is right on a result of this type.
+/// Whether the operator of a parenthesis is right on a current result of this type.
 fn combines(
     operator: Operator,
     negated: bool,
@@ -339,7 +341,7 @@ fn combines(
     works(operator, negated, kind) && may_be(kind, inner)
 }
 
-/// Whether no type that the result may have makes the operator of a parenthesis right.
+/// Whether the operator of a parenthesis is wrong for every type that the current result may have.
 pub(crate) fn combines_wrong(
     operator: Operator,
     negated: bool,
@@ -360,7 +362,7 @@ pub(crate) fn combines_wrong(
     }
 }
 
-/// Whether the operand is a name that is not declared.
+/// Whether the operand is an undeclared name.
 fn is_missing(given: Given) -> bool
     ensures { result ≡ spec.is_missing given }
 {
@@ -370,7 +372,7 @@ fn is_missing(given: Given) -> bool
     }
 }
 
-/// Whether an argument is a name that is not declared.
+/// Whether an argument is an undeclared name.
 fn misses_argument(arguments: GivenArguments) -> bool
     ensures { result ≡ spec.misses_argument arguments }
 {
@@ -381,7 +383,7 @@ fn misses_argument(arguments: GivenArguments) -> bool
     }
 }
 
-/// Whether what is called is a name that is not declared.
+/// Whether the called name is not declared.
 fn misses_timer(called: Called) -> bool
     ensures { result ≡ spec.misses_timer called }
 {
@@ -391,7 +393,7 @@ fn misses_timer(called: Called) -> bool
     }
 }
 
-/// Whether a name of the instruction is not declared.
+/// Whether the instruction uses an undeclared name.
 pub(crate) fn misses_name(resolved: Resolved) -> bool
     ensures { result ≡ spec.misses_name resolved }
 {
@@ -403,7 +405,7 @@ pub(crate) fn misses_name(resolved: Resolved) -> bool
     }
 }
 
-/// Whether the instruction jumps to a label above, where so many labels stand above.
+/// Whether the instruction jumps to a label above it; `passed` labels precede the instruction.
 pub(crate) fn jumps_back(passed: usize, resolved: Resolved) -> bool
     ensures { result ≡ spec.jumps_back passed resolved }
 {
@@ -416,7 +418,7 @@ pub(crate) fn jumps_back(passed: usize, resolved: Resolved) -> bool
     }
 }
 
-/// Whether the instruction jumps to a label that is not there.
+/// Whether the instruction jumps to a label that does not exist.
 pub(crate) fn misses_label(resolved: Resolved) -> bool
     ensures { result ≡ spec.misses_label resolved }
 {
@@ -426,7 +428,7 @@ pub(crate) fn misses_label(resolved: Resolved) -> bool
     }
 }
 
-/// Whether the target may only be read.
+/// Whether the target is read-only.
 fn is_fixed(given: Given) -> bool
     ensures { result ≡ spec.is_fixed given }
 {
@@ -436,7 +438,7 @@ fn is_fixed(given: Given) -> bool
     }
 }
 
-/// Whether the instruction writes what may only be read.
+/// Whether the instruction writes something read-only.
 pub(crate) fn writes_fixed(resolved: Resolved) -> bool
     ensures { result ≡ spec.writes_fixed resolved }
 {
@@ -446,7 +448,7 @@ pub(crate) fn writes_fixed(resolved: Resolved) -> bool
     }
 }
 
-/// Whether the instruction divides by what is not a literal other than 0.
+/// Whether the instruction divides by anything but a literal other than 0.
 pub(crate) fn may_divide_by_zero(resolved: Resolved) -> bool
     ensures { result ≡ spec.may_divide_by_zero resolved }
 {
@@ -460,7 +462,7 @@ pub(crate) fn may_divide_by_zero(resolved: Resolved) -> bool
     }
 }
 
-/// Whether what comes next in the text can be reached from the instruction.
+/// Whether the item that follows in the text can be reached from the instruction.
 pub(crate) fn goes_on(resolved: Resolved) -> bool
     ensures { result ≡ spec.goes_on resolved }
 {
@@ -470,7 +472,7 @@ pub(crate) fn goes_on(resolved: Resolved) -> bool
     }
 }
 
-/// The label that a jump goes to, if there is one.
+/// Returns the label that a jump goes to, or `None` if there is none.
 pub(crate) fn target_of(resolved: Resolved) -> Option<usize>
     ensures { result ≡ spec.target_of resolved }
 {

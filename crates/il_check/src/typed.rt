@@ -7,8 +7,7 @@ use bay_config::bay::Source;
 use il_image::value::Value;
 use il_text::program::{Condition, Conversion, Input, Operator, Output, StoreKind};
 
-/// A variable that is given to the program (IEC 61131-3:2003, 2.4.3, VAR_EXTERNAL): a point of the
-/// bay.
+/// A variable provided to the program (IEC 61131-3:2003, 2.4.3, VAR_EXTERNAL): a point of the bay.
 #[derive(Drop)]
 pub struct External {
     /// Its name, in upper case.
@@ -16,7 +15,7 @@ pub struct External {
     pub kind: ElementaryType,
     /// Whether the program may write it.
     pub writable: bool,
-    /// What its point stands for.
+    /// The source of its point.
     pub source: Source,
 }
 
@@ -25,7 +24,7 @@ pub struct External {
 pub struct Variable {
     /// Its name, in upper case.
     pub name: Text,
-    /// The value that it begins with, which has its type.
+    /// The initial value, which also gives the type.
     pub initial: Value,
 }
 
@@ -37,7 +36,7 @@ pub struct Timer {
     pub kind: TimerKind,
 }
 
-/// Where a value lives: the external, or the variable, at this place in the order of the
+/// The place of a value: the external or the variable at this index in the order of the
 /// declarations.
 #[derive(Clone, Copy, PartialEq, Eq)]
 pub enum Slot {
@@ -45,16 +44,16 @@ pub enum Slot {
     Variable(usize),
 }
 
-/// What an instruction reads.
+/// The operand that an instruction reads.
 #[derive(Clone, Copy, PartialEq, Eq)]
 pub enum TypedOperand {
     Literal(Value),
     Slot(Slot),
-    /// An output of the timer at this place.
+    /// An output of the timer at this index.
     Output { timer: usize, output: Output },
 }
 
-/// An instruction that may stand in a parenthesis (IEC 61131-3:2003, table 52).
+/// An operation, which may stand in a parenthesis (IEC 61131-3:2003, table 52).
 #[derive(Clone, Copy, PartialEq, Eq)]
 pub enum SimpleOperation {
     /// `LD`, `LDN`
@@ -67,7 +66,7 @@ pub enum SimpleOperation {
         kind: StoreKind,
         slot: Slot,
     },
-    /// An operator on the result and an operand, which are both of this type.
+    /// An operator on the result and an operand, both of type `kind`.
     Combine {
         operator: Operator,
         kind: ElementaryType,
@@ -80,8 +79,8 @@ pub enum SimpleOperation {
     Convert(Conversion),
 }
 
-/// An operation, or a parenthesis: an operator on the result and what its entries give, which are
-/// both of this type.
+/// An operation or a parenthesis. The operator of a parenthesis works on the current result and the
+/// result of its entries, both of type `kind`.
 #[derive(Drop)]
 pub enum TypedEntry {
     Operation(SimpleOperation),
@@ -93,7 +92,7 @@ pub enum TypedEntry {
     },
 }
 
-/// What a call gives to one input of a timer.
+/// An argument of a call: an input of a timer and the operand given to it.
 #[derive(Clone, Copy, PartialEq, Eq)]
 pub struct TypedArgument {
     pub input: Input,
@@ -108,7 +107,7 @@ pub enum TypedArguments {
     Two(TypedArgument, TypedArgument),
 }
 
-/// An instruction that moves on elsewhere, or calls (IEC 61131-3:2003, table 52).
+/// A jump, a return or a call (IEC 61131-3:2003, table 52).
 #[derive(Clone, Copy, PartialEq, Eq)]
 pub enum Transfer {
     /// A jump to the label with this number, which stands below.
@@ -116,9 +115,9 @@ pub enum Transfer {
         condition: Condition,
         label: usize,
     },
-    /// The end of the program's run.
+    /// A return, which ends the run of the program.
     Return(Condition),
-    /// `CAL` of the timer at this place.
+    /// `CAL` of the timer at this index.
     Call {
         timer: usize,
         arguments: TypedArguments,

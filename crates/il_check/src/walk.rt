@@ -25,11 +25,11 @@ use bay_base::types::ElementaryType;
 use il_text::program::{Instruction, Item, Operator};
 use std::alloc::{AllocError, Global};
 
-/// The most parentheses that may stand within one another.
+/// The maximum nesting depth of parentheses.
 const MAX_DEPTH: usize = 16;
 
-/// What is kept from item to item: the fault that is answered, if there is one so far, and a buffer
-/// for names that are looked up.
+/// The state kept from item to item: the fault to report, if any so far, and a buffer for looking
+/// up names.
 #[derive(Drop)]
 pub(crate) struct Judge {
     pub(crate) alloc: Global,
@@ -37,7 +37,7 @@ pub(crate) struct Judge {
     pub(crate) found: Option<CheckFault>,
 }
 
-/// The operator of a parenthesis, and the lines of both of its ends.
+/// The operator of a parenthesis, and the lines of its opening and its closing.
 #[derive(Clone, Copy)]
 struct Parenthesis {
     line: usize,
@@ -46,14 +46,14 @@ struct Parenthesis {
     end: usize,
 }
 
-/// What is left of one entry, if something is, and the type of the result behind it.
+/// The typed form of one entry, if it has one, and the type of the result after it.
 #[derive(Drop)]
 struct EntryLeft {
     entry: Option<TypedEntry>,
     kind: Option<ElementaryType>,
 }
 
-/// What is left of entries, and the type of the result behind them.
+/// The typed forms of entries, and the type of the result after them.
 #[derive(Drop)]
 struct Passed {
     entries: Vec<TypedEntry>,
@@ -61,7 +61,7 @@ struct Passed {
 }
 
 impl Judge {
-    /// An instruction with what its names mean; its faults are noted.
+    /// Resolves the names of an instruction and notes its faults.
     fn instruction(
         &mut self,
         names: &Names,
@@ -82,7 +82,8 @@ impl Judge {
         Ok(resolved)
     }
 
-    /// An instruction in a parenthesis, on a result of this type, if that is set.
+    /// Checks an instruction in a parenthesis, on a result of this type, or `None` if it is not
+    /// set.
     fn operate(
         &mut self,
         names: &Names,
@@ -110,7 +111,7 @@ impl Judge {
         })
     }
 
-    /// The entries of a parenthesis.
+    /// Checks the entries of a parenthesis.
     #[cycle(entries)]
     fn entries(
         &mut self,
@@ -141,7 +142,7 @@ impl Judge {
         Ok(passed)
     }
 
-    /// One entry, on a result of this type, if that is set.
+    /// Checks one entry, on a result of this type, or `None` if it is not set.
     #[cycle(entries)]
     #[tactic(auto, using(crate::proofs::EntryLemmas::entry_rules))]
     fn entry(
@@ -188,8 +189,8 @@ impl Judge {
         }
     }
 
-    /// A parenthesis: what is left of it on a result of this type, if that is set. One that is too
-    /// deep isn't looked into.
+    /// Checks a parenthesis on a result of this type, or `None` if it is not set, and returns its
+    /// typed form. The contents of one nested too deep are not checked.
     #[cycle(entries)]
     fn block(
         &mut self,
@@ -236,7 +237,7 @@ impl Judge {
     }
 }
 
-/// A parenthesis whose operator works on a result of this type.
+/// Returns a parenthesis whose operator works on a result of this type.
 #[tactic(auto, using(crate::proofs::ViewLemmas::view_rules))]
 fn block_of(
     operator: Operator,
@@ -258,7 +259,7 @@ fn block_of(
     }
 }
 
-/// What is left of an instruction as an entry.
+/// Returns the typed form of an instruction as an entry.
 #[tactic(auto, using(crate::proofs::ViewLemmas::view_rules))]
 fn entry_in(resolved: Resolved, kind: Option<ElementaryType>) -> Option<TypedEntry>
     ensures { option_map entry_view result ≡ typing.entry_in resolved kind }
@@ -269,7 +270,7 @@ fn entry_in(resolved: Resolved, kind: Option<ElementaryType>) -> Option<TypedEnt
     }
 }
 
-/// What is left of an instruction as an item.
+/// Returns the typed form of an instruction as an item.
 fn item_in(resolved: Resolved, kind: Option<ElementaryType>) -> Option<TypedItem>
     ensures { option_map item_view result ≡ typing.item_in resolved kind }
 {
@@ -283,7 +284,7 @@ fn item_in(resolved: Resolved, kind: Option<ElementaryType>) -> Option<TypedItem
 }
 
 impl Passed {
-    /// One entry more, of which something may be left.
+    /// Appends one entry, if it has a typed form.
     #[tactic(auto, using(crate::proofs::ViewLemmas::view_rules))]
     fn add(&mut self, left: EntryLeft) -> Result<(), AllocError>
         ensures kind { OnOk result (self.new.kind ≡ left.kind) }
@@ -300,7 +301,7 @@ impl Passed {
     }
 }
 
-/// What is left of a program's items, and what is known of the current result.
+/// The typed items of a program so far, and what is known of the current result.
 #[derive(Drop)]
 pub(crate) struct Walk {
     pub(crate) reach: Reach,
@@ -310,7 +311,7 @@ pub(crate) struct Walk {
 }
 
 impl Walk {
-    /// Where the next item stands: in no parenthesis.
+    /// Returns the context of the next item, which is in no parenthesis.
     fn context(&self) -> Context
         ensures { result ≡ record
             { is_reached = self.now.reach.is_reached; passed = self.now.passed; room = 16 } }
@@ -322,7 +323,7 @@ impl Walk {
         }
     }
 
-    /// What jumps to the label with this number bring, as far as the text is read.
+    /// Returns what jumps bring to the label with this number, as far as the text has been read.
     fn arrival(&self, label: usize) -> Reach
         ensures { result ≡ spec.arrival (slice_get self.now.arrivals.items label) }
     {
@@ -332,7 +333,7 @@ impl Walk {
         }
     }
 
-    /// Notes what a jump brings to its label.
+    /// Records what a jump brings to its label.
     fn arrive(&mut self, label: Option<usize>)
         ensures arrivals { self.new.arrivals.items
             ≡ spec.arrival_at label self.old.reach self.old.arrivals.items }
@@ -348,7 +349,7 @@ impl Walk {
         }
     }
 
-    /// Goes behind an instruction.
+    /// Moves past an instruction.
     fn follow(&mut self, resolved: Resolved)
         ensures standing { standing_of self.new
             ≡ spec.standing_after resolved (standing_of self.old) }
@@ -361,7 +362,7 @@ impl Walk {
         };
     }
 
-    /// Goes behind a label.
+    /// Moves past a label.
     fn enter_label(&mut self)
         requires { self.old.passed < usize.MAX }
         ensures standing { standing_of self.new ≡ spec.behind_label (standing_of self.old) }
@@ -371,7 +372,7 @@ impl Walk {
         self.passed += 1;
     }
 
-    /// One item more, if there is one.
+    /// Appends one item, if there is one.
     #[tactic(auto, using(crate::proofs::ViewLemmas::view_rules))]
     fn add(&mut self, item: Option<TypedItem>) -> Result<(), AllocError>
         ensures items { OnOk result (map item_view self.new.items.items
@@ -384,7 +385,8 @@ impl Walk {
         Ok(())
     }
 
-    /// Keeps what is left, unless a fault is found: nothing is left of a program with one.
+    /// Keeps the typed items, or clears them once a fault is found: a program with a fault keeps
+    /// none.
     fn keep(&mut self, found: Option<CheckFault>)
         ensures items { found ≡ None → self.new.items ≡ self.old.items }
         ensures standing { standing_of self.new ≡ standing_of self.old }
@@ -394,7 +396,7 @@ impl Walk {
         }
     }
 
-    /// What is left of an instruction.
+    /// Appends the typed form of an instruction, if it has one.
     fn add_instruction(&mut self, resolved: Resolved) -> Result<(), AllocError>
         ensures items { OnOk result (map item_view self.new.items.items
             ≡ map item_view self.old.items.items
@@ -404,7 +406,7 @@ impl Walk {
         self.add(item_in(resolved, self.reach.kind))
     }
 
-    /// A label, by its number.
+    /// Appends a label, by its number.
     fn add_label(&mut self) -> Result<(), AllocError>
         requires { self.old.passed < usize.MAX }
         ensures items { OnOk result
@@ -418,7 +420,7 @@ impl Walk {
         Ok(())
     }
 
-    /// A parenthesis, of which something may be left.
+    /// Appends a parenthesis, if it has a typed form.
     #[tactic(auto, using(crate::proofs::ViewLemmas::view_rules))]
     fn add_block(&mut self, left: EntryLeft) -> Result<(), AllocError>
         ensures items { OnOk result (map item_view self.new.items.items
@@ -441,7 +443,7 @@ impl Walk {
 }
 
 impl Judge {
-    /// A label.
+    /// Checks a label.
     fn label(
         &mut self,
         names: &Names,
@@ -466,7 +468,7 @@ impl Judge {
         walk.add_label()
     }
 
-    /// An instruction outside of parentheses.
+    /// Checks an instruction outside parentheses.
     fn act(
         &mut self,
         names: &Names,
@@ -492,7 +494,7 @@ impl Judge {
         Ok(())
     }
 
-    /// A parenthesis that stands in no other.
+    /// Checks a parenthesis that is not inside another.
     fn enclose(&mut self, names: &Names, item: &Item<'_>, walk: &mut Walk) -> Result<(), AllocError>
         ensures standing { OnOk result (standing_of walk.new
             ≡ record {
@@ -517,7 +519,7 @@ impl Judge {
         walk.add_block(left)
     }
 
-    /// One item more.
+    /// Checks one item.
     #[tactic(auto, using(crate::proofs::EntryLemmas::entry_rules))]
     fn item(&mut self, names: &Names, item: &Item<'_>, walk: &mut Walk) -> Result<(), AllocError>
         requires { walk.old.passed < usize.MAX }
@@ -541,7 +543,7 @@ impl Judge {
         }
     }
 
-    /// All items of a program, of which nothing is left where a fault is found.
+    /// Checks all items of a program. No typed items are left if a fault is found.
     pub(crate) fn items(
         &mut self,
         names: &Names,

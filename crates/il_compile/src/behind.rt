@@ -15,19 +15,19 @@ use il_text::program::Condition;
 use std::alloc::{AllocError, Global};
 use std::collections::HashMap;
 
-/// No more octets than these are counted.
+/// The octets are counted up to this number.
 const BOUND: u32 = 0x1_0000;
 
-/// What is known of the items behind a place.
+/// What is known of the items after a place.
 #[derive(Drop)]
 pub(crate) struct Behind {
     /// Their instructions, the last first.
     pub(crate) instrs: Vec<Instr>,
-    /// How many octets these have, counted up to 65,536.
+    /// The number of octets of these instructions, counted up to 65,536.
     pub(crate) octets: u32,
-    /// For each label the octets behind it.
+    /// For each label, the number of octets after it.
     pub(crate) places: HashMap<usize, u32>,
-    /// The instructions of the item before them, in their order, until they are put there.
+    /// The instructions of the item before them, in order, until they are moved there.
     pub(crate) line: Vec<Instr>,
 }
 
@@ -83,7 +83,7 @@ fn put_before(
 }
 
 impl Behind {
-    /// Behind the last item there is nothing.
+    /// Creates the state after the last item, where nothing follows.
     fn new(alloc: Global) -> Behind
         ensures { (externals : ℕ) → IsSettled externals [] result }
     {
@@ -191,7 +191,7 @@ impl Behind {
     }
 }
 
-/// All items, behind which there is nothing.
+/// Compiles all items, from the last to the first.
 pub(crate) fn behind_all(
     alloc: Global,
     externals: usize,

@@ -18,7 +18,7 @@ use il_image::value::Value;
 use il_text::program::{Condition, Conversion, Input, Operator, Output, StoreKind};
 use std::alloc::AllocError;
 
-/// The number of a slot: the externals come first, and then the variables.
+/// Returns the number of a slot: the externals come first, then the variables.
 fn slot_number(externals: usize, slot: Slot) -> u16
     requires { spec.slot_number externals slot < 2 ^ 16 }
     ensures { result ≡ spec.slot_number externals slot }
@@ -29,7 +29,7 @@ fn slot_number(externals: usize, slot: Slot) -> u16
     }
 }
 
-/// The instruction that puts an operand on the stack.
+/// Returns the instruction that pushes an operand.
 fn fetch(externals: usize, operand: TypedOperand) -> Instr
     requires { IsInstr (spec.fetch externals operand) }
     ensures { result ≡ spec.fetch externals operand }
@@ -44,7 +44,7 @@ fn fetch(externals: usize, operand: TypedOperand) -> Instr
     }
 }
 
-/// The width of an operation on numbers of a type.
+/// Returns the width of an operation on numbers of a type.
 fn width_of(kind: ElementaryType) -> Width
     ensures { result ≡ spec.width_of kind }
 {
@@ -55,7 +55,7 @@ fn width_of(kind: ElementaryType) -> Width
     }
 }
 
-/// The instruction of an operator on two values of a type.
+/// Returns the instruction of an operator on two values of a type.
 fn operator_instr(operator: Operator, kind: ElementaryType) -> Instr
     ensures { result ≡ spec.sense_instr (senses.sense_of operator) kind }
 {
@@ -77,7 +77,7 @@ fn operator_instr(operator: Operator, kind: ElementaryType) -> Instr
     }
 }
 
-/// A conversion as the machine names it.
+/// Returns the machine's name for a conversion.
 fn widening_of(conversion: Conversion) -> Widening
     ensures { result ≡ senses.widening_of conversion }
 {
@@ -87,7 +87,7 @@ fn widening_of(conversion: Conversion) -> Widening
     }
 }
 
-/// When a jump goes.
+/// Returns when a jump is taken.
 pub(crate) fn when_of(condition: Condition) -> When
     ensures { result ≡ senses.when_of condition }
 {
@@ -98,7 +98,7 @@ pub(crate) fn when_of(condition: Condition) -> When
     }
 }
 
-/// What the machine does with an input of a timer.
+/// Returns what the machine does with an input of a timer.
 fn input_use(input: Input) -> TimerUse
     ensures { result ≡ spec.input_use input }
 {
@@ -116,7 +116,7 @@ pub(crate) fn put(code: &mut Vec<Instr>, instr: Instr) -> Result<(), AllocError>
     Ok(())
 }
 
-/// Appends a NOT, where the operand is negated.
+/// Appends a NOT if the operand is negated.
 fn put_negation(code: &mut Vec<Instr>, negated: bool) -> Result<(), AllocError>
     ensures { OnOk result (code.new.items ≡ code.old.items ++ spec.negation negated) }
 {
@@ -126,7 +126,7 @@ fn put_negation(code: &mut Vec<Instr>, negated: bool) -> Result<(), AllocError>
     Ok(())
 }
 
-/// Appends what stands behind an operand or a parenthesis.
+/// Appends what follows an operand or a parenthesis: a NOT if it is negated, and the operator.
 fn put_operated(
     code: &mut Vec<Instr>,
     operator: Operator,
@@ -191,7 +191,8 @@ fn put_operation(
     }
 }
 
-/// Appends an operation, or a parenthesis, which begins with a cell for a result that is not set.
+/// Appends an operation or a parenthesis. A parenthesis begins with a cell for a result that is not
+/// set.
 pub(crate) fn put_entry(
     code: &mut Vec<Instr>,
     externals: usize,
@@ -218,7 +219,7 @@ pub(crate) fn put_entry(
     }
 }
 
-/// Appends an argument of a call: its operand, and where it goes.
+/// Appends an argument of a call: its operand, and its input.
 fn put_argument(
     code: &mut Vec<Instr>,
     externals: usize,
@@ -233,7 +234,7 @@ fn put_argument(
     put(code, Instr::Timer(input_use(argument.input), timer))
 }
 
-/// Appends a call: the arguments in the order of the text, and then the timer runs.
+/// Appends a call: the arguments in the order of the text, then the run of the timer.
 pub(crate) fn put_call(
     code: &mut Vec<Instr>,
     externals: usize,

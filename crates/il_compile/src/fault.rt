@@ -6,19 +6,19 @@ ghost use Rattle.il_compile.specs.declared.fault.CompileFault.TheVariants.{OutOf
 use std::alloc::{AllocError, AllocFailed};
 use thiserror::Error;
 
-/// Why a program is not compiled.
+/// Why a program does not compile.
 #[derive(Clone, Copy, Debug, PartialEq, Eq, Error)]
 pub enum CompileFault {
-    /// The image would have more than 65,535 octets as it is written.
+    /// The encoded image would have more than 65,535 octets.
     #[error("the image of the program would have more than 65,535 octets")]
     CodeTooLong,
-    /// There is no memory for the image.
+    /// Out of memory.
     #[error("out of memory")]
     OutOfMemory,
 }
 
 impl CompileFault {
-    /// The fault's number, 85. Want of memory has none.
+    /// Returns the fault's number, 85, or `None` for out of memory.
     pub fn code(self) -> Option<u8>
         ensures { result ≡ code_of self }
     {

@@ -8,15 +8,15 @@ ghost use Rattle.il_compile.specs.Correct.{HasTypes, Means};
 ghost use Rattle.il_compile.specs.Laws.{items_behind, mean_behind};
 ghost use Rattle.il_compile.specs.Meaning.{Memory, State, goes, mean_from};
 
-/// A well-typed program means something at each moment, from all values of its types, and leaves
-/// values of its types: it never meets a result that is not set, a name that is not there, a value
-/// of another type than its variable's, or a divisor of 0.
+/// A well-typed program has a meaning at each moment, for all values of its types, and leaves
+/// values of its types: it never meets a result that is not set, a missing name, a value of another
+/// type than its variable's, or a divisor of 0.
 pub fn programs_have_a_meaning()
     ensures { (c : Checked) (now : ℕ) (m : Memory) → IsTyped c → HasTypes c m → Means c now m }
 {}
 
-/// A jump that is taken goes on with the items behind its label, with the same result and the same
-/// memory; one that is not taken goes on with the next item.
+/// A jump that is taken continues with the items after its label, with the same result and the same
+/// memory; a jump that is not taken continues with the next item.
 pub fn jumps_go_on()
     ensures taken { (now : ℕ) (condition : Condition) (l : ℕ) (is : List Item) (s : State)
         → goes condition s.result ≡ Some true →

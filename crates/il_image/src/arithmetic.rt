@@ -8,7 +8,7 @@ use crate::opcode::{Connective, Widening};
 use crate::value::Value;
 use bay_base::types::ElementaryType;
 
-/// The type of both operands of an arithmetic operation, and of its result.
+/// The type of both operands of an arithmetic operation and of its result.
 #[derive(Clone, Copy, PartialEq, Eq)]
 pub enum Width {
     /// 16 bits.
@@ -27,7 +27,7 @@ pub enum Operation {
     Mul,
     /// The quotient, rounded toward zero.
     Div,
-    /// What the quotient leaves; it has the sign of the first operand.
+    /// The remainder of the division. It has the sign of the first operand.
     Mod,
 }
 
@@ -43,7 +43,7 @@ pub enum Comparison {
 }
 
 impl Width {
-    /// The elementary type of this width.
+    /// Returns the elementary type of this width.
     pub fn elementary(self) -> ElementaryType
         ensures { result ≡ type_of_width self }
     {
@@ -55,7 +55,8 @@ impl Width {
     }
 }
 
-/// The number that a width's lowest bits of a number stand for, in two's complement.
+/// Returns the number that the lowest bits of `number` stand for at this width, in two's
+/// complement.
 pub fn wrap(width: Width, number: i64) -> i64
     ensures { result ≡ wrap_to width number }
 {
@@ -81,8 +82,8 @@ fn compute_wide(operation: Operation, first: i64, second: i64) -> i64
     }
 }
 
-/// The result of an operation on two numbers: the exact integer, reduced into the width. A divisor
-/// is not 0.
+/// Returns the result of an operation on two numbers: the exact integer, wrapped to the width. A
+/// divisor must not be 0.
 pub fn compute(operation: Operation, width: Width, first: i64, second: i64) -> i64
     requires { DividesBy operation second }
     ensures { result ≡ computation_of operation width first second }
@@ -104,7 +105,7 @@ pub fn compare(comparison: Comparison, first: i64, second: i64) -> bool
     }
 }
 
-/// The connection of two BOOLs.
+/// Returns the result of a connective on two BOOLs.
 pub fn connect(connective: Connective, first: bool, second: bool) -> bool
     ensures { result ≡ logic_of connective first second }
 {
@@ -115,7 +116,8 @@ pub fn connect(connective: Connective, first: bool, second: bool) -> bool
     }
 }
 
-/// The value of the next wider type that has the same number, for a value of the narrower type.
+/// Returns the value of the next wider type with the same number, or `None` if the value is not of
+/// the narrower type.
 pub fn widen(widening: Widening, value: Value) -> Option<Value>
     ensures { result ≡ wider_value widening value }
 {

@@ -277,10 +277,10 @@ fn code_at(alloc: Global, version: Version, octets: &[u8]) -> Result<Listing<u8>
     Err(ImageFault::Truncated)
 }
 
-/// The image that octets spell, in version 1 or 2 of the format, or their first fault from the
-/// left. Memory can be wanting only where the octets begin with the mark, a version and the number
-/// of points; what is taken is a few times the octets', and one octet for each timer of version 1,
-/// of which there are at most 65,535.
+/// Decodes the image that octets spell, in version 1 or 2 of the format, or returns their first
+/// fault from the left. Out of memory is possible only if the octets begin with the mark, a version
+/// and the number of points. The memory used is a few times the number of octets, plus one octet
+/// for each timer of version 1, of which there are at most 65,535.
 #[tactic(auto, unfolding(crate::specs::Decoding::image_spelled))]
 pub fn decode(alloc: Global, octets: &[u8]) -> Result<Image, ImageFault>
     ensures image { Gives ImageFault.OutOfMemory (λ i. i) result (image_spelled octets.now) }

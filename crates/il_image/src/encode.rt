@@ -94,7 +94,7 @@ fn push_timers(octets: &mut Vec<u8>, kinds: &[TimerKind]) -> Result<(), AllocErr
     Ok(())
 }
 
-/// The octets of an image, in version 2 of the format.
+/// Encodes an image in version 2 of the format.
 #[tactic(auto, unfolding(crate::specs::Images::image_octets))]
 pub fn encode(alloc: Global, image: &Image) -> Result<Vec<u8>, AllocError>
     ensures { IfOk result (λ octets. octets.items ≡ image_octets Version.Two image.now) }

@@ -6,29 +6,30 @@ ghost use Rattle.il_image.specs.declared.fault.ImageFault.TheVariants.{OutOfMemo
 use std::alloc::{AllocError, AllocFailed};
 use thiserror::Error;
 
-/// Why octets are not read as an image. The first fault from the left is answered.
+/// Why octets cannot be read as an image. The first fault from the left is returned.
 #[derive(Clone, Copy, Debug, PartialEq, Eq, Error)]
 pub enum ImageFault {
-    /// The first four octets are not the mark of an image.
+    /// The first four octets are not the image mark.
     #[error("this is no image")]
     BadMagic,
-    /// The version is none of those that are read.
+    /// The version is not one of those supported.
     #[error("the version of the image is not known")]
     BadVersion,
-    /// An octet is outside its table, a value outside its type, or a name is not of 1 to 64
-    /// upper-case letters, digits and underscores.
+    /// An octet is outside its table, a value is outside its type, or a name does not consist of 1
+    /// to 64 upper-case letters, digits and underscores.
     #[error("an octet of the image stands for nothing")]
     BadOpcode,
     /// The octets or the code end within an item, or octets follow the code.
     #[error("the image ends too early or too late")]
     Truncated,
-    /// There is no memory for the image.
+    /// Out of memory.
     #[error("out of memory")]
     OutOfMemory,
 }
 
 impl ImageFault {
-    /// The fault's number, 80 to 83 in the order of the faults. Want of memory has none.
+    /// Returns the fault's number, 80 to 83 in the order of the faults, or `None` for out of
+    /// memory.
     pub fn code(self) -> Option<u8>
         ensures { result ≡ code_of self }
     {

@@ -10,17 +10,17 @@ use std::marker::Model;
 /// A point that the code reads, or reads and writes.
 #[derive(Drop)]
 pub struct ImagePoint {
-    /// Its name in upper case: 1 to 64 letters, digits and underscores.
+    /// The name in upper case: 1 to 64 letters, digits and underscores.
     pub name: Text,
     pub elementary: ElementaryType,
-    /// Whether the code may write it.
+    /// Whether the code may write the point.
     pub writable: bool,
 }
 
-/// A program's code in octets, and what it uses. Slots are the points and then the variables, in
-/// their order. An image holds only what its format can say: at most 65,535 points, variables,
-/// timers and octets of code, names that are names, values of their types, and code that is
-/// instructions one behind the other.
+/// A program's code in octets, and what the code uses. The slots are the points and then the
+/// variables, in order. An image holds only what its format can represent: at most 65,535 points,
+/// variables, timers and octets of code; valid names; values of their types; and code that is a
+/// sequence of instructions.
 #[derive(Drop)]
 pub struct Image {
     points: Listing<ImagePoint>,
@@ -48,7 +48,7 @@ impl Model for Image {
 impl Image {
     ghost use Rattle.il_image.specs.Images.{IsImage};
 
-    /// The image of these parts, which its format can say.
+    /// Creates the image of these parts, which the format can represent.
     pub fn new(
         points: Listing<ImagePoint>,
         variables: Listing<Value>,
@@ -68,7 +68,7 @@ impl Image {
         }
     }
 
-    /// The points, whose slots come first.
+    /// Returns the points. Their slots come first.
     pub fn points(&self) -> &[ImagePoint]
         ensures value { result.now ≡ self.now.points }
         ensures kept { IsImage self.now }
@@ -76,7 +76,7 @@ impl Image {
         self.points.as_slice()
     }
 
-    /// The variables' initial values.
+    /// Returns the initial values of the variables.
     pub fn variables(&self) -> &[Value]
         ensures value { result.now ≡ self.now.variables }
         ensures kept { IsImage self.now }
@@ -84,7 +84,7 @@ impl Image {
         self.variables.as_slice()
     }
 
-    /// The kinds of the timers.
+    /// Returns the kinds of the timers.
     pub fn timers(&self) -> &[TimerKind]
         ensures value { result.now ≡ self.now.timers }
         ensures kept { IsImage self.now }
@@ -92,7 +92,7 @@ impl Image {
         self.timers.as_slice()
     }
 
-    /// The octets of the code.
+    /// Returns the octets of the code.
     pub fn code(&self) -> &[u8]
         ensures value { result.now ≡ self.now.code }
         ensures kept { IsImage self.now }

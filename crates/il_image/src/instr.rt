@@ -9,36 +9,36 @@ use crate::value::Value;
 use crate::write::{Size, push_number, push_octet, push_signed};
 use std::alloc::AllocError;
 
-/// An instruction of the stack machine. Slots and timers are numbered from 0. A distance counts
-/// octets forward from the next instruction.
+/// An instruction of the stack machine. Slots and timers are numbered from 0. A jump distance is in
+/// octets, forward from the next instruction.
 #[derive(Clone, Copy, PartialEq, Eq)]
 pub enum Instr {
     /// Ends the run.
     Halt,
-    /// Puts a value on the stack.
+    /// Pushes a value.
     Push(Value),
-    /// Takes the top away.
+    /// Pops the top.
     Drop,
-    /// Reads or writes the slot of this number.
+    /// Reads or writes the slot with this number.
     Slot(SlotUse, u16),
     /// Negates the top, a BOOL.
     Not,
-    /// Takes two BOOLs and gives their connection.
+    /// Pops two BOOLs and pushes the result of the connective.
     Combine(Connective),
-    /// Takes two numbers of the width, the second operand on top, and gives the result.
+    /// Pops two numbers of the width, the second operand on top, and pushes the result.
     Compute(Operation, Width),
-    /// Takes two values of one type, the second operand on top, and gives a BOOL.
+    /// Pops two values of the same type, the second operand on top, and pushes a BOOL.
     Compare(Comparison),
     /// Widens the top.
     Widen(Widening),
-    /// Goes on at this distance, always or by the top, which it leaves.
+    /// Jumps by this distance, always or depending on the top, which stays on the stack.
     Jump(When, u16),
-    /// Acts on the timer of this number.
+    /// Uses the timer with this number.
     Timer(TimerUse, u16),
 }
 
 impl Instr {
-    /// The opcode of an instruction.
+    /// Returns the opcode of an instruction.
     pub fn opcode(self) -> Opcode
         ensures { result ≡ opcode_of_instr self }
     {
@@ -72,8 +72,8 @@ impl Instr {
         }
     }
 
-    /// Appends the spelling of an instruction to octets. After a want of memory, a front of it may
-    /// stand behind them.
+    /// Appends the encoding of an instruction. After an allocation failed, a part of it may have
+    /// been appended.
     pub fn spell(self, octets: &mut Vec<u8>) -> Result<(), AllocError>
         ensures ok { OnOk result (octets.new.items ≡ octets.old.items ++ spelling self) }
         ensures err { OnErr result (Extends octets.old.items octets.new.items) }

@@ -5,15 +5,15 @@ ghost use Rattle.il_image.specs.Kinds as spec;
 use crate::arithmetic::Width;
 use bay_base::types::ElementaryType;
 
-/// What is known of a value on the operand stack. That a number is not zero says more than its
-/// type, and a type more than nothing.
+/// What is known of a value on the operand stack. Knowing that a number is not zero says more than
+/// its type, and a type says more than nothing.
 #[derive(Clone, Copy, PartialEq, Eq)]
 pub enum CellKind {
-    /// Some value.
+    /// Any value.
     Any,
     /// A value of the type.
     Plain(ElementaryType),
-    /// A number of the width other than 0.
+    /// A nonzero number of the width.
     NotZero(Width),
 }
 
@@ -24,7 +24,7 @@ impl Default for CellKind {
     }
 }
 
-/// Whether each value of the kind `lower` is one of the kind `upper`.
+/// Whether each value of the kind `lower` is also one of the kind `upper`.
 pub fn is_within(lower: CellKind, upper: CellKind) -> bool
     ensures { result ≡ spec.is_within lower upper }
 {
@@ -37,7 +37,7 @@ pub fn is_within(lower: CellKind, upper: CellKind) -> bool
     }
 }
 
-/// The least kind above both.
+/// Returns the least kind above both.
 pub fn join(first: CellKind, second: CellKind) -> CellKind
     ensures { result ≡ spec.join first second }
 {

@@ -17,25 +17,24 @@ ghost use Rattle.il_image.specs.declared.opcode.Version.TheVariants.{One, Two};
 ghost use Rattle.il_image.specs.Timers.{Call, HasNotPassed, HasPassed, after};
 ghost use Rattle.bay_base.specs.declared.types.TimerKind.TheVariants.{OnDelay, OffDelay};
 
-/// After any calls, of which the list has the last one first, Q of a TON is TRUE exactly where the
-/// last call has IN TRUE and its PT has passed since the first call of the last unbroken run of
-/// calls with IN TRUE.
+/// After any calls, listed last first, Q of a TON is TRUE exactly if the last call has IN TRUE and
+/// its PT has passed since the first call of the last unbroken run of calls with IN TRUE.
 pub fn on_delay_timer()
     ensures { (last : Call) (earlier : List Call) → IsTrue (after OnDelay (last ∷ earlier)).output
         ↔ HasPassed last earlier }
 {}
 
-/// After any calls, of which the list has the last one first, Q of a TOF is TRUE exactly where the
-/// last call has IN TRUE, or an earlier one has and less than the last call's PT has passed since
-/// the first call of the last unbroken run of calls with IN FALSE.
+/// After any calls, listed last first, Q of a TOF is TRUE exactly if the last call has IN TRUE, or
+/// an earlier call has IN TRUE and less than the last call's PT has passed since the first call of
+/// the last unbroken run of calls with IN FALSE.
 pub fn off_delay_timer()
     ensures { (last : Call) (earlier : List Call) → IsTrue (after OffDelay (last ∷ earlier)).output
         ↔ ((last.input ≡ true) ⊎ HasNotPassed last earlier) }
 {}
 
-/// Each instruction has one spelling, which is read back whatever follows it: what is read is
-/// spelled by the front of the octets, and at a place of code stands the one instruction that is
-/// spelled there.
+/// Each instruction has one encoding, which is read back whatever follows it. A decoded instruction
+/// is encoded by the first of the octets, and the instruction at a place of the code is the one
+/// encoded there.
 pub fn one_spelling_of_instructions()
     ensures written { (i : Instr) (rest : List ℕ) → IsInstr i
         → instr_from Two (spelling i ++ rest) ≡ Ok (i, rest) }
@@ -48,15 +47,15 @@ pub fn one_spelling_of_instructions()
         → (instr_at code place ≡ Some (i, next)) ↔ StandsAt code place i next }
 {}
 
-/// The machine goes on at a place exactly where it is that of one of the code's instructions, each
-/// of which stands behind the one before.
+/// A place is accepted exactly if it is the place of one of the code's instructions, which follow
+/// one another without gaps.
 pub fn a_place_is_told()
     ensures { (code : List ℕ) (place : ℕ) → IsTrue (is_place code place) ↔ IsPlace code place }
 {}
 
-/// What is written of an image in version 2 is read as that image. What is read of octets is an
-/// image, and the format spells it so in one of its versions; octets with the same fifth octet, the
-/// version, that are read as the same image are the same.
+/// Encoding an image in version 2 and decoding it gives the same image. What is decoded is an
+/// image, and the octets are its encoding in one of the format's versions. Octets with the same
+/// fifth octet, the version, that decode to the same image are equal.
 pub fn one_spelling_of_images()
     ensures written { (i : Image) → IsImage i → image_spelled (image_octets Two i) ≡ Ok i }
     ensures read { (octets : List ℕ) (i : Image) → AreOctets octets → image_spelled octets ≡ Ok i
@@ -67,7 +66,7 @@ pub fn one_spelling_of_images()
         → octets ≡ others }
 {}
 
-/// The kinds are in order, by the values that they have, and the join of two is the least kind
+/// The kinds are ordered by the values they include, and the join of two kinds is the least kind
 /// above both.
 pub fn join_is_least()
     ensures same { (a : CellKind) → IsTrue (is_within a a) }
@@ -81,8 +80,8 @@ pub fn join_is_least()
         → IsTrue (is_within (join a b) top) }
 {}
 
-/// What the first octets decide, whatever follows them: another octet among the first four, and
-/// another version behind the mark.
+/// The first octets decide two faults whatever follows: a wrong octet among the first four, and
+/// another version than 1 or 2 after the mark.
 pub fn first_octets_decide()
     ensures mark { (octets : List ℕ) (k : ℕ) → k < 4 → k < length octets
         → (slice_index octets k ≡ slice_index mark k → ⊥) → image_spelled octets ≡ Err BadMagic }
@@ -90,10 +89,10 @@ pub fn first_octets_decide()
         → image_spelled (mark ++ octet ∷ rest) ≡ Err BadVersion }
 {}
 
-/// An image ends where its octets end: with octets behind them, and with some of the last ones
-/// missing, they are cut short. And an octet outside its table, or the last of a value outside its
-/// type, is the first that is wrong: the octets before it are only cut short, and with it they are
-/// wrong whatever follows.
+/// An image ends where its octets end: with more octets appended, or with some of the last ones
+/// removed, the octets are `Truncated`. An octet outside its table, or the last octet of a value
+/// outside its type, is the first bad one: the octets before it are only `Truncated`, and with it
+/// they are bad whatever follows.
 pub fn images_end()
     ensures behind { (octets more : List ℕ) (i : Image) → image_spelled octets ≡ Ok i
         → 0 < length more
@@ -103,9 +102,10 @@ pub fn images_end()
     ensures first { (octets : List ℕ) → image_spelled octets ≡ Err BadOpcode → IsFirstBad octets }
 {}
 
-/// Octets that are cut short are right so far: others complete them to an image; or they are an
-/// image and have others behind it; or they end in an initial value, or its code in an instruction,
-/// of which no value or instruction with that much room begins so.
+/// Octets that are `Truncated` are right so far. Either more octets complete them to an image; or
+/// they are an image followed by more octets; or they end within an initial value, or their code
+/// ends within an instruction, such that no value or instruction that fits the space there begins
+/// this way.
 pub fn cut_short_is_right_so_far()
     ensures { (octets : List ℕ) → AreOctets octets → image_spelled octets ≡ Err Truncated
         → IsRightSoFar octets }

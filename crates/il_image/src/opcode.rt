@@ -6,7 +6,7 @@ ghost use Rattle.il_image.specs.Opcodes as spec;
 use crate::arithmetic::{Comparison, Operation, Width};
 use bay_base::types::ElementaryType;
 
-/// A version of the format. Version 2 has LINT and TOF beside all that version 1 has.
+/// A version of the format. Version 2 adds LINT and TOF to version 1.
 #[derive(Clone, Copy, PartialEq, Eq)]
 pub enum Version {
     One,
@@ -21,16 +21,16 @@ pub enum Connective {
     Xor,
 }
 
-/// What an instruction does with a slot.
+/// How an instruction uses a slot.
 #[derive(Clone, Copy, PartialEq, Eq)]
 pub enum SlotUse {
-    /// Puts the slot's value on the stack.
+    /// Pushes the slot's value.
     Load,
-    /// Copies the top to the slot.
+    /// Copies the top to the slot, and leaves it on the stack.
     Store,
-    /// Sets the slot to TRUE where the top is TRUE.
+    /// Sets the slot to TRUE if the top is TRUE.
     SetIf,
-    /// Sets the slot to FALSE where the top is TRUE.
+    /// Sets the slot to FALSE if the top is TRUE.
     ResetIf,
 }
 
@@ -45,29 +45,28 @@ pub enum Widening {
 #[derive(Clone, Copy, PartialEq, Eq)]
 pub enum When {
     Always,
-    /// Where the top is TRUE.
+    /// If the top is TRUE.
     IfTrue,
-    /// Where the top is FALSE.
+    /// If the top is FALSE.
     IfFalse,
 }
 
-/// What an instruction does with a timer.
+/// How an instruction uses a timer.
 #[derive(Clone, Copy, PartialEq, Eq)]
 pub enum TimerUse {
-    /// Takes the top as IN.
+    /// Pops the top as IN.
     SetInput,
-    /// Takes the top as PT.
+    /// Pops the top as PT.
     SetPreset,
     /// Calls the timer.
     Run,
-    /// Puts Q on the stack.
+    /// Pushes Q.
     LoadOutput,
-    /// Puts ET on the stack.
+    /// Pushes ET.
     LoadElapsed,
 }
 
-/// The first octet of an instruction. What the instruction needs besides stands in the octets
-/// behind it.
+/// The first octet of an instruction. The operands of the instruction are in the octets after it.
 #[derive(Clone, Copy)]
 pub enum Opcode {
     Halt,
@@ -84,7 +83,7 @@ pub enum Opcode {
 }
 
 impl Opcode {
-    /// The octet of an opcode.
+    /// Returns the octet of an opcode.
     pub fn octet(self) -> u8
         ensures { result ≡ octet_of self }
     {
@@ -128,7 +127,7 @@ impl Opcode {
         }
     }
 
-    /// The opcode that has an octet, if there is one.
+    /// Returns the opcode with this octet, or `None` if there is none.
     #[tactic(auto, unfolding(crate::specs::Opcodes::opcode_of))]
     pub fn of(octet: u8) -> Option<Opcode>
         ensures { result ≡ opcode_of octet }
@@ -186,7 +185,7 @@ impl Opcode {
     }
 }
 
-/// The octet of a width.
+/// Returns the octet of a width.
 pub(crate) fn width_octet(width: Width) -> u8
     ensures { result ≡ spec.width_octet width }
 {
@@ -197,7 +196,7 @@ pub(crate) fn width_octet(width: Width) -> u8
     }
 }
 
-/// The width that has an octet in a version, if there is one.
+/// Returns the width with this octet in a version, or `None` if there is none.
 pub(crate) fn width_of(version: Version, octet: u8) -> Option<Width>
     ensures { result ≡ spec.width_of version octet }
 {

@@ -13,7 +13,7 @@ use crate::value::Value;
 use crate::write::Size;
 use bay_base::types::ElementaryType;
 
-/// One octet.
+/// Reads one octet.
 pub(crate) fn octet_at(octets: &[u8]) -> Result<(u8, &[u8]), ImageFault>
     ensures { IsRead (λ r. (r.0, r.1.now)) result (spec.octet_at octets.now) }
 {
@@ -23,7 +23,7 @@ pub(crate) fn octet_at(octets: &[u8]) -> Result<(u8, &[u8]), ImageFault>
     }
 }
 
-/// A number of two octets.
+/// Reads a number of two octets.
 pub(crate) fn number_at(octets: &[u8]) -> Result<(u16, &[u8]), ImageFault>
     ensures { IsRead (λ r. (r.0, r.1.now)) result (spec.number_at octets.now) }
 {
@@ -50,7 +50,7 @@ fn signed_at(size: Size, octets: &[u8]) -> Result<(i64, &[u8]), ImageFault>
     }
 }
 
-/// A value of a type, as a number of so many octets.
+/// Reads a value of a type, encoded as a number of the given size.
 pub(crate) fn value_at(
     size: Size,
     elementary: ElementaryType,
@@ -114,7 +114,7 @@ fn operand_from(
     }
 }
 
-/// An instruction of the version.
+/// Reads an instruction of the version.
 #[tactic(auto, unfolding(crate::specs::Reading::instr_from))]
 pub(crate) fn instr_from(version: Version, octets: &[u8]) -> Result<(Instr, &[u8]), ImageFault>
     ensures { IsRead (λ r. (r.0, r.1.now)) result (spec.instr_from version octets.now) }
@@ -138,7 +138,8 @@ fn first_of(size: usize, octets: &[u8]) -> Option<(Instr, usize)>
     }
 }
 
-/// The instruction that stands at an offset in the code, and the offset behind it, if there is one.
+/// Returns the instruction at an offset in the code and the offset after it, or `None` if there is
+/// none.
 pub fn instr_at(code: &[u8], offset: usize) -> Option<(Instr, usize)>
     ensures value { result ≡ spec.instr_at code.now offset }
     ensures forward { IfSome result (λ r. (offset < r.1) × (r.1 ≤ length code.now)) }

@@ -6,19 +6,19 @@ ghost use Rattle.il_image.specs.Timers as spec;
 
 use bay_base::types::TimerKind;
 
-/// Where a timer stands in its delay.
+/// The phase of a timer's delay.
 #[derive(Clone, Copy)]
 pub enum TimerPhase {
-    /// No delay runs, and the timer has nothing to delay: IN of a TON is FALSE, or IN of a TOF was
+    /// No delay is running and there is nothing to delay: IN of a TON is FALSE, or IN of a TOF was
     /// never TRUE.
     Idle,
     /// IN of a TOF is TRUE.
     Held,
-    /// The delay began at this moment, in milliseconds. It may be over.
+    /// The delay began at this time, in milliseconds. It may have passed.
     Since(u64),
 }
 
-/// A timer: what its next call finds, and what its last call gave.
+/// A timer: the inputs for its next call, and the outputs of its last call.
 #[derive(Clone, Copy)]
 pub struct TimerState {
     pub kind: TimerKind,
@@ -87,7 +87,7 @@ fn elapsed_of(preset: u32, phase: TimerPhase, now: u64) -> u32
 }
 
 impl TimerState {
-    /// A timer before its first call: IN and Q are FALSE, PT and ET are 0.
+    /// Creates a timer before its first call: IN and Q are FALSE, PT and ET are 0.
     pub fn new(kind: TimerKind) -> TimerState
         ensures { result ≡ first_state kind }
     {
@@ -101,7 +101,7 @@ impl TimerState {
         }
     }
 
-    /// One call of the timer at a moment in milliseconds, with the IN and PT that it holds.
+    /// Calls the timer at a time in milliseconds, with the IN and PT that it holds.
     pub fn call(&mut self, now: u64)
         ensures { self.new ≡ after_call self.old now }
     {

@@ -16,12 +16,12 @@ pub enum Value {
     Long(i32),
     /// A LINT.
     Wide(i64),
-    /// A TIME in milliseconds. Of the numbers here those up to 2,147,483,647 are values of TIME.
+    /// A TIME in milliseconds. Only numbers up to 2,147,483,647 are values of TIME.
     Span(u32),
 }
 
 impl Value {
-    /// The type whose value this is.
+    /// Returns the type of this value.
     pub fn type_of(self) -> ElementaryType
         ensures { result ≡ spec.type_of self }
     {
@@ -34,7 +34,7 @@ impl Value {
         }
     }
 
-    /// The value as a number: FALSE is 0 and TRUE is 1, and a TIME is its milliseconds.
+    /// Returns the value as a number: FALSE is 0, TRUE is 1, and a TIME is its milliseconds.
     pub fn number(self) -> i64
         ensures { result ≡ number_of self }
     {
@@ -47,7 +47,7 @@ impl Value {
         }
     }
 
-    /// The value of a type where none is given: FALSE, 0, or `T#0ms` (IEC 61131-3:2003, table 13).
+    /// Returns the default value of a type: FALSE, 0 or `T#0ms` (IEC 61131-3:2003, table 13).
     pub fn default_of(elementary: ElementaryType) -> Value
         ensures { result ≡ default_value elementary }
     {
@@ -60,7 +60,7 @@ impl Value {
         }
     }
 
-    /// The value of a type that has this number, if there is one.
+    /// Returns the value of a type with this number, or `None` if there is none.
     pub fn of(elementary: ElementaryType, number: i64) -> Option<Value>
         ensures { result ≡ value_of elementary number }
     {

@@ -6,7 +6,7 @@ ghost use Rattle.il_image.specs.Octets.{number_octets, octet_count, signed_octet
 use bay_base::types::ElementaryType;
 use std::alloc::AllocError;
 
-/// How many octets a signed number has.
+/// The size of a signed number, in octets.
 #[derive(Clone, Copy)]
 pub enum Size {
     One,
@@ -16,7 +16,7 @@ pub enum Size {
 }
 
 impl Size {
-    /// The size of a type's values as operands.
+    /// Returns the size of a type's values as operands.
     pub(crate) fn of(elementary: ElementaryType) -> Size
         ensures { result ≡ size_of elementary }
     {
@@ -28,7 +28,7 @@ impl Size {
         }
     }
 
-    /// The number of octets.
+    /// Returns the number of octets.
     pub(crate) fn count(self) -> usize
         ensures { result ≡ octet_count self }
     {
@@ -58,7 +58,7 @@ pub(crate) fn push_number(octets: &mut Vec<u8>, number: u16) -> Result<(), Alloc
     octets.extend_from_slice(&number.to_be_bytes())
 }
 
-/// Appends the lowest octets of a number in two's complement.
+/// Appends the lowest octets of a number in two's complement, as many as `size` says.
 pub(crate) fn push_signed(octets: &mut Vec<u8>, size: Size, number: i64) -> Result<(), AllocError>
     ensures ok { OnOk result (octets.new.items ≡ octets.old.items ++ signed_octets size number) }
     ensures err { OnErr result (Extends octets.old.items octets.new.items) }

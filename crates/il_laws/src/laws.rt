@@ -10,17 +10,16 @@ ghost use Rattle.il_check.specs.Program.{Checked};
 ghost use Rattle.il_laws.specs.ByNames.{GoesByNames};
 ghost use Rattle.il_laws.specs.Verified.{Verifies};
 
-/// Compiled code verifies: the image of a program that was checked with points fits these points, a
-/// table of kinds agrees with its code, and it writes no point that may only be read.
+/// Compiled code verifies: the image of a program that was checked against points fits these
+/// points, a table of kinds agrees with its code, and it writes no read-only point.
 pub fn compiled_code_verifies()
     ensures { (points : List Point) (program : text.PlainProgram) (c : Checked)
         → checked_of points program ≡ Ok c → Verifies points c }
 {}
 
-/// A program's meaning goes by names: in the memory in which each external, variable and timer has
-/// what a map from names has for its name, what an instruction reads where it says a name is what
-/// the map has for this name, and what it writes there changes the map at this name and nowhere
-/// else.
+/// A program's meaning goes by names. Take a memory in which each external, variable and timer has
+/// what a map from names holds under its name. What an instruction reads under a name is then what
+/// the map holds under this name, and what it writes changes the map at this name only.
 pub fn meaning_goes_by_names()
     ensures { (points : List Point) (program : text.PlainProgram) (c : Checked)
         (values : List ℕ → Value) (timers : List ℕ → TimerState) →

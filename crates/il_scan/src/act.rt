@@ -13,7 +13,7 @@ use il_image::instr::Instr;
 use il_image::opcode::{Connective, SlotUse, TimerUse, When};
 use il_image::timer::TimerState;
 
-/// NOT: the top is negated.
+/// NOT: negates the top.
 #[inline(always)]
 fn negate(stack: &mut Stack)
     requires some { 0 < length stack.old }
@@ -23,7 +23,7 @@ fn negate(stack: &mut Stack)
     stack.replace_top(i64::from(word == 0));
 }
 
-/// AND: two BOOLs become one.
+/// AND: combines two BOOLs into one.
 #[inline(always)]
 fn and(stack: &mut Stack)
     requires two { 1 < length stack.old }
@@ -35,7 +35,7 @@ fn and(stack: &mut Stack)
     stack.replace_top(if first == 0 { 0 } else { second });
 }
 
-/// OR: two BOOLs become one.
+/// OR: combines two BOOLs into one.
 #[inline(always)]
 fn or(stack: &mut Stack)
     requires two { 1 < length stack.old }
@@ -47,7 +47,7 @@ fn or(stack: &mut Stack)
     stack.replace_top(if first == 0 { second } else { 1 });
 }
 
-/// XOR: two BOOLs become one.
+/// XOR: combines two BOOLs into one.
 #[inline(always)]
 fn xor(stack: &mut Stack)
     requires two { 1 < length stack.old }
@@ -73,7 +73,7 @@ fn combine(stack: &mut Stack, connective: Connective)
     }
 }
 
-/// One of ADD, SUB, MUL, DIV, MOD: two numbers of the width become one.
+/// One of ADD, SUB, MUL, DIV and MOD: combines two numbers of the width into one.
 #[inline(always)]
 fn calculate(stack: &mut Stack, operation: Operation, width: Width)
     requires two { 1 < length stack.old }
@@ -86,7 +86,7 @@ fn calculate(stack: &mut Stack, operation: Operation, width: Width)
     stack.replace_top(compute(operation, width, first, second));
 }
 
-/// ADD, SUB, MUL, DIV or MOD. Each is a call of its own, so that what is done is known where the
+/// ADD, SUB, MUL, DIV or MOD. Each is a separate call, so that the operation is known where the
 /// opcode is.
 #[inline(always)]
 fn calculate_by(stack: &mut Stack, operation: Operation, width: Width)
@@ -104,7 +104,7 @@ fn calculate_by(stack: &mut Stack, operation: Operation, width: Width)
     }
 }
 
-/// One of GT, GE, EQ, NE, LE, LT: two values of one type become a BOOL.
+/// One of GT, GE, EQ, NE, LE and LT: compares two values of the same type and gives a BOOL.
 #[inline(always)]
 fn relate(stack: &mut Stack, comparison: Comparison)
     requires two { 1 < length stack.old }
@@ -135,14 +135,14 @@ fn relate_by(stack: &mut Stack, comparison: Comparison)
     }
 }
 
-/// WIDEN, WIDENL: the word of a number is the same in each width.
+/// WIDEN, WIDENL: does nothing, because the word of a number is the same at each width.
 #[inline(always)]
 fn widen(_stack: &mut Stack)
     requires { 0 < length _stack.old }
     ensures { _stack.new ≡ _stack.old }
 {}
 
-/// LOAD: a slot's word goes on the stack.
+/// LOAD: pushes a slot's word.
 #[inline(always)]
 fn load(stack: &mut Stack, slots: &[i64], number: u16)
     requires room { length stack.old < 32 }
@@ -152,7 +152,7 @@ fn load(stack: &mut Stack, slots: &[i64], number: u16)
     stack.push(slots[usize::from(number)]);
 }
 
-/// STORE: the slot takes the top.
+/// STORE: copies the top to the slot.
 #[inline(always)]
 fn store(stack: &Stack, slots: &mut [i64], number: u16)
     requires some { 0 < length stack.now }
@@ -162,7 +162,7 @@ fn store(stack: &Stack, slots: &mut [i64], number: u16)
     slots[usize::from(number)] = stack.top();
 }
 
-/// SETIF, RESETIF: the slot takes TRUE or FALSE where the top is TRUE.
+/// SETIF, RESETIF: sets the slot to TRUE or FALSE if the top is TRUE.
 #[inline(always)]
 fn set_if(stack: &Stack, slots: &mut [i64], number: u16, word: i64)
     requires some { 0 < length stack.now }
@@ -175,7 +175,8 @@ fn set_if(stack: &Stack, slots: &mut [i64], number: u16, word: i64)
     slots[place] = if stack.top() == 0 { old } else { word };
 }
 
-/// The place of the next instruction behind a conditional jump: the first where the top is FALSE.
+/// Returns the place of the next instruction after a conditional jump: `where_false` if the top is
+/// FALSE, otherwise `where_true`.
 #[inline(always)]
 fn choose(stack: &Stack, where_false: usize, where_true: usize) -> usize
     requires { 0 < length stack.now }
@@ -188,7 +189,7 @@ fn choose(stack: &Stack, where_false: usize, where_true: usize) -> usize
     }
 }
 
-/// SETIN: the timer takes the top as IN.
+/// SETIN: pops the top as the timer's IN.
 #[inline(always)]
 fn set_input(stack: &mut Stack, timers: &mut [TimerState], number: u16)
     requires some { 0 < length stack.old }
@@ -203,7 +204,7 @@ fn set_input(stack: &mut Stack, timers: &mut [TimerState], number: u16)
     timer.input = word != 0;
 }
 
-/// SETPT: the timer takes the top as PT.
+/// SETPT: pops the top as the timer's PT.
 #[inline(always)]
 fn set_preset(stack: &mut Stack, timers: &mut [TimerState], number: u16)
     requires some { 0 < length stack.old }
@@ -219,7 +220,7 @@ fn set_preset(stack: &mut Stack, timers: &mut [TimerState], number: u16)
     timer.preset = word as u32;
 }
 
-/// RUN: one call of the timer at this moment.
+/// RUN: calls the timer at this time.
 #[inline(always)]
 fn run(timers: &mut [TimerState], number: u16, now: u64)
     requires { number < length timers.old }
@@ -229,7 +230,7 @@ fn run(timers: &mut [TimerState], number: u16, now: u64)
     timers[usize::from(number)].call(now);
 }
 
-/// LOADQ: Q goes on the stack.
+/// LOADQ: pushes Q.
 #[inline(always)]
 fn load_output(stack: &mut Stack, timers: &[TimerState], number: u16)
     requires room { length stack.old < 32 }
@@ -240,7 +241,7 @@ fn load_output(stack: &mut Stack, timers: &[TimerState], number: u16)
     stack.push(i64::from(timer.output));
 }
 
-/// LOADET: ET goes on the stack.
+/// LOADET: pushes ET.
 #[inline(always)]
 fn load_elapsed(stack: &mut Stack, timers: &[TimerState], number: u16)
     requires room { length stack.old < 32 }
@@ -251,8 +252,8 @@ fn load_elapsed(stack: &mut Stack, timers: &[TimerState], number: u16)
     stack.push(i64::from(timer.elapsed));
 }
 
-/// Does the instruction with this place behind it, at this moment, and gives the place of the next
-/// one if there is one.
+/// Executes an instruction at this time, and returns the place of the next one, or `None` if there
+/// is none. `next` is the place after the instruction.
 #[inline(always)]
 pub(crate) fn act(
     now: u64,

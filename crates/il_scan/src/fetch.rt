@@ -11,7 +11,7 @@ use il_image::instr::Instr;
 use il_image::opcode::Opcode;
 use il_image::value::Value;
 
-/// The number in two octets.
+/// Reads a number of two octets.
 #[inline(always)]
 fn number(code: &[u8], at: usize) -> u16
     requires { at + 2 ≤ length code.now }
@@ -20,7 +20,7 @@ fn number(code: &[u8], at: usize) -> u16
     u16::from_be_bytes([code[at], code[at + 1]])
 }
 
-/// The number of a value of the type, in two's complement.
+/// Reads the number of a value of the type, in two's complement.
 #[inline(always)]
 fn signed(elementary: ElementaryType, code: &[u8], at: usize) -> i64
     requires { at + octet_count (size_of elementary) ≤ length code.now }
@@ -55,7 +55,7 @@ fn signed(elementary: ElementaryType, code: &[u8], at: usize) -> i64
     }
 }
 
-/// The number of octets of a value of the type.
+/// Returns the number of octets of a value of the type.
 #[inline(always)]
 fn size(elementary: ElementaryType) -> usize
     ensures value { result ≡ octet_count (size_of elementary) }
@@ -69,7 +69,7 @@ fn size(elementary: ElementaryType) -> usize
     }
 }
 
-/// The value of the type that stands at a place.
+/// Reads the value of the type at a place.
 #[inline(always)]
 fn value(elementary: ElementaryType, code: &[u8], at: usize) -> Value
     requires { IsOk (value_at (size_of elementary) elementary (drop at code.now)) }
@@ -82,7 +82,7 @@ fn value(elementary: ElementaryType, code: &[u8], at: usize) -> Value
     }
 }
 
-/// The width at a place.
+/// Reads the width at a place.
 #[inline(always)]
 fn width(code: &[u8], at: usize) -> Width
     requires { IsOk (width_at Two (drop at code.now)) }
@@ -96,7 +96,7 @@ fn width(code: &[u8], at: usize) -> Width
     }
 }
 
-/// The instruction of an opcode whose operand stands at a place, and the place behind it.
+/// Returns the instruction of an opcode whose operand is at a place, and the place after it.
 #[inline(always)]
 fn operand(opcode: Opcode, code: &[u8], at: usize) -> (Instr, usize)
     requires whole { IsOk (operand_from Two opcode (drop at code.now)) }
@@ -123,7 +123,8 @@ fn operand(opcode: Opcode, code: &[u8], at: usize) -> (Instr, usize)
     }
 }
 
-/// The instruction at a place where one stands, and the place behind it.
+/// Returns the instruction at a place and the place after it. An instruction must begin at the
+/// place.
 #[inline(always)]
 pub(crate) fn fetch(code: &[u8], place: usize) -> (Instr, usize)
     requires { IsSome (instr_at code.now place) }

@@ -46,17 +46,17 @@ impl Model for Machine {
         m.places.writes.items m.outputs.items };
 }
 
-/// What a scan gives.
+/// The result of a scan.
 #[derive(Drop)]
 pub struct Scan<'a> {
-    /// The number of instructions that were executed, HALT among them.
+    /// The number of instructions executed, including HALT.
     pub steps: u32,
-    /// The values of the points that may be written, in the image's order.
+    /// The values of the writable points, in the image's order.
     pub outputs: &'a [Value],
 }
 
-/// The slots and the timers of a machine, where its inputs go and its outputs come from, and the
-/// room for outputs.
+/// The slots and timers of a machine, the places of its inputs and outputs, and room for the
+/// outputs.
 #[derive(Drop)]
 struct Memory {
     slots: Vec<i64>,
@@ -65,7 +65,7 @@ struct Memory {
     outputs: Vec<Value>,
 }
 
-/// The memory of a machine at first.
+/// Creates the initial memory of a machine.
 fn memory_of(alloc: Global, image: &Image) -> Result<Memory, AllocError>
     ensures first { IfOk result
         (λ m. held_of image.now m.slots.items m.timers.items ≡ held_first image.now) }
@@ -86,7 +86,7 @@ fn memory_of(alloc: Global, image: &Image) -> Result<Memory, AllocError>
     })
 }
 
-/// A scan over words: takes the inputs, and runs the code.
+/// Runs a scan over words: takes the inputs and runs the code.
 fn run_points<I: Inputs>(
     image: &Image,
     inputs: &I,
@@ -108,7 +108,7 @@ fn run_points<I: Inputs>(
     run(image, now, slots, timers)
 }
 
-/// A scan over words whose inputs and outputs are lists.
+/// Runs a scan over words with lists of inputs and outputs.
 fn run_once(
     image: &Image,
     inputs: &[Value],
@@ -136,9 +136,9 @@ fn run_once(
 impl Machine {
     ghost use Rattle.il_scan.specs.Loan.{LendsOutputs};
 
-    /// A machine whose variables have their initial values, whose points are FALSE or 0, and whose
-    /// timers were never called. For want of memory, which can come only where the image has a slot
-    /// or a timer, the verified image comes back.
+    /// Creates a machine whose variables have their initial values, whose points are FALSE or 0,
+    /// and whose timers were never called. Returns the verified image if an allocation failed,
+    /// which is possible only if the image has a slot or a timer.
     pub fn new(alloc: Global, verified: Verified) -> Result<Machine, Verified>
         ensures ok { IfOk result (λ m. m ≡ held_first verified) }
         ensures back { IfErr result (λ v. v ≡ verified) }
@@ -163,27 +163,26 @@ impl Machine {
         }
     }
 
-    /// The verified image that the machine runs.
+    /// Returns the verified image that the machine runs.
     pub fn verified(&self) -> &Verified
         ensures { result.now ≡ self.now.image }
     {
         &self.verified
     }
 
-    /// Whether a scan can take these inputs: there is one for each point that may only be read, in
-    /// the image's order, of its type.
+    /// Whether a scan can take these inputs: one for each read-only point, in the image's order, of
+    /// the point's type.
     pub fn fits(&self, inputs: &[Value]) -> bool
         ensures { IsTrue result ↔ AreInputs self.now.image.points inputs.now }
     {
         are_inputs(self.verified.image().points(), inputs)
     }
 
-    /// One scan: the points that may only be read take the inputs, of which there is one for each
-    /// in the image's order, of its type; the code runs once from its first instruction to a HALT,
-    /// at the moment `now` in milliseconds; and the points that may be written are the outputs,
-    /// which `outputs` gives. It counts the instructions that were executed, HALT among them. It
-    /// refuses nothing and takes no memory. A timer's start after the moment counts as no time
-    /// gone.
+    /// Runs one scan. The read-only points take the inputs, one for each in the image's order, of
+    /// the point's type. The code runs once from its first instruction to a HALT, at time `now` in
+    /// milliseconds. The writable points are the outputs, which `outputs` returns. Returns the
+    /// number of instructions executed, including HALT. Never fails and does not allocate. If a
+    /// timer's start is after `now`, no time counts as passed.
     pub fn scan_points<I: Inputs>(&mut self, inputs: &I, now: u64) -> u32
         requires { I.types inputs.now ≡ map type_of_point (read_only self.old.image.points) }
         ensures { Scans self.old (I.values inputs.now) now self.new result
@@ -199,7 +198,7 @@ impl Machine {
         )
     }
 
-    /// The values of the points that may be written, as they stand.
+    /// Returns the current values of the writable points.
     #[inline(always)]
     pub fn outputs(&self) -> Outputs<'_>
         ensures { result ≡ outputs_of self.now.image.points self.now.slots }
@@ -211,7 +210,7 @@ impl Machine {
         )
     }
 
-    /// One scan, as `scan_points` does it, whose inputs and outputs are lists.
+    /// Runs one scan as `scan_points` does, with lists of inputs and outputs.
     pub fn scan(&mut self, inputs: &[Value], now: u64) -> Scan<'_>
         requires { AreInputs self.old.image.points inputs.now }
         ensures* after { sem 𝓛 (LendsOutputs self.entry inputs.now now result.steps result.outputs.now) }

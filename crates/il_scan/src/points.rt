@@ -13,8 +13,7 @@ use il_image::image::ImagePoint;
 use il_image::value::Value;
 use std::marker::Model;
 
-/// What gives a scan its inputs: a value for each point that may only be read, in the image's
-/// order.
+/// A source of a scan's inputs: a value for each read-only point, in the image's order.
 pub trait Inputs {
     ghost use Rattle.std.specs.Prelude.{◌≡◌, List, length};
     ghost use Rattle.bay_base.specs.declared.types.ElementaryType.{ElementaryType};
@@ -26,7 +25,7 @@ pub trait Inputs {
     // All inputs.
     ghost values: { Self → List ImageValue };
 
-    /// The input of the point at a place among those that may only be read.
+    /// Returns the input of the point at this index among the read-only points.
     fn input(&self, place: usize) -> Value
         requires within { place < length (types self.now) }
         ensures value { slice_get (values self.now) place ≡ Some result }
@@ -37,7 +36,7 @@ pub trait Inputs {
     ghost sized: { (inputs : Self) → length (values inputs) ≡ length (types inputs) };
 }
 
-/// Inputs in a list.
+/// Inputs from a list.
 #[derive(Drop)]
 pub(crate) struct Listed<'a> {
     pub values: &'a [Value],
@@ -61,7 +60,7 @@ impl<'a> Inputs for Listed<'a> {
     ghost sized = { λ inputs. sym (length-map inputs.values.now type_of) };
 }
 
-/// The values of the points that may be written, in the image's order, as a scan left them.
+/// The values of the writable points, in the image's order, after a scan.
 #[derive(Drop)]
 pub struct Outputs<'a> {
     points: &'a [ImagePoint],
@@ -84,7 +83,7 @@ impl<'a> Model for Outputs<'a> {
 }
 
 impl<'a> Outputs<'a> {
-    /// The values of the points at these places.
+    /// Creates the values of the points at these places.
     #[inline(always)]
     pub(crate) fn new(points: &'a [ImagePoint], writes: &'a [usize], slots: &'a [i64]) -> Self
         requires words { AreWords points.now slots.now }
@@ -98,7 +97,8 @@ impl<'a> Outputs<'a> {
         }
     }
 
-    /// Whether there is a point at a place among those that may be written, and its value is TRUE.
+    /// Whether there is a writable point at this index among the writable points and its value is
+    /// TRUE.
     #[inline(always)]
     pub fn is_true(&self, place: usize) -> bool
         ensures { result ≡ spec.is_true (slice_get self.now place) }

@@ -11,7 +11,8 @@ use crate::stack::Stack;
 use il_image::image::Image;
 use il_image::timer::TimerState;
 
-/// Does the instruction at a place, and gives the place of the next one if there is one.
+/// Executes the instruction at a place, and returns the place of the next one, or `None` if there
+/// is none.
 #[inline(always)]
 fn turn(
     _image: &Image,
@@ -34,7 +35,8 @@ fn turn(
     act(now, instr, next, stack, slots, timers)
 }
 
-/// Runs the code over the slots and the timers at this moment, and counts its instructions.
+/// Runs the code on the slots and the timers at this time, and counts the instructions executed,
+/// including HALT.
 pub(crate) fn run(image: &Image, now: u64, slots: &mut [i64], timers: &mut [TimerState]) -> u32
     requires safe { IsSafe image.now }
     requires held { IsHeld image.now slots.old timers.old }

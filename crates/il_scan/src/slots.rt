@@ -23,7 +23,7 @@ fn is_of(elementary: ElementaryType, value: Value) -> bool
     value.type_of() == elementary && Value::of(elementary, value.number()).is_some()
 }
 
-/// Whether the first of the inputs is there, and is of the type.
+/// Whether there is a first input and it is of the type.
 fn begins_with(elementary: ElementaryType, inputs: &[Value]) -> bool
     ensures { result ≡ places.begins_with elementary inputs.now }
 {
@@ -33,7 +33,7 @@ fn begins_with(elementary: ElementaryType, inputs: &[Value]) -> bool
     }
 }
 
-/// The inputs behind the first.
+/// Returns the inputs after the first.
 fn behind(inputs: &[Value]) -> &[Value]
     ensures { result.now ≡ drop 1 inputs.now }
 {
@@ -43,7 +43,7 @@ fn behind(inputs: &[Value]) -> &[Value]
     }
 }
 
-/// Whether there is one input for each point that may only be read, in their order, of its type.
+/// Whether there is one input for each read-only point, in order, of the point's type.
 pub(crate) fn are_inputs(points: &[ImagePoint], inputs: &[Value]) -> bool
     ensures { result ≡ places.are_inputs points.now inputs.now }
 {
@@ -61,16 +61,16 @@ pub(crate) fn are_inputs(points: &[ImagePoint], inputs: &[Value]) -> bool
     left.len() == 0
 }
 
-/// Where inputs go and outputs come from.
+/// The places of inputs and outputs.
 #[derive(Drop)]
 pub(crate) struct Places {
-    /// The places of the points that may only be read.
+    /// The places of the read-only points.
     pub reads: Vec<usize>,
-    /// The places of the points that may be written.
+    /// The places of the writable points.
     pub writes: Vec<usize>,
 }
 
-/// The places of the points.
+/// Returns the places of the points.
 pub(crate) fn places_of(alloc: Global, points: &[ImagePoint]) -> Result<Places, AllocError>
     ensures reads { IfOk result (λ places. places.reads.items ≡ read_places 0 points.now) }
     ensures writes { IfOk result (λ places. places.writes.items ≡ write_places 0 points.now) }
@@ -97,7 +97,7 @@ fn take_input(slots: &mut [i64], place: usize, input: Value)
     slots[place] = input.number();
 }
 
-/// Puts inputs into the slots at these places, one for each in their order.
+/// Puts inputs into the slots at these places, one for each, in order.
 #[inline(always)]
 pub(crate) fn read_inputs<I: Inputs>(reads: &[usize], inputs: &I, slots: &mut [i64])
     requires within { AllBelow (length slots.old) reads.now }
@@ -110,7 +110,7 @@ pub(crate) fn read_inputs<I: Inputs>(reads: &[usize], inputs: &I, slots: &mut [i
     }
 }
 
-/// The value of a type that a word stands for.
+/// Returns the value of a type that a word stands for.
 #[inline(always)]
 fn value_of(elementary: ElementaryType, word: i64) -> Value
     requires { IsSome (values.value_of elementary word) }
@@ -122,7 +122,7 @@ fn value_of(elementary: ElementaryType, word: i64) -> Value
     }
 }
 
-/// The value of the point at a place.
+/// Returns the value of the point at a place.
 #[inline(always)]
 pub(crate) fn output_value(points: &[ImagePoint], slots: &[i64], place: usize) -> Value
     requires words { AreWords points.now slots.now }
@@ -153,7 +153,7 @@ pub(crate) fn is_output_true(points: &[ImagePoint], slots: &[i64], place: usize)
     is_true_word(points[place].elementary, slots[place])
 }
 
-/// Puts the values of the points at these places into the outputs, of which there is one for each.
+/// Copies the values of the points at these places to the outputs, one for each.
 pub(crate) fn give_outputs(
     points: &[ImagePoint],
     writes: &[usize],
@@ -170,7 +170,7 @@ pub(crate) fn give_outputs(
     }
 }
 
-/// Appends a word 0 for each point.
+/// Appends a 0 word for each point.
 fn push_zeros(slots: &mut Vec<i64>, points: &[ImagePoint]) -> Result<(), AllocError>
     ensures ok { OnOk result (slots.new.items ≡ slots.old.items ++ map (λ _. pos 0) points.now) }
     ensures memory { IfErr result (λ e. 0 < length points.now) }
@@ -192,7 +192,8 @@ fn push_numbers(slots: &mut Vec<i64>, variables: &[Value]) -> Result<(), AllocEr
     Ok(())
 }
 
-/// The words of the slots at first: FALSE or 0 for each point, and the variables' initial values.
+/// Returns the initial words of the slots: FALSE or 0 for each point, and the variables' initial
+/// values.
 pub(crate) fn first_slots(alloc: Global, image: &Image) -> Result<Vec<i64>, AllocError>
     ensures ok { IfOk result
         (λ slots. slots.items ≡ map (λ _. pos 0) image.now.points ++ words_of image.now.variables) }
@@ -204,7 +205,7 @@ pub(crate) fn first_slots(alloc: Global, image: &Image) -> Result<Vec<i64>, Allo
     Ok(slots)
 }
 
-/// The timers at first.
+/// Returns the initial timers.
 pub(crate) fn first_timers(
     alloc: Global,
     kinds: &[TimerKind],
@@ -219,7 +220,7 @@ pub(crate) fn first_timers(
     Ok(timers)
 }
 
-/// Room for the outputs: a value for each point that may be written.
+/// Returns room for the outputs: a value for each writable point.
 pub(crate) fn room_for_outputs(
     alloc: Global,
     points: &[ImagePoint],

@@ -5,8 +5,8 @@ ghost use Rattle.il_scan.specs.Working as spec;
 use arrayvec::ArrayVec;
 use std::marker::Model;
 
-/// The operand stack. That there is room for a word that is put on it, and a word where one is
-/// taken, is known of verified code, so it is not asked.
+/// The operand stack. Verified code always leaves room for a pushed word and has a word to pop, so
+/// neither is checked.
 #[derive(Drop)]
 pub(crate) struct Stack {
     words: ArrayVec<i64, 32>,
@@ -23,7 +23,7 @@ impl Model for Stack {
 }
 
 impl Stack {
-    /// An empty stack.
+    /// Creates an empty stack.
     #[inline(always)]
     pub(crate) fn new() -> Stack
         ensures { result ≡ [] }
@@ -33,7 +33,7 @@ impl Stack {
         }
     }
 
-    /// Takes the top away.
+    /// Pops the top.
     #[inline(always)]
     pub(crate) fn pop(&mut self) -> i64
         requires { 0 < length self.old }
@@ -43,7 +43,7 @@ impl Stack {
         self.words.swap_remove(self.words.len() - 1)
     }
 
-    /// Puts a word on the stack.
+    /// Pushes a word.
     #[inline(always)]
     pub(crate) fn push(&mut self, word: i64)
         requires { length self.old < 32 }
@@ -52,7 +52,7 @@ impl Stack {
         self.words.push(word);
     }
 
-    /// The top.
+    /// Returns the top.
     #[inline(always)]
     pub(crate) fn top(&self) -> i64
         requires { 0 < length self.now }
@@ -62,7 +62,7 @@ impl Stack {
         words[words.len() - 1]
     }
 
-    /// Puts a word in the place of the top.
+    /// Replaces the top by a word.
     #[inline(always)]
     pub(crate) fn replace_top(&mut self, word: i64)
         requires { 0 < length self.old }

@@ -9,7 +9,7 @@ pub(crate) fn is_blank(x: u8) -> bool
     x == b' ' || x == b'\t'
 }
 
-/// The sign of a number.
+/// `+` or `-`, the sign of a number.
 pub(crate) fn is_sign(x: u8) -> bool
     ensures { result ≡ spec.is_sign x }
 {
@@ -23,7 +23,7 @@ pub(crate) fn is_word(x: u8) -> bool
     x.is_ascii_alphanumeric() || (x == b'_' || x == b'#')
 }
 
-/// A character of a word or a sign, with which words begin.
+/// A character that may begin a word: a word character or a sign.
 pub(crate) fn begins_word(x: u8) -> bool
     ensures value { result ≡ spec.begins_word x }
     ensures ascii { result ≡ true → x < 128 }
@@ -31,14 +31,14 @@ pub(crate) fn begins_word(x: u8) -> bool
     is_word(x) || is_sign(x)
 }
 
-/// A letter or `_`, with which names begin.
+/// A character that may begin a name: a letter or `_`.
 pub(crate) fn begins_name(x: u8) -> bool
     ensures { result ≡ spec.begins_name x }
 {
     x.is_ascii_alphabetic() || x == b'_'
 }
 
-/// Whether two characters that directly follow one another belong to one token.
+/// Whether two adjacent characters belong to one token.
 #[tactic(auto, unfolding(crate::specs::Characters::are_linked))]
 pub(crate) fn is_linked(x: u8, y: u8) -> bool
     ensures { result ≡ spec.are_linked x y }
@@ -49,7 +49,7 @@ pub(crate) fn is_linked(x: u8, y: u8) -> bool
         || (y == b'\n' && x == b'\r')
 }
 
-/// The octet at a place, or 0 past the end.
+/// The octet at an index, or 0 past the end.
 pub(crate) fn byte_at(bytes: &[u8], index: usize) -> u8
     ensures { result ≡ slice_index bytes.now index }
 {

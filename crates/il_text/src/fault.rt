@@ -6,32 +6,32 @@ ghost use Rattle.il_text.specs.declared.fault.TextFault.TheVariants.{OutOfMemory
 use std::alloc::{AllocError, AllocFailed};
 use thiserror::Error;
 
-/// Why a text is no program, with the line of the fault, counted from 1.
+/// Why a text is not a program, with the line of the fault, counted from 1.
 #[derive(Clone, Copy, Debug, Error)]
 pub enum TextFault {
-    /// A character that no token begins with, a malformed literal, a name of over 64 characters, or
-    /// a comment that is not closed.
+    /// A character that begins no token, a malformed literal, a name of more than 64 characters, or
+    /// an unclosed comment.
     #[error("a token cannot be read")]
     BadToken { line: usize },
-    /// The tokens form no line that may stand here, or the text ends early.
+    /// The tokens do not form a line that is allowed here, or the text ends early.
     #[error("a line cannot be read")]
     BadLine { line: usize },
-    /// Parentheses are open more than 16 deep.
+    /// More than 16 parentheses are open at once.
     #[error("parentheses are too deep")]
     TooDeep { line: usize },
-    /// A literal that is well formed but outside the range of its type.
+    /// A well-formed literal outside the range of its type.
     #[error("a literal is out of range")]
     BadLiteral { line: usize },
     /// More than 4,000 lines hold an instruction or a `)`.
     #[error("the program is too long")]
     TooLong { line: usize },
-    /// There is not enough memory for the program.
+    /// Out of memory.
     #[error("out of memory")]
     OutOfMemory,
 }
 
 impl TextFault {
-    /// The fault's number, 60 to 64; want of memory has none.
+    /// Returns the fault's number, 60 to 64, or `None` for out of memory.
     pub fn code(self) -> Option<u8>
         ensures { result ≡ code_of self }
     {
@@ -45,7 +45,7 @@ impl TextFault {
         }
     }
 
-    /// The line of the fault, counted from 1, or 0 for want of memory.
+    /// Returns the line of the fault, counted from 1, or 0 for out of memory.
     pub fn line(self) -> usize
         ensures { result ≡ line_of self }
     {

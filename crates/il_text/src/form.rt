@@ -14,7 +14,7 @@ use crate::program::{
 use crate::token::{Keyword, Mark, Mnemonic, Token};
 use bay_base::names::same_name;
 
-/// An instruction, or an operator with the opening of its parenthesis.
+/// An instruction, or an operator that opens a parenthesis.
 #[derive(Clone, Copy)]
 pub(crate) enum Statement<'a> {
     Plain(Instruction<'a>),
@@ -25,14 +25,14 @@ pub(crate) enum Statement<'a> {
     },
 }
 
-/// What follows the names of a declaration: its type, and its initial value.
+/// The part of a declaration after its names: the type and the initial value.
 #[derive(Clone, Copy)]
 pub struct Tail {
     pub kind: DeclaredType,
     pub initial: Option<Literal>,
 }
 
-/// A line, by its form. The names of a declaration are not looked at yet.
+/// The form of a line. The names of a declaration are not checked yet.
 #[derive(Clone, Copy)]
 pub(crate) enum Line<'t, 'a> {
     Heading(&'a str),
@@ -46,14 +46,14 @@ pub(crate) enum Line<'t, 'a> {
     Ending,
 }
 
-/// What stands before and after a token.
+/// The tokens before and after a given token.
 #[derive(Clone, Copy)]
 struct Halves<'t, 'a> {
     front: &'t [Token<'a>],
     rest: &'t [Token<'a>],
 }
 
-/// The name that a token is, if it is one.
+/// Returns the name if the token is one.
 pub(crate) fn name_of(token: Token<'_>) -> Option<&str>
     ensures { option_map (λ n. n.now) result ≡ spec.name_of (symbol_of token.entry) }
 {
@@ -63,7 +63,7 @@ pub(crate) fn name_of(token: Token<'_>) -> Option<&str>
     }
 }
 
-/// The literal that a token is, if it is one.
+/// Returns the literal if the token is one.
 fn literal_of(token: Token<'_>) -> Option<Literal>
     ensures { result ≡ spec.literal_of (symbol_of token.entry) }
 {
@@ -73,7 +73,7 @@ fn literal_of(token: Token<'_>) -> Option<Literal>
     }
 }
 
-/// The type that a token is, if it is one.
+/// Returns the type if the token is one.
 fn type_of(token: Token<'_>) -> Option<DeclaredType>
     ensures { result ≡ spec.type_of (symbol_of token.entry) }
 {
@@ -83,7 +83,8 @@ fn type_of(token: Token<'_>) -> Option<DeclaredType>
     }
 }
 
-/// The elementary type that a token is, if it is one: a timer has no initial value.
+/// Returns the elementary type if the token is one. A timer type gives `None`, since a timer has no
+/// initial value.
 fn elementary_of(token: Token<'_>) -> Option<DeclaredType>
     ensures { result ≡ spec.elementary_of (symbol_of token.entry) }
 {
@@ -100,14 +101,14 @@ fn is_mnemonic(token: Token<'_>) -> bool
     matches!(token, Token::Mnemonic(_))
 }
 
-/// Whether a token is this mark.
+/// Whether a token is the given mark.
 pub(crate) fn is_mark(token: Token<'_>, mark: Mark) -> bool
     ensures { result ≡ spec.is_mark mark (symbol_of token.entry) }
 {
     matches!(token, Token::Mark(found) if found == mark)
 }
 
-/// One name and nothing else.
+/// Reads exactly one name.
 #[tactic(auto, unfolding(crate::specs::Forms::only_name))]
 fn only_name<'a>(tokens: &[Token<'a>]) -> Option<&'a str>
     ensures { option_map (λ n. n.now) result ≡ spec.only_name (symbols_of tokens.now) }
@@ -118,7 +119,7 @@ fn only_name<'a>(tokens: &[Token<'a>]) -> Option<&'a str>
     }
 }
 
-/// The output of a timer that a word names, in letters of either case.
+/// Returns the timer output that a word names, case-insensitively.
 #[tactic(auto, unfolding(crate::specs::Forms::output_named))]
 fn output_named(word: &str) -> Option<Output>
     ensures { result ≡ spec.output_named word.now }
@@ -132,7 +133,7 @@ fn output_named(word: &str) -> Option<Output>
     None
 }
 
-/// The output of a timer, by the tokens of both names.
+/// Reads the output of a timer from the tokens of both names.
 #[tactic(auto, unfolding(crate::specs::Forms::output_by))]
 fn output_by<'a>(timer: Token<'a>, output: Token<'a>) -> Option<SymbolicVariable<'a>>
     ensures { option_map place_of result
@@ -143,7 +144,7 @@ fn output_by<'a>(timer: Token<'a>, output: Token<'a>) -> Option<SymbolicVariable
     Some(SymbolicVariable::Output { timer, output })
 }
 
-/// A name, or a name with `.Q` or `.ET`.
+/// Reads a name, or a name with `.Q` or `.ET`.
 #[tactic(auto, unfolding(crate::specs::Forms::place))]
 fn place<'a>(tokens: &[Token<'a>]) -> Option<SymbolicVariable<'a>>
     ensures { option_map place_of result ≡ spec.place (symbols_of tokens.now) }
@@ -155,7 +156,7 @@ fn place<'a>(tokens: &[Token<'a>]) -> Option<SymbolicVariable<'a>>
     }
 }
 
-/// One literal and nothing else.
+/// Reads exactly one literal.
 #[tactic(auto, unfolding(crate::specs::Forms::only_literal))]
 fn only_literal(tokens: &[Token<'_>]) -> Option<Literal>
     ensures { result ≡ spec.only_literal (symbols_of tokens.now) }
@@ -166,7 +167,7 @@ fn only_literal(tokens: &[Token<'_>]) -> Option<Literal>
     }
 }
 
-/// A literal, or what `place` reads.
+/// Reads a literal, or whatever `place` reads.
 #[tactic(auto, unfolding(crate::specs::Forms::operand))]
 fn operand<'a>(tokens: &[Token<'a>]) -> Option<Operand<'a>>
     ensures { option_map source_of result ≡ spec.operand (symbols_of tokens.now) }
@@ -177,7 +178,7 @@ fn operand<'a>(tokens: &[Token<'a>]) -> Option<Operand<'a>>
     }
 }
 
-/// The input of a timer that a word names, in letters of either case.
+/// Returns the timer input that a word names, case-insensitively.
 #[tactic(auto, unfolding(crate::specs::Forms::input_named))]
 fn input_named(word: &str) -> Option<Input>
     ensures { result ≡ spec.input_named word.now }
@@ -191,7 +192,7 @@ fn input_named(word: &str) -> Option<Input>
     None
 }
 
-/// What a call gives to one input.
+/// Reads one argument of a call: an input and its operand.
 #[tactic(auto, unfolding(crate::specs::Forms::argument))]
 fn argument<'a>(tokens: &[Token<'a>]) -> Option<Argument<'a>>
     ensures { option_map argument_of result ≡ spec.argument (symbols_of tokens.now) }
@@ -206,7 +207,7 @@ fn argument<'a>(tokens: &[Token<'a>]) -> Option<Argument<'a>>
     }
 }
 
-/// Two arguments, which are not given to one input.
+/// Returns two arguments, or `None` if both are for the same input.
 fn both<'a>(first: Argument<'a>, second: Argument<'a>) -> Option<Arguments<'a>>
     ensures { option_map arguments_of result
         ≡ spec.both (argument_of first.entry) (argument_of second.entry) }
@@ -218,7 +219,7 @@ fn both<'a>(first: Argument<'a>, second: Argument<'a>) -> Option<Arguments<'a>>
     }
 }
 
-/// How many tokens stand before the first of this mark, or all where there is none.
+/// Counts the tokens before the first of this mark, or all tokens if there is none.
 fn mark_at(tokens: &[Token<'_>], mark: Mark) -> usize
     ensures place { result ≡ position_or_len (λ t. spec.is_mark mark (symbol_of t)) tokens.now }
     ensures within { result ≤ length tokens.now }
@@ -229,7 +230,7 @@ fn mark_at(tokens: &[Token<'_>], mark: Mark) -> usize
         .count()
 }
 
-/// What stands before and after the token at this place.
+/// Returns the tokens before and after the one at this index.
 #[tactic(auto, using(crate::proofs::FormLemmas::parts_rules), unfolding(crate::specs::Forms::parts_at))]
 fn parts_at<'t, 'a>(tokens: &'t [Token<'a>], at: usize) -> Option<Halves<'t, 'a>>
     requires { at ≤ length tokens.now }
@@ -242,7 +243,7 @@ fn parts_at<'t, 'a>(tokens: &'t [Token<'a>], at: usize) -> Option<Halves<'t, 'a>
     }
 }
 
-/// What stands before and after the first token of this mark.
+/// Returns the tokens before and after the first one of this mark.
 #[tactic(auto, using(crate::proofs::FormLemmas::place_of))]
 fn parted<'t, 'a>(tokens: &'t [Token<'a>], mark: Mark) -> Option<Halves<'t, 'a>>
     ensures { option_map halves_of result ≡ spec.split_at_mark mark (symbols_of tokens.now) }
@@ -250,7 +251,7 @@ fn parted<'t, 'a>(tokens: &'t [Token<'a>], mark: Mark) -> Option<Halves<'t, 'a>>
     parts_at(tokens, mark_at(tokens, mark))
 }
 
-/// One argument or two.
+/// Reads one argument or two.
 fn argument_list<'a>(tokens: &[Token<'a>]) -> Option<Arguments<'a>>
     ensures { option_map arguments_of result
         ≡ spec.argument_list (symbols_of tokens.now)
@@ -266,7 +267,7 @@ fn argument_list<'a>(tokens: &[Token<'a>]) -> Option<Arguments<'a>>
     }
 }
 
-/// The arguments of a call.
+/// Reads the arguments of a call: none, one or two.
 #[tactic(auto, unfolding(crate::specs::Forms::arguments))]
 fn arguments<'a>(tokens: &[Token<'a>]) -> Option<Arguments<'a>>
     ensures { option_map arguments_of result ≡ spec.arguments (symbols_of tokens.now) }
@@ -277,7 +278,7 @@ fn arguments<'a>(tokens: &[Token<'a>]) -> Option<Arguments<'a>>
     }
 }
 
-/// The arguments of a call, and the `)` behind them.
+/// Reads the arguments of a call and the `)` after them.
 #[tactic(auto, unfolding(crate::specs::Forms::closed_arguments))]
 fn closed_arguments<'a>(tokens: &[Token<'a>]) -> Option<Arguments<'a>>
     ensures { option_map arguments_of result ≡ spec.closed_arguments (symbols_of tokens.now) }
@@ -289,7 +290,7 @@ fn closed_arguments<'a>(tokens: &[Token<'a>]) -> Option<Arguments<'a>>
     }
 }
 
-/// The call of a timer.
+/// Reads the call of a timer.
 #[tactic(auto, unfolding(crate::specs::Forms::call_action))]
 fn called<'a>(tokens: &[Token<'a>]) -> Option<Instruction<'a>>
     ensures { option_map action_of result ≡ spec.call_action (symbols_of tokens.now) }
@@ -304,7 +305,7 @@ fn called<'a>(tokens: &[Token<'a>]) -> Option<Instruction<'a>>
     }
 }
 
-/// An instruction behind whose operator nothing stands.
+/// Returns the instruction if no token follows its operator.
 fn alone<'a>(instruction: Instruction<'a>, tokens: &[Token<'a>]) -> Option<Statement<'a>>
     ensures { option_map statement_parts result
         ≡ spec.alone (action_of instruction.entry) (symbols_of tokens.now) }
@@ -316,7 +317,7 @@ fn alone<'a>(instruction: Instruction<'a>, tokens: &[Token<'a>]) -> Option<State
     }
 }
 
-/// What stands behind the `(` of an operator.
+/// Reads what follows the `(` of an operator: an operand or nothing.
 fn entered<'a>(operator: Operator, negated: bool, tokens: &[Token<'a>]) -> Option<Statement<'a>>
     ensures { option_map statement_parts result
         ≡ spec.parenthesis_parts operator negated (symbols_of tokens.now) }
@@ -332,7 +333,7 @@ fn entered<'a>(operator: Operator, negated: bool, tokens: &[Token<'a>]) -> Optio
     })
 }
 
-/// What stands behind an operator that combines.
+/// Reads what follows an operator that combines the current result with an operand.
 fn combined<'a>(operator: Operator, negated: bool, tokens: &[Token<'a>]) -> Option<Statement<'a>>
     ensures { option_map statement_parts result
         ≡ spec.operator_parts operator negated (symbols_of tokens.now) }
@@ -351,7 +352,7 @@ fn combined<'a>(operator: Operator, negated: bool, tokens: &[Token<'a>]) -> Opti
     }
 }
 
-/// `LD` or `LDN` with its operand.
+/// Reads the operand of `LD` or `LDN`.
 fn load<'a>(negated: bool, tokens: &[Token<'a>]) -> Option<Instruction<'a>>
     ensures { option_map action_of result
         ≡ option_map (text.load negated) (spec.operand (symbols_of tokens.now)) }
@@ -360,7 +361,7 @@ fn load<'a>(negated: bool, tokens: &[Token<'a>]) -> Option<Instruction<'a>>
     Some(Instruction::Load { negated, operand })
 }
 
-/// A store with the variable that it writes.
+/// Reads the variable that a store writes.
 fn store<'a>(kind: StoreKind, tokens: &[Token<'a>]) -> Option<Instruction<'a>>
     ensures { option_map action_of result
         ≡ option_map (text.store kind) (spec.place (symbols_of tokens.now)) }
@@ -369,7 +370,7 @@ fn store<'a>(kind: StoreKind, tokens: &[Token<'a>]) -> Option<Instruction<'a>>
     Some(Instruction::Store { kind, target })
 }
 
-/// A jump with its label.
+/// Reads the label of a jump.
 fn jump<'a>(condition: Condition, tokens: &[Token<'a>]) -> Option<Instruction<'a>>
     ensures { option_map action_of result
         ≡ option_map (text.jump condition) (spec.only_name (symbols_of tokens.now)) }
@@ -378,7 +379,7 @@ fn jump<'a>(condition: Condition, tokens: &[Token<'a>]) -> Option<Instruction<'a
     Some(Instruction::Jump { condition, label })
 }
 
-/// An operator, and what belongs to it.
+/// Reads what belongs to an operator.
 #[tactic(auto, unfolding(crate::specs::Forms::statement))]
 fn statement_of<'a>(mnemonic: Mnemonic, tokens: &[Token<'a>]) -> Option<Statement<'a>>
     ensures { option_map statement_parts result ≡ spec.statement mnemonic (symbols_of tokens.now) }
@@ -395,7 +396,7 @@ fn statement_of<'a>(mnemonic: Mnemonic, tokens: &[Token<'a>]) -> Option<Statemen
     }
 }
 
-/// `type ;` or `type := literal ;`, where a timer has no literal.
+/// Reads `type ;` or `type := literal ;`. A timer type takes no literal.
 #[tactic(auto, unfolding(crate::specs::Forms::tail))]
 fn tail_of(tokens: &[Token<'_>]) -> Option<Tail>
     ensures { result ≡ spec.tail (symbols_of tokens.now) }
@@ -418,7 +419,7 @@ fn tail_of(tokens: &[Token<'_>]) -> Option<Tail>
     }
 }
 
-/// A declaration, whose names are not looked at yet.
+/// Reads a declaration. Its names are not checked yet.
 #[tactic(auto, unfolding(crate::specs::Forms::declaration))]
 fn declaration<'t, 'a>(tokens: &'t [Token<'a>]) -> Option<Line<'t, 'a>>
     ensures { option_and_then line_parts result ≡ spec.declaration (symbols_of tokens.now) }
@@ -431,7 +432,7 @@ fn declaration<'t, 'a>(tokens: &'t [Token<'a>]) -> Option<Line<'t, 'a>>
     })
 }
 
-/// Whether these tokens may stand behind a label: an operator first, or nothing.
+/// Whether these tokens may follow a label: nothing, or tokens that begin with an operator.
 #[tactic(auto, unfolding(crate::specs::Forms::may_follow_label))]
 fn may_follow_label(tokens: &[Token<'_>]) -> bool
     ensures { result ≡ spec.may_follow_label (symbols_of tokens.now) }
@@ -442,7 +443,7 @@ fn may_follow_label(tokens: &[Token<'_>]) -> bool
     }
 }
 
-/// What stands behind the colon of a label.
+/// Returns the tokens after the colon of a label.
 #[tactic(auto, unfolding(crate::specs::Forms::label_rest))]
 fn label_rest<'t, 'a>(tokens: &'t [Token<'a>]) -> Option<&'t [Token<'a>]>
     ensures { option_map (λ ts. symbols_of ts.now) result
@@ -454,7 +455,7 @@ fn label_rest<'t, 'a>(tokens: &'t [Token<'a>]) -> Option<&'t [Token<'a>]>
     }
 }
 
-/// An operator as a token, and what belongs to it.
+/// Reads an operator, given as a token, and what belongs to it.
 fn statement_by<'a>(first: Token<'a>, tokens: &[Token<'a>]) -> Option<Statement<'a>>
     ensures { option_map statement_parts result
         ≡ spec.statement_by (symbol_of first.entry) (symbols_of tokens.now) }
@@ -465,7 +466,7 @@ fn statement_by<'a>(first: Token<'a>, tokens: &[Token<'a>]) -> Option<Statement<
     }
 }
 
-/// A label, and the instruction that may stand behind it.
+/// Reads a label and the instruction that may follow it.
 #[tactic(auto, unfolding(crate::specs::Forms::label_parts))]
 fn labelled<'t, 'a>(label: &'a str, tokens: &'t [Token<'a>]) -> Option<Line<'t, 'a>>
     ensures { option_and_then line_parts result
@@ -480,7 +481,7 @@ fn labelled<'t, 'a>(label: &'a str, tokens: &'t [Token<'a>]) -> Option<Line<'t, 
     }
 }
 
-/// A line that begins with a keyword.
+/// Reads a line that begins with a keyword.
 #[tactic(auto, unfolding(crate::specs::Forms::keyword_line))]
 fn keyword_line<'t, 'a>(word: Keyword, tokens: &'t [Token<'a>]) -> Option<Line<'t, 'a>>
     ensures { option_and_then line_parts result ≡ spec.keyword_line word (symbols_of tokens.now) }
@@ -495,7 +496,7 @@ fn keyword_line<'t, 'a>(word: Keyword, tokens: &'t [Token<'a>]) -> Option<Line<'
     if tokens.is_empty() { Some(line) } else { None }
 }
 
-/// A line that begins with a name: a label, or a declaration.
+/// Reads a line that begins with a name: a label or a declaration.
 #[tactic(auto, unfolding(crate::specs::Forms::named_line))]
 fn named_line<'t, 'a>(
     name: &'a str,
@@ -511,7 +512,7 @@ fn named_line<'t, 'a>(
     }
 }
 
-/// A line that begins with a mark: `)` alone.
+/// Reads a line that begins with a mark: only `)` alone is one.
 #[tactic(auto, unfolding(crate::specs::Forms::mark_parts))]
 fn marked<'t, 'a>(mark: Mark, tokens: &'t [Token<'a>]) -> Option<Line<'t, 'a>>
     ensures { option_and_then line_parts result ≡ spec.mark_parts mark (symbols_of tokens.now) }
@@ -522,14 +523,14 @@ fn marked<'t, 'a>(mark: Mark, tokens: &'t [Token<'a>]) -> Option<Line<'t, 'a>>
     }
 }
 
-/// A line that begins with an operator.
+/// Reads a line that begins with an operator.
 fn statement_line<'t, 'a>(mnemonic: Mnemonic, tokens: &'t [Token<'a>]) -> Option<Line<'t, 'a>>
     ensures { option_and_then line_parts result ≡ spec.statement mnemonic (symbols_of tokens.now) }
 {
     statement_of(mnemonic, tokens).map(Line::Statement)
 }
 
-/// The form of a line that is not blank, if it has one.
+/// Returns the form of a line that is not blank, or `None` if it has none.
 #[tactic(auto, unfolding(crate::specs::Forms::parts_of))]
 pub(crate) fn line_of<'t, 'a>(tokens: &'t [Token<'a>]) -> Option<Line<'t, 'a>>
     requires { 0 < length tokens.now }
@@ -547,14 +548,14 @@ pub(crate) fn line_of<'t, 'a>(tokens: &'t [Token<'a>]) -> Option<Line<'t, 'a>>
     }
 }
 
-/// Whether a line that begins with this token has no other.
+/// Whether a line that begins with this token has no other token.
 fn is_single(token: Token<'_>) -> bool
     ensures { result ≡ spec.is_single (symbol_of token.entry) }
 {
     matches!(token, Token::Type(_) | Token::Literal(_) | Token::Mark(_))
 }
 
-/// Whether the second token cannot follow the first, with which a line begins.
+/// Whether the second token cannot follow the first, where the first begins a line.
 fn is_misplaced(first: Token<'_>, second: Token<'_>) -> bool
     ensures { result ≡ spec.is_misplaced (symbol_of first.entry) (symbol_of second.entry) }
 {
@@ -564,7 +565,7 @@ fn is_misplaced(first: Token<'_>, second: Token<'_>) -> bool
     }
 }
 
-/// Whether no line begins with these tokens, so that the others of their line need not be kept.
+/// Whether no line begins with these tokens, so that the rest of the line need not be kept.
 pub(crate) fn is_hopeless(tokens: &[Token<'_>]) -> bool
     ensures { result ≡ spec.is_hopeless (symbols_of tokens.now) }
 {

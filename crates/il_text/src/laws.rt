@@ -6,50 +6,50 @@ ghost use Rattle.il_text.specs.Productions.{LinesAreProduced};
 ghost use Rattle.il_text.specs.Respelling.{BlanksMayBeRespelled, LineEndsMayBeRespelled};
 ghost use Rattle.il_text.specs.Texts.{OneReading, ProgramIsRead};
 
-/// At most one program is derived from the parts of lines (IEC 61131-3:2003, 2.5.3 and annex B).
+/// At most one program is derived from the parts of the lines (IEC 61131-3:2003, 2.5.3 and annex
+/// B).
 pub fn one_program_is_derived()
     ensures { OneProgram }
 {}
 
-/// A line of tokens is read to the parts of its production, and a line that has none to no parts
-/// (IEC 61131-3:2003, annexes B.1.4.3, B.1.5.3 and B.2).
+/// A line of tokens is read to the parts of its production; a line without a production is read to
+/// no parts (IEC 61131-3:2003, annexes B.1.4.3, B.1.5.3 and B.2).
 pub fn lines_are_produced()
     ensures { LinesAreProduced }
 {}
 
-/// A text reads as one program, or has one fault.
+/// A text has at most one reading: one program or one fault.
 pub fn one_reading()
     ensures { OneReading }
 {}
 
-/// What the reader's definition gives of a text, line by line, is what the text reads as by the
-/// grammar: its program where the text reads as this program, and its fault where the text has this
-/// fault; and the other way round.
+/// The reader's line-by-line definition and the grammar agree on every text: the definition gives a
+/// program exactly where the text reads as that program, and a fault exactly where the text has
+/// that fault.
 pub fn program_is_read()
     ensures { ProgramIsRead }
 {}
 
-/// Blanks and whole comments between two parts of a text, within their line, may be spelled by
-/// other blanks and comments: the text makes the same program, or has the same fault
-/// (IEC 61131-3:2003, 2.1.4 and 2.1.5).
+/// Blanks and whole comments between two parts of a line may be replaced by other blanks and
+/// comments: the text gives the same program or the same fault (IEC 61131-3:2003, 2.1.4 and 2.1.5).
 pub fn blanks_may_be_respelled()
     ensures { BlanksMayBeRespelled }
 {}
 
-/// A line may end in CR LF in the place of LF: the text reads as it did.
+/// A line may end in CR LF instead of LF: the text reads the same.
 pub fn line_ends_may_be_respelled()
     ensures { LineEndsMayBeRespelled }
 {}
 
-/// Letters may be spelled in either case: a text in upper case reads as the text does, with its
+/// Letters may be written in either case: a text in upper case reads as the original does, with its
 /// names in upper case, and has the same fault (IEC 61131-3:2003, 2.1.1).
 pub fn letters_may_be_respelled()
     ensures { LettersMayBeRespelled }
 {}
 
-/// A duration is numbers with units, one behind the other, the units falling, and its milliseconds
-/// are the sum of them; what is spelled otherwise is no duration (IEC 61131-3:2003, 2.2.3.1 and
-/// annex B.1.2.3.1).
+/// A duration is a sequence of numbers with units in descending order, and its milliseconds are
+/// their sum; anything spelled otherwise is not a duration (IEC 61131-3:2003, 2.2.3.1 and annex
+/// B.1.2.3.1).
 pub fn durations_fall()
     ensures { DurationsFall }
 {}

@@ -21,18 +21,18 @@ use crate::token::{Mark, Token};
 use std::alloc::Global;
 use std::mem;
 
-/// How many lines may hold an instruction or `)`.
+/// The maximum number of lines that hold an instruction or `)`.
 const MAX_INSTRUCTIONS: usize = 4_000;
 
-/// How many parentheses may be open.
+/// The maximum number of open parentheses.
 const MAX_OPEN: usize = 16;
 
-/// What the lines before a line make of the text.
+/// The place in the text that the lines so far have reached.
 #[derive(Clone, Copy)]
 pub enum Stage {
-    /// Before the line of PROGRAM.
+    /// Before the PROGRAM line.
     Start,
-    /// Between the declaration blocks.
+    /// Between declaration blocks.
     Declarations,
     /// In a declaration block.
     Block(Scope),
@@ -42,7 +42,7 @@ pub enum Stage {
     Finished,
 }
 
-/// An open parenthesis: the line of its operator, and the items before it.
+/// An open parenthesis: its operator with its line, and the items before it.
 #[derive(Drop)]
 pub(crate) struct Open<'a> {
     pub(crate) line: usize,
@@ -51,12 +51,12 @@ pub(crate) struct Open<'a> {
     pub(crate) outer: Vec<Item<'a>>,
 }
 
-/// What has been read of a program, and where in it the next line stands.
+/// What has been read of a program so far, and where in the program the next line stands.
 #[derive(Drop)]
 pub(crate) struct Draft<'a> {
     pub(crate) alloc: Global,
     pub(crate) place: Stage,
-    /// How many lines held an instruction or `)`.
+    /// The number of lines so far that hold an instruction or `)`.
     pub(crate) instructions: usize,
     pub(crate) name: &'a str,
     pub(crate) declarations: Vec<Declaration<'a>>,
@@ -66,14 +66,14 @@ pub(crate) struct Draft<'a> {
     pub(crate) parentheses: Vec<Open<'a>>,
 }
 
-/// Where a line stands: its number, and that of the last line of the text.
+/// The position of a line: its number, and the number of the last line of the text.
 #[derive(Clone, Copy)]
 pub(crate) struct Position {
     pub(crate) line: usize,
     pub(crate) last: usize,
 }
 
-/// An instruction that may stand in a parenthesis: no jump, no return, and no call.
+/// Whether an instruction may stand in a parenthesis: any but a jump, a return or a call.
 fn is_plain(instruction: Instruction<'_>) -> bool
     ensures { result ≡ grammar.is_plain (action_of instruction.entry) }
 {
@@ -87,14 +87,14 @@ fn is_plain(instruction: Instruction<'_>) -> bool
     }
 }
 
-/// Whether an instruction is LD or LDN, with which a parenthesis begins.
+/// Whether an instruction is LD or LDN, which a parenthesis begins with.
 fn is_load(instruction: Instruction<'_>) -> bool
     ensures { result ≡ rules.is_load (action_of instruction.entry) }
 {
     matches!(instruction, Instruction::Load { .. })
 }
 
-/// Whether the line of PROGRAM comes next.
+/// Whether the PROGRAM line comes next.
 fn is_start(place: Stage) -> bool
     ensures { result ≡ rules.is_start place }
 {
@@ -108,7 +108,7 @@ fn is_between_blocks(place: Stage) -> bool
     matches!(place, Stage::Declarations)
 }
 
-/// The scope of the declaration block that is open, if one is.
+/// Returns the scope of the open declaration block, or `None` if none is open.
 fn block_scope(place: Stage) -> Option<Scope>
     ensures { result ≡ rules.block_scope place }
 {
@@ -118,7 +118,7 @@ fn block_scope(place: Stage) -> Option<Scope>
     }
 }
 
-/// Whether a line of the body may stand here, the first one or a later one.
+/// Whether a line of the body may stand here, be it the first or a later one.
 fn is_body(place: Stage) -> bool
     ensures { result ≡ rules.is_body place }
 {
@@ -135,7 +135,7 @@ fn may_begin_with(scope: Scope, initial: Option<Literal>) -> bool
     }
 }
 
-/// Whether a line counts towards the limit of lines: it holds an instruction or `)`.
+/// Whether a line counts towards the line limit: it holds an instruction or `)`.
 fn has_instruction(line: Line<'_, '_>) -> bool
     ensures { (ps : List Part) → line_parts line.entry ≡ Some ps
         → result ≡ spec.has_instruction ps }
@@ -151,8 +151,8 @@ fn has_instruction(line: Line<'_, '_>) -> bool
     }
 }
 
-/// A line past a limit; where it is the last one, the text ends early there too, and that comes
-/// first.
+/// Returns the fault of a line past a limit. On the last line of the text this is a bad line,
+/// because the text also ends early there and that fault comes first.
 fn past_limit(position: Position, fault: TextFault) -> TextFault
     ensures { result ≡ spec.past_limit position.line position.last fault }
 {
@@ -165,7 +165,7 @@ fn past_limit(position: Position, fault: TextFault) -> TextFault
 }
 
 impl<'a> Draft<'a> {
-    /// A program of which no line has been read.
+    /// Creates a program of which no line has been read.
     pub(crate) fn new(alloc: Global) -> Self
         ensures { read_of result ≡ spec.none_yet }
     {
@@ -230,7 +230,7 @@ impl<'a> Draft<'a> {
         Ok(())
     }
 
-    /// Takes the parts of a line.
+    /// Takes the parts of a line, given by its form.
     #[tactic(auto, using(crate::proofs::ListingLemmas::steps_rules))]
     fn take_form(&mut self, form: Line<'_, 'a>, line: usize) -> Result<(), TextFault>
         ensures ok { OnOk result
@@ -255,7 +255,7 @@ impl<'a> Draft<'a> {
         }
     }
 
-    /// Whether a line of the body may stand here, outside of parentheses.
+    /// Whether a line of the body may stand here, outside parentheses.
     #[tactic(auto, unfolding(crate::specs::Steps::may_stand))]
     fn may_stand(&self) -> bool
         ensures { result ≡ rules.may_stand (reached_of self.now) }
@@ -273,7 +273,7 @@ impl<'a> Draft<'a> {
         is_body(self.place) && (is_outside(self.parentheses.as_slice()) || inside)
     }
 
-    /// Whether a parenthesis may begin here.
+    /// Whether a parenthesis may open here.
     #[tactic(auto, unfolding(crate::specs::Steps::may_enter))]
     fn may_enter(&self) -> bool
         ensures { result ≡ rules.may_enter (reached_of self.now) }
@@ -282,7 +282,7 @@ impl<'a> Draft<'a> {
             && (is_outside(self.parentheses.as_slice()) || is_some(self.items.as_slice()))
     }
 
-    /// Whether the innermost parenthesis may end here.
+    /// Whether the innermost parenthesis may close here.
     #[tactic(auto, unfolding(crate::specs::Steps::may_leave))]
     fn may_leave(&self) -> bool
         ensures { result ≡ rules.may_leave (reached_of self.now) }
@@ -290,7 +290,7 @@ impl<'a> Draft<'a> {
         is_body(self.place) && is_some(self.items.as_slice())
     }
 
-    /// Takes the line of PROGRAM.
+    /// Takes the PROGRAM line.
     #[tactic(auto, unfolding(crate::specs::Steps::step))]
     fn take_heading(&mut self, name: &'a str, line: usize) -> Result<(), TextFault>
         ensures ok { OnOk result
@@ -340,7 +340,7 @@ impl<'a> Draft<'a> {
         Ok(())
     }
 
-    /// Takes a declaration, whose names are looked at here.
+    /// Takes a declaration, and checks its names.
     fn take_declaration(
         &mut self,
         names: &[Token<'a>],
@@ -385,7 +385,8 @@ impl<'a> Draft<'a> {
         Ok(())
     }
 
-    /// Takes an instruction. In a parenthesis the first is a load, and none leaves it.
+    /// Takes an instruction. The first one in a parenthesis is a load, and none in it leaves the
+    /// parenthesis.
     #[tactic(auto, unfolding(crate::specs::Steps::step))]
     fn take_acting(&mut self, instruction: Instruction<'a>, line: usize) -> Result<(), TextFault>
         ensures ok { OnOk result
@@ -436,7 +437,7 @@ impl<'a> Draft<'a> {
         Ok(())
     }
 
-    /// Takes a `)`, before which something has to stand in the parenthesis.
+    /// Takes a `)`. The parenthesis must not be empty.
     #[tactic(auto, unfolding(crate::specs::Steps::step))]
     fn take_leaving(&mut self, line: usize) -> Result<(), TextFault>
         ensures ok { OnOk result
@@ -513,7 +514,7 @@ impl<'a> Draft<'a> {
         }
     }
 
-    /// Takes an operator with `(` and the operand behind it.
+    /// Takes an operator with `(` and the operand after it.
     #[tactic(auto, using(crate::proofs::ListingLemmas::steps_rules))]
     fn take_loaded(
         &mut self,
@@ -540,7 +541,7 @@ impl<'a> Draft<'a> {
         Ok(())
     }
 
-    /// Takes a label and what stands behind it.
+    /// Takes a label and the instruction after it.
     #[tactic(auto, using(crate::proofs::ListingLemmas::steps_rules))]
     fn take_labelled(
         &mut self,
@@ -571,7 +572,7 @@ fn is_outside(parentheses: &[Open<'_>]) -> bool
     parentheses.is_empty()
 }
 
-/// Whether there is an item.
+/// Whether there are any items.
 #[tactic(auto, using(crate::proofs::ListingLemmas::some_rules))]
 fn is_some(items: &[Item<'_>]) -> bool
     ensures { result ≡ rules.is_some (map entry_of items.now) }
@@ -579,7 +580,7 @@ fn is_some(items: &[Item<'_>]) -> bool
     !items.is_empty()
 }
 
-/// What a line of declarations gives to each of its names.
+/// What one line of declarations gives to each of its names.
 #[derive(Clone, Copy)]
 struct Declaring {
     line: usize,
@@ -614,7 +615,7 @@ fn declare<'a>(
     }
 }
 
-/// Takes one token of a list of names, and says whether it was a name.
+/// Takes one token of a list of names, and returns whether it was a name.
 #[tactic(auto, using(crate::proofs::ListingLemmas::declare_rules))]
 fn declare_token<'a>(
     declarations: &mut Vec<Declaration<'a>>,

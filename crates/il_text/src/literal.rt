@@ -10,19 +10,19 @@ use crate::character::byte_at;
 use crate::program::Literal;
 use bay_base::names::{same_letters, same_name};
 
-/// Why a word is no literal.
+/// Why a word is not a literal.
 #[derive(Clone, Copy)]
 pub enum LiteralFault {
-    /// It is not formed as a literal.
+    /// It does not have the form of a literal.
     Malformed,
-    /// It is formed as one, and its value is outside its type.
+    /// It has the form of a literal, but its value is outside its type.
     OutOfRange,
 }
 
-/// Greater milliseconds count as this many, which no duration has.
+/// The cap on milliseconds: greater values count as this many, which no duration has.
 const CAP: u64 = 0x1_0000_0000;
 
-/// The number that digits write, with single underscores between them.
+/// Reads the number that digits spell, with single underscores allowed between them.
 #[tactic(auto, using(crate::proofs::LiteralLemmas::number_rules))]
 fn number(digits: &[u8], radix: u32) -> Option<u64>
     requires low { 2 ≤ radix }
@@ -45,7 +45,7 @@ fn number(digits: &[u8], radix: u32) -> Option<u64>
     if wanted { None } else { Some(value) }
 }
 
-/// The base that is written before `#`.
+/// Reads the base before `#`: 2, 8 or 16.
 #[tactic(auto, unfolding(crate::specs::Literals::base_of))]
 fn base_of(word: &str) -> Option<u32>
     ensures value { result ≡ spec.base_of word.now }
@@ -64,7 +64,7 @@ fn base_of(word: &str) -> Option<u32>
     None
 }
 
-/// A number with an optional sign: whether it is negative, and its magnitude.
+/// Reads a decimal number with an optional sign: whether it is negative, and its magnitude.
 #[tactic(auto, unfolding(crate::specs::Literals::decimal))]
 pub(crate) fn decimal(word: &[u8]) -> Option<(bool, u64)>
     ensures { result ≡ capped_signed (spec.decimal word.now) }
@@ -76,7 +76,7 @@ pub(crate) fn decimal(word: &[u8]) -> Option<(bool, u64)>
     }
 }
 
-/// A number after its base, which has no sign.
+/// Reads a number after its base. It has no sign.
 #[tactic(auto, unfolding(crate::specs::Literals::based_integer))]
 fn based(base: &str, digits: &str) -> Option<(bool, u64)>
     ensures { result ≡ capped_signed (spec.based_integer base.now digits.now) }
@@ -85,14 +85,14 @@ fn based(base: &str, digits: &str) -> Option<(bool, u64)>
     Some((false, number(digits.as_bytes(), radix)?))
 }
 
-/// The parts before and after the first `#`.
+/// Splits a word at its first `#`.
 pub(crate) fn halves(word: &str) -> Option<(&str, &str)>
     ensures { option_map (λ h. (h.0.now, h.1.now)) result ≡ spec.halves word.now }
 {
     word.split_once('#')
 }
 
-/// A number with a sign or behind a base: whether it is negative, and its magnitude.
+/// Reads a number with a sign or after a base: whether it is negative, and its magnitude.
 #[tactic(auto, using(crate::proofs::LiteralLemmas::integer_some, crate::proofs::LiteralLemmas::integer_none))]
 fn integer(word: &str) -> Option<(bool, u64)>
     ensures { result ≡ capped_signed (spec.integer word.now) }
@@ -103,7 +103,7 @@ fn integer(word: &str) -> Option<(bool, u64)>
     }
 }
 
-/// The value of a number, within 64 bits.
+/// Returns the value of a number, which must fit in 64 bits.
 fn signed(number: Option<(bool, u64)>) -> Result<i64, LiteralFault>
     ensures { result ≡ spec.number_value number }
 {
@@ -118,7 +118,7 @@ fn signed(number: Option<(bool, u64)>) -> Result<i64, LiteralFault>
     }
 }
 
-/// A number without a type.
+/// Returns the literal of a number without a type.
 #[tactic(auto, unfolding(crate::specs::Literals::plain_literal))]
 pub(crate) fn untyped(number: Option<(bool, u64)>) -> Result<Literal, LiteralFault>
     ensures { result ≡ spec.plain_literal number }
@@ -126,7 +126,7 @@ pub(crate) fn untyped(number: Option<(bool, u64)>) -> Result<Literal, LiteralFau
     Ok(Literal::Number(signed(number)?))
 }
 
-/// The BOOL of a number, which is 0 or 1.
+/// Returns the BOOL of a number, which must be 0 or 1.
 fn bool_literal(value: i64) -> Result<Literal, LiteralFault>
     ensures { result ≡ spec.bool_literal value }
 {
@@ -137,7 +137,7 @@ fn bool_literal(value: i64) -> Result<Literal, LiteralFault>
     }
 }
 
-/// The INT of a number.
+/// Returns the INT of a number.
 fn int_literal(value: i64) -> Result<Literal, LiteralFault>
     ensures { result ≡ spec.int_literal value }
 {
@@ -148,7 +148,7 @@ fn int_literal(value: i64) -> Result<Literal, LiteralFault>
     }
 }
 
-/// The DINT of a number.
+/// Returns the DINT of a number.
 fn dint_literal(value: i64) -> Result<Literal, LiteralFault>
     ensures { result ≡ spec.dint_literal value }
 {
@@ -159,7 +159,7 @@ fn dint_literal(value: i64) -> Result<Literal, LiteralFault>
     }
 }
 
-/// The truth value that a word names, in letters of either case.
+/// Returns the truth value that a word names, case-insensitively.
 fn truth_of(word: &str) -> Option<bool>
     ensures { result ≡ spec.truth_of word.now }
 {
@@ -172,7 +172,7 @@ fn truth_of(word: &str) -> Option<bool>
     None
 }
 
-/// The number behind a type of numbers, where a truth value is outside the type.
+/// Reads the number after a numeric type's `#`. A truth value is outside the type.
 #[tactic(auto, using(crate::proofs::LiteralLemmas::signed_capped), unfolding(crate::specs::Literals::typed_number))]
 fn typed_number(word: &str) -> Result<i64, LiteralFault>
     ensures { result ≡ spec.typed_number word.now }
@@ -183,7 +183,7 @@ fn typed_number(word: &str) -> Result<i64, LiteralFault>
     }
 }
 
-/// What stands behind `BOOL#`: TRUE, FALSE, 0 or 1.
+/// Reads what follows `BOOL#`: TRUE, FALSE, 0 or 1.
 #[tactic(auto, using(crate::proofs::LiteralLemmas::signed_capped), unfolding(crate::specs::Literals::typed_bool))]
 fn typed_bool(word: &str) -> Result<Literal, LiteralFault>
     ensures { result ≡ spec.typed_bool word.now }
@@ -194,7 +194,7 @@ fn typed_bool(word: &str) -> Result<Literal, LiteralFault>
     bool_literal(signed(integer(word))?)
 }
 
-/// What stands behind `INT#`.
+/// Reads what follows `INT#`.
 #[tactic(auto, unfolding(crate::specs::Literals::typed_int))]
 fn typed_int(word: &str) -> Result<Literal, LiteralFault>
     ensures { result ≡ spec.typed_int word.now }
@@ -202,7 +202,7 @@ fn typed_int(word: &str) -> Result<Literal, LiteralFault>
     int_literal(typed_number(word)?)
 }
 
-/// What stands behind `DINT#`.
+/// Reads what follows `DINT#`.
 #[tactic(auto, unfolding(crate::specs::Literals::typed_dint))]
 fn typed_dint(word: &str) -> Result<Literal, LiteralFault>
     ensures { result ≡ spec.typed_dint word.now }
@@ -210,7 +210,7 @@ fn typed_dint(word: &str) -> Result<Literal, LiteralFault>
     dint_literal(typed_number(word)?)
 }
 
-/// What stands behind `LINT#`.
+/// Reads what follows `LINT#`.
 #[tactic(auto, unfolding(crate::specs::Literals::typed_lint))]
 fn typed_lint(word: &str) -> Result<Literal, LiteralFault>
     ensures { result ≡ spec.typed_lint word.now }
@@ -218,7 +218,7 @@ fn typed_lint(word: &str) -> Result<Literal, LiteralFault>
     Ok(Literal::Lint(typed_number(word)?))
 }
 
-/// Reads a literal with something before its first `#`.
+/// Reads a literal that has something before its first `#`.
 #[tactic(auto, using(crate::proofs::LiteralLemmas::untyped_capped), unfolding(crate::specs::Literals::prefixed_literal))]
 pub(crate) fn prefixed(before: &str, word: &str) -> Result<Literal, LiteralFault>
     ensures { result ≡ spec.prefixed_literal before.now word.now }
@@ -241,7 +241,7 @@ pub(crate) fn prefixed(before: &str, word: &str) -> Result<Literal, LiteralFault
     untyped(based(before, word))
 }
 
-/// What is left of a duration, its milliseconds so far, and whether a part was there.
+/// The unread rest of a duration, its milliseconds so far, and whether a part has been read.
 #[derive(Clone, Copy)]
 struct Duration<'a> {
     rest: &'a [u8],
@@ -249,7 +249,7 @@ struct Duration<'a> {
     begun: bool,
 }
 
-/// How many characters of a number stand at the front.
+/// Counts the number characters at the front of the word: digits and `_`.
 fn number_len(word: &[u8]) -> usize
     ensures len { result ≡ spec.number_len word.now }
     ensures within { result ≤ length word.now }
@@ -259,7 +259,7 @@ fn number_len(word: &[u8]) -> usize
         .count()
 }
 
-/// How many letters stand at the front.
+/// Counts the letters at the front of the word.
 fn letter_len(word: &[u8]) -> usize
     ensures len { result ≡ prefix_len is_ascii_alphabetic word.now }
     ensures within { result ≤ length word.now }
@@ -267,7 +267,7 @@ fn letter_len(word: &[u8]) -> usize
     word.iter().take_while(|x| x.is_ascii_alphabetic()).count()
 }
 
-/// The number of a part; after the first part an `_` may stand before it.
+/// Reads the number of a part. After the first part, an `_` may precede it.
 fn part_number(digits: &[u8], begun: bool) -> Option<u64>
     ensures { result ≡ capped_number (spec.number_of_part begun digits.now) }
 {
@@ -277,7 +277,7 @@ fn part_number(digits: &[u8], begun: bool) -> Option<u64>
     }
 }
 
-/// A total with a number of units more, each of so many milliseconds, up to the cap.
+/// Adds a number of units, of `factor` milliseconds each, to a total, up to the cap.
 fn add_capped(total: u64, number: u64, factor: u64) -> u64
     requires { factor < 2 ^ 31 }
     ensures { result ≡ min (min total (2 ^ 32) + min number (2 ^ 32) * factor) (2 ^ 32) }
@@ -285,7 +285,7 @@ fn add_capped(total: u64, number: u64, factor: u64) -> u64
     (total.min(CAP) + number.min(CAP) * factor).min(CAP)
 }
 
-/// Takes the part in this unit, if one stands first.
+/// Takes the part in this unit, if it comes first.
 #[tactic(auto, using(crate::proofs::DurationLemmas::part_rules))]
 fn part<'a>(duration: Option<Duration<'a>>, unit: &[u8], factor: u64) -> Option<Duration<'a>>
     requires some { 0 < factor }
@@ -309,7 +309,8 @@ fn part<'a>(duration: Option<Duration<'a>>, unit: &[u8], factor: u64) -> Option<
     })
 }
 
-/// The parts of a duration in falling units, of which the first may pass the next unit.
+/// Reads the parts of a duration in descending units. The first may exceed one of the next greater
+/// unit.
 fn parts(word: &[u8]) -> Option<Duration<'_>>
     ensures { capped_duration (spec.parts word.now) ≡ option_map duration_view result }
 {
@@ -325,7 +326,7 @@ fn parts(word: &[u8]) -> Option<Duration<'_>>
     part(seconds, b"ms", 1)
 }
 
-/// The milliseconds of a duration: at least one part, and nothing behind the parts.
+/// Returns the milliseconds of a duration: at least one part, and nothing after the parts.
 fn milliseconds(word: &[u8]) -> Option<u64>
     ensures { result ≡ capped_time (spec.milliseconds word.now) }
 {
@@ -339,7 +340,7 @@ fn milliseconds(word: &[u8]) -> Option<u64>
     }
 }
 
-/// What stands behind `T#` or `TIME#`.
+/// Reads what follows `T#` or `TIME#`.
 #[tactic(auto, using(crate::proofs::DurationLemmas::time_capped), unfolding(crate::specs::Literals::typed_time))]
 fn typed_time(word: &[u8]) -> Result<Literal, LiteralFault>
     ensures { result ≡ spec.typed_time word.now }
@@ -347,7 +348,7 @@ fn typed_time(word: &[u8]) -> Result<Literal, LiteralFault>
     time_literal(milliseconds(word))
 }
 
-/// The TIME of so many milliseconds, at most 2,147,483,647.
+/// Returns the TIME of a number of milliseconds, at most 2,147,483,647.
 fn time_literal(milliseconds: Option<u64>) -> Result<Literal, LiteralFault>
     ensures { result ≡ spec.time_literal milliseconds }
 {

@@ -14,7 +14,7 @@ pub(crate) fn opens(bytes: &[u8], at: usize) -> bool
     bytes[at] == b'(' && byte_at(bytes, at + 1) == b'*'
 }
 
-/// Whether the end of a comment stands here.
+/// Whether a comment ends here.
 pub(crate) fn ends(bytes: &[u8], at: usize) -> bool
     requires { at < length bytes.now }
     ensures { result ≡ spec.ends (drop at bytes.now) }
@@ -22,7 +22,7 @@ pub(crate) fn ends(bytes: &[u8], at: usize) -> bool
     bytes[at] == b'*' && byte_at(bytes, at + 1) == b')'
 }
 
-/// Whether the end of a comment stands here or later.
+/// Whether a comment ends here or later.
 #[tactic(auto, using(crate::proofs::PieceLemmas::closes_rules))]
 pub(crate) fn closes(bytes: &[u8], at: usize) -> bool
     ensures { result ≡ spec.closes (drop at bytes.now) }
@@ -35,7 +35,7 @@ pub(crate) fn closes(bytes: &[u8], at: usize) -> bool
     false
 }
 
-/// The end of the longest run of characters of which each belongs to the one before it.
+/// Returns the end of the longest run in which each character is linked to the one before it.
 #[tactic(auto, using(crate::proofs::PieceLemmas::run_rules))]
 fn run_end(bytes: &[u8], start: usize) -> usize
     requires { start < length bytes.now }
@@ -49,7 +49,7 @@ fn run_end(bytes: &[u8], start: usize) -> usize
     bytes.len()
 }
 
-/// Whether `&N` stands here, where no letter, digit, `_` or `#` follows.
+/// Whether `&N` stands here and no letter, digit, `_` or `#` follows it.
 #[tactic(auto, unfolding(crate::specs::Runs::is_negated_and))]
 fn is_negated_and(bytes: &[u8], at: usize) -> bool
     requires { at < length bytes.now }
@@ -60,7 +60,7 @@ fn is_negated_and(bytes: &[u8], at: usize) -> bool
         && !is_linked(byte_at(bytes, at + 1), byte_at(bytes, at + 2))
 }
 
-/// The end of the piece that begins here, where no comment does.
+/// Returns the end of the piece that begins here. No comment begins here.
 #[tactic(auto, using(crate::proofs::CutLemmas::piece_rules))]
 pub(crate) fn piece_end(bytes: &[u8], start: usize) -> usize
     requires within { start < length bytes.now }

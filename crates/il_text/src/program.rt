@@ -5,8 +5,8 @@ ghost use Rattle.il_text.specs.ItemViews.{entry_of};
 
 use bay_base::types::{ElementaryType, TimerKind};
 
-/// A program: its name, what it declares, and its items in the order of the text. The lines of the
-/// items never fall.
+/// A program: its name, its declarations, and its items in the order of the text. The line numbers
+/// of the items never decrease.
 #[derive(Drop)]
 pub struct Program<'a> {
     pub name: &'a str,
@@ -22,29 +22,29 @@ pub struct Declaration<'a> {
     pub scope: Scope,
     pub name: &'a str,
     pub kind: DeclaredType,
-    /// The initial value, where the text gives one; an external and a timer have none.
+    /// The initial value, if the text gives one; an external and a timer have none.
     pub initial: Option<Literal>,
 }
 
-/// Where a declared variable lives (IEC 61131-3:2003, 2.4.3).
+/// The scope of a declared variable (IEC 61131-3:2003, 2.4.3).
 #[derive(Clone, Copy, Debug)]
 pub enum Scope {
     /// `VAR`: a variable of the program.
     Local,
-    /// `VAR_EXTERNAL`: a variable that is given to the program.
+    /// `VAR_EXTERNAL`: a variable provided from outside the program.
     External,
 }
 
 /// The type of a declared name.
 #[derive(Clone, Copy, Debug)]
 pub enum DeclaredType {
-    /// A variable of this type.
+    /// A variable of an elementary type.
     Elementary(ElementaryType),
-    /// An instance of a timer.
+    /// A timer instance.
     Timer(TimerKind),
 }
 
-/// A literal: its type, where it has one, and its value (IEC 61131-3:2003, 2.2).
+/// A literal: its type, if it has one, and its value (IEC 61131-3:2003, 2.2).
 #[derive(Clone, Copy, Debug)]
 pub enum Literal {
     /// `TRUE`, `FALSE`, or a typed BOOL.
@@ -61,7 +61,7 @@ pub enum Literal {
     Time(u32),
 }
 
-/// What a timer gives (IEC 61131-3:2003, table 38).
+/// An output of a timer (IEC 61131-3:2003, table 38).
 #[derive(Clone, Copy, Debug, PartialEq, Eq)]
 pub enum Output {
     /// `.Q`, a BOOL.
@@ -70,7 +70,7 @@ pub enum Output {
     Et,
 }
 
-/// What an instruction reads or writes by name, with the spelling of the text.
+/// The variable that an instruction reads or writes, spelled as in the text.
 #[derive(Clone, Copy, Debug)]
 pub enum SymbolicVariable<'a> {
     /// A name.
@@ -79,7 +79,7 @@ pub enum SymbolicVariable<'a> {
     Output { timer: &'a str, output: Output },
 }
 
-/// What an instruction reads.
+/// The operand that an instruction reads.
 #[derive(Clone, Copy, Debug)]
 pub enum Operand<'a> {
     Literal(Literal),
@@ -105,27 +105,27 @@ pub enum Operator {
     Lt,
 }
 
-/// How a result is stored (IEC 61131-3:2003, table 52).
+/// How a store writes the current result (IEC 61131-3:2003, table 52).
 #[derive(Clone, Copy, Debug, PartialEq, Eq)]
 pub enum StoreKind {
-    /// `ST`: the result.
+    /// `ST`: writes the result.
     Plain,
-    /// `STN`: the negated result.
+    /// `STN`: writes the negated result.
     Negated,
-    /// `S`: TRUE, where the result is TRUE.
+    /// `S`: writes TRUE if the result is TRUE.
     Set,
-    /// `R`: FALSE, where the result is TRUE.
+    /// `R`: writes FALSE if the result is TRUE.
     Reset,
 }
 
-/// When a jump or a return goes (IEC 61131-3:2003, table 52).
+/// When a jump or a return is taken (IEC 61131-3:2003, table 52).
 #[derive(Clone, Copy, Debug, PartialEq, Eq)]
 pub enum Condition {
     /// `JMP`, `RET`
     Always,
-    /// `JMPC`, `RETC`: where the result is TRUE.
+    /// `JMPC`, `RETC`: if the result is TRUE.
     IfTrue,
-    /// `JMPCN`, `RETCN`: where the result is FALSE.
+    /// `JMPCN`, `RETCN`: if the result is FALSE.
     IfFalse,
 }
 
@@ -145,14 +145,14 @@ pub enum Input {
     Pt,
 }
 
-/// What a call gives to one input.
+/// An argument of a call: an input and its operand.
 #[derive(Clone, Copy, Debug)]
 pub struct Argument<'a> {
     pub input: Input,
     pub operand: Operand<'a>,
 }
 
-/// The arguments of a call in the order of the text, of which no two are of one input.
+/// The arguments of a call in the order of the text, no two for the same input.
 #[derive(Clone, Copy, Debug)]
 pub enum Arguments<'a> {
     None,
@@ -163,35 +163,35 @@ pub enum Arguments<'a> {
 /// An instruction (IEC 61131-3:2003, 3.2 and table 52).
 #[derive(Clone, Copy, Debug)]
 pub enum Instruction<'a> {
-    /// `LD`, or with negation `LDN`: the operand becomes the current result.
+    /// `LD`, or negated `LDN`: makes the operand the current result.
     Load {
         negated: bool,
         operand: Operand<'a>,
     },
-    /// `ST`, `STN`, `S`, `R`: the current result is stored.
+    /// `ST`, `STN`, `S`, `R`: stores the current result.
     Store {
         kind: StoreKind,
         target: SymbolicVariable<'a>,
     },
-    /// An operator: the current result is combined with the operand, which is negated first where
-    /// it says so.
+    /// An operator: combines the current result with the operand, which is negated first if
+    /// `negated`.
     Combine {
         operator: Operator,
         negated: bool,
         operand: Operand<'a>,
     },
-    /// `NOT`: the current result is negated.
+    /// `NOT`: negates the current result.
     Not,
-    /// `INT_TO_DINT`, `DINT_TO_LINT`: the current result is widened.
+    /// `INT_TO_DINT`, `DINT_TO_LINT`: widens the current result.
     Convert(Conversion),
     /// A jump to a label.
     Jump {
         condition: Condition,
         label: &'a str,
     },
-    /// The end of the program's run.
+    /// A return, which ends the run of the program.
     Return(Condition),
-    /// `CAL`: a timer is run.
+    /// `CAL`: runs a timer.
     Call {
         timer: &'a str,
         arguments: Arguments<'a>,
@@ -201,7 +201,7 @@ pub enum Instruction<'a> {
 /// A label, an instruction, or a parenthesis. Lines are counted from 1.
 #[derive(Drop)]
 pub enum Item<'a> {
-    /// A label; the instruction behind it may stand on the same line.
+    /// A label; the instruction after it may stand on the same line.
     Label {
         line: usize,
         name: &'a str,
@@ -211,8 +211,8 @@ pub enum Item<'a> {
         instruction: Instruction<'a>,
     },
     /// The line of `operator(`, the items of the parenthesis, and the line of its `)`. The result
-    /// of the items is negated first where it says so. An operand behind the parenthesis is a load
-    /// of it on the same line, which is the first item.
+    /// of the items is negated first if `negated`. An operand after the `(` is a load of it on the
+    /// same line and the first item.
     Block {
         line: usize,
         operator: Operator,

@@ -18,7 +18,7 @@ use crate::program::Program;
 use crate::token::Token;
 use std::alloc::Global;
 
-/// A text, how far it is read, and what was read.
+/// A text, how far it has been read, and what was read.
 #[derive(Drop)]
 struct Reader<'a> {
     text: &'a str,
@@ -26,7 +26,7 @@ struct Reader<'a> {
     line: usize,
     last: usize,
     in_comment: bool,
-    /// The tokens of the line so far, up to where no line begins with them.
+    /// The tokens of the line so far. No more are kept once no line begins with them.
     tokens: Vec<Token<'a>>,
     listing: Draft<'a>,
     ghost within: { at ≤ length text.now },
@@ -34,10 +34,9 @@ struct Reader<'a> {
 }
 
 /// Reads a program in Instruction List (IEC 61131-3:2003, 3.2 and annex B.2.1). The first faulty
-/// line is the refusal; within a line a bad token or literal comes before a bad line, and the
-/// leftmost of those before the others, then a bad line, then a parenthesis too deep, then a line
-/// too many. A text that ends early is a bad line at its last line; an empty text takes no memory.
-/// The lines of the items never fall.
+/// line gives the error. Within a line the order is: the leftmost bad token or bad literal, a bad
+/// line, parentheses too deep, too many lines. A text that ends early is a bad line at its last
+/// line. Does not allocate for an empty text. The line numbers of the items never decrease.
 pub fn read_program<'a>(alloc: Global, text: &'a str) -> Result<Program<'a>, TextFault>
     ensures ok { IfOk result (λ program. ReadsAs text.now (Ok (plain_program program))) }
     ensures refused { IfErr result (λ fault. fault ≢ OutOfMemory → ReadsAs text.now (Err fault)) }
@@ -52,7 +51,7 @@ pub fn read_program<'a>(alloc: Global, text: &'a str) -> Result<Program<'a>, Tex
     Ok(program)
 }
 
-/// Reads the lines of a text, from the first to the last.
+/// Reads the lines of a text from the first to the last.
 fn read_lines<'a>(alloc: Global, text: &'a str) -> Result<Program<'a>, TextFault>
     ensures ok { IfOk result (λ program. program_of text.now ≡ Ok (plain_program program)) }
     ensures refused { IfErr result
@@ -96,7 +95,8 @@ fn read_lines<'a>(alloc: Global, text: &'a str) -> Result<Program<'a>, TextFault
     })
 }
 
-/// The number of the last line; what follows the last line end is a line only if it is not empty.
+/// Returns the number of the last line. What follows the last line end is a line only if it is not
+/// empty.
 #[tactic(auto, using(crate::proofs::PlaceLemmas::line_rules))]
 fn last_line_of(text: &str) -> usize
     ensures { result ≡ last_line text.now }
@@ -132,7 +132,7 @@ impl<'a> Reader<'a> {
         self.piece_step()
     }
 
-    /// Reads one piece outside of comments.
+    /// Reads one piece outside comments.
     #[tactic(auto, using(crate::proofs::ReadLemmas::piece_rules))]
     fn piece_step(&mut self) -> Result<(), TextFault>
         requires within { self.old.at < length self.old.text.now }
@@ -160,7 +160,7 @@ impl<'a> Reader<'a> {
         }
     }
 
-    /// Reads the opening of a comment, which has to be closed.
+    /// Reads the opening of a comment, which must be closed.
     #[tactic(auto, using(crate::proofs::ReadLemmas::opening_rules))]
     fn open_comment(&mut self) -> Result<(), TextFault>
         requires outside { self.old.in_comment ≡ false }
@@ -178,7 +178,7 @@ impl<'a> Reader<'a> {
         Ok(())
     }
 
-    /// Reads one character of a comment, or its end.
+    /// Reads one character of a comment, or its closing.
     #[tactic(auto, using(crate::proofs::ReadLemmas::comment_rules))]
     fn comment_step(&mut self) -> Result<(), TextFault>
         requires within { self.old.at < length self.old.text.now }
@@ -201,7 +201,7 @@ impl<'a> Reader<'a> {
         self.end_line()
     }
 
-    /// Takes the tokens of a line that ends here.
+    /// Takes the tokens of the line that ends here.
     fn end_line(&mut self) -> Result<(), TextFault>
         requires { self.old.line ≤ self.old.at }
         ensures text { OnOk result (self.new.text.now ≡ self.old.text.now) }
@@ -219,7 +219,7 @@ impl<'a> Reader<'a> {
         Ok(())
     }
 
-    /// Takes the last line, after which the program has to be whole.
+    /// Takes the last line, after which the program must be complete.
     fn finish(&mut self) -> Result<(), TextFault>
         ensures ok { OnOk result
             (whole_of self.old ≡ Ok (program_made (reached_of self.new.listing))) }

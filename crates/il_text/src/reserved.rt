@@ -9,14 +9,14 @@ use crate::token::{Keyword, Mnemonic, Token};
 use bay_base::types::{ElementaryType, TimerKind};
 use bay_base::words::{ReservedWord, reserved_word};
 
-/// The operator of a line that combines the current result with an operand.
+/// The mnemonic of an operator that combines the current result with an operand.
 pub(crate) fn combine(operator: Operator, negated: bool) -> Mnemonic
     ensures { result ≡ Combine operator negated }
 {
     Mnemonic::Combine { operator, negated }
 }
 
-/// The token that each reserved word is.
+/// Returns the token of a reserved word.
 fn token_of<'a>(word: ReservedWord) -> Token<'a>
     ensures { symbol_of result ≡ spec.symbol_of_word word }
 {
@@ -71,7 +71,7 @@ fn token_of<'a>(word: ReservedWord) -> Token<'a>
     }
 }
 
-/// The token that a reserved word is, if the word is one.
+/// Returns the token of a word if the word is reserved.
 #[tactic(auto, unfolding(crate::specs::Words::reserved_symbol))]
 pub(crate) fn reserved_token<'a>(word: &str) -> Option<Token<'a>>
     ensures { option_map symbol_of result ≡ spec.reserved_symbol word.now }

@@ -1,7 +1,7 @@
 // The tokens of a text.
 use crate::program::{Condition, Conversion, DeclaredType, Literal, Operator, StoreKind};
 
-/// A word of a program's keyword.
+/// A keyword of a program's structure.
 #[derive(Clone, Copy)]
 pub enum Keyword {
     Program,
@@ -24,7 +24,7 @@ pub enum Mnemonic {
     Call,
 }
 
-/// A mark of a line.
+/// A punctuation mark of a line.
 #[derive(Clone, Copy, PartialEq, Eq)]
 pub enum Mark {
     Colon,
@@ -36,7 +36,7 @@ pub enum Mark {
     Close,
 }
 
-/// A token; a name is a slice of the text.
+/// A token. A name is a slice of the text.
 #[derive(Clone, Copy)]
 pub(crate) enum Token<'a> {
     Name(&'a str),

@@ -343,8 +343,8 @@ fn writes_read_only(slots: &[SlotType], instr: Instr) -> bool
     }
 }
 
-/// The transfer function of an instruction: the kinds behind it take the place of those before it,
-/// or it has a fault, of which this is the first.
+/// Applies the transfer function of an instruction: replaces the kinds before it by those after it,
+/// or returns its first fault.
 #[tactic(auto, unfolding(crate::specs::Judging::fault_of))]
 pub(crate) fn transfer(
     slots: &[SlotType],

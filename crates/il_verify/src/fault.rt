@@ -6,53 +6,54 @@ ghost use Rattle.il_verify.specs.declared.fault.VerifyFault.TheVariants.{OutOfMe
 use std::alloc::{AllocError, AllocFailed};
 use thiserror::Error;
 
-/// Why an image is refused. At one place the first of these is answered: no predecessor; no slot or
-/// no timer; too few values on the stack; a value of a wrong kind; a divisor that may be zero; a
-/// write to a point that may only be read; too many values on the stack; a jump to no instruction;
-/// an end without HALT or JUMP; stacks of two depths before one place.
+/// Why an image is refused. At one place, the first of these is returned: no predecessor; no such
+/// slot or timer; too few values on the stack; a value of a wrong kind; a divisor that may be zero;
+/// a write to a read-only point; too many values on the stack; a jump to a place without an
+/// instruction; an end without HALT or JUMP; stacks of different depths at one place.
 #[derive(Clone, Copy, Debug, PartialEq, Eq, Error)]
 pub enum VerifyFault {
-    /// An instruction wants more values than lie on the stack.
+    /// An instruction needs more values than are on the stack.
     #[error("too few values lie on the stack")]
     StackEmpty,
-    /// More than 32 values would lie on the stack.
+    /// More than 32 values would be on the stack.
     #[error("too many values lie on the stack")]
     StackFull,
-    /// A value on the stack is not known to be of the kind that an instruction wants.
+    /// A value on the stack is not known to have the kind that an instruction needs.
     #[error("a value is of a wrong kind")]
     WrongKind,
-    /// A divisor is not known to be other than zero.
+    /// A divisor is not known to be nonzero.
     #[error("a divisor may be zero")]
     ZeroDivisor,
-    /// An instruction names a slot that the image has not.
+    /// An instruction names a slot that the image does not have.
     #[error("there is no such slot")]
     NoSlot,
-    /// An instruction names a timer that the image has not.
+    /// An instruction names a timer that the image does not have.
     #[error("there is no such timer")]
     NoTimer,
-    /// A jump leads past the code or into an instruction.
+    /// A jump goes past the code or into the middle of an instruction.
     #[error("a jump leads to no instruction")]
     BadTarget,
-    /// Neither the instruction before nor a jump leads to an instruction.
+    /// An instruction that neither the one before it nor a jump leads to.
     #[error("an instruction is not reached")]
     Unreachable,
-    /// Paths to an instruction leave stacks of two depths.
+    /// Paths to an instruction bring stacks of different depths.
     #[error("stacks of two depths meet")]
     DepthClash,
-    /// The code ends without HALT or JUMP, or there is none.
+    /// The code ends without HALT or JUMP, or is empty.
     #[error("the code does not end at a HALT or a JUMP")]
     NoHalt,
-    /// A point is not the bay's with its type and its writability, or stands twice; there are more
-    /// than 512 slots or 64 timers; or a point is written that may only be read.
+    /// A point is not the bay's with the same type and access, or occurs twice; there are more than
+    /// 512 slots or 64 timers; or a read-only point is written.
     #[error("the image does not fit the bay")]
     BadBinding,
-    /// There is no memory for the pass over the code.
+    /// Out of memory for the pass over the code.
     #[error("out of memory")]
     OutOfMemory,
 }
 
 impl VerifyFault {
-    /// The fault's number, 90 to 100 in the order of the faults. Want of memory has none.
+    /// Returns the fault's number, 90 to 100 in the order of the faults, or `None` for out of
+    /// memory.
     pub fn code(self) -> Option<u8>
         ensures { result ≡ code_of self }
     {

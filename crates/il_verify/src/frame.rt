@@ -12,10 +12,10 @@ use il_image::kind::{CellKind, join};
 use il_image::opcode::When;
 use std::alloc::{AllocError, Global};
 
-/// The kinds on a stack, the top last. There is room for one more than may lie there.
+/// The kinds on a stack, the top last. It holds one more than the stack may.
 pub(crate) type Stack = ArrayVec<CellKind, 33>;
 
-/// What is known of the stack before an instruction, and the longest path to it.
+/// What is known of the stack before an instruction, and the length of the longest path to it.
 #[derive(Drop)]
 pub(crate) struct Frame {
     /// The kinds on the stack.
@@ -64,7 +64,7 @@ fn join_frame(frame: &mut Frame, kinds: &[CellKind], longest: u32) -> Result<(),
     Ok(())
 }
 
-/// Makes room up to a place, where nothing is pending so far.
+/// Extends the pending frames up to a place, with nothing pending at the new places.
 pub(crate) fn grow(pending: &mut Vec<Option<Frame>>, place: usize) -> Result<(), AllocError>
     requires { place < 2 ^ 64 - 1 }
     ensures room { OnOk result (place < length pending.new.items) }
@@ -118,7 +118,7 @@ fn pend(
     arrive(&mut pending[place], kinds, longest)
 }
 
-/// A path comes to where an instruction jumps, if it does.
+/// Brings a path to the target of an instruction, if it is a jump.
 pub(crate) fn jump(
     instr: Instr,
     next: usize,
@@ -143,7 +143,7 @@ pub(crate) fn jump(
     }
 }
 
-/// Whether an instruction may be followed by the next one.
+/// Whether the next instruction may run after this one.
 pub(crate) fn goes_on(instr: Instr) -> bool
     ensures { result ≡ spec.goes_on instr }
 {
@@ -167,7 +167,8 @@ fn taken(pending: &mut Vec<Option<Frame>>, place: usize) -> Option<Frame>
     }
 }
 
-/// The frame of the next place: what was pending there, and what goes on to it.
+/// Returns the frame of the next place: the frame pending there, joined with this one if the
+/// instruction continues to it.
 pub(crate) fn fall(
     instr: Instr,
     next: usize,

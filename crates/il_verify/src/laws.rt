@@ -6,13 +6,13 @@ ghost use Rattle.il_verify.specs.Refusals.{IsRefusal};
 ghost use Rattle.il_verify.specs.Verdicts.{IsVerified};
 ghost use Rattle.il_verify.specs.declared.fault.VerifyFault.{VerifyFault};
 
-/// An image has one first fault at most, and one place of it.
+/// An image has at most one first fault, at one place.
 pub fn one_refusal()
     ensures { (points : List Point) (image : Image) (f g : VerifyFault) (p q : ℕ)
         → IsRefusal points image f p → IsRefusal points image g q → (f ≡ g) × (p ≡ q) }
 {}
 
-/// An image that has a first fault is none that is verified.
+/// An image with a first fault is not a verified one.
 pub fn refused_or_verified()
     ensures { (points : List Point) (image : Image) (fault : VerifyFault) (place : ℕ)
         → IsRefusal points image fault place → IsVerified points image → ⊥ }

@@ -15,16 +15,16 @@ use il_image::image::Image;
 use il_image::instr::Instr;
 use il_image::read::instr_at;
 
-/// What is measured of code in which no fault was found.
+/// The measures of code without a fault.
 #[derive(Drop)]
 pub(crate) struct Measures {
-    /// The number of places of a longest path.
+    /// The number of places on a longest path.
     pub budget: u32,
-    /// The most values before an instruction.
+    /// The maximum number of values on the stack before an instruction.
     pub depth: u32,
 }
 
-/// A fault, and the place of it.
+/// A fault and its place.
 #[derive(Drop)]
 pub(crate) struct Stop {
     pub fault: VerifyFault,
@@ -48,8 +48,8 @@ fn raised(halts: bool, longest: u32, budget: u32) -> u32
     if halts { longest.max(budget) } else { budget }
 }
 
-/// Goes over the places in their order, where there is room for a frame of each. A frame moves to
-/// the next place; one is copied only for a jump.
+/// Goes through the places in order, with room for a frame at each. A frame moves to the next
+/// place; it is copied only for a jump.
 pub(crate) fn pass(
     image: &Image,
     plan: &Plan,

@@ -62,8 +62,8 @@ pub(crate) fn is_place(starts: &[bool], place: usize) -> bool
     }
 }
 
-/// What an image's instructions are judged by: its slots, its timers, and where its instructions
-/// start.
+/// Returns what an image's instructions are checked against: its slots, its timers, and where its
+/// instructions begin.
 pub(crate) fn plan_of(alloc: Global, image: &Image) -> Result<Plan, AllocError>
     ensures { IfOk result (λ plan. IsPlan image.now plan) }
 {

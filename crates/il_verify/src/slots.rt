@@ -41,7 +41,7 @@ fn push_variables(slots: &mut Vec<SlotType>, variables: &[Value]) -> Result<(), 
     Ok(())
 }
 
-/// The points' slots, and then the variables'.
+/// Returns the slots of the points, then those of the variables.
 #[tactic(auto, unfolding(crate::specs::Slots::slots_of))]
 pub(crate) fn slots_of(alloc: Global, image: &Image) -> Result<Vec<SlotType>, AllocError>
     ensures { IfOk result (λ slots. slots.items ≡ spec.slots_of image.now) }

@@ -14,8 +14,8 @@ use il_image::image::Image;
 use std::alloc::Global;
 use std::marker::Model;
 
-/// An image whose code can't go wrong: a table of kinds agrees with it, and it writes no point that
-/// may only be read.
+/// An image whose code cannot go wrong: a table of kinds agrees with it, and it writes no read-only
+/// point.
 #[derive(Drop)]
 pub struct Verified {
     image: Image,
@@ -38,7 +38,7 @@ impl Verified {
     ghost use Rattle.il_image.specs.Images.{IsImage};
     ghost use Rattle.il_verify.specs.Verdicts.{IsBudget, IsDepth, IsSafe};
 
-    /// The image that was verified.
+    /// Returns the verified image.
     pub fn image(&self) -> &Image
         ensures value { result.now ≡ self.now }
         ensures safe { IsSafe self.now }
@@ -46,15 +46,16 @@ impl Verified {
         &self.image
     }
 
-    /// The most instructions that a run can take: those of a longest path to a HALT, HALT counted.
+    /// Returns the maximum number of instructions in a run: those of a longest path to a HALT,
+    /// including the HALT.
     pub fn budget(&self) -> u32
         ensures { IsBudget self.now.code result }
     {
         self.budget
     }
 
-    /// The most values that lie on the stack before an instruction: the length of a longest list of
-    /// an agreeing table, 0 to 32.
+    /// Returns the maximum number of values on the stack before an instruction: the length of the
+    /// longest list in an agreeing table, 0 to 32.
     pub fn depth(&self) -> u32
         ensures { IsDepth self.now result }
     {
@@ -62,9 +63,9 @@ impl Verified {
     }
 }
 
-/// An image that is refused, with its first fault and the place of it: the octet of the code at
-/// which the instruction begins, counted from 0. It is 0 where the image does not fit the bay, and
-/// for want of memory.
+/// A refused image with its first fault and the fault's place: the octet of the code at which the
+/// instruction begins, counted from 0. The place is 0 if the image does not fit the bay, and for
+/// out of memory.
 #[derive(Drop)]
 pub struct Refused {
     pub image: Image,
@@ -118,13 +119,13 @@ fn check(alloc: Global, image: &Image, points: &[Point]) -> Result<Measures, Sto
     }
 }
 
-/// Accepts an image exactly where it fits the bay with these points, a table of kinds agrees with
-/// its code, and no instruction writes a point that may only be read; want of memory aside. Another
-/// is refused with its first fault in the format's order: what does not fit the bay, or else that
-/// there is no code, or else the first fault of the first place that has one. A refused image comes
-/// back as it was. Memory can be wanting only where the image fits the bay and has code, and is
-/// taken before a place is judged: room for a frame for each octet of the code. It takes time in
-/// proportion to the code.
+/// Accepts an image exactly if it fits the bay with these points, a table of kinds agrees with its
+/// code, and no instruction writes a read-only point, unless memory runs out. Otherwise refuses it
+/// with its first fault in the format's order: that it does not fit the bay, or else that there is
+/// no code, or else the first fault of the first place that has one. A refused image is returned
+/// unchanged. Out of memory is possible only if the image fits the bay and has code. All memory is
+/// allocated before a place is checked: room for a frame for each octet of the code. The time is
+/// proportional to the length of the code.
 pub fn verify(alloc: Global, image: Image, points: &[Point]) -> Result<Verified, Refused>
     ensures same { IfOk result (λ v. v ≡ image) }
     ensures accepted { IfOk result (λ v. IsVerified points.now image) }

@@ -42,7 +42,8 @@ fn check_targets(code: &[u8], starts: &[bool], instr: Instr, next: usize) -> Res
     Ok(())
 }
 
-/// Does the instruction of a place, and gives the frame of the next place, if a path leads there.
+/// Applies the instruction at a place, and returns the frame of the next place if a path leads
+/// there.
 pub(crate) fn visit(
     image: &Image,
     plan: &Plan,
