@@ -9,8 +9,8 @@ use bay_report::load::{Form, load_program};
 use bay_report::output::{write_refusal, write_report};
 use std::alloc::Global;
 
-/// Loads the octets of a bay file and of a program or an image, and writes the line of the load:
-/// the exit status, which is 0, or 1 where the load is refused.
+/// Loads the octets of a bay file and of a program or an image, and writes the line of the load.
+/// Returns the exit status: 0, or 1 if the load is refused.
 pub fn check_run<W: Sink>(
     alloc: Global,
     bay: &[u8],

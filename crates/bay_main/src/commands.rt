@@ -50,7 +50,7 @@ fn check<F: FileSystem, W: Sink>(
     }
 }
 
-/// Makes a device's image, and writes it to the file of this name.
+/// Makes a device's image, and writes it to the file with this name.
 fn write_image<F: FileSystem, W: Sink>(
     alloc: Global,
     device: &Device,
@@ -72,7 +72,7 @@ fn write_image<F: FileSystem, W: Sink>(
     }
 }
 
-/// Writes the line of a device's load, and then its image to the file of this name.
+/// Writes the line of a device's load, and then its image to the file with this name.
 fn compile_device<F: FileSystem, W: Sink>(
     alloc: Global,
     device: &Device,
@@ -88,7 +88,7 @@ fn compile_device<F: FileSystem, W: Sink>(
     write_image(alloc, device, out, files, writer)
 }
 
-/// Compiles what was read of a bay file and a program to the file of this name.
+/// Compiles the contents of a bay file and a program to the file with this name.
 fn compile_files<F: FileSystem, W: Sink>(
     alloc: Global,
     both: &BothFiles,
@@ -127,7 +127,7 @@ fn compile<F: FileSystem, W: Sink>(
     }
 }
 
-/// Which form a program has, and the name of its file.
+/// Returns the form of a program and the name of its file.
 fn form_of<'a>(program: Program<&'a str>) -> (Form, &'a str)
     ensures form { result.0 ≡ spec.form_of (program_view program.entry) }
     ensures name { result.1.now ≡ name_of (program_view program.entry) }
@@ -186,8 +186,8 @@ fn do_task<F: FileSystem, L: Link + Drop, H: Host<L>, R: Source, W: Sink>(
 }
 
 /// Does what the words after the program's name ask for. A check and a compilation read files by
-/// their names, a replay what the reader has, and a compilation writes a file; serving reads files,
-/// and asks the host for ports and the time. What is printed goes to the writer.
+/// their names, a replay reads from the reader, and a compilation writes a file. Serving reads
+/// files, and uses the ports and the clock of the host. What is printed goes to the writer.
 pub fn obey<F: FileSystem, L: Link + Drop, H: Host<L>, R: Source, W: Sink>(
     alloc: Global,
     words: &[&str],

@@ -6,22 +6,23 @@ ghost use Rattle.bay_main.specs.Ending.{complaint_of, status_of};
 use bay_io::outbox::WriteFault;
 use bay_report::output::FAULT;
 
-/// The status of words that ask for nothing that is done.
+/// The exit status of words that do not ask for a valid command.
 const WORDS: u8 = 2;
 
-/// How a command ends.
+/// How a command ended.
 #[derive(Debug, Drop)]
 pub enum Ended {
     /// With this exit status.
     Status(u8),
-    /// A write failed, of what is printed or of a file.
+    /// A write failed, either of what is printed or of a file.
     WriteFailed,
-    /// The words ask for nothing that is done; the text says why, or is the help that they ask for.
+    /// The words do not ask for a valid command. The text says why, or is the help that they ask
+    /// for.
     Refused(String),
 }
 
 impl Ended {
-    /// How a command ends by what it answers.
+    /// Returns how a command ended from its result.
     pub fn of(answer: Result<u8, WriteFault>) -> Ended
         ensures { Ends answer result }
     {
@@ -31,7 +32,7 @@ impl Ended {
         }
     }
 
-    /// The exit status: for a failed write 3, for refused words 2.
+    /// Returns the exit status: 3 for a failed write, 2 for refused words.
     pub fn status(&self) -> u8
         ensures { result ≡ status_of self.now }
     {
@@ -42,8 +43,8 @@ impl Ended {
         }
     }
 
-    /// What is written to standard error: `fault 122` for a failed write, the text of refused
-    /// words, and else nothing.
+    /// Returns what is written to standard error: `fault 122` for a failed write, the text of
+    /// refused words, and otherwise nothing.
     pub fn complaint(&self) -> &str
         ensures { result.now ≡ complaint_of self.now }
     {

@@ -18,10 +18,10 @@ use std::process::ExitCode;
 use std::rt::Runtime;
 use std::{env, io};
 
-/// Why the program's words could not be had.
+/// Why reading the program's words failed.
 #[derive(Drop)]
 enum Unheard {
-    /// A word is no text.
+    /// A word is not UTF-8 text.
     NoText,
     OutOfMemory,
 }
@@ -42,13 +42,13 @@ impl From<io::Error> for Unheard {
     }
 }
 
-/// The words after the program's name.
+/// Returns the words after the program's name.
 fn words_of<R: Runtime<A = Global>>(rt: &R) -> Result<Vec<String>, Unheard> {
     let words = env::args(rt)?.skip(1).collect(rt.alloc())?;
     Ok(words)
 }
 
-/// Does what words ask for.
+/// Does what the words ask for.
 fn obey_words<R: Runtime<A = Global> + Net<Listener = TcpListener, Stream = TcpStream>>(
     rt: &R,
     words: &[String],
@@ -73,7 +73,7 @@ fn obey_words<R: Runtime<A = Global> + Net<Listener = TcpListener, Stream = TcpS
     ))
 }
 
-/// Does what the program's words ask for, and says how that ended.
+/// Does what the program's words ask for, and returns how that ended.
 fn obey_program<R: Runtime<A = Global> + Net<Listener = TcpListener, Stream = TcpStream>>(
     rt: &R,
 ) -> Result<Ended, Unheard> {
@@ -81,7 +81,7 @@ fn obey_program<R: Runtime<A = Global> + Net<Listener = TcpListener, Stream = Tc
     obey_words(rt, words.as_slice())
 }
 
-/// How the program ends where its words could not be had.
+/// Returns how the program ends if reading its words failed.
 fn end_unheard<R: Runtime<A = Global>>(rt: &R, why: Unheard) -> Ended {
     if let Unheard::NoText = why
         && let Ok(text) = String::from_str(
@@ -95,7 +95,7 @@ fn end_unheard<R: Runtime<A = Global>>(rt: &R, why: Unheard) -> Ended {
     Ended::of(write_text(&mut writer, b"fault memory\n", FAULT))
 }
 
-/// Writes to standard error what there is to complain of, and gives the exit status.
+/// Writes complaints to standard error, and returns the exit status.
 fn conclude<R: Runtime<A = Global>>(rt: &R, ended: &Ended) -> ExitCode
     ensures { exit_status result ≡ status_of ended.now }
 {
@@ -104,8 +104,8 @@ fn conclude<R: Runtime<A = Global>>(rt: &R, ended: &Ended) -> ExitCode
 }
 
 /// Does what the program's words ask for: reads files or standard input, writes a report to
-/// standard output, and ends with its status. What `clap` says of wrong words goes to standard
-/// error with the status 2, and so does `fault 122` of a failed write, with 3.
+/// standard output, and ends with its status. `clap`'s messages about wrong words go to standard
+/// error with the status 2, and `fault 122` for a failed write with the status 3.
 pub fn run<R: Runtime<A = Global> + Net<Listener = TcpListener, Stream = TcpStream>>(
     rt: &R,
 ) -> ExitCode {

@@ -10,17 +10,17 @@ use std::io::{ErrorKind, Read, Write};
 use std::net::{Ipv4Addr, Net, SocketAddr, TcpListener, TcpStream};
 use std::time::{Clock, Instant};
 
-/// For how many seconds a connection may send nothing at all before it counts as failed.
+/// The number of seconds for which a connection may send nothing at all before it counts as failed.
 const SILENCE: u64 = 10;
 
-/// A connection that was taken, and the moment of that until its first octet has come.
+/// An accepted connection, and the time of accepting it until its first octet has come.
 #[derive(Drop)]
 struct Peer {
     stream: TcpStream,
     silent_since: Option<Instant>,
 }
 
-/// A listener on 127.0.0.1, and the connections that were taken, each at its number's place.
+/// A listener on 127.0.0.1 and the accepted connections, indexed by their numbers.
 #[derive(Drop)]
 pub struct TcpLink<'a, C> {
     clock: &'a C,
@@ -30,18 +30,18 @@ pub struct TcpLink<'a, C> {
     failures: u64,
 }
 
-/// Whether a call would have waited.
+/// Whether a call would have blocked.
 fn would_wait(error: &io::Error) -> bool {
     error.kind() == ErrorKind::WouldBlock || error.kind() == ErrorKind::Interrupted
 }
 
-/// The error of a read or a write where no connection is open.
+/// Returns the error of a read or a write without an open connection.
 fn not_connected() -> io::Error {
     io::Error::from(ErrorKind::NotConnected)
 }
 
 impl Peer {
-    /// Whether no octet has come for so long that none is waited for any more.
+    /// Whether no octet has come for so long that the connection counts as failed.
     fn is_idle<C: Clock>(&self, clock: &C) -> bool {
         match (&self.silent_since, Instant::now(clock)) {
             (Some(since), Ok(now)) => now.saturating_duration_since(*since).as_secs() >= SILENCE,
@@ -71,8 +71,9 @@ fn write_some(peer: &Option<Peer>, octets: &[u8]) -> io::Result<usize>
 }
 
 impl<'a, C: Clock> TcpLink<'a, C> {
-    /// Listens on 127.0.0.1 at a port; at one that the system picks for port 0. The readiness tells
-    /// when a socket of the link is ready, and the clock how long a connection has been silent.
+    /// Listens on 127.0.0.1 at a port, or for port 0 at one that the system picks. `readiness`
+    /// reports when a socket of the link is ready, and `clock` how long a connection has been
+    /// silent.
     pub fn bind<R: Net<Listener = TcpListener, Stream = TcpStream>>(
         rt: &R,
         clock: &'a C,
@@ -93,19 +94,19 @@ impl<'a, C: Clock> TcpLink<'a, C> {
         })
     }
 
-    /// The port at which it listens.
+    /// Returns the port that the link listens on.
     pub fn port(&self) -> io::Result<u16> {
         Ok(self.listener.local_addr()?.port())
     }
 
-    /// How often a call has failed, counted up to 18,446,744,073,709,551,615.
+    /// Returns the number of failed calls, counted up to 18,446,744,073,709,551,615.
     pub fn failures(&self) -> u64
         ensures { result ≡ self.now.failures }
     {
         self.failures
     }
 
-    /// A connection that waits; neither its reads nor its writes do, and what is written goes out
+    /// Accepts a waiting connection. Its reads and writes do not block, and what is written is sent
     /// at once.
     fn accept_one(&self) -> io::Result<Peer> {
         let (stream, _) = self.listener.accept()?;
@@ -119,7 +120,7 @@ impl<'a, C: Clock> TcpLink<'a, C> {
         })
     }
 
-    /// Whether a connection has been silent for too long since it was taken.
+    /// Whether a connection has been silent for too long since it was accepted.
     fn is_idle(&self, place: usize) -> bool {
         match self.peers.get(place) {
             Some(Some(peer)) => peer.is_idle(self.clock),
@@ -127,7 +128,7 @@ impl<'a, C: Clock> TcpLink<'a, C> {
         }
     }
 
-    /// A connection has sent octets.
+    /// Notes that a connection has sent octets.
     fn hear(&mut self, place: usize)
         ensures { self.new.failures ≡ self.old.failures }
     {
@@ -136,7 +137,7 @@ impl<'a, C: Clock> TcpLink<'a, C> {
         }
     }
 
-    /// A call has failed.
+    /// Counts a failed call.
     fn failed(&mut self) -> LinkFault
         ensures { self.new.failures ≡ min (self.old.failures + 1) 18446744073709551615 }
     {

@@ -12,8 +12,8 @@ use bay_device::device::Device;
 use bay_serve::link::Link;
 use bay_serve::told::Turn;
 
-/// A process that is there is told what the turn told, it is offered what waits, it is read, and
-/// its line is looked at; or its connection is to be closed.
+/// Talks to a connected process: tells it what the turn reported, offers what is waiting, reads it,
+/// and checks its line. An error means that its connection is to be closed.
 fn talk<L: Link>(
     port: &mut Port,
     link: &mut L,
@@ -30,7 +30,7 @@ fn talk<L: Link>(
     port.check()
 }
 
-/// Takes a connection that waits, if there is one.
+/// Accepts a waiting connection, if there is one.
 fn accept<L: Link>(port: &mut Port, link: &mut L) -> Option<News>
     ensures { Attends (Called L.does L.failures) (λ script. taken_in script.accepted port.old)
         link.old link.new port.new result }
@@ -45,7 +45,7 @@ fn accept<L: Link>(port: &mut Port, link: &mut L) -> Option<News>
     }
 }
 
-/// Once each switch is bad another process may come.
+/// Allows another process to come once every switch is bad.
 fn leave(port: &mut Port, device: &Device)
     ensures { port.new ≡ (left_in (is_none (first_sound device.now)) port.old).port }
 {
@@ -54,13 +54,13 @@ fn leave(port: &mut Port, device: &Device)
     }
 }
 
-/// Attends to the connection of the process behind a turn, by the device after it, and tells what
-/// has become of it.
+/// Attends to the connection of the process after a turn, given the device after it, and returns
+/// what happened to the connection.
 ///
-/// A connection that waits is taken. A process that is there is told of the turn's refusal and
-/// commands, each line as it is printed; what waits is offered once; and where no whole line is
-/// kept it is read once. It is closed at its end, by a line that can't be taken, by a queue without
-/// room, and where a read or a write fails; behind that none is taken before each switch is bad.
+/// A waiting connection is accepted. A connected process is told the turn's refusal and commands,
+/// each line as it is printed; what is waiting is offered once; and it is read once if no whole
+/// line is kept. The connection is closed at its end, for an invalid line, for a full queue, and if
+/// a read or a write fails. After that, none is accepted before every switch is bad.
 pub fn attend<L: Link>(
     port: &mut Port,
     link: &mut L,

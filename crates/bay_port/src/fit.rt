@@ -8,27 +8,27 @@ use arrayvec::ArrayVec;
 use bay_lines::front::{Found, line_in_front};
 use bay_trace::trace::read_process_line;
 
-/// How many octets a line has at most.
+/// The maximum number of octets in a line.
 const LINE: usize = 256;
 
-/// A line of a turn.
+/// The line of a turn.
 pub type Line = ArrayVec<u8, LINE>;
 
-/// Whether a line tells of a contact, an input or a measure.
+/// Whether a line reports a contact, an input or a measurement.
 fn is_told(line: &[u8]) -> bool
     ensures { result ≡ spec.is_told line.now }
 {
     read_process_line(line).is_some()
 }
 
-/// Whether a line is empty, or tells of a contact, an input or a measure.
+/// Whether a line is empty, or reports a contact, an input or a measurement.
 fn is_fit(line: &[u8]) -> bool
     ensures { result ≡ spec.is_fit line.now }
 {
     line.is_empty() || is_told(line)
 }
 
-/// Puts a line of a turn, and answers whether it tells anything.
+/// Sets the line of a turn. Returns false if the text reports nothing.
 pub fn put_line(line: &mut Line, text: &[u8]) -> bool
     requires { length text.now ≤ 256 }
     ensures { line_if result line.new.items ≡ line_or_none text.now }
@@ -40,8 +40,8 @@ pub fn put_line(line: &mut Line, text: &[u8]) -> bool
     line.try_extend_from_slice(text).is_ok()
 }
 
-/// Puts the line that tells that the switch with this id is bad, and answers whether it can be
-/// taken.
+/// Sets the line that reports that the switch with this id is bad. Returns false if that is not a
+/// valid line.
 fn put_bad(line: &mut Line, id: &str) -> bool
     ensures { line_if result line.new.items ≡ bad_or_none id.now }
 {
@@ -56,7 +56,8 @@ fn put_bad(line: &mut Line, id: &str) -> bool
     is_told(line.as_slice())
 }
 
-/// The same, if there is such a switch.
+/// Sets the line that reports that a switch is bad. Returns false without a switch, or if that is
+/// not a valid line.
 pub fn put_bad_line(line: &mut Line, id: Option<&str>) -> bool
     ensures { line_if result line.new.items
         ≡ option_and_then bad_or_none (option_map (λ s. s.now) id.entry) }
@@ -67,7 +68,7 @@ pub fn put_bad_line(line: &mut Line, id: Option<&str>) -> bool
     }
 }
 
-/// Whether the line in front can't be taken.
+/// Whether the first line is invalid.
 pub fn is_wrong_in_front(octets: &[u8]) -> bool
     ensures { result ≡ is_wrong (front octets.now) }
 {

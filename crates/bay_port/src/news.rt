@@ -5,18 +5,18 @@ ghost use Rattle.bay_port.specs.Code.{code_of};
 /// Why the connection of the process was closed.
 #[derive(Clone, Copy, Debug, PartialEq, Eq)]
 pub enum Parting {
-    /// The process sends no more.
+    /// The process sends no more octets.
     Ended,
-    /// It has sent a line that can't be taken, or that is too long.
+    /// It sent a line that is invalid or too long.
     BadLine,
-    /// A line did not fit into what is still to be told to it.
+    /// A line did not fit into what is still to be sent to it.
     QueueFull,
     /// A read or a write of the connection failed.
     LinkFailed,
 }
 
 impl Parting {
-    /// The number that tells so: 0, 120, 130 or 131.
+    /// Returns the number of the reason: 0, 120, 130 or 131.
     pub fn code(self) -> u8
         ensures { result ≡ code_of self }
     {
@@ -29,10 +29,10 @@ impl Parting {
     }
 }
 
-/// What has become of the connection.
+/// What happened to the connection.
 #[derive(Clone, Copy, Debug, PartialEq, Eq)]
 pub enum News {
-    /// It was taken.
+    /// It was accepted.
     Opened,
     /// It was closed.
     Closed(Parting),

@@ -20,28 +20,28 @@ use bay_serve::told::Turn;
 use std::alloc::{AllocError, Global};
 use std::marker::Model;
 
-/// How many octets are read at once at most.
+/// The maximum number of octets read at once.
 const PIECE: usize = 4096;
 
-/// How many octets are kept at most: a line that is not whole yet, and what is read at once.
+/// The maximum number of octets kept: a line that is not whole yet, and what is read at once.
 const ROOM: usize = 4352;
 
 /// The number of the process in its link.
 pub const PROCESS: u16 = 1;
 
-/// How the process stands.
+/// The state of the process.
 #[derive(Clone, Copy, Debug, PartialEq, Eq)]
 pub enum Presence {
-    /// It is not there, and may come.
+    /// It is not connected, and may come.
     Away,
-    /// It has gone, and there may be switches that are not bad yet.
+    /// It has gone, and some switches may not be bad yet.
     Leaving,
-    /// It is there.
+    /// It is connected.
     Here,
 }
 
-/// The port of a process: how it stands, what it has sent that no turn has taken, and what is still
-/// to be told to it.
+/// The port of a process: its state, what it has sent that no turn has taken, and what is still to
+/// be sent to it.
 #[derive(Drop)]
 pub struct Port {
     standing: Presence,
@@ -58,7 +58,8 @@ impl Model for Port {
 }
 
 impl Port {
-    /// A port to which a process may come. It takes the room for what is kept.
+    /// Creates a port to which a process may come. Allocates the room for what is kept and what is
+    /// to be sent.
     pub fn new(alloc: Global) -> Result<Self, AllocError>
         ensures { IfOk result (λ port. port ≡ bare Presence.Away) }
     {
@@ -71,26 +72,26 @@ impl Port {
         })
     }
 
-    /// How the process stands.
+    /// Returns the state of the process.
     pub fn standing(&self) -> Presence
         ensures { result ≡ self.now.standing }
     {
         self.standing
     }
 
-    /// Whether the process has gone, and there may be switches that are not bad yet.
+    /// Whether the process has gone and some switches may not be bad yet.
     pub fn is_leaving(&self) -> bool
         ensures { result ≡ spec.is_leaving self.now.standing }
     {
         self.standing == Presence::Leaving
     }
 
-    /// How many octets are kept, and how many wait to be told.
+    /// Returns how many octets are kept, and how many are waiting to be sent.
     pub fn sizes(&self) -> (usize, usize) {
         (self.kept.as_slice().len(), self.queue.as_slice().len())
     }
 
-    /// Nothing is kept any more.
+    /// Sets the state of the process, and drops everything that is kept or waiting to be sent.
     pub(crate) fn stand(&mut self, standing: Presence)
         ensures { self.new ≡ bare standing }
     {
@@ -99,7 +100,7 @@ impl Port {
         self.queue.clear();
     }
 
-    /// The line that stands in front of what was sent, if there is one.
+    /// Takes the first line of what was sent. Returns false if there is none that reports anything.
     fn take_front(&mut self, line: &mut Line) -> bool
         ensures line { line_if result line.new.items
             ≡ (taken_front (front self.old.kept) self.old).line }
@@ -116,7 +117,7 @@ impl Port {
         }
     }
 
-    /// Takes the line that the port has for a turn, and answers whether there is one.
+    /// Takes the line that the port has for a turn. Returns false if there is none.
     pub fn take_line(&mut self, device: &Device, line: &mut Line) -> bool
         ensures line { line_if result line.new.items ≡ (taken_line device.now self.old).line }
         ensures port { self.new ≡ (taken_line device.now self.old).port }
@@ -128,7 +129,7 @@ impl Port {
         }
     }
 
-    /// What a turn tells goes whole into the queue.
+    /// Puts what a turn reports into the queue as a whole.
     pub(crate) fn tell(&mut self, device: &Device, moment: u64, turn: &Turn) -> Result<(), Parting>
         ensures { Leads (told_to (told_text moment turn.now device.now) self.old).after self.new
             result }
@@ -140,7 +141,7 @@ impl Port {
         }
     }
 
-    /// Offers what waits to be told, if there is anything.
+    /// Offers what is waiting to be sent, if there is anything.
     pub(crate) fn offer<L: Link>(&mut self, link: &mut L) -> Result<(), Parting>
         ensures { Does (Called L.does L.failures) offer_part link.old link.new self.old self.new
             result }
@@ -157,7 +158,7 @@ impl Port {
         }
     }
 
-    /// Reads the process once, where no whole line is kept.
+    /// Reads the process once, if no whole line is kept.
     pub(crate) fn read<L: Link>(&mut self, link: &mut L) -> Result<(), Parting>
         ensures { Does (Called L.does L.failures) read_by link.old link.new self.old self.new
             result }
@@ -177,7 +178,7 @@ impl Port {
         }
     }
 
-    /// Whether the line in front can be taken, if there is one.
+    /// Checks the first line, if there is one.
     pub(crate) fn check(&self) -> Result<(), Parting>
         ensures { Leads (line_part self.now).after self.now result }
     {

@@ -14,10 +14,10 @@ use bay_tree::leaf::{Dbpos, Leaf};
 use bay_tree::tree::Tree;
 use itoa::Buffer;
 
-/// How long a name is at most.
+/// The maximum length of a name.
 const ROOM: usize = 64;
 
-/// The name of the position that the control with a number tells.
+/// Returns the name of the position that the control with this number reports.
 fn name_of(number: usize) -> ArrayString<ROOM>
     ensures { result.bytes ≡ (position_names (node_name (codes "CSWI") number)).value }
 {
@@ -38,7 +38,7 @@ fn is_bad_leaf(leaf: Option<&Leaf>) -> bool
     }
 }
 
-/// Whether the position that stands at a name is bad.
+/// Whether the position at this name is bad.
 fn is_bad_at(tree: &Tree, name: &str) -> bool
     ensures { result ≡ spec.is_bad_at name.now tree.now }
 {
@@ -48,14 +48,14 @@ fn is_bad_at(tree: &Tree, name: &str) -> bool
     }
 }
 
-/// Whether the control with a number tells that its switch is bad.
+/// Whether the control with this number reports its switch as bad.
 fn tells_bad(tree: &Tree, number: usize) -> bool
     ensures { result ≡ spec.tells_bad number tree.now }
 {
     is_bad_at(tree, name_of(number).as_str())
 }
 
-/// The id of the first switch that is not bad.
+/// Returns the id of the first switch that is not bad.
 pub fn first_sound(device: &Device) -> Option<&str>
     ensures { option_map (λ id. id.now) result ≡ spec.first_sound device.now }
 {

@@ -9,13 +9,13 @@ use bay_serve::told::Turn;
 use bay_services::answer::Command;
 use itoa::Buffer;
 
-/// How many octets wait to be told at most.
+/// The maximum number of octets waiting to be sent.
 pub const QUEUE: usize = 65_536;
 
-/// What is still to be told.
+/// The octets still to be sent.
 pub type Queue = Kept<QUEUE>;
 
-/// Puts the parts of a text, where there is room for all of them.
+/// Appends the parts of a text. Returns false if there is not room for all of them.
 fn put_parts(queue: &mut Queue, parts: &[&[u8]]) -> bool
     ensures { PutsWhole queue.old (text_of parts.now) queue.new result }
 {
@@ -28,7 +28,7 @@ fn put_parts(queue: &mut Queue, parts: &[&[u8]]) -> bool
     true
 }
 
-/// Puts the line of a refusal with this number.
+/// Appends the line of a refusal with this number.
 fn put_refusal_line(queue: &mut Queue, moment: u64, code: u8) -> bool
     ensures { PutsWhole queue.old (refusal_line moment code) queue.new result }
 {
@@ -45,7 +45,7 @@ fn put_refusal_line(queue: &mut Queue, moment: u64, code: u8) -> bool
     )
 }
 
-/// Puts the line of a refusal, if there was one.
+/// Appends the line of a refusal, if there was one.
 fn put_refusal(queue: &mut Queue, moment: u64, refused: Option<u8>) -> bool
     ensures { PutsWhole queue.old (refusal_text moment refused) queue.new result }
 {
@@ -55,7 +55,7 @@ fn put_refusal(queue: &mut Queue, moment: u64, refused: Option<u8>) -> bool
     }
 }
 
-/// Puts the line of a command to the switch with this id.
+/// Appends the line of a command to the switch with this id.
 fn put_command_line(queue: &mut Queue, moment: u64, id: &str, on: bool) -> bool
     ensures { PutsWhole queue.old (command_line moment id.now on) queue.new result }
 {
@@ -72,7 +72,7 @@ fn put_command_line(queue: &mut Queue, moment: u64, id: &str, on: bool) -> bool
     )
 }
 
-/// Puts the line of a command.
+/// Appends the line of a command.
 fn put_command(queue: &mut Queue, device: &Device, moment: u64, command: Command) -> bool
     ensures { PutsWhole queue.old (command_text moment device.now command) queue.new result }
 {
@@ -82,7 +82,7 @@ fn put_command(queue: &mut Queue, device: &Device, moment: u64, command: Command
     }
 }
 
-/// Puts the lines of all commands.
+/// Appends the lines of all commands.
 fn put_commands(queue: &mut Queue, device: &Device, moment: u64, commands: &[Command]) -> bool
     ensures { PutsWhole queue.old (commands_text moment device.now commands.now) queue.new result }
 {
@@ -95,8 +95,8 @@ fn put_commands(queue: &mut Queue, device: &Device, moment: u64, commands: &[Com
     true
 }
 
-/// Puts what the process is told of a turn, by the device after it, where there is room for all of
-/// it; and answers whether there was.
+/// Appends what the process is told of a turn, given the device after it. Returns false if there is
+/// not room for all of it.
 pub fn put_told(queue: &mut Queue, device: &Device, moment: u64, turn: &Turn) -> bool
     ensures { PutsWhole queue.old (told_text moment turn.now device.now) queue.new result }
 {

@@ -28,8 +28,8 @@ fn answer_event<W: Sink>(
     put_step(writer, device, moment, &answer);
 }
 
-/// Does what happens, and writes what is printed for it. Whether the replay ends there, as there is
-/// no memory for its octets.
+/// Does an event, and writes what is printed for it. Returns true if the replay ends there because
+/// there is no memory for the event's octets.
 fn answer_named<W: Sink>(
     writer: &mut WatchedWriter<W>,
     device: &mut Device,
@@ -51,8 +51,8 @@ fn answer_named<W: Sink>(
     false
 }
 
-/// Does what the line with this number says, and writes what is printed for it. Whether the replay
-/// ends there, as the line can't be read, or there is no memory for its octets.
+/// Does the event of the line with this number, and writes what is printed for it. Returns true if
+/// the replay ends there because the line is not valid or there is no memory for its octets.
 pub fn answer_line<W: Sink>(
     writer: &mut WatchedWriter<W>,
     device: &mut Device,

@@ -22,10 +22,11 @@ use bay_report::text_lines::cut_line;
 use bay_trace::octets::LineOctets;
 use std::alloc::Global;
 
-/// The most octets that a scenario may have.
+/// The maximum number of octets in a scenario.
 const SCENARIO_LIMIT: usize = 16_777_216;
 
-/// Writes the line of a device's load, replays a trace on it line by line, and writes as it goes.
+/// Writes the line of a device's load and replays a trace on it line by line, writing the report as
+/// it goes.
 fn replay_device<W: Sink>(
     alloc: Global,
     device: &mut Device,
@@ -55,7 +56,7 @@ fn replay_device<W: Sink>(
     finish(writer, CLEAN)
 }
 
-/// Loads the parts of a scenario, and replays the trace.
+/// Loads the parts of a scenario and replays the trace.
 fn replay_parts<W: Sink>(
     alloc: Global,
     scenario: Scenario<'_>,
@@ -72,7 +73,7 @@ fn replay_parts<W: Sink>(
     }
 }
 
-/// Replays a scenario that is in memory.
+/// Replays a scenario from memory.
 fn replay_scenario<W: Sink>(
     alloc: Global,
     text: &[u8],
@@ -87,11 +88,11 @@ fn replay_scenario<W: Sink>(
     }
 }
 
-/// Reads a scenario from a reader, and writes its report to a writer: the exit status, which is 0,
-/// 1 where the load is refused, or 3 for a fault.
+/// Reads a scenario from a reader, and writes its report to a writer. Returns the exit status: 0, 1
+/// if the load is refused, or 3 for a fault.
 ///
-/// A scenario of more than 16,777,216 octets is a fault, and so is a read that fails. Of a reader
-/// of which a read has failed before, and of such a writer, nothing is asked.
+/// A scenario of more than 16,777,216 octets is a fault, and so is a failed read. A reader or a
+/// writer that has already failed is not called.
 pub fn replay_watched<R: Source, W: Sink>(
     alloc: Global,
     reader: &mut WatchedReader<R>,
@@ -113,8 +114,8 @@ pub fn replay_watched<R: Source, W: Sink>(
     }
 }
 
-/// The same from any source to any sink, which are taken: what they were asked, and what they
-/// answered, is said over their own meaning.
+/// Does the same for any source and any sink, which it consumes. What they were asked and what they
+/// answered is stated in terms of their own meaning.
 pub fn replay_run<R: Source + Drop, W: Sink + Drop>(
     alloc: Global,
     reader: R,

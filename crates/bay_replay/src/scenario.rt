@@ -7,25 +7,25 @@ ghost use Rattle.bay_replay.specs.ScenarioView.{scenario_view};
 
 use bay_report::text_lines::cut_line;
 
-/// The three parts of a scenario, as they stand in it.
+/// The three parts of a scenario, unchanged.
 #[derive(Clone, Copy)]
 pub struct Scenario<'a> {
     /// The bay file.
     pub bay: &'a [u8],
     /// The Instruction List program.
     pub logic: &'a [u8],
-    /// The contact changes and scans, a line each.
+    /// The contact changes and scans, one per line.
     pub trace: &'a [u8],
 }
 
-/// Whether the line parts a scenario.
+/// Whether the line separates two parts of a scenario.
 fn is_separator(line: &[u8]) -> bool
     ensures { result ≡ spec.is_separator line.now }
 {
     line == b"%%".as_slice()
 }
 
-/// What stands before the first line that is `%%`, and what follows that line.
+/// Returns what precedes the first line that is `%%`, and what follows that line.
 fn cut_part(text: &[u8]) -> Option<(&[u8], &[u8])>
     ensures part { option_map (λ p. (p.0.now, p.1.now)) result ≡ part_of (pieces text.now) }
     ensures within { IfSome result (λ p. length p.1.now ≤ length text.now) }
@@ -43,7 +43,7 @@ fn cut_part(text: &[u8]) -> Option<(&[u8], &[u8])>
     None
 }
 
-/// The parts of a scenario, or None where one of the two lines `%%` is missing.
+/// Returns the parts of a scenario, or `None` if one of the two lines `%%` is missing.
 pub fn cut_scenario(text: &[u8]) -> Option<Scenario<'_>>
     ensures parts { option_map scenario_view result ≡ scenario_of text.now }
     ensures within { IfSome result (λ s. length s.trace.now ≤ length text.now) }

@@ -12,24 +12,24 @@ use bay_io::calls::Sink;
 use bay_io::writer::WatchedWriter;
 use bay_services::answer::Command;
 
-/// How many octets are written in digits at a time.
+/// The number of octets that are written as digits at a time.
 const CHUNK: usize = 256;
 
-/// The digit of a truth value.
+/// Returns the digit of a truth value.
 fn digit(truth: bool) -> u8
     ensures { result ∷ [] ≡ digit_of truth }
 {
     b'0' + u8::from(truth)
 }
 
-/// The digits that say whether a switch may be opened and closed.
+/// Returns the two digits that say whether a switch may be opened and closed.
 fn digits(opens: bool, closes: bool) -> [u8; 2]
     ensures { result ≡ digit_of opens ++ digit_of closes }
 {
     [digit(opens), digit(closes)]
 }
 
-/// Writes the part of a scan's line on one switch: its id, and whether it may be opened and closed.
+/// Writes a switch's part of a scan's line: its id, and whether it may be opened and closed.
 fn put_switch<W: Sink>(writer: &mut WatchedWriter<W>, id: &str, opens: bool, closes: bool)
     ensures { Puts W.contents W.does writer.old (switch_text id.now opens closes) writer.new }
 {
@@ -39,7 +39,7 @@ fn put_switch<W: Sink>(writer: &mut WatchedWriter<W>, id: &str, opens: bool, clo
     writer.put(digits(opens, closes).as_slice());
 }
 
-/// Writes the part of a scan's line on the switch at a place, if there is one.
+/// Writes the part of a scan's line for the switch at an index, if there is one.
 fn put_place<W: Sink>(writer: &mut WatchedWriter<W>, device: &Device, place: usize)
     ensures { Puts W.contents W.does writer.old
         (switch_part device.now place (slice_get device.now.switches place)) writer.new }
@@ -53,7 +53,7 @@ fn put_place<W: Sink>(writer: &mut WatchedWriter<W>, device: &Device, place: usi
     put_switch(writer, id, opens, closes);
 }
 
-/// Writes the parts of a scan's line on the switches.
+/// Writes the parts of a scan's line for all switches.
 fn put_switches<W: Sink>(writer: &mut WatchedWriter<W>, device: &Device)
     ensures { Puts W.contents W.does writer.old (switches_text device.now 0 device.now.switches)
         writer.new }
@@ -95,7 +95,7 @@ pub fn put_refusal<W: Sink>(writer: &mut WatchedWriter<W>, moment: u64, code: u8
     writer.put(b"\n");
 }
 
-/// Writes the digits of a chunk of octets, by way of room for them.
+/// Writes the digits of a chunk of octets, using `room` for them.
 fn put_chunk<W: Sink>(writer: &mut WatchedWriter<W>, room: &mut [u8], chunk: &[u8])
     requires { 2 * length chunk.now ≤ length room.old }
     ensures { Puts W.contents W.does writer.old (encode_lower chunk.now) writer.new }
@@ -105,7 +105,7 @@ fn put_chunk<W: Sink>(writer: &mut WatchedWriter<W>, room: &mut [u8], chunk: &[u
     writer.put(digits);
 }
 
-/// Writes octets in hexadecimal digits.
+/// Writes octets as hexadecimal digits.
 fn put_digits<W: Sink>(writer: &mut WatchedWriter<W>, octets: &[u8])
     ensures { Puts W.contents W.does writer.old (encode_lower octets.now) writer.new }
 {
@@ -118,7 +118,7 @@ fn put_digits<W: Sink>(writer: &mut WatchedWriter<W>, octets: &[u8])
     }
 }
 
-/// Writes the line of octets that are sent.
+/// Writes the line of sent octets.
 #[cold]
 fn put_send<W: Sink>(writer: &mut WatchedWriter<W>, moment: u64, sent: &Sent)
     ensures { Puts W.contents W.does writer.old (send_text moment sent.now) writer.new }
@@ -131,7 +131,7 @@ fn put_send<W: Sink>(writer: &mut WatchedWriter<W>, moment: u64, sent: &Sent)
     writer.put(b"\n");
 }
 
-/// Writes the lines of all that is sent.
+/// Writes the lines of everything sent.
 fn put_sends<W: Sink>(writer: &mut WatchedWriter<W>, moment: u64, sends: &[Sent])
     ensures { Puts W.contents W.does writer.old (sends_text moment sends.now) writer.new }
 {
@@ -140,7 +140,7 @@ fn put_sends<W: Sink>(writer: &mut WatchedWriter<W>, moment: u64, sends: &[Sent]
     }
 }
 
-/// Writes the line of what tells of an end, if anything does.
+/// Writes the line of the report that an operation ended, if there is one.
 fn put_ended<W: Sink>(writer: &mut WatchedWriter<W>, moment: u64, ended: &Option<Sent>)
     ensures { Puts W.contents W.does writer.old (ended_text moment ended.now) writer.new }
 {
@@ -150,7 +150,7 @@ fn put_ended<W: Sink>(writer: &mut WatchedWriter<W>, moment: u64, ended: &Option
     }
 }
 
-/// How the line of a command ends.
+/// Returns the end of a command's line.
 fn order(on: bool) -> &'static [u8]
     ensures { result.now ≡ order_text on }
 {
@@ -199,7 +199,7 @@ pub fn put_commands<W: Sink>(
     }
 }
 
-/// Writes why an association was closed, as the last of its line.
+/// Writes why an association was closed, at the end of its line.
 fn put_why<W: Sink>(writer: &mut WatchedWriter<W>, why: Why)
     ensures { Puts W.contents W.does writer.old (why_text why) writer.new }
 {
@@ -213,7 +213,7 @@ fn put_why<W: Sink>(writer: &mut WatchedWriter<W>, why: Why)
     }
 }
 
-/// Writes the line of an association that was closed.
+/// Writes the line of a closed association.
 #[cold]
 pub fn put_closing_line<W: Sink>(
     writer: &mut WatchedWriter<W>,
@@ -230,7 +230,7 @@ pub fn put_closing_line<W: Sink>(
     put_why(writer, why);
 }
 
-/// Writes the line of the association that was closed, if one was.
+/// Writes the line of the closed association, if one was closed.
 fn put_closed<W: Sink>(writer: &mut WatchedWriter<W>, moment: u64, closed: Option<(u16, Why)>)
     ensures { Puts W.contents W.does writer.old (closed_text moment closed) writer.new }
 {
@@ -240,7 +240,7 @@ fn put_closed<W: Sink>(writer: &mut WatchedWriter<W>, moment: u64, closed: Optio
     }
 }
 
-/// Writes what is printed for an event that was done.
+/// Writes what is printed for an accepted event.
 fn put_done<W: Sink>(writer: &mut WatchedWriter<W>, device: &Device, moment: u64, step: &Step)
     ensures { Puts W.contents W.does writer.old (done_text moment step.now device.now) writer.new }
 {
@@ -251,7 +251,7 @@ fn put_done<W: Sink>(writer: &mut WatchedWriter<W>, device: &Device, moment: u64
     put_closed(writer, moment, step.closed);
 }
 
-/// Writes what is printed for an event, by its answer and the device after it.
+/// Writes what is printed for an event, given its answer and the device after it.
 pub fn put_step<W: Sink>(
     writer: &mut WatchedWriter<W>,
     device: &Device,
@@ -267,7 +267,7 @@ pub fn put_step<W: Sink>(
     }
 }
 
-/// Writes the line that says which line can't be read.
+/// Writes the line that says which line of the trace is not valid.
 #[cold]
 pub fn put_unreadable<W: Sink>(writer: &mut WatchedWriter<W>, number: usize)
     ensures { Puts W.contents W.does writer.old (unreadable_text number) writer.new }

@@ -18,7 +18,7 @@ use bay_device::load::{load, load_image};
 use il_text::fault::TextFault;
 use std::alloc::Global;
 
-/// What the octets beside a bay file are.
+/// The form of the octets that are loaded with a bay file.
 #[derive(Clone, Copy, Debug, PartialEq, Eq)]
 pub enum Form {
     /// A program in Instruction List.
@@ -27,8 +27,8 @@ pub enum Form {
     Image,
 }
 
-/// The refusal of a bay file, or else of a program that is not in UTF-8: a bad token at its first
-/// line.
+/// Returns the fault of a bay file, or else that of a program that is not UTF-8: a bad token at its
+/// first line.
 fn refuse_logic(alloc: Global, bay: &str) -> Result<Device, LoadFault>
     ensures device { Gives LoadFault.OutOfMemory (λ device. device) result
         (of_bay (bay_of bay.now) (Err (BadToken 1))) }
@@ -41,7 +41,7 @@ fn refuse_logic(alloc: Global, bay: &str) -> Result<Device, LoadFault>
     Err(LoadFault::from(TextFault::BadToken { line: 1 }))
 }
 
-/// The device of the text of a bay file and the octets of a program.
+/// Loads the device of a bay file's text and a program's octets.
 fn load_logic(alloc: Global, bay: &str, logic: &[u8]) -> Result<Device, LoadFault>
     ensures device { Gives LoadFault.OutOfMemory (λ device. device) result
         (of_bay (bay_of bay.now) (text_of logic.now)) }
@@ -56,7 +56,7 @@ fn load_logic(alloc: Global, bay: &str, logic: &[u8]) -> Result<Device, LoadFaul
     }
 }
 
-/// The device of the octets of a bay file and of a program. A bay file that is not in UTF-8 is no
+/// Loads the device of the octets of a bay file and a program. A bay file that is not UTF-8 is not
 /// TOML.
 pub fn load_octets(alloc: Global, bay: &[u8], logic: &[u8]) -> Result<Device, LoadFault>
     ensures device { Gives LoadFault.OutOfMemory (λ device. device) result
@@ -72,7 +72,7 @@ pub fn load_octets(alloc: Global, bay: &[u8], logic: &[u8]) -> Result<Device, Lo
     }
 }
 
-/// The device of the octets of a bay file and of an image.
+/// Loads the device of the octets of a bay file and an image.
 fn load_image_octets(alloc: Global, bay: &[u8], image: &[u8]) -> Result<Device, LoadFault>
     ensures ok { IfOk result
         (λ device. Loads (file_of bay.now) (image_spelled image.now) (Ok device)) }
@@ -89,7 +89,7 @@ fn load_image_octets(alloc: Global, bay: &[u8], image: &[u8]) -> Result<Device, 
     }
 }
 
-/// The device of the octets of a bay file and of a program or an image, before its first event.
+/// Loads the device of the octets of a bay file and a program or an image, before its first event.
 pub fn load_program(
     alloc: Global,
     bay: &[u8],

@@ -11,19 +11,20 @@ use bay_io::input::ReadFault;
 use bay_io::outbox::WriteFault;
 use bay_io::writer::WatchedWriter;
 
-/// The status of what met no fault.
+/// The exit status without a fault.
 pub const CLEAN: u8 = 0;
 
-/// The status where the load is refused.
+/// The exit status of a refused load.
 pub const REFUSED: u8 = 1;
 
-/// What is told where there is no memory after a load.
+/// The line that is printed when memory runs out after a load.
 pub const NO_MEMORY: &[u8] = b"fault memory\n";
 
-/// The status of a fault in a trace, in reading or in writing, and of want of memory after a load.
+/// The exit status of a fault in a trace, in reading or in writing, and of running out of memory
+/// after a load.
 pub const FAULT: u8 = 3;
 
-/// Writes out all that was put, with the status that it stands for.
+/// Writes out everything that was put, and returns the given status.
 pub fn finish<W: Sink>(writer: &mut WatchedWriter<W>, status: u8) -> Result<u8, WriteFault>
     ensures finishes { Finishes W.contents W.does writer.old writer.new result }
     ensures status { IfOk result (λ s. s ≡ status) }
@@ -32,7 +33,7 @@ pub fn finish<W: Sink>(writer: &mut WatchedWriter<W>, status: u8) -> Result<u8, 
     Ok(status)
 }
 
-/// Writes a text that is all that is written, with the status that it stands for.
+/// Writes a text as the whole output, and returns the given status.
 pub fn write_text<W: Sink>(
     writer: &mut WatchedWriter<W>,
     text: &[u8],

@@ -10,7 +10,7 @@ use bay_device::report::Report;
 use bay_io::calls::Sink;
 use bay_io::writer::WatchedWriter;
 
-/// Writes a number, as the last of its line.
+/// Writes a number at the end of its line.
 fn put_last_number<W: Sink>(writer: &mut WatchedWriter<W>, number: u64)
     ensures { Puts W.contents W.does writer.old (decimal number ++ codes "\n") writer.new }
 {
@@ -30,7 +30,7 @@ fn put_line_refusal<W: Sink>(writer: &mut WatchedWriter<W>, code: u8, line: usiz
     put_last_number(writer, line as u64);
 }
 
-/// Writes the line of a refusal, by its number and its line, which is 0 where there is none.
+/// Writes the line of a refusal, given its number and its line, which is 0 if there is none.
 fn put_numbered_refusal<W: Sink>(writer: &mut WatchedWriter<W>, code: u8, line: usize)
     ensures { Puts W.contents W.does writer.old (spec.numbered_refusal code line) writer.new }
 {
@@ -51,8 +51,8 @@ pub fn put_load_refusal<W: Sink>(writer: &mut WatchedWriter<W>, fault: LoadFault
     }
 }
 
-/// Writes the line of a load: how many instructions the program has, how many values lie on its
-/// stack at most, and how many instructions a scan executes at most.
+/// Writes the line of a load: the number of the program's instructions, the maximum number of
+/// values on its stack, and the maximum number of instructions that a scan executes.
 pub fn put_report<W: Sink>(writer: &mut WatchedWriter<W>, report: Report)
     ensures { Puts W.contents W.does writer.old (spec.report_text report) writer.new }
 {

@@ -4,7 +4,7 @@ ghost use Rattle.bay_report.specs.TextLines.{without_end, CutsLine};
 
 use memchr::memchr_iter;
 
-/// A line without the CR that may stand before its LF.
+/// Removes the CR that may precede the LF of a line.
 fn without_return(line: &[u8]) -> &[u8]
     ensures { result.now ≡ without_end (13 ∷ []) line.now }
 {
@@ -14,7 +14,7 @@ fn without_return(line: &[u8]) -> &[u8]
     }
 }
 
-/// The first line without its end, which is LF or CR LF, and what follows it.
+/// Returns the first line without its end, which is LF or CR LF, and what follows it.
 #[inline(always)]
 pub fn cut_line(text: &[u8]) -> (&[u8], &[u8])
     requires { 0 < length text.now }

@@ -11,7 +11,7 @@ use crate::server::Server;
 use crate::told::Closing;
 use bay_device::event::{ASSOCIATIONS, Event};
 
-/// Closes an association at once; what is left in its queue is lost.
+/// Closes an association at once. The rest of its queue is lost.
 pub fn cut_off<L: Link>(
     server: &mut Server,
     notes: &mut Notes,
@@ -33,7 +33,7 @@ pub fn cut_off<L: Link>(
     notes.go(place, closing);
 }
 
-/// Closes the associations to which a reply did not fit, so many at most.
+/// Closes the associations to which a reply did not fit, at most `count` of them.
 fn settle_some<L: Link>(
     server: &mut Server,
     notes: &mut Notes,
@@ -56,7 +56,7 @@ fn settle_some<L: Link>(
     }
 }
 
-/// Closes each association to which a reply did not fit.
+/// Closes every association to which a reply did not fit.
 pub fn settle<L: Link>(server: &mut Server, notes: &mut Notes, link: &mut L, now: u64)
     ensures talks { Talks (Called L.does L.failures) link.old
         (settling now (turning server.old notes.old)) link.new }

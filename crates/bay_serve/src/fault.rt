@@ -4,22 +4,22 @@ ghost use Rattle.bay_serve.specs.Code.{serve_code_of};
 
 use thiserror::Error;
 
-/// Why a turn is not done. Nothing is changed.
+/// Why a turn was not done. Nothing has changed.
 #[derive(Clone, Copy, Debug, PartialEq, Eq, Error)]
 pub enum ServeFault {
-    /// The line tells of no contact, no input and no measure.
+    /// The line does not report a contact, an input or a measurement.
     #[error("the line is no contact, input or measure")]
     BadLine,
-    /// The moment is past the last that a time stamp can tell.
+    /// The time is past the last one that a time stamp can hold.
     #[error("the moment is too large")]
     MomentTooLarge,
-    /// There is no memory for what the turn would tell.
+    /// Out of memory for what the turn would report.
     #[error("out of memory")]
     OutOfMemory,
 }
 
 impl ServeFault {
-    /// The number of the fault: 120 or 114. Want of memory has none.
+    /// Returns the fault's number, 120 or 114, or `None` for out of memory.
     pub fn code(self) -> Option<u8>
         ensures { result ≡ serve_code_of self }
     {

@@ -7,7 +7,7 @@ ghost use Rattle.bay_serve.specs.declared.fault.ServeFault.TheVariants.{BadLine}
 use crate::fault::ServeFault;
 use bay_trace::trace::{NamedEvent, read_process_line};
 
-/// What a line tells of the process, if there is one.
+/// Reads the process event of a line, if there is a line.
 pub fn read_line(line: Option<&str>) -> Result<Option<NamedEvent<'_>>, ServeFault>
     ensures ok { IfOk result (λ told. option_map named_view told ≡ line_in (text_in line.entry)) }
     ensures right { IfOk result (λ told. refusal_at (text_in line.entry) false ≡ None) }

@@ -13,8 +13,8 @@ use bay_services::answer::Command;
 use std::alloc::{AllocError, Global};
 use std::marker::Model;
 
-/// How each association stands, and what the turn will tell. The room for that was taken at first:
-/// one entry for each association, and one command for each that is read.
+/// The standing of each association in a turn, and what the turn will report. The room is allocated
+/// up front: one entry for each association, and one command for each association read.
 #[derive(Drop)]
 pub struct Notes {
     standings: [Standing; ASSOCIATIONS],
@@ -42,7 +42,7 @@ impl Model for Notes {
 }
 
 impl Notes {
-    /// Nothing has come of any association, and there is nothing to tell.
+    /// Creates notes with no association closed and nothing to report.
     pub fn new(alloc: Global) -> Result<Self, AllocError>
         ensures { IfOk result (λ notes. notes ≡ nothing_noted) }
     {
@@ -58,7 +58,7 @@ impl Notes {
         })
     }
 
-    /// How the association at a place stands.
+    /// Returns the standing of the association at an index.
     pub fn standing(&self, place: usize) -> Standing
         requires { place < 8 }
         ensures { result ≡ standing_in place self.now }
@@ -66,7 +66,7 @@ impl Notes {
         self.standings[place]
     }
 
-    /// The place of the lowest association to which a reply did not fit.
+    /// Returns the index of the lowest association to which a reply did not fit.
     pub fn first_full(&self) -> Option<usize>
         ensures lowest { result ≡ spec.first_full self.now }
         ensures within { IfSome result (λ place. place < 8) }
@@ -76,7 +76,7 @@ impl Notes {
             .position(|standing| standing.is_full())
     }
 
-    /// A reply to the association at a place did not fit its queue.
+    /// Notes that a reply to the association at an index did not fit its queue.
     pub fn fill(&mut self, place: usize)
         requires { place < 8 }
         ensures { self.new ≡ stands place (after_full (standing_in place self.old)) self.old }
@@ -84,8 +84,8 @@ impl Notes {
         self.standings[place] = self.standings[place].filled();
     }
 
-    /// The device has closed the association at a place, or its client has; its queue is to be
-    /// offered once more.
+    /// Notes that the device or the client closed the association at an index. Its queue is offered
+    /// once more.
     pub fn leave(&mut self, place: usize, why: Why)
         requires { place < 8 }
         ensures { self.new ≡ leaves place why self.old }
@@ -107,7 +107,7 @@ impl Notes {
         self.standings[place] = Standing::Leaving;
     }
 
-    /// The device has closed the association at a place, if it has closed one.
+    /// Notes that the device closed the association at an index, if it closed one.
     pub fn leave_if_closed(&mut self, place: usize, closed: Option<(u16, Why)>)
         requires { place < 8 }
         ensures { self.new ≡ left_noted place closed self.old }
@@ -117,7 +117,7 @@ impl Notes {
         }
     }
 
-    /// The association at a place was closed, and there is nothing left to send.
+    /// Notes that the association at an index was closed with nothing left to send.
     pub fn go(&mut self, place: usize, closing: Closing)
         requires { place < 8 }
         ensures { self.new ≡ goes place closing self.old }
@@ -128,7 +128,7 @@ impl Notes {
         self.standings[place] = Standing::Gone;
     }
 
-    /// What is left to send to an association that was closed has been offered.
+    /// Notes that the rest of the queue of a closed association has been offered.
     pub fn part(&mut self, place: usize)
         requires place { place < 8 }
         requires leaving { is_leaving (standing_in place self.old) ≡ true }
@@ -137,14 +137,14 @@ impl Notes {
         self.standings[place] = Standing::Gone;
     }
 
-    /// Tells that the device has refused what the line told.
+    /// Reports that the device refused the event of the line.
     pub fn refuse(&mut self, code: u8)
         ensures { self.new ≡ record self.old { refused = Some code } }
     {
         self.refused = Some(code);
     }
 
-    /// Tells that a switch is to be operated.
+    /// Reports a command to operate a switch.
     pub fn command(&mut self, command: Command)
         requires { length self.old.commands < 8 }
         ensures { self.new ≡ record self.old { commands = self.old.commands ++ command ∷ [] } }
@@ -152,7 +152,7 @@ impl Notes {
         self.commands.push(command).unwrap();
     }
 
-    /// What the turn tells.
+    /// Returns what the turn reports.
     pub fn into_turn(self) -> Turn
         ensures { result ≡ record {
           refused = self.refused;

@@ -12,14 +12,14 @@ use crate::server::Server;
 use crate::told::Closing;
 use bay_device::event::ASSOCIATIONS;
 
-/// How an offer went: how many octets were taken, and whether a write failed.
+/// The result of an offer: how many octets were taken, and whether a write failed.
 #[derive(Clone, Copy)]
 struct Offered {
     done: usize,
     failed: bool,
 }
 
-/// Offers octets to a client until none is left, until a write takes none, or until one fails.
+/// Offers octets to a client until none are left, a write takes none, or a write fails.
 fn offer<L: Link>(octets: &[u8], link: &mut L, association: u16) -> Offered
     requires low { 0 < association }
     requires high { association ≤ 8 }
@@ -72,7 +72,7 @@ fn offer_one<L: Link>(server: &mut Server, notes: &mut Notes, link: &mut L, now:
     }
 }
 
-/// Offers all queues, in the order of their numbers.
+/// Offers all queues, in the order of the associations' numbers.
 pub fn offer_each<L: Link>(server: &mut Server, notes: &mut Notes, link: &mut L, now: u64)
     ensures { GoesEach (Called L.does L.failures) (spec.offer_one now) (offer_calls now) link.old
         link.new 8 (turning server.old notes.old) (turning server.new notes.new) }

@@ -5,10 +5,10 @@ ghost use Rattle.bay_serve.specs.Turns.{has_room};
 use std::alloc::{AllocError, Global};
 use std::marker::Model;
 
-/// How many octets a queue holds at most.
+/// The maximum number of octets in a queue.
 const ROOM: usize = 262_144;
 
-/// At most 262,144 octets, for which the room was taken at first.
+/// A queue of at most 262,144 octets. Its room is allocated up front.
 #[derive(Drop)]
 pub struct Queue {
     octets: Vec<u8>,
@@ -26,7 +26,7 @@ impl Model for Queue {
 }
 
 impl Queue {
-    /// An empty queue.
+    /// Creates an empty queue.
     pub fn new(alloc: Global) -> Result<Self, AllocError>
         ensures { IfOk result (λ q. q ≡ []) }
     {
@@ -34,15 +34,15 @@ impl Queue {
         Ok(Queue { octets })
     }
 
-    /// The octets, in order.
+    /// Returns the octets in order.
     pub fn as_slice(&self) -> &[u8]
         ensures { result.now ≡ self.now }
     {
         self.octets.as_slice()
     }
 
-    /// Adds octets where there is room for all of them, and answers whether there was. It takes no
-    /// memory.
+    /// Appends octets if there is room for all of them. Returns false if there is not. Does not
+    /// allocate.
     pub fn put(&mut self, octets: &[u8]) -> bool
         ensures fits { result ≡ has_room self.old octets.now }
         ensures after { self.new ≡ (if result then self.old ++ octets.now else self.old) }
@@ -53,7 +53,7 @@ impl Queue {
         self.octets.extend_from_slice(octets).is_ok()
     }
 
-    /// Drops the first octets.
+    /// Removes the first `count` octets.
     pub fn drop_front(&mut self, count: usize)
         requires { count ≤ length self.old }
         ensures { self.new ≡ drop count self.old }
@@ -63,7 +63,7 @@ impl Queue {
         self.octets.truncate(left);
     }
 
-    /// Drops all octets.
+    /// Removes all octets.
     pub fn clear(&mut self)
         ensures { self.new ≡ [] }
     {

@@ -13,10 +13,10 @@ use crate::server::Server;
 use crate::told::Closing;
 use bay_device::event::{ASSOCIATIONS, Event, Why};
 
-/// How many octets of a client are read in a turn at most.
+/// The maximum number of octets read from a client in a turn.
 const PIECE: usize = 4096;
 
-/// Takes a connection that waits, if there is one and a number is free.
+/// Accepts a waiting connection, if there is one and a number is free.
 pub fn accept_one<L: Link>(server: &mut Server, notes: &mut Notes, link: &mut L, now: u64)
     ensures goes { Goes (Called L.does L.failures) (with_accept now) (accept_calls now) link.old
         link.new (turning server.old notes.old) (turning server.new notes.new) }
@@ -36,7 +36,7 @@ pub fn accept_one<L: Link>(server: &mut Server, notes: &mut Notes, link: &mut L,
     }
 }
 
-/// The device takes in octets of a client, and the queues what it sends.
+/// Passes a client's octets to the device, and queues what the device sends.
 fn take_in(server: &mut Server, notes: &mut Notes, now: u64, place: usize, octets: &[u8])
     requires place { place < 8 }
     requires room { length notes.old.commands < 8 }

@@ -10,7 +10,7 @@ use crate::server::Server;
 use bay_device::event::{Event, Sent, place_of};
 use bay_services::answer::Command;
 
-/// Puts a reply whole into the queue of an association, or notes that it did not fit.
+/// Puts a whole reply into the queue of an association, or notes that it did not fit.
 fn put_whole(server: &mut Server, notes: &mut Notes, place: usize, octets: &[u8])
     requires { place < 8 }
     ensures after { turning server.new notes.new
@@ -22,7 +22,7 @@ fn put_whole(server: &mut Server, notes: &mut Notes, place: usize, octets: &[u8]
     }
 }
 
-/// Puts what is sent to an association into its queue, if that takes replies.
+/// Puts what is sent to an association into its queue, if the queue takes replies.
 pub fn put_sent(server: &mut Server, notes: &mut Notes, sent: &Sent)
     ensures after { turning server.new notes.new
         ≡ spec.put_sent sent.now (turning server.old notes.old) }
@@ -36,7 +36,7 @@ pub fn put_sent(server: &mut Server, notes: &mut Notes, sent: &Sent)
     }
 }
 
-/// Puts all that is sent into the queues, in its order.
+/// Puts everything sent into the queues, in order.
 pub fn put_all(server: &mut Server, notes: &mut Notes, sends: &[Sent])
     ensures after { turning server.new notes.new
         ≡ spec.put_all sends.now (turning server.old notes.old) }
@@ -47,7 +47,7 @@ pub fn put_all(server: &mut Server, notes: &mut Notes, sends: &[Sent])
     }
 }
 
-/// Puts what tells of an end into its queue, if anything does.
+/// Queues the report that an operation ended, if there is one.
 pub fn put_ended(server: &mut Server, notes: &mut Notes, ended: &Option<Sent>)
     ensures after { turning server.new notes.new
         ≡ spec.put_ended ended.now (turning server.old notes.old) }
@@ -58,7 +58,7 @@ pub fn put_ended(server: &mut Server, notes: &mut Notes, ended: &Option<Sent>)
     }
 }
 
-/// Does an event that sends nothing but what tells of an end.
+/// Does an event that sends nothing but the report that an operation ended.
 pub fn step_quietly(server: &mut Server, notes: &mut Notes, now: u64, event: Event<'_>)
     requires { IsWithoutOctets event }
     ensures after { turning server.new notes.new
@@ -70,7 +70,7 @@ pub fn step_quietly(server: &mut Server, notes: &mut Notes, now: u64, event: Eve
     }
 }
 
-/// Tells the commands of a step, of which there is one at most.
+/// Reports the command of a step, which has at most one.
 pub fn tell_commands(server: &Server, notes: &mut Notes, commands: &[Command])
     requires single { length commands.now ≤ 1 }
     requires room { length notes.old.commands < 8 }

@@ -14,16 +14,15 @@ use bay_device::fault::StepFault;
 use std::alloc::{AllocError, Global};
 use std::marker::Model;
 
-/// What a server has.
+/// The parts of a server.
 #[derive(Drop)]
 struct Parts {
     device: Device,
     queues: Vec<Queue>,
 }
 
-/// A device, and for each association at most 262,144 octets that are still to be sent to it. The
-/// room for them was taken at first. All of it is in one box, so that a server is let go in one
-/// call.
+/// A device, and for each association at most 262,144 octets still to be sent to it. Their room is
+/// allocated up front. Everything is in one box, so that a server is dropped in one call.
 #[derive(Drop)]
 pub struct Server {
     parts: Box<Parts>,
@@ -47,7 +46,7 @@ impl Model for Server {
     ghost invariant = { λ s. IsServing s.parts.value.device s.parts.value.queues.items };
 }
 
-/// Eight empty queues.
+/// Creates eight empty queues.
 fn make_queues(alloc: Global) -> Result<Vec<Queue>, AllocError>
     ensures { IfOk result (λ queues. queues.items ≡ replicate 8 []) }
 {
@@ -59,9 +58,9 @@ fn make_queues(alloc: Global) -> Result<Vec<Queue>, AllocError>
 }
 
 impl Server {
-    /// A server of a device of which no association is open, and each switch that can be operated
-    /// takes some time, as load makes it. It takes the room of eight queues; where there is no
-    /// memory for them, the device comes back.
+    /// Creates a server of a device with no open association, in which each switch that can be
+    /// operated takes some time, as loading makes it. Allocates the room of eight queues, and
+    /// returns the device if that fails.
     pub fn new(alloc: Global, device: Device) -> Result<Self, Device>
         requires closed { device.connections ≡ replicate 8 None }
         requires timed { AreTimed device.controls.controls }
@@ -79,14 +78,14 @@ impl Server {
         }
     }
 
-    /// The device, to look at.
+    /// Returns the device, read-only.
     pub fn device(&self) -> &Device
         ensures { result.now ≡ self.now.device }
     {
         &self.parts.device
     }
 
-    /// Whether the association at a place is open.
+    /// Whether the association at an index is open.
     pub(crate) fn is_open(&self, place: usize) -> bool
         requires { place < 8 }
         ensures { result ≡ is_up_in place self.now }
@@ -94,7 +93,7 @@ impl Server {
         self.parts.device.is_open(place as u16 + 1)
     }
 
-    /// The place of the lowest association that is free.
+    /// Returns the index of the lowest free association.
     pub(crate) fn free_place(&self) -> Option<usize>
         ensures lowest { result ≡ spec.free_place self.now }
         ensures within { IfSome result (λ place. place < 8) }
@@ -114,7 +113,7 @@ impl Server {
         self.parts.device.step(now, event)
     }
 
-    /// What is still to be sent to the association at a place.
+    /// Returns what is still to be sent to the association at an index.
     pub(crate) fn queue(&self, place: usize) -> &[u8]
         requires { place < 8 }
         ensures { result.now ≡ queue_at place self.now }
@@ -122,7 +121,7 @@ impl Server {
         self.parts.queues[place].as_slice()
     }
 
-    /// Adds octets where there is room for all of them, and answers whether there was.
+    /// Appends octets if there is room for all of them. Returns false if there is not.
     pub(crate) fn put(&mut self, place: usize, octets: &[u8]) -> bool
         requires { place < 8 }
         ensures fits { result ≡ has_room (queue_at place self.old) octets.now }
@@ -133,7 +132,7 @@ impl Server {
         self.parts.queues[place].put(octets)
     }
 
-    /// Drops the first octets of what is still to be sent.
+    /// Removes the first octets of what is still to be sent.
     pub(crate) fn drop_front(&mut self, place: usize, count: usize)
         requires place { place < 8 }
         requires count { count ≤ length (queue_at place self.old) }
@@ -142,7 +141,7 @@ impl Server {
         self.parts.queues[place].drop_front(count);
     }
 
-    /// Drops all that is still to be sent.
+    /// Removes all of what is still to be sent.
     pub(crate) fn clear(&mut self, place: usize)
         requires { place < 8 }
         ensures { self.new ≡ put_queue place [] self.old }

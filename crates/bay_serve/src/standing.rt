@@ -2,23 +2,24 @@
 ghost use Rattle.std.specs.Prelude.{◌≡◌};
 ghost use Rattle.bay_serve.specs.Standings as spec;
 
-/// How an association stands in a turn.
+/// The standing of an association in a turn.
 #[derive(Clone, Copy)]
 pub enum Standing {
-    /// Nothing has come of it in this turn, or only what leaves it open, or free.
+    /// The association was not closed in this turn, and every reply to it fitted: it is open or
+    /// free.
     Steady,
-    /// It is open, and a reply did not fit its queue: it is to be closed.
+    /// It is open and a reply did not fit its queue, so it is to be closed.
     Full,
     /// It was closed, and its queue is to be offered once more.
     Leaving,
-    /// Likewise, and a reply did not fit its queue.
+    /// The same, and a reply did not fit its queue.
     LeavingFull,
     /// It was closed, and there is nothing left to send.
     Gone,
 }
 
 impl Standing {
-    /// A reply to it did not fit its queue, which is to be told of an open association.
+    /// Whether it is open and a reply did not fit its queue.
     pub fn is_full(self) -> bool
         ensures { result ≡ spec.is_full self }
     {
@@ -28,7 +29,7 @@ impl Standing {
         }
     }
 
-    /// Its queue is to be offered once more.
+    /// Whether its queue is to be offered once more.
     pub fn is_leaving(self) -> bool
         ensures { result ≡ spec.is_leaving self }
     {
@@ -38,7 +39,7 @@ impl Standing {
         }
     }
 
-    /// That it was closed is told.
+    /// Whether its closing is already reported.
     pub fn is_told(self) -> bool
         ensures { result ≡ spec.is_told self }
     {
@@ -48,7 +49,7 @@ impl Standing {
         }
     }
 
-    /// Whether its queue takes replies, by whether it is open.
+    /// Whether its queue takes replies, given whether it is open.
     pub fn takes_replies(self, is_open: bool) -> bool
         ensures { result ≡ spec.takes_replies self is_open }
     {
@@ -59,7 +60,7 @@ impl Standing {
         }
     }
 
-    /// After a reply that did not fit.
+    /// Returns the standing after a reply that did not fit.
     pub fn filled(self) -> Standing
         ensures { result ≡ spec.after_full self }
     {

@@ -8,19 +8,19 @@ use bay_services::answer::Command;
 /// Why an association was closed.
 #[derive(Clone, Copy, Debug, PartialEq, Eq)]
 pub enum Closing {
-    /// The client has ended it, or has closed its connection.
+    /// The client ended it or closed its connection.
     Ended,
-    /// The device has refused its octets, by the fault of this number: 10 to 13 of the transport,
-    /// 20 to 25 of the association.
+    /// The device refused its octets with the fault of this number: 10 to 13 of the transport, 20
+    /// to 25 of the association.
     Fault(u8),
-    /// A reply did not fit into what is still to be sent to it.
+    /// A reply did not fit into its queue.
     QueueFull,
     /// A read or a write of its connection failed.
     LinkFailed,
 }
 
 impl Closing {
-    /// The number that tells so: 0, that of the device's fault, 130 or 131.
+    /// Returns the number of the reason: 0, that of the device's fault, 130 or 131.
     pub fn code(self) -> u8
         ensures { result ≡ code_of self }
     {
@@ -33,16 +33,16 @@ impl Closing {
     }
 }
 
-/// What a turn tells.
+/// What a turn reports.
 #[derive(Debug, Drop)]
 pub struct Turn {
-    /// The number of the fault for which the device has refused what the line told: 113, there is
-    /// no such switch, input or meter.
+    /// The number of the fault with which the device refused the event of the line: 113, no such
+    /// switch, input or meter.
     pub refused: Option<u8>,
-    /// The switches that are to be operated.
+    /// The commands to operate switches.
     pub commands: Listing<Command>,
-    /// The associations that were closed, each with the reason, in the order in which that came.
+    /// The associations that were closed, each with the reason, in the order of closing.
     pub closed: Listing<(u16, Closing)>,
-    /// The associations that the device has closed for want of memory.
+    /// The associations that the device closed because it was out of memory.
     pub memory: Listing<u16>,
 }

@@ -21,7 +21,7 @@ use bay_trace::placing::placed_event;
 use bay_trace::trace::NamedEvent;
 use std::alloc::{AllocError, Global};
 
-/// What a line tells of the process happens at the turn's moment.
+/// Does the event of a line at the turn's time.
 fn tell(server: &mut Server, notes: &mut Notes, now: u64, event: NamedEvent<'_>)
     requires { AreOctets (named_view event) [] }
     ensures after { turning server.new notes.new
@@ -34,7 +34,7 @@ fn tell(server: &mut Server, notes: &mut Notes, now: u64, event: NamedEvent<'_>)
     }
 }
 
-/// What a line tells of the process happens, if there is a line.
+/// Does the event of the line, if there is one.
 fn tell_line<L: Link>(
     server: &mut Server,
     notes: &mut Notes,
@@ -55,7 +55,7 @@ fn tell_line<L: Link>(
     }
 }
 
-/// The program runs once.
+/// Runs the program once.
 fn scan<L: Link>(server: &mut Server, notes: &mut Notes, link: &mut L, now: u64)
     ensures talks { Talks (Called L.does L.failures) link.old
         (scan_calls now (turning server.old notes.old)) link.new }
@@ -66,18 +66,16 @@ fn scan<L: Link>(server: &mut Server, notes: &mut Notes, link: &mut L, now: u64)
     settle(server, notes, link, now);
 }
 
-/// One turn, at the greater of the clock's moment (in milliseconds since 1970) and the last. At
-/// most one connection that waits is taken, under the lowest free number. Each association is read
-/// once, in order, up to 4,096 octets; one whose client sends no more is closed, and so is one
-/// whose read fails, with 131. The contact, the input or the measure that the line tells of
-/// happens, whatever the line's own moment. The program runs once. What is still to be sent to each
-/// association is written as far as the link takes it; where a write fails, the association is
-/// closed with 131, and so it is with 130 where a reply does not fit into what is still to be sent
-/// to it.
+/// Serves one turn, at the later of the clock's time (in milliseconds since 1970) and the last
+/// time. Accepts at most one waiting connection, under the lowest free number. Reads each
+/// association once, in order, up to 4,096 octets; closes one whose client sends no more, and one
+/// whose read fails, with 131. Does the contact, input or measurement of the line, whatever the
+/// line's own time. Runs the program once. Writes what is still to be sent to each association, as
+/// far as the link takes it. Closes an association with 131 if a write fails, and with 130 if a
+/// reply does not fit into what is still to be sent to it.
 ///
-/// A line that tells of no contact, no input and no measure is refused first, and then a moment
-/// that is too large; where there is no memory for what the turn would tell, nothing is done
-/// either.
+/// A line that does not report a contact, an input or a measurement is refused first, then a time
+/// that is too late. If there is no memory for what the turn would report, nothing is done either.
 pub fn serve_turn<L: Link>(
     alloc: Global,
     server: &mut Server,

@@ -16,8 +16,8 @@ ghost use Rattle.bay_serve_laws.specs.Telling.{TellsClosings, times_told};
 
 use bay_serve::link::Link;
 
-/// Of an association it is told that its connection failed only where a call of the link failed:
-/// the link's count of failures rises in such a turn.
+/// A failed connection of an association is reported only if a call of the link failed: the link's
+/// count of failures rises in such a turn.
 pub fn a_told_failure_is_counted<L: Link>(_link: &L)
     ensures { (old new : L) (now : ℕ) (line : Option NamedData) (before after : Held) (turn : Turn)
         →
@@ -26,8 +26,8 @@ pub fn a_told_failure_is_counted<L: Link>(_link: &L)
         L.failures old < 2 ^ 64 - 1 → L.failures old < L.failures new }
 {}
 
-/// Of an association it is told once at most in a turn that it was closed: with its reason, or that
-/// there was no memory.
+/// The closing of an association is reported at most once in a turn: with its reason, or as out of
+/// memory.
 pub fn an_association_is_told_once<L: Link>(_link: &L)
     ensures { (old new : L) (now : ℕ) (line : Option NamedData) (before after : Held) (turn : Turn)
         (place : ℕ) →
@@ -35,19 +35,19 @@ pub fn an_association_is_told_once<L: Link>(_link: &L)
         → times_told (place + 1) turn.closed turn.memory ≤ 1 }
 {}
 
-/// Of each association that the device closes in a turn it is told, with the device's number or
-/// that there was no memory: for a server in which nothing waits for a closed association, at a
-/// moment that is not refused.
+/// Each association that the device closes in a turn is reported, with the device's number or as
+/// out of memory, for a server in which nothing waits for a closed association and at a time that
+/// is not refused.
 pub fn what_the_device_closes_is_told()
     ensures { (now : ℕ) (line : Option NamedData) (script : Script) (h : Held) → IsTidy h
         → IsInTime now h → HasNoOctets line → length script.readings ≡ 8
         → length script.offers ≡ 8 → TellsClosings now line script h }
 {}
 
-/// Why an association was closed in a turn, read off the calls on its link and the device's
-/// answers: that its link failed is told exactly where a read or a write of it failed, and neither
-/// its client nor the device had closed it; that it ended is told where a read brought the end of
-/// its client; and that its queue was full is told only where nothing else closed it.
+/// The reason for which an association was closed in a turn follows from the calls on its link and
+/// the device's answers. A failed link is reported exactly if a read or a write of it failed and
+/// neither its client nor the device had closed it. An end is reported if a read brought the end of
+/// its client. A full queue is reported only if nothing else closed it.
 pub fn each_closing_has_its_cause()
     ensures { (now : ℕ) (line : Option NamedData) (script : Script) (h : Held) → IsTidy h
         → IsInTime now h → IsOfProcess line → length script.readings ≡ 8
@@ -55,11 +55,11 @@ pub fn each_closing_has_its_cause()
         → HasItsCause now line script h (place + 1) }
 {}
 
-/// The device after a turn is the device that the turn's events make of the device before, each at
-/// the turn's moment; and the commands that the turn tells are those of their answers, in their
-/// order. The events are: one association is opened at most; of each association its octets come,
-/// or it is closed; what the line tells of happens; the program runs; and an association to which a
-/// reply did not fit, or whose connection failed, is closed where that comes.
+/// The device after a turn is the device before it with the turn's events applied, each at the
+/// turn's time, and the commands that the turn reports are those of the events' answers, in order.
+/// The events are: at most one association is opened; each association's octets arrive, or it is
+/// closed; the event of the line is done; the program runs; and an association to which a reply did
+/// not fit, or whose connection failed, is closed when that happens.
 pub fn a_turn_is_its_events()
     ensures events { (now : ℕ) (line : Option NamedData) (script : Script) (h : Held)
         → IsItsEvents now line script h }
@@ -67,10 +67,10 @@ pub fn a_turn_is_its_events()
     ensures lines { (text : Option (List ℕ)) → HasNoOctets (line_in text) }
 {}
 
-/// What the link takes of an association in a turn, and then what its queue holds, is what the
-/// queue held and then what the device sent to it in the turn; of an association that is closed
-/// after the turn the link took a front of that, and its queue is empty. Where it is told that a
-/// queue was full, more than 262,144 octets were left.
+/// What the link takes for an association in a turn, followed by what its queue then holds, is what
+/// the queue held before, followed by what the device sent to it in the turn. For an association
+/// that is closed after the turn, the link took a first part of that, and its queue is empty. If a
+/// full queue is reported, more than 262,144 octets were left.
 pub fn octets_are_neither_lost_nor_repeated()
     ensures octets { (now : ℕ) (line : Option NamedData) (script : Script) (h : Held) → IsTidy h
         → IsInTime now h → IsOfProcess line →
@@ -82,8 +82,8 @@ pub fn octets_are_neither_lost_nor_repeated()
         → IsTidy (record { device = device; queues = replicate 8 [] }) }
 {}
 
-/// No queue ever holds more than 262,144 octets: none does as a server is made, and none after a
-/// turn where none did before it.
+/// No queue ever holds more than 262,144 octets: none does when a server is created, and none does
+/// after a turn if none did before it.
 pub fn queues_stay_in_their_room()
     ensures begins { (device : State)
         → AreInRoom (record { device = device; queues = replicate 8 [] }) }
@@ -91,11 +91,10 @@ pub fn queues_stay_in_their_room()
         → AreInRoom (after_turn now line script h).server }
 {}
 
-/// Where a reply had no room, read off the calls on the link and the device's answers: of an
-/// association that is open as a turn begins, or that the turn opens, it is told that its queue was
-/// full exactly where the link left, of what its queue held and what was sent to it, more than
-/// 262,144 octets, and no call of it failed, its client did not end, and the device did not close
-/// it.
+/// When a reply does not fit follows from the calls on the link and the device's answers. For an
+/// association that is open at the beginning of a turn, or that the turn opens, a full queue is
+/// reported exactly if the link left more than 262,144 octets of what its queue held and what was
+/// sent to it, no call for it failed, its client did not end, and the device did not close it.
 pub fn a_full_queue_is_told()
     ensures { (now : ℕ) (line : Option NamedData) (script : Script) (h : Held) → IsTidy h
         → IsInTime now h → IsOfProcess line → AreInRoom h → length script.readings ≡ 8

@@ -3,11 +3,11 @@ ghost use Rattle.std.specs.Prelude.{◌≡◌};
 
 use bay_serve::link::{Arrival, Link, LinkFault};
 
-/// A link of which it is known whether its calls may have left something that can be done without
-/// waiting: a connection was taken, a read filled its room, a client's end was seen, a connection
-/// was closed, or a call failed. A read that did not fill its room has emptied the socket, and a
-/// write has been given all that waits: behind them there is something to do only once a socket is
-/// ready.
+/// A link that records whether its calls may have left something that can be done without waiting:
+/// a connection was accepted, a read filled its room, a client's end was seen, a connection was
+/// closed, or a call failed. A read that did not fill its room has emptied the socket, and a write
+/// has been given everything that is waiting: after them there is something to do only once a
+/// socket is ready.
 #[derive(Drop)]
 pub struct BusyLink<L> {
     link: L,
@@ -15,7 +15,7 @@ pub struct BusyLink<L> {
 }
 
 impl<L> BusyLink<L> {
-    /// A link of which nothing is asked yet.
+    /// Creates a link that has not been called yet.
     pub fn new(link: L) -> Self
         ensures { result.link ≡ link }
     {
@@ -25,7 +25,7 @@ impl<L> BusyLink<L> {
         }
     }
 
-    /// Whether anything was left to do since this was last asked.
+    /// Whether anything was left to do since the last call of this function.
     pub fn was_busy(&mut self) -> bool
         ensures { self.new.link ≡ self.old.link }
     {

@@ -9,26 +9,26 @@ use std::rt::{Clock, Runtime};
 use std::thread;
 use std::time::Duration;
 
-/// How long a pause is at most, in milliseconds.
+/// The maximum length of a pause, in milliseconds.
 const PAUSE: u64 = 10;
 
-/// The ports of 127.0.0.1, on which links are had, and a clock.
+/// The ports of 127.0.0.1, on which links listen, and a clock.
 ///
-/// Its meaning is `does old call new`: this call, with what it answered, may have led from the one
-/// state to the other. A host in memory gives its own; of that of a system nothing is known, and it
-/// keeps the default.
+/// Its meaning is `does old call new`: this call, with its result, may have led from the one state
+/// to the other. A host in memory defines its own. Nothing is known of a system's host, which keeps
+/// the default.
 pub trait Host<L> {
     ghost does: { Self → HostCall L → Self → Type 0 } = { λ _ _ _. Unit {0} };
 
-    /// Listens at a port, if it can be had.
+    /// Listens at a port. Returns `None` if that fails.
     fn bind(&mut self, port: u16) -> Option<L>
         ensures { does self.old (Binds port result) self.new };
 
-    /// The clock's moment, in milliseconds since 1970.
+    /// Returns the clock's time, in milliseconds since 1970.
     fn now(&mut self) -> u64
         ensures { does self.old (Tells result) self.new };
 
-    /// Waits until something may have happened on a link, for some milliseconds at most.
+    /// Waits until something may have happened on a link, for at most some milliseconds.
     fn pause(&mut self)
         ensures { does self.old Pauses self.new };
 }
@@ -41,7 +41,7 @@ pub struct SystemHost<'a, R> {
 }
 
 impl<'a, R> SystemHost<'a, R> {
-    /// No port is had yet.
+    /// Creates a host without open ports.
     pub fn new(rt: &'a R) -> Self {
         SystemHost {
             rt,
@@ -50,7 +50,7 @@ impl<'a, R> SystemHost<'a, R> {
     }
 }
 
-/// The readiness of the sockets of a host, which is made at the first port.
+/// Returns the readiness of a host's sockets, which is created at the first port.
 fn ready_for<'a, R: Runtime<A = Global> + Net>(
     rt: &R,
     readiness: &'a mut Option<Readiness>,
@@ -69,7 +69,7 @@ impl<'a, R: Runtime<A = Global> + Net<Listener = TcpListener, Stream = TcpStream
         TcpLink::bind(self.rt, self.rt, readiness, port).ok()
     }
 
-    /// A clock that can't be read tells 0, which is no later than any moment.
+    /// A clock that cannot be read gives 0, which is not later than any time.
     fn now(&mut self) -> u64 {
         let Ok(now) = self.rt.since_1970() else {
             return 0;
@@ -77,7 +77,7 @@ impl<'a, R: Runtime<A = Global> + Net<Listener = TcpListener, Stream = TcpStream
         u64::try_from(now.as_millis()).unwrap_or(u64::MAX)
     }
 
-    /// Where there is nothing to wait for, the time goes by.
+    /// Sleeps if there is nothing to wait for.
     fn pause(&mut self) {
         let most = Duration::from_millis(PAUSE);
         let waited = match &mut self.readiness {

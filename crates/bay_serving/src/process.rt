@@ -19,8 +19,7 @@ use bay_serve::link::Link;
 use bay_serve::told::Turn;
 use std::marker::Model;
 
-/// A process that is heard on a link of its own; and whether it is known that anything has happened
-/// there.
+/// A process with a link of its own, and whether anything is known to have happened there.
 #[derive(Drop)]
 pub struct Process<L> {
     link: L,
@@ -37,7 +36,7 @@ impl<L> Model for Process<L> {
 }
 
 impl<L> Process<L> {
-    /// A process on whose link nothing has happened yet.
+    /// Creates a process on whose link nothing has happened yet.
     pub fn new(link: L, port: Port) -> Self
         ensures { result ≡ record { link = link; port = port } }
     {
@@ -48,7 +47,7 @@ impl<L> Process<L> {
         }
     }
 
-    /// Whether anything has happened since this was last asked.
+    /// Whether anything has happened since the last call of this function.
     fn was_busy(&mut self) -> bool
         ensures { self.new ≡ self.old }
     {
@@ -58,7 +57,7 @@ impl<L> Process<L> {
     }
 }
 
-/// Whether anything has happened on the link of the process since this was last asked.
+/// Whether anything has happened on the link of the process since the last call of this function.
 pub fn was_busy<L>(process: &mut Option<Process<L>>) -> bool
     ensures { process.new ≡ process.old }
 {
@@ -68,7 +67,7 @@ pub fn was_busy<L>(process: &mut Option<Process<L>>) -> bool
     }
 }
 
-/// Whether a process has gone, and there may be switches that are not bad yet.
+/// Whether a process has gone and some switches may not be bad yet.
 fn is_leaving<L>(process: &Option<Process<L>>) -> bool
     ensures { result ≡ is_gone process.now }
 {
@@ -78,7 +77,7 @@ fn is_leaving<L>(process: &Option<Process<L>>) -> bool
     }
 }
 
-/// Takes the line that the port of the process has, and answers whether there is one.
+/// Takes the line that the port of the process has. Returns false if there is none.
 fn take_port_line<L>(process: &mut Option<Process<L>>, device: &Device, buffer: &mut Line) -> bool
     ensures line { option_map without_number (line_if result buffer.new.items)
         ≡ (from_port device.now [] process.old).line }
@@ -90,9 +89,9 @@ fn take_port_line<L>(process: &mut Option<Process<L>>, device: &Device, buffer: 
     }
 }
 
-/// Chooses the line of a turn: the next of the trace, or behind them that of the process; of a
-/// process that has gone, before each switch is bad, its own comes first. A line of the trace is
-/// answered, and whether the buffer has one of the process.
+/// Chooses the line of a turn: the next line of the trace, or after the last one the line of the
+/// process. While a process has gone and not every switch is bad, its line comes first. Returns the
+/// line of the trace, and whether `buffer` holds a line of the process.
 pub fn choose<'a, L>(
     lines: &mut TraceLines<'a>,
     process: &mut Option<Process<L>>,
@@ -113,7 +112,7 @@ pub fn choose<'a, L>(
     }
 }
 
-/// The line that was chosen, with its number; one of the process has the number 0.
+/// Returns the chosen line with its number; a line of the process has the number 0.
 pub fn line_of<'a>(
     traced: Option<(usize, &'a [u8])>,
     is_heard: bool,
@@ -134,7 +133,7 @@ pub fn line_of<'a>(
     }
 }
 
-/// Attends to a process behind a turn, and tells what has become of it.
+/// Attends to a process after a turn, and writes what happened to its connection.
 fn attend_one<L: Link, W: Sink>(
     process: &mut Process<L>,
     device: &Device,
@@ -152,7 +151,7 @@ fn attend_one<L: Link, W: Sink>(
     tell_news(writer, moment, news)
 }
 
-/// Attends to the process behind a turn, if one is heard.
+/// Attends to the process after a turn, if there is one.
 pub fn attend_process<L: Link, W: Sink>(
     process: &mut Option<Process<L>>,
     device: &Device,

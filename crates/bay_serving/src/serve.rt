@@ -23,8 +23,7 @@ use bay_serve::link::Link;
 use bay_serve::server::Server;
 use std::alloc::Global;
 
-/// On which port clients are served, for how many turns, and on which the process is heard, if it
-/// is.
+/// The port for clients, the number of turns, and the port for the process, if there is one.
 #[derive(Clone, Copy)]
 pub struct Numbers {
     pub port: u16,
@@ -32,7 +31,7 @@ pub struct Numbers {
     pub process: Option<u16>,
 }
 
-/// What is served, by the names of its files: the bay, a program or an image, and the trace of the
+/// The names of the files that are served: the bay, a program or an image, and the trace of the
 /// process.
 #[derive(Clone, Copy)]
 pub struct Named<'a> {
@@ -42,7 +41,7 @@ pub struct Named<'a> {
     pub trace: Option<&'a str>,
 }
 
-/// Makes a server of a device, and serves it over a link, with a process or without.
+/// Creates a server of a device, and serves it over a link, with or without a process.
 fn serve_with<L: Link + Drop, H: Host<L>, W: Sink>(
     alloc: Global,
     device: Device,
@@ -74,7 +73,7 @@ fn serve_with<L: Link + Drop, H: Host<L>, W: Sink>(
     }
 }
 
-/// Serves a device with a process on the link of a port, if there was one.
+/// Serves a device with a process on the link of a port, if the port could be opened.
 fn serve_heard<L: Link + Drop, H: Host<L>, W: Sink>(
     alloc: Global,
     device: Device,
@@ -130,7 +129,7 @@ fn serve_process<L: Link + Drop, H: Host<L>, W: Sink>(
     serve_heard(alloc, device, link, had, host, trace, numbers, writer)
 }
 
-/// Serves a device over the link of a port, if there was one.
+/// Serves a device over the link of a port, if the port could be opened.
 fn serve_link<L: Link + Drop, H: Host<L>, W: Sink>(
     alloc: Global,
     device: Device,
@@ -192,7 +191,7 @@ fn serve_device<L: Link + Drop, H: Host<L>, W: Sink>(
     serve_port(alloc, device, host, trace, numbers, writer)
 }
 
-/// Loads what was read of a bay file and of a program or an image, and serves it.
+/// Loads the octets of a bay file and of a program or an image, and serves the device.
 fn serve_octets<L: Link + Drop, H: Host<L>, W: Sink>(
     alloc: Global,
     form: Form,
@@ -212,7 +211,7 @@ fn serve_octets<L: Link + Drop, H: Host<L>, W: Sink>(
     }
 }
 
-/// The file of a name, or nothing where there is no name.
+/// Reads the file with a name, or nothing without a name.
 fn read_named<F: FileSystem>(
     alloc: Global,
     files: &F,
@@ -229,7 +228,7 @@ fn read_named<F: FileSystem>(
     }
 }
 
-/// Reads the trace, if it was named, and serves what was read.
+/// Reads the trace, if it is named, and serves what was read.
 fn serve_read<F: FileSystem, L: Link + Drop, H: Host<L>, W: Sink>(
     alloc: Global,
     named: Named<'_>,
@@ -259,9 +258,9 @@ fn serve_read<F: FileSystem, L: Link + Drop, H: Host<L>, W: Sink>(
     }
 }
 
-/// Serves files by their names: the bay is read, then the program or the image, then the trace;
-/// they are loaded, and the line of the load is written; the port is bound, and behind it that of
-/// the process, if there is one; and so many turns are served.
+/// Serves files by their names. Reads the bay, then the program or the image, then the trace; loads
+/// them and writes the line of the load; binds the port for clients, and then that of the process,
+/// if there is one; and serves the given number of turns.
 pub fn serve<F: FileSystem, L: Link + Drop, H: Host<L>, W: Sink>(
     alloc: Global,
     named: Named<'_>,

@@ -25,16 +25,16 @@ use bay_serve::told::Turn;
 use bay_serve::turn::serve_turn;
 use std::alloc::Global;
 
-/// What came of a turn that was tried.
+/// The result of trying a turn.
 #[derive(Clone, Copy, Debug, PartialEq, Eq)]
 pub enum Tried {
-    /// It was done, and left nothing to do at once, or something.
+    /// The turn was done. `was_idle` says whether it left nothing to do at once.
     Done { was_idle: bool },
-    /// It was not done, and serving ends with this status.
+    /// The turn was not done, and serving ends with this status.
     Ends(u8),
 }
 
-/// The octets of a line, if there is one.
+/// Returns the octets of a line, if there is one.
 fn octets_of<'a>(line: Option<(usize, &'a [u8])>) -> Option<&'a [u8]>
     ensures { text_in result ≡ text_of_next (next_view line.entry) }
 {
@@ -42,7 +42,7 @@ fn octets_of<'a>(line: Option<(usize, &'a [u8])>) -> Option<&'a [u8]>
     Some(octets)
 }
 
-/// Its number, or 0.
+/// Returns the number of a line, or 0 without a line.
 fn number_of(line: Option<(usize, &[u8])>) -> usize
     ensures { result ≡ number_of_next (next_view line.entry) }
 {
@@ -52,8 +52,8 @@ fn number_of(line: Option<(usize, &[u8])>) -> usize
     }
 }
 
-/// One turn with a line of the trace, in octets; what is no text tells of no contact, no input and
-/// no measure.
+/// Serves one turn with the octets of a line. A line that is not UTF-8 does not report a contact,
+/// an input or a measurement.
 fn serve_line<L: Link>(
     alloc: Global,
     server: &mut Server,
@@ -78,7 +78,7 @@ fn serve_line<L: Link>(
     }
 }
 
-/// Tries a turn, and prints what there is to print for it; behind it the process is attended to.
+/// Tries a turn and prints what it reports, and then attends to the process.
 fn try_turn<L: Link, H: Host<L>, W: Sink>(
     alloc: Global,
     server: &mut Server,
@@ -112,7 +112,7 @@ fn try_turn<L: Link, H: Host<L>, W: Sink>(
     }
 }
 
-/// Waits, where there is nothing to do at once.
+/// Pauses if there is nothing to do at once.
 fn rest<L, H: Host<L>>(host: &mut H, was_idle: bool)
     ensures { (host.new ≡ host.old) ⊎ H.does host.old Pauses host.new }
 {
@@ -121,9 +121,9 @@ fn rest<L, H: Host<L>>(host: &mut H, was_idle: bool)
     }
 }
 
-/// Serves so many turns, each with its line, and prints what each tells: the exit status, which is
-/// 0 after the last turn, or 3 at one that is not done. After a turn that left nothing to do at
-/// once there is a pause.
+/// Serves the given number of turns, each with its line, and prints what each reports. Returns the
+/// exit status: 0 after the last turn, or 3 at a turn that is not done. Pauses after a turn that
+/// left nothing to do at once.
 fn serve_lines<L: Link, H: Host<L>, W: Sink>(
     alloc: Global,
     server: &mut Server,
@@ -150,8 +150,8 @@ fn serve_lines<L: Link, H: Host<L>, W: Sink>(
     Ok(CLEAN)
 }
 
-/// Serves so many turns over a link, each with the next line of a trace, or behind them with that
-/// of a process, if there is one.
+/// Serves the given number of turns over a link, each with the next line of a trace, or after the
+/// last one with a line of the process, if there is one.
 pub fn serve_turns<L: Link + Drop, H: Host<L>, W: Sink>(
     alloc: Global,
     server: Server,

@@ -6,7 +6,7 @@ ghost use Rattle.bay_serving.specs.ServeReport.{next_view, told_lines};
 use bay_report::text_lines::cut_line;
 use std::marker::Model;
 
-/// The lines of a trace that are not empty, one after another, each with its number among all.
+/// The lines of a trace that are not empty, in order, each with its number among all lines.
 #[derive(Drop)]
 pub struct TraceLines<'a> {
     rest: &'a [u8],
@@ -26,7 +26,7 @@ impl<'a> Model for TraceLines<'a> {
 }
 
 impl<'a> TraceLines<'a> {
-    /// The lines of a trace, numbered from 1 on.
+    /// Creates the lines of a trace, numbered from 1.
     pub fn new(trace: &'a [u8]) -> Self
         ensures { result ≡ told_lines 1 (lines_of trace.entry.now) }
     {
@@ -36,7 +36,7 @@ impl<'a> TraceLines<'a> {
         }
     }
 
-    /// The next line.
+    /// Returns the next line.
     pub fn next_line(&mut self) -> Option<(usize, &'a [u8])>
         ensures first { next_view result ≡ slice_get self.old 0 }
         ensures others { self.new ≡ drop 1 self.old }

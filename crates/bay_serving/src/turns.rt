@@ -32,7 +32,7 @@ fn put_refused<W: Sink>(writer: &mut WatchedWriter<W>, moment: u64, refused: Opt
     }
 }
 
-/// Writes the line of an association that was closed, with the number of the reason.
+/// Writes the line of a closed association, with the number of the reason.
 fn put_entry<W: Sink>(writer: &mut WatchedWriter<W>, moment: u64, entry: (u16, Closing))
     ensures { Puts W.contents W.does writer.old
         (closing_text moment entry.0 (Fault (code_of entry.1)))
@@ -42,7 +42,7 @@ fn put_entry<W: Sink>(writer: &mut WatchedWriter<W>, moment: u64, entry: (u16, C
     put_closing_line(writer, moment, association, Why::Fault(closing.code()));
 }
 
-/// Writes the lines of the associations that were closed.
+/// Writes the lines of the closed associations.
 fn put_closings<W: Sink>(writer: &mut WatchedWriter<W>, moment: u64, closed: &[(u16, Closing)])
     ensures { Puts W.contents W.does writer.old (closings_text moment closed.now) writer.new }
 {
@@ -51,7 +51,7 @@ fn put_closings<W: Sink>(writer: &mut WatchedWriter<W>, moment: u64, closed: &[(
     }
 }
 
-/// Writes the lines of those that were closed for want of memory.
+/// Writes the lines of the associations that were closed because the device was out of memory.
 fn put_memories<W: Sink>(writer: &mut WatchedWriter<W>, moment: u64, memory: &[u16])
     ensures { Puts W.contents W.does writer.old (memories_text moment memory.now) writer.new }
 {
@@ -70,7 +70,7 @@ fn put_turn<W: Sink>(writer: &mut WatchedWriter<W>, device: &Device, moment: u64
     put_memories(writer, moment, turn.memory.as_slice());
 }
 
-/// Whether a turn tells nothing.
+/// Whether a turn reports nothing.
 fn is_quiet(turn: &Turn) -> bool
     ensures { result ≡ spec.is_quiet turn.now }
 {
@@ -94,7 +94,8 @@ fn write_turn<W: Sink>(
     finish(writer, CLEAN)
 }
 
-/// Writes the lines of a turn, and flushes them; where it tells nothing the writer is left alone.
+/// Writes the lines of a turn and flushes them. Does not use the writer if the turn reports
+/// nothing.
 pub fn tell_turn<W: Sink>(
     writer: &mut WatchedWriter<W>,
     device: &Device,
@@ -110,7 +111,7 @@ pub fn tell_turn<W: Sink>(
     }
 }
 
-/// Writes that the process's connection was taken.
+/// Writes that the connection of the process was accepted.
 fn put_opened<W: Sink>(writer: &mut WatchedWriter<W>, moment: u64)
     ensures { Puts W.contents W.does writer.old (news_text moment Opened) writer.new }
 {
@@ -118,7 +119,7 @@ fn put_opened<W: Sink>(writer: &mut WatchedWriter<W>, moment: u64)
     writer.put(b" process open\n");
 }
 
-/// Writes that it was closed, with the number of the reason.
+/// Writes that the connection of the process was closed, with the number of the reason.
 fn put_parting<W: Sink>(writer: &mut WatchedWriter<W>, moment: u64, why: Parting)
     ensures { Puts W.contents W.does writer.old (news_text moment (Closed why)) writer.new }
 {
@@ -128,7 +129,7 @@ fn put_parting<W: Sink>(writer: &mut WatchedWriter<W>, moment: u64, why: Parting
     writer.put(b"\n");
 }
 
-/// Writes what has become of the process's connection.
+/// Writes what happened to the connection of the process.
 fn put_news<W: Sink>(writer: &mut WatchedWriter<W>, moment: u64, news: News)
     ensures { Puts W.contents W.does writer.old (news_text moment news) writer.new }
 {
@@ -138,7 +139,7 @@ fn put_news<W: Sink>(writer: &mut WatchedWriter<W>, moment: u64, news: News)
     }
 }
 
-/// Writes it and flushes it.
+/// Writes what happened to the connection of the process, and flushes it.
 fn write_news<W: Sink>(
     writer: &mut WatchedWriter<W>,
     moment: u64,
@@ -151,8 +152,8 @@ fn write_news<W: Sink>(
     finish(writer, CLEAN)
 }
 
-/// Writes what has become of the process's connection, if anything has, and flushes it; else the
-/// writer is left alone.
+/// Writes what happened to the connection of the process, if anything did, and flushes it.
+/// Otherwise does not use the writer.
 pub fn tell_news<W: Sink>(
     writer: &mut WatchedWriter<W>,
     moment: u64,
@@ -166,7 +167,7 @@ pub fn tell_news<W: Sink>(
     }
 }
 
-/// Writes which line of the trace can't be read.
+/// Writes which line of the trace is not valid.
 fn write_bad_line<W: Sink>(writer: &mut WatchedWriter<W>, number: usize) -> Result<u8, WriteFault>
     ensures { Prints W.contents W.does (IsLast (unserved_text ServeFault.BadLine number) 3)
         writer.old
@@ -176,7 +177,7 @@ fn write_bad_line<W: Sink>(writer: &mut WatchedWriter<W>, number: usize) -> Resu
     finish(writer, FAULT)
 }
 
-/// Writes why a turn is not done, by the number of its line of the trace.
+/// Writes why a turn was not done, with the number of its line of the trace.
 pub fn write_unserved<W: Sink>(
     writer: &mut WatchedWriter<W>,
     fault: ServeFault,

@@ -3,7 +3,7 @@ use bay_config::read::read_bay;
 use std::alloc::Global;
 use std::test::Fail;
 
-/// The number with which a bay file is refused that is a comment of so many octets.
+/// Returns the number of the refusal of a bay file that is a comment of the given number of octets.
 fn refusal_of(alloc: Global, octets: usize) -> Result<Option<u8>, Fail> {
     let mut text = String::new(alloc);
     for _ in 0..octets {

@@ -28,13 +28,14 @@ ST QB1_ENA_CLS
 END_PROGRAM
 ";
 
-/// The image of the program in version 1, up to the number of the version and from there on.
+/// The image of the program in version 1, split around the version number.
 const IMAGE: [&str; 2] = [
     "494c4243",
     "00030100085141315f4f50454e01010b5142315f454e415f4f504e01010b5142315f454e415f434c5300000000000d02000607000008000108000201",
 ];
 
-/// Names in any case, names of others, and how many there are of each.
+/// Whether look-ups find names in either case, do not find others' names, and count each kind
+/// correctly.
 fn finds(device: &Device) -> bool {
     let switches = [
         device.switch("qb1"),
@@ -55,7 +56,7 @@ fn finds(device: &Device) -> bool {
         && [device.ena(0), device.ena(2)] == [Some((false, false)), None]
 }
 
-/// The same of a device of its own.
+/// Does the same with a newly loaded device.
 fn a_device_finds(alloc: Global) -> Result<bool, LoadFault> {
     match load(alloc, BAY, LOGIC) {
         Ok(device) => Ok(finds(&device)),
@@ -69,7 +70,7 @@ fn look_ups(rt: HostRuntime) -> Result<(), Fail> {
     Ok(())
 }
 
-/// The numbers of refusals, 0 for an event that was done.
+/// Returns the numbers of refusals, with 0 for an event that was done.
 fn codes_of(alloc: Global, answers: &[Result<Step, StepFault>]) -> Result<Vec<u8>, AllocError> {
     let mut codes = Vec::new(alloc);
     for answer in answers {
@@ -81,7 +82,7 @@ fn codes_of(alloc: Global, answers: &[Result<Step, StepFault>]) -> Result<Vec<u8
     Ok(codes)
 }
 
-/// The answers of a device to events of the process, of which the second is a scan.
+/// Checks a device's answers to events of the process, of which the second is a scan.
 fn runs_process(alloc: Global, device: &mut Device) -> Result<bool, Fail> {
     let position = Dbpos::Off;
     let answers = device.run(&[
@@ -123,7 +124,7 @@ fn runs_process(alloc: Global, device: &mut Device) -> Result<bool, Fail> {
     Ok(is_scanned && codes.as_slice() == [0, 0, 110, 113, 114].as_slice())
 }
 
-/// Octets of association 1.
+/// Returns the event of octets from association 1.
 fn heard(octets: &[u8]) -> Event<'_> {
     Event::Recv {
         association: 1,
@@ -131,7 +132,7 @@ fn heard(octets: &[u8]) -> Event<'_> {
     }
 }
 
-/// Whether an event has sent the answer to a request for a transport connection.
+/// Whether an event sent the answer to a transport connection request.
 fn is_confirmed(alloc: Global, answer: Option<&Result<Step, StepFault>>) -> Result<bool, Fail> {
     match answer {
         Some(Ok(step)) => match step.sent.as_slice() {
@@ -142,7 +143,8 @@ fn is_confirmed(alloc: Global, answer: Option<&Result<Step, StepFault>>) -> Resu
     }
 }
 
-/// The answers of a device to events of associations, and to octets of none.
+/// Checks a device's answers to events of associations, and to octets of an association that is not
+/// open.
 fn runs_talk(alloc: Global, device: &mut Device) -> Result<bool, Fail> {
     let request = octets_of(alloc, &[REQUEST])?;
     let other = Event::Recv {
@@ -163,7 +165,7 @@ fn runs_talk(alloc: Global, device: &mut Device) -> Result<bool, Fail> {
     Ok(is_confirmed && codes.as_slice() == [0, 0, 0, 111, 0, 111, 111].as_slice())
 }
 
-/// The answers of a device to both.
+/// Checks a device's answers to both.
 fn runs_all(alloc: Global, device: &mut Device) -> Result<bool, Fail> {
     Ok(
         runs_process(alloc, device)?
@@ -172,7 +174,7 @@ fn runs_all(alloc: Global, device: &mut Device) -> Result<bool, Fail> {
     )
 }
 
-/// The same of a device of its own.
+/// Does the same with a newly loaded device.
 fn a_device_runs(alloc: Global) -> Result<bool, Fail> {
     match load(alloc, BAY, LOGIC) {
         Ok(mut device) => runs_all(alloc, &mut device),
@@ -186,7 +188,7 @@ fn runs(rt: HostRuntime) -> Result<(), Fail> {
     Ok(())
 }
 
-/// A device gives the image in version 2.
+/// Whether a device gives its image in version 2.
 fn gives_image(alloc: Global, device: &Device) -> Result<bool, Fail> {
     has_octets(
         alloc,
@@ -195,7 +197,7 @@ fn gives_image(alloc: Global, device: &Device) -> Result<bool, Fail> {
     )
 }
 
-/// The same of the device of an image in version 1.
+/// Does the same with the device of an image in version 1.
 fn a_device_gives_image(alloc: Global, first: &[u8]) -> Result<bool, Fail> {
     match load_image(alloc, BAY, first) {
         Ok(device) => gives_image(alloc, &device),
@@ -210,7 +212,7 @@ fn images(rt: HostRuntime) -> Result<(), Fail> {
     Ok(())
 }
 
-/// What refused loads, refused events and a failed write are told as.
+/// Returns the messages of refused loads, refused events and a failed write.
 fn messages_text(alloc: Global) -> Result<String, AllocError> {
     format!(in alloc;
         "{}, {}, {}, {}, {}, {}",

@@ -9,7 +9,7 @@ use bay_serve::turn::serve_turn;
 use std::alloc::Global;
 use std::test::Fail;
 
-/// One turn, of which the closings are added to those before.
+/// Serves one turn, and appends its closings to those before.
 fn turn(
     alloc: Global,
     server: &mut Server,
@@ -22,8 +22,7 @@ fn turn(
     Ok(())
 }
 
-/// So many turns of a server, each a millisecond after the one before, and what they tell of
-/// closings.
+/// Serves turns one millisecond apart, and returns the closings that they report.
 fn turns_of(
     alloc: Global,
     server: &mut Server,
@@ -37,19 +36,19 @@ fn turns_of(
     Ok(closed)
 }
 
-/// Serves clients for so many turns, and tells what was closed.
+/// Serves clients for the given number of turns, and returns the closings.
 fn serve(alloc: Global, link: &mut MemoryLink, turns: u64) -> Result<Vec<(u16, Closing)>, Fail> {
     let mut server = server(alloc)?;
     turns_of(alloc, &mut server, link, turns)
 }
 
-/// So many clients with a whole session each.
+/// Returns the given number of clients, each with a whole session.
 fn sessions(alloc: Global, count: usize) -> Result<MemoryLink, Fail> {
     let octets = octets_of(alloc, &[REQUEST, CONNECT, IDENTIFY])?;
     MemoryLink::new(alloc, octets.as_slice(), count)
 }
 
-/// What a session is answered.
+/// The answers to a session.
 const ANSWERS: [&str; 3] = [CONFIRM, CONNECTED, IDENTITY];
 
 #[test]
@@ -84,7 +83,7 @@ fn nine_clients_are_served_one_after_the_other(rt: HostRuntime) -> Result<(), Fa
     Ok(())
 }
 
-/// A session of which the call with this number fails.
+/// Returns a session in which the call with this number fails.
 fn failing(alloc: Global, fails_at: u64) -> Result<MemoryLink, Fail> {
     let mut link = sessions(alloc, 1)?;
     link.per_write = 50;
@@ -92,8 +91,8 @@ fn failing(alloc: Global, fails_at: u64) -> Result<MemoryLink, Fail> {
     Ok(link)
 }
 
-/// Where this call fails, the client got all, or a front of it, and then it is told that its
-/// connection failed.
+/// Whether, if this call fails, the client received everything, or the first part of it and then
+/// the report that its connection failed.
 fn is_told(alloc: Global, fails_at: u64) -> Result<bool, Fail> {
     let mut link = failing(alloc, fails_at)?;
     let closed = serve(alloc, &mut link, 3)?;
@@ -104,7 +103,7 @@ fn is_told(alloc: Global, fails_at: u64) -> Result<bool, Fail> {
     Ok(link.failures == 1 && is_front && (is_closed || is_whole))
 }
 
-/// How many calls a session makes of which none fails.
+/// Returns the number of calls in a session in which none fails.
 fn calls_of_all(alloc: Global) -> Result<u64, Fail> {
     let mut link = failing(alloc, 0)?;
     serve(alloc, &mut link, 3)?;
@@ -120,7 +119,7 @@ fn each_call_may_fail(rt: HostRuntime) -> Result<(), Fail> {
     Ok(())
 }
 
-/// A session with so many requests to identify.
+/// Returns a session with the given number of identify requests.
 fn long_session(alloc: Global, count: u64) -> Result<MemoryLink, Fail> {
     let mut octets = octets_of(alloc, &[REQUEST, CONNECT])?;
     let identify = octets_of(alloc, &[IDENTIFY])?;
@@ -140,14 +139,15 @@ fn a_client_that_never_reads_is_closed(rt: HostRuntime) -> Result<(), Fail> {
     Ok(())
 }
 
-/// Tells a server a line, and answers what was refused of it.
+/// Serves a turn with a line, and returns the number of its refusal.
 fn tell(alloc: Global, server: &mut Server, now: u64, line: &str) -> Result<Option<u8>, Fail> {
     let mut link = sessions(alloc, 0)?;
     let turn = serve_turn(alloc, server, &mut link, now, Some(line))?;
     Ok(turn.refused)
 }
 
-/// A contact is taken at the clock's moment, and one of an unknown switch refused at the last.
+/// Whether a contact is taken at the clock's time, and one of an unknown switch is refused at the
+/// last time.
 fn takes_lines(alloc: Global, server: &mut Server) -> Result<bool, Fail> {
     let taken = tell(alloc, server, 1000, "1 contact QA1 1")?;
     let unknown = tell(alloc, server, 999, "1 contact QA9 1")?;
@@ -156,7 +156,7 @@ fn takes_lines(alloc: Global, server: &mut Server) -> Result<bool, Fail> {
     Ok(taken.is_none() && unknown == Some(113) && is_free && device.moment() == 1000)
 }
 
-/// The same of a server of its own.
+/// Does the same with a new server.
 fn a_server_takes_lines(alloc: Global) -> Result<bool, Fail> {
     let mut server = server(alloc)?;
     takes_lines(alloc, &mut server)
@@ -168,7 +168,7 @@ fn a_line_tells_of_the_process(rt: HostRuntime) -> Result<(), Fail> {
     Ok(())
 }
 
-/// The number of the fault for which a turn is not done.
+/// Returns the number of the fault for which a turn is not done.
 fn fault_of(
     alloc: Global,
     server: &mut Server,
@@ -182,7 +182,7 @@ fn fault_of(
     }
 }
 
-/// Each of some lines is refused, and a moment that is too large.
+/// Whether each of some lines is refused, and so is a time that is too late.
 fn refuses_turns(alloc: Global, server: &mut Server) -> Result<bool, Fail> {
     for line in ["1 scan", "1 open 1", "", "contact QA1 1", "1 contact QA1 4"] {
         if fault_of(alloc, server, 2000, Some(line))? != Some(120) {
@@ -193,7 +193,7 @@ fn refuses_turns(alloc: Global, server: &mut Server) -> Result<bool, Fail> {
     Ok(late == Some(114) && server.device().moment() == 0)
 }
 
-/// The same of a server of its own.
+/// Does the same with a new server.
 fn a_server_refuses_turns(alloc: Global) -> Result<bool, Fail> {
     let mut server = server(alloc)?;
     refuses_turns(alloc, &mut server)

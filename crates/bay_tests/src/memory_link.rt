@@ -5,15 +5,15 @@ use bay_serve::link::{Arrival, Link, LinkFault};
 use std::alloc::Global;
 use std::test::Fail;
 
-/// A client: how many octets of what it sends were read, and what was sent to it.
+/// A client: how many of the octets that it sends were read, and what was sent to it.
 #[derive(Drop)]
 struct Client {
     given: usize,
     taken: Vec<u8>,
 }
 
-/// Clients that connect one after the other. Each sends the same octets, as many at a time as they
-/// are read, and then nothing or its end.
+/// Clients that connect one after the other. Each sends the same octets, as many at a time as are
+/// read, and then nothing or its end.
 #[derive(Drop)]
 pub struct MemoryLink {
     incoming: Vec<u8>,
@@ -28,7 +28,7 @@ pub struct MemoryLink {
     pub closed: u64,
 }
 
-/// So many clients.
+/// Returns the given number of clients.
 fn clients_of(alloc: Global, count: usize) -> Result<Vec<Client>, Fail> {
     let mut clients = Vec::new(alloc);
     for _ in 0..count {
@@ -41,7 +41,7 @@ fn clients_of(alloc: Global, count: usize) -> Result<Vec<Client>, Fail> {
 }
 
 impl MemoryLink {
-    /// A link of so many clients, each of which sends the same octets.
+    /// Creates a link of the given number of clients, each of which sends the same octets.
     pub fn new(alloc: Global, incoming: &[u8], count: usize) -> Result<MemoryLink, Fail> {
         let clients = clients_of(alloc, count)?;
         let incoming = incoming.to_vec(alloc)?;
@@ -59,7 +59,7 @@ impl MemoryLink {
         })
     }
 
-    /// What was sent to a client.
+    /// Returns what was sent to a client.
     pub fn taken(&self, client: usize) -> &[u8] {
         match self.clients.as_slice().get(client) {
             Some(client) => client.taken.as_slice(),
@@ -67,7 +67,7 @@ impl MemoryLink {
         }
     }
 
-    /// Counts a call, and says whether it is the one that fails.
+    /// Counts a call, and returns whether it is the one that fails.
     fn is_failing(&mut self) -> bool
         ensures { self.new.failures ≡ self.old.failures }
     {
@@ -76,7 +76,7 @@ impl MemoryLink {
     }
 }
 
-/// Octets of what a client sends that were not read, as many as there is room for, and how many.
+/// Copies unread octets of a client to `room`, as many as fit, and returns how many.
 fn give(incoming: &[u8], given: &mut usize, room: &mut [u8]) -> usize
     ensures { result ≤ length room.new }
 {

@@ -4,8 +4,8 @@ use bay_main::host::Host;
 use bay_serve::link::{Arrival, Link, LinkFault};
 use std::test::Fail;
 
-/// A link on which no client connects, or one process, which sends some pieces and then its end,
-/// and wants to be told one text; behind its closing it may come again.
+/// A link on which either no client connects, or a process that sends some pieces and then its end,
+/// and accepts only one text. It may come again after it is closed.
 #[derive(Drop)]
 struct Scripted {
     waits: bool,
@@ -49,7 +49,8 @@ impl Link for Scripted {
     }
 }
 
-/// A host whose clock goes by a second at each look. At port 9 is the process, if it is anywhere.
+/// A host whose clock advances by a second each time it is read. The process, if there is one, is
+/// at port 9.
 #[derive(Drop)]
 struct Sides {
     pieces: [&'static [u8]; 3],
@@ -81,7 +82,7 @@ impl Host<Scripted> for Sides {
     fn pause(&mut self) {}
 }
 
-/// A host with a process that sends these pieces.
+/// Returns a host with a process that sends these pieces.
 fn host_of(pieces: [&'static [u8]; 3]) -> Sides {
     Sides {
         pieces,
@@ -147,7 +148,7 @@ fn a_port_that_cannot_be_had(rt: HostRuntime) -> Result<(), Fail> {
     Ok(())
 }
 
-/// Another process comes only once each switch is bad: here one turn behind the closing.
+/// Another process comes only once every switch is bad: here one turn after the closing.
 #[test]
 fn switches_are_bad_behind_a_process(rt: HostRuntime) -> Result<(), Fail> {
     let mut host = host_of([b"0 contact Q 1\n", b"", b""]);

@@ -36,8 +36,8 @@ impl Read for Dripping<'_> {
     }
 }
 
-/// A writer that takes at most three octets at a call, and fails once it is full, or at each flush;
-/// it counts its flushes.
+/// A writer that takes at most three octets per call, and fails once it is full or at each flush.
+/// It counts its flushes.
 #[derive(Drop)]
 struct Narrow {
     taken: Vec<u8>,
@@ -74,8 +74,8 @@ impl Write for Narrow {
     }
 }
 
-/// What a scenario's replay wrote, its status (255 for a failed write), what is known of reader and
-/// writer, and what these counted themselves.
+/// What the replay of a scenario wrote, its status (255 for a failed write), what is known of the
+/// reader and the writer, and what these counted themselves.
 #[derive(Drop)]
 struct Outcome {
     report: Vec<u8>,
@@ -198,7 +198,8 @@ fn reads_no_more_than_the_limit(rt: HostRuntime) -> Result<(), Fail> {
     Ok(())
 }
 
-/// What is printed for so many line feeds, with its status (255 for a failed write).
+/// Returns what is printed for the given number of line feeds, with its status (255 for a failed
+/// write).
 fn blank_outcome(alloc: Global, count: usize) -> Result<(Vec<u8>, u8), Fail> {
     let blank = vec![in alloc; 10u8; count]?;
     let mut taken = Vec::new(alloc);

@@ -11,7 +11,7 @@ use bay_serve::link::{Arrival, Link, LinkFault};
 use std::alloc::Global;
 use std::test::Fail;
 
-/// A bay file, a program and a trace, each under a name of its own.
+/// A bay file, a program and a trace, each under its own name.
 #[derive(Drop)]
 struct Texts<'a> {
     trace: &'a str,
@@ -75,7 +75,8 @@ impl Link for Hasty {
     fn close(&mut self, _a: u16) {}
 }
 
-/// A host with one port, whose clock goes by a second at each look, and that counts its pauses.
+/// A host with one port, whose clock advances by a second each time it is read. It counts its
+/// pauses.
 #[derive(Drop)]
 struct Still {
     has_port: bool,
@@ -102,7 +103,7 @@ impl Host<Hasty> for Still {
     }
 }
 
-/// What is printed where the words ask to serve a trace, and how it ends.
+/// Returns what is printed for words that ask to serve a trace, and the exit status.
 pub fn served<L: Link + Drop, H: Host<L>>(
     alloc: Global,
     host: &mut H,
@@ -118,7 +119,7 @@ pub fn served<L: Link + Drop, H: Host<L>>(
     (printed, status)
 }
 
-/// A host whose port can be had.
+/// Returns a host whose port can be opened.
 fn ready() -> Still {
     Still {
         has_port: true,

@@ -9,7 +9,7 @@ use bay_serve::server::Server;
 use std::alloc::Global;
 use std::test::Fail;
 
-/// Two switches, of which the first is selected before it is operated.
+/// Two switches, the first of which is selected before it is operated.
 const BAY: &str =
     "[bay]\ndomain = \"BAY1\"\nvendor = \"Demo\"\nmodel = \"BC1\"\nrevision = \"1.0\"\nscan_max_age_ms = 1000\n[[switch]]\nid = \"QA1\"\nkind = \"breaker\"\ncontrol = \"sbo\"\nsbo_timeout_ms = 2000\ntravel_ms = 500\n[[switch]]\nid = \"QB1\"\nkind = \"disconnector\"\ncontrol = \"direct\"\ntravel_ms = 3000\n";
 
@@ -32,7 +32,7 @@ pub const IDENTIFY: &str = "0300001b02f08001000100610e300c020103a007a00502010182
 pub const IDENTITY: &str =
     "0300002b02f08001000100611e301c020103a017a115020101a210800444656d6f81034243318203312e30";
 
-/// The octets that hexadecimal digits write.
+/// Returns the octets that hexadecimal digits encode.
 pub fn octets_of(alloc: Global, texts: &[&str]) -> Result<Vec<u8>, Fail> {
     let mut digits = String::new(alloc);
     for text in texts {
@@ -41,12 +41,12 @@ pub fn octets_of(alloc: Global, texts: &[&str]) -> Result<Vec<u8>, Fail> {
     Ok(hex::decode(alloc, digits.as_str())?)
 }
 
-/// Whether octets are those that hexadecimal digits write.
+/// Whether octets are those that hexadecimal digits encode.
 pub fn has_octets(alloc: Global, octets: &[u8], texts: &[&str]) -> Result<bool, Fail> {
     Ok(octets == octets_of(alloc, texts)?.as_slice())
 }
 
-/// A server of a device.
+/// Creates a server of a device.
 fn server_of(alloc: Global, device: Device) -> Result<Server, Fail>
     requires closed { device.connections ≡ replicate 8 None }
     requires timed { AreTimed device.controls.controls }
@@ -57,7 +57,7 @@ fn server_of(alloc: Global, device: Device) -> Result<Server, Fail>
     }
 }
 
-/// A server of the device of the two switches.
+/// Creates a server of the device of the two switches.
 pub fn server(alloc: Global) -> Result<Server, Fail> {
     match load(alloc, BAY, LOGIC) {
         Ok(device) => server_of(alloc, device),

@@ -14,7 +14,7 @@ use std::test::Fail;
 use std::thread;
 use std::time::Duration;
 
-/// What a client has to read now is added to what it got.
+/// Appends what a client has to read now to what it has received.
 pub fn read_some(stream: &TcpStream, answer: &mut Vec<u8>) -> Result<(), Fail> {
     let mut room = [0; 256];
     match (&mut &*stream).read(&mut room) {
@@ -24,7 +24,8 @@ pub fn read_some(stream: &TcpStream, answer: &mut Vec<u8>) -> Result<(), Fail> {
     }
 }
 
-/// Sends octets to the server, and serves until so many came back, or for some seconds.
+/// Sends octets to the server, and serves until the given number of octets came back, or for some
+/// seconds.
 fn ask<R: Runtime<A = Global>>(
     rt: &R,
     server: &mut Server,
@@ -46,7 +47,7 @@ fn ask<R: Runtime<A = Global>>(
     Ok(())
 }
 
-/// A link at a port of the system's choice.
+/// Creates a link at a port that the system picks.
 pub fn link_at<R: Runtime<A = Global> + Net<Listener = TcpListener, Stream = TcpStream>>(
     rt: &R,
 ) -> Result<TcpLink<'_, R>, Fail> {
@@ -54,7 +55,7 @@ pub fn link_at<R: Runtime<A = Global> + Net<Listener = TcpListener, Stream = Tcp
     Ok(TcpLink::bind(rt, rt, &readiness, 0)?)
 }
 
-/// A client of the server, which waits for nothing.
+/// Connects a client to the server. Its calls do not block.
 pub fn client_of<R: Net<Listener = TcpListener, Stream = TcpStream>, C: Clock>(
     rt: &R,
     link: &TcpLink<'_, C>,
@@ -65,7 +66,7 @@ pub fn client_of<R: Net<Listener = TcpListener, Stream = TcpStream>, C: Clock>(
     Ok(stream)
 }
 
-/// A client of the server asks three times.
+/// Lets a client of the server ask three times.
 fn talk<R: Runtime<A = Global>>(
     rt: &R,
     server: &mut Server,
@@ -80,7 +81,7 @@ fn talk<R: Runtime<A = Global>>(
     Ok(())
 }
 
-/// A client connects to a link, of which a server is made, and talks to it.
+/// Lets a connected client talk to a server that is created for the link.
 fn serve_client<R: Runtime<A = Global>>(
     rt: &R,
     link: &mut TcpLink<'_, R>,
@@ -91,7 +92,7 @@ fn serve_client<R: Runtime<A = Global>>(
     talk(rt, &mut server, link, stream, taken)
 }
 
-/// A client connects to a port of the system's choice, and talks to the server there.
+/// Connects a client to a port that the system picks, and lets it talk to the server there.
 fn session<R: Runtime<A = Global> + Net<Listener = TcpListener, Stream = TcpStream>>(
     rt: &R,
     taken: &mut Vec<u8>,

@@ -12,8 +12,8 @@ use std::test::Fail;
 use std::time::Duration;
 use std::{fs, io};
 
-/// A system with words of its own, of which what is printed and complained of is kept. Where
-/// nothing can be printed, each write of what is printed fails.
+/// A system with its own command-line words that keeps what is printed and complained of. If
+/// nothing can be printed, each write to standard output fails.
 #[derive(Clone, Copy)]
 struct Kept<'a> {
     host: &'a HostRuntime,
@@ -23,7 +23,7 @@ struct Kept<'a> {
     prints: bool,
 }
 
-/// Adds octets to those that are kept.
+/// Appends octets to those that are kept.
 fn keep(kept: &RefCell<Vec<u8>>, octets: &[u8]) -> io::Result<()> {
     let Ok(mut all) = kept.try_borrow_mut() else {
         return Err(io::Error::from(ErrorKind::Other));
@@ -180,8 +180,8 @@ impl Net for Kept<'_> {
     }
 }
 
-/// How the program ends with these words: its status as it is shown, what it prints and what it
-/// complains of, a line each.
+/// Runs the program with these words, and returns its status as it is displayed, what it prints,
+/// and what it complains of, separated by `|`.
 fn ended(rt: &HostRuntime, words: &[&str], prints: bool) -> Result<String, Fail> {
     let (printed, complaint) = (
         RefCell::new(Vec::new(rt.alloc())),
@@ -201,7 +201,7 @@ fn ended(rt: &HostRuntime, words: &[&str], prints: bool) -> Result<String, Fail>
     Ok(all)
 }
 
-/// A text with its words.
+/// Whether the program with these words ends with this text.
 fn with_words(rt: &HostRuntime, words: &[&str], prints: bool, wanted: &str) -> Result<bool, Fail> {
     Ok(ended(rt, words, prints)?.as_str() == wanted)
 }

@@ -5,14 +5,14 @@ ghost use Rattle.bay_trace.specs.Digits.{octets_in, octets_of};
 use std::alloc::{AllocError, Global};
 use std::marker::Model;
 
-/// Hexadecimal digits of either case that write octets, one at least.
+/// Hexadecimal digits, in either case, that encode at least one octet.
 #[derive(Clone, Copy)]
 pub struct Digits<'a> {
     text: &'a [u8],
     ghost are_octets: { is_some (octets_of text.now) ≡ true },
 }
 
-/// Whether a word is such digits.
+/// Whether a word consists of such digits.
 fn are_octets(word: &[u8]) -> bool
     ensures { result ≡ is_some (octets_of word.now) }
 {
@@ -26,7 +26,8 @@ fn are_octets(word: &[u8]) -> bool
 }
 
 impl<'a> Digits<'a> {
-    /// The digits that a word is, if it is such.
+    /// Returns the digits of a word, or `None` if it does not consist of digits for at least one
+    /// octet.
     pub fn of(word: &'a [u8]) -> Option<Self>
         ensures { option_map (λ d. octets_in d.text.now) result ≡ octets_of word.entry.now }
     {
@@ -38,7 +39,7 @@ impl<'a> Digits<'a> {
     }
 }
 
-/// Decodes digits into the front of room for their octets.
+/// Decodes digits into the first `count` octets of `room`.
 fn decode(digits: Digits<'_>, count: usize, room: &mut [u8])
     requires counted { count ≡ length (octets_in digits.text.now) }
     requires fits { count ≤ length room.old }
@@ -47,8 +48,8 @@ fn decode(digits: Digits<'_>, count: usize, room: &mut [u8])
     let _ = hex::decode_to_slice(digits.text, &mut room[..count]);
 }
 
-/// Room for the octets of a line. It is made anew for a line with more octets than any before, and
-/// no larger than that.
+/// Room for the octets of a line. It is reallocated for a line with more octets than any before, to
+/// exactly that size.
 #[derive(Drop)]
 pub struct LineOctets {
     alloc: Global,
@@ -68,7 +69,7 @@ impl Model for LineOctets {
 }
 
 impl LineOctets {
-    /// Room for no octet. It takes no memory.
+    /// Creates room for no octets. Does not allocate.
     pub fn new(alloc: Global) -> Self
         ensures { result ≡ record { octets = []; room = 0 } }
     {
@@ -79,7 +80,7 @@ impl LineOctets {
         }
     }
 
-    /// Makes room for so many octets, if there is less.
+    /// Makes room for `count` octets, if there is less.
     fn make_room(&mut self, count: usize) -> Result<(), AllocError>
         ensures made { OnOk result
             ((length self.new.octets ≡ count) × (self.new.room ≡ max self.old.room count)) }
@@ -92,7 +93,7 @@ impl LineOctets {
         Ok(())
     }
 
-    /// Takes the octets that digits write, in the place of those of the line before.
+    /// Decodes digits, replacing the octets of the line before.
     pub fn read(&mut self, digits: Digits<'_>) -> Result<(), AllocError>
         ensures octets { OnOk result (self.new.octets ≡ octets_in digits.entry.text.now) }
         ensures room { OnOk result
@@ -105,7 +106,7 @@ impl LineOctets {
         Ok(())
     }
 
-    /// The octets of the line.
+    /// Returns the octets of the line.
     pub fn as_slice(&self) -> &[u8]
         ensures { result.now ≡ self.now.octets }
     {

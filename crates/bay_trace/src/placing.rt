@@ -10,7 +10,7 @@ use bay_device::device::Device;
 use bay_device::event::Event;
 use std::alloc::AllocError;
 
-/// Takes the octets of what happens, if it has any.
+/// Decodes the octets of an event, if it has any.
 pub fn take_octets(octets: &mut LineOctets, event: &NamedEvent<'_>) -> Result<(), AllocError>
     ensures { Takes (named_view event.now) octets.old octets.new result }
 {
@@ -20,8 +20,8 @@ pub fn take_octets(octets: &mut LineOctets, event: &NamedEvent<'_>) -> Result<()
     }
 }
 
-/// The event by its place in the device; what has no place is told apart by a place at which there
-/// is nothing.
+/// Resolves the names of an event to their indices in the device. An unknown name becomes an index
+/// at which there is nothing.
 pub fn placed_event<'a>(device: &Device, octets: &'a [u8], event: NamedEvent<'_>) -> Event<'a>
     requires { AreOctets (named_view event) octets.now }
     ensures { anywhere result ≡ spec.placed_event device.now (named_view event.entry) }

@@ -10,19 +10,19 @@ use crate::octets::Digits;
 use bay_config::bay::MeterField;
 use bay_tree::leaf::Dbpos;
 
-/// What happens at a moment.
+/// An event, with names as in the trace.
 #[derive(Clone, Copy)]
 pub enum NamedEvent<'a> {
-    /// The association with this number is opened.
+    /// Opens the association with this number.
     Open {
         association: u16,
     },
-    /// Octets of the client of this association come.
+    /// The client of this association sends octets.
     Recv {
         association: u16,
         digits: Digits<'a>,
     },
-    /// The association with this number is closed.
+    /// Closes the association with this number.
     Close {
         association: u16,
     },
@@ -31,18 +31,18 @@ pub enum NamedEvent<'a> {
         id: &'a str,
         position: Dbpos,
     },
-    /// The input with this name has this value.
+    /// The input with this name takes this value.
     Input {
         name: &'a str,
         value: bool,
     },
-    /// This field of the meter with this id has this value.
+    /// This field of the meter with this id takes this value.
     Measure {
         id: &'a str,
         field: MeterField,
         value: i32,
     },
-    /// The program runs once.
+    /// Runs the program once.
     Scan,
 }
 
@@ -51,14 +51,14 @@ pub enum NamedEvent<'a> {
 pub enum TraceLine<'a> {
     /// An empty line.
     Blank,
-    /// At this moment, in milliseconds since 1970, something happens.
+    /// An event at a time in milliseconds since 1970.
     At { moment: u64, event: NamedEvent<'a> },
 }
 
-/// A number below this stays below 2^64 with any digit behind its own.
+/// A number below this stays below 2^64 with any one digit appended.
 const ROOM_FOR_A_DIGIT: u64 = 1_000_000_000_000_000_000;
 
-/// The first word of a text, and what follows the space after it.
+/// Returns the first word of a text, and what follows the space after it.
 fn cut_word(text: &[u8]) -> (&[u8], Option<&[u8]>)
     ensures { slice_split is_space text.now
         ≡ result.0.now ∷ rest_words (option_map (λ rest. rest.now) result.1) }
@@ -69,8 +69,8 @@ fn cut_word(text: &[u8]) -> (&[u8], Option<&[u8]>)
     }
 }
 
-/// A number with one more decimal digit behind its own, if the octet is a digit and it stays below
-/// 2^64.
+/// Appends a decimal digit to a number, or returns `None` if the octet is not a digit or the result
+/// reaches 2^64.
 fn with_digit(number: u64, octet: u8) -> Option<u64>
     ensures { result ≡ spec.with_digit number octet }
 {
@@ -84,8 +84,7 @@ fn with_digit(number: u64, octet: u8) -> Option<u64>
     number.checked_mul(10)?.checked_add(digit)
 }
 
-/// The number that decimal digits write, if it is below 2^64. There may be leading zeros, and no
-/// sign.
+/// Reads a decimal number below 2^64. Leading zeros are allowed, a sign is not.
 fn number(word: &[u8]) -> Option<u64>
     ensures { result ≡ read_number word.now }
 {
@@ -99,7 +98,7 @@ fn number(word: &[u8]) -> Option<u64>
     Some(number)
 }
 
-/// The number as a value, if it is below 2^31.
+/// Returns the number as a value if it is below 2^31.
 fn positive(number: u64) -> Option<i32>
     ensures { result ≡ positive_of number }
 {
@@ -110,7 +109,7 @@ fn positive(number: u64) -> Option<i32>
     }
 }
 
-/// The opposite of the number as a value, if it is not below -2^31.
+/// Returns the negated number as a value if it is not below -2^31.
 fn negative(number: u64) -> Option<i32>
     ensures { result ≡ negative_of number }
 {
@@ -121,7 +120,7 @@ fn negative(number: u64) -> Option<i32>
     }
 }
 
-/// The value that decimal digits write, before which a `-` may stand.
+/// Reads a decimal value, optionally with a `-` before it.
 fn integer(word: &[u8]) -> Option<i32>
     ensures { result ≡ read_integer word.now }
 {
@@ -131,7 +130,7 @@ fn integer(word: &[u8]) -> Option<i32>
     }
 }
 
-/// The position that a digit stands for.
+/// Reads a position from its digit, 0 to 3.
 fn position(word: &[u8]) -> Option<Dbpos>
     ensures { result ≡ position_of word.now }
 {
@@ -144,7 +143,7 @@ fn position(word: &[u8]) -> Option<Dbpos>
     }
 }
 
-/// The truth value that a digit stands for.
+/// Reads a truth value from its digit, 0 or 1.
 fn truth(word: &[u8]) -> Option<bool>
     ensures { result ≡ truth_of word.now }
 {
@@ -155,7 +154,7 @@ fn truth(word: &[u8]) -> Option<bool>
     }
 }
 
-/// The field of a meter with this name.
+/// Returns the field of a meter with this name.
 fn field(word: &[u8]) -> Option<MeterField>
     ensures { result ≡ field_of word.now }
 {
@@ -176,7 +175,7 @@ fn field(word: &[u8]) -> Option<MeterField>
     }
 }
 
-/// A name, which is UTF-8 and not empty. Most names are ASCII, which is UTF-8 as it stands.
+/// Reads a name: UTF-8, and not empty. Most names are ASCII, which is valid UTF-8 without a check.
 fn name(word: &[u8]) -> Option<&str>
     ensures { option_map (λ name. name.now) result ≡ name_of word.now }
 {
@@ -192,7 +191,7 @@ fn name(word: &[u8]) -> Option<&str>
     }
 }
 
-/// What is told of a switch: its position.
+/// Reads an event of a switch: its position.
 fn contact(text: &[u8]) -> Option<NamedEvent<'_>>
     ensures { option_map named_view result
         ≡ event_of (codes "contact" ∷ slice_split is_space text.now) }
@@ -203,7 +202,7 @@ fn contact(text: &[u8]) -> Option<NamedEvent<'_>>
     Some(NamedEvent::Contact { id, position })
 }
 
-/// What is told of an input: its value.
+/// Reads an event of an input: its value.
 fn input(text: &[u8]) -> Option<NamedEvent<'_>>
     ensures { option_map named_view result
         ≡ event_of (codes "input" ∷ slice_split is_space text.now) }
@@ -214,7 +213,7 @@ fn input(text: &[u8]) -> Option<NamedEvent<'_>>
     Some(NamedEvent::Input { name, value })
 }
 
-/// What is told of the meter with this id: a field and its value.
+/// Reads an event of the meter with this id: a field and its value.
 fn measured<'a>(id: &'a str, told: &[u8]) -> Option<NamedEvent<'a>>
     ensures { option_map named_view result
         ≡ measure_of id.entry.now (slice_split is_space told.now) }
@@ -225,7 +224,7 @@ fn measured<'a>(id: &'a str, told: &[u8]) -> Option<NamedEvent<'a>>
     Some(NamedEvent::Measure { id, field, value })
 }
 
-/// What is told of a meter: a field and its value.
+/// Reads an event of a meter: a field and its value.
 fn measure(text: &[u8]) -> Option<NamedEvent<'_>>
     ensures { option_map named_view result
         ≡ event_of (codes "measure" ∷ slice_split is_space text.now) }
@@ -234,14 +233,14 @@ fn measure(text: &[u8]) -> Option<NamedEvent<'_>>
     measured(name(id)?, told?)
 }
 
-/// The number of an association.
+/// Reads the number of an association.
 fn association(word: &[u8]) -> Option<u16>
     ensures { result ≡ association_of word.now }
 {
     u16::try_from(number(word)?).ok()
 }
 
-/// Octets of the client of an association.
+/// Reads the octets that the client of an association sends.
 fn received(text: &[u8]) -> Option<NamedEvent<'_>>
     ensures { option_map named_view result ≡ received_of (slice_split is_space text.now) }
 {
@@ -254,7 +253,7 @@ fn received(text: &[u8]) -> Option<NamedEvent<'_>>
     })
 }
 
-/// What is told of an association: it is opened, octets of its client come, or it is closed.
+/// Reads an event of an association: it is opened, its client sends octets, or it is closed.
 fn talk(text: &[u8]) -> Option<NamedEvent<'_>>
     ensures { option_map named_view result ≡ talk_in (slice_split is_space text.now) }
 {
@@ -270,7 +269,7 @@ fn talk(text: &[u8]) -> Option<NamedEvent<'_>>
     Some(NamedEvent::Close { association })
 }
 
-/// What happens, by the words after the moment.
+/// Reads an event from the words after the time.
 fn event(text: &[u8]) -> Option<NamedEvent<'_>>
     ensures { option_map named_view result ≡ event_of (slice_split is_space text.now) }
 {
@@ -289,7 +288,7 @@ fn event(text: &[u8]) -> Option<NamedEvent<'_>>
     talk(text)
 }
 
-/// The number before the first space, and what follows that space.
+/// Returns the number before the first space, and what follows that space.
 fn cut_number(text: &[u8]) -> Option<(u64, &[u8])>
     ensures { option_map (λ cut. (cut.0, slice_split is_space cut.1.now)) result
         ≡ first_number (slice_split is_space text.now) }
@@ -310,7 +309,7 @@ fn cut_number(text: &[u8]) -> Option<(u64, &[u8])>
     None
 }
 
-/// What a text says that is not empty.
+/// Reads a line that is not empty.
 fn moment_line(text: &[u8]) -> Option<TraceLine<'_>>
     ensures { option_map line_view result ≡ words_line (slice_split is_space text.now) }
 {
@@ -319,7 +318,7 @@ fn moment_line(text: &[u8]) -> Option<TraceLine<'_>>
     Some(TraceLine::At { moment, event })
 }
 
-/// What a line says, or None where it can't be read.
+/// Reads a line of the trace, or returns `None` if it is not valid.
 pub fn read_trace_line(line: &[u8]) -> Option<TraceLine<'_>>
     ensures line { option_map line_view result ≡ trace_line_of line.now }
     // A line that can be read is UTF-8.
@@ -331,8 +330,8 @@ pub fn read_trace_line(line: &[u8]) -> Option<TraceLine<'_>>
     moment_line(line)
 }
 
-/// What a line tells of the process: of a contact, an input or a measure. None where it can't be
-/// read, or tells of something else.
+/// Reads a line with an event of the process: a contact, an input or a measurement. Returns `None`
+/// if the line is not valid or has another event.
 pub fn read_process_line(line: &[u8]) -> Option<NamedEvent<'_>>
     ensures { option_map named_view result ≡ process_of (trace_line_of line.now) }
 {

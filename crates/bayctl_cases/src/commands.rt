@@ -16,7 +16,7 @@ use std::io::Read;
 use std::net::{Net, TcpListener, TcpStream};
 use std::rt::{Files, Runtime};
 
-/// What the next commands read, and what the last one complained of.
+/// The input of the next commands, and the last command's complaint.
 #[derive(Drop)]
 pub struct Commands {
     alloc: Global,
@@ -24,7 +24,7 @@ pub struct Commands {
     complaint: String,
 }
 
-/// Does a command, and puts what it prints behind the octets.
+/// Runs a command, and appends what it prints to the octets.
 fn ended<R: Runtime<A = Global> + Net<Listener = TcpListener, Stream = TcpStream>>(
     rt: &R,
     alloc: Global,
@@ -46,8 +46,8 @@ fn ended<R: Runtime<A = Global> + Net<Listener = TcpListener, Stream = TcpStream
     )
 }
 
-/// A text or the octets of a section: octets are in hexadecimal digits, and a text ends its last
-/// line.
+/// Returns the text or the octets of a section: octets are in hexadecimal digits, and a text ends
+/// its last line.
 fn content_of(alloc: Global, is_octets: bool, body: &str) -> Result<Vec<u8>> {
     if is_octets {
         return octets_of(alloc, body);
@@ -57,14 +57,14 @@ fn content_of(alloc: Global, is_octets: bool, body: &str) -> Result<Vec<u8>> {
     Ok(octets)
 }
 
-/// A text is what was printed, which ends its last line, or nothing.
+/// Checks that what was printed is this text and ends its last line, or is empty.
 fn check_printed(printed: &[u8], wanted: &str) -> Result<()> {
     let text = str::from_utf8(printed)?;
     check_lines(text, wanted)?;
     check(text.is_empty() || text.ends_with("\n"))
 }
 
-/// A file holds these octets.
+/// Checks that a file holds these octets.
 fn check_file<R: Files>(rt: &R, alloc: Global, name: &str, wanted: &str) -> Result<()> {
     let mut octets = Vec::new(alloc);
     fs::open(rt, name)?.read_to_end(&mut octets)?;
@@ -72,7 +72,7 @@ fn check_file<R: Files>(rt: &R, alloc: Global, name: &str, wanted: &str) -> Resu
 }
 
 impl Commands {
-    /// Nothing is read, and nothing was complained of.
+    /// Creates commands with no input and no complaint.
     pub fn new(alloc: Global) -> Commands {
         Commands {
             alloc,
@@ -81,7 +81,7 @@ impl Commands {
         }
     }
 
-    /// A command ends with this status, and prints this text.
+    /// Checks that a command ends with this status and prints this text.
     fn run<R: Runtime<A = Global> + Net<Listener = TcpListener, Stream = TcpStream>>(
         &mut self,
         rt: &R,
@@ -108,7 +108,7 @@ impl Commands {
         check_printed(printed.as_slice(), wanted)
     }
 
-    /// What the next commands read, or a file that is made.
+    /// Sets the input of the next commands, or creates a file.
     pub fn make<R: Files>(&mut self, rt: &R, kind: &str, name: &str, body: &str) -> Result<()> {
         let content = content_of(self.alloc, kind == "octets", body)?;
         if name.is_empty() {
@@ -118,7 +118,7 @@ impl Commands {
         Ok(fs::write(rt, name, content)?)
     }
 
-    /// The case of a section.
+    /// Runs the case of a section.
     pub fn check<R: Runtime<A = Global> + Net<Listener = TcpListener, Stream = TcpStream>>(
         &mut self,
         rt: &R,
@@ -139,7 +139,7 @@ impl Commands {
     }
 }
 
-/// The job that words ask for, as Rust's `{:?}` prints it, or `refused`.
+/// Checks the job that words ask for, as Rust's `{:?}` prints it, or `refused`.
 pub fn check_job(alloc: Global, words: &str, wanted: &str) -> Result<()> {
     let words = words_of(alloc, words)?;
     let job = match job_of(alloc, words.as_slice()) {

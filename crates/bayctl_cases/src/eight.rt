@@ -10,7 +10,7 @@ use anyhow::{Context, Result};
 use cases::words::first_word;
 use std::alloc::{AllocError, Global};
 
-/// A trace, the report that is wanted of it, and the moment up to which they go.
+/// A trace, its expected report, and the time up to which they go.
 #[derive(Drop)]
 struct Talk {
     trace: String,
@@ -18,7 +18,7 @@ struct Talk {
     now: u64,
 }
 
-/// Octets in hexadecimal digits, at once or one by one.
+/// Appends octets in hexadecimal digits, all at once or one by one.
 fn put_recv(
     trace: &mut String,
     moment: u64,
@@ -38,7 +38,7 @@ fn put_recv(
 }
 
 impl Talk {
-    /// What happens at a moment.
+    /// Appends an event at a time.
     fn put_event(
         &mut self,
         moment: u64,
@@ -52,7 +52,7 @@ impl Talk {
         }
     }
 
-    /// What is printed at a moment.
+    /// Appends what is printed at a time.
     fn put_told(&mut self, moment: u64, association: u16, told: &str) -> Result<(), AllocError> {
         match first_word(told) {
             ("send", octets) => match octets.split_once("#") {
@@ -67,7 +67,7 @@ impl Talk {
         }
     }
 
-    /// A block by an association, from the last moment on.
+    /// Appends a block of lines by an association, from the last time on.
     fn put_block(&mut self, association: u16, block: &str, whole: bool) -> Result<()> {
         let begin = self.now;
         for line in block.lines() {
@@ -87,7 +87,7 @@ impl Talk {
         Ok(())
     }
 
-    /// All blocks by so many associations, which are opened first.
+    /// Opens `count` associations, and appends all blocks by each of them.
     fn put_blocks(&mut self, body: &str, count: u16, whole: bool) -> Result<()> {
         for association in 1..=count {
             writeln!(self.trace, "0 open {association}")?;
@@ -101,7 +101,8 @@ impl Talk {
     }
 }
 
-/// A talk by so many associations at once, whole or octet by octet, is answered as its lines say.
+/// Checks that a talk by `count` associations at once, whole or octet by octet, is answered as its
+/// lines say.
 fn check_by(alloc: Global, texts: &Texts, body: &str, count: u16, whole: bool) -> Result<()> {
     let mut talk = Talk {
         trace: String::new(alloc),
@@ -112,8 +113,8 @@ fn check_by(alloc: Global, texts: &Texts, body: &str, count: u16, whole: bool) -
     check_trace(alloc, texts, talk.trace.as_str(), talk.report.as_str())
 }
 
-/// A talk is answered as its lines say, by one association alone and by eight at once, whole and
-/// octet by octet.
+/// Checks that a talk is answered as its lines say: by one association alone with whole messages,
+/// and by eight at once, both whole and octet by octet.
 pub fn check_eight(alloc: Global, texts: &Texts, body: &str) -> Result<()> {
     check_by(alloc, texts, body, 1, true)?;
     check_by(alloc, texts, body, 8, true)?;

@@ -7,7 +7,7 @@ use crate::texts::{Texts, check_trace};
 use anyhow::Result;
 use std::alloc::{AllocError, Global};
 
-/// A message: how many octets come up to its end, and what it comes to, in words.
+/// A message: the number of octets up to its end, and what it leads to, in words.
 #[derive(Clone, Copy)]
 struct Message<'a> {
     end: usize,
@@ -21,14 +21,14 @@ struct Messages<'a> {
     each: Vec<Message<'a>>,
 }
 
-/// A trace, and the report that is wanted of it.
+/// A trace and its expected report.
 #[derive(Drop)]
 struct Talk {
     trace: String,
     report: String,
 }
 
-/// The messages of lines.
+/// Reads the messages of lines.
 fn messages_of(alloc: Global, body: &str) -> Result<Messages<'_>> {
     let (mut digits, mut each) = (String::new(alloc), Vec::new(alloc));
     for line in body.lines() {
@@ -41,12 +41,12 @@ fn messages_of(alloc: Global, body: &str) -> Result<Messages<'_>> {
 }
 
 impl Talk {
-    /// Octets come at a moment.
+    /// Appends octets that arrive at a time.
     fn hear(&mut self, moment: usize, digits: Option<&str>) -> Result<(), AllocError> {
         writeln!(self.trace, "{moment} recv 1 {}", digits.unwrap_or(""))
     }
 
-    /// What a message comes to at a moment; whether the association ends.
+    /// Appends what a message leads to at a time. Returns whether the association ends.
     fn tell(&mut self, moment: usize, message: &Message<'_>) -> Result<bool, AllocError> {
         let mut ends = false;
         for word in message.words.split(" ") {
@@ -58,7 +58,7 @@ impl Talk {
         Ok(ends)
     }
 
-    /// The association is closed at a moment, which is refused where it has ended.
+    /// Closes the association at a time, which is refused if it has already ended.
     fn close(&mut self, moment: usize, has_ended: bool) -> Result<(), AllocError> {
         writeln!(self.trace, "{moment} close 1")?;
         if has_ended {
@@ -67,7 +67,7 @@ impl Talk {
         Ok(())
     }
 
-    /// A front of so many octets comes at once, at this moment.
+    /// Appends the first `count` octets, arriving all at once at the time `count`.
     fn put_front(&mut self, messages: &Messages<'_>, count: usize) -> Result<(), AllocError> {
         writeln!(self.trace, "{count} open 1")?;
         if count > 0 {
@@ -82,7 +82,8 @@ impl Talk {
         self.close(count, has_ended)
     }
 
-    /// The octets of a message come one by one, from one place on: whether the association ends.
+    /// Appends the octets of a message from an index on, arriving one by one. Returns whether the
+    /// association ends.
     fn put_octets(
         &mut self,
         messages: &Messages<'_>,
@@ -107,7 +108,7 @@ impl Talk {
         self.tell(count.saturating_add(message.end).saturating_sub(1), message)
     }
 
-    /// All octets come one by one, each at its own moment behind those of the fronts.
+    /// Appends all octets one by one, each at its own time after those of the prefixes.
     fn put_all(&mut self, messages: &Messages<'_>) -> Result<(), AllocError> {
         let count = messages.digits.len() / 2;
         writeln!(self.trace, "{count} open 1")?;
@@ -120,7 +121,7 @@ impl Talk {
     }
 }
 
-/// The talk of all fronts, and of all octets one by one.
+/// Returns the talk of every prefix, and of all octets one by one.
 fn talk_of(alloc: Global, messages: &Messages<'_>) -> Result<Talk> {
     let mut talk = Talk {
         trace: String::new(alloc),
@@ -133,7 +134,7 @@ fn talk_of(alloc: Global, messages: &Messages<'_>) -> Result<Talk> {
     Ok(talk)
 }
 
-/// Each front of the messages of lines comes to what it should.
+/// Checks that every prefix of the messages leads to what their lines say.
 pub fn check_fronts(alloc: Global, texts: &Texts, body: &str) -> Result<()> {
     let messages = messages_of(alloc, body)?;
     let talk = talk_of(alloc, &messages)?;

@@ -14,7 +14,7 @@ pub struct Texts<'a> {
 }
 
 impl Texts<'_> {
-    /// No texts yet.
+    /// Creates empty texts.
     pub fn new() -> Self {
         Texts {
             bay: "",
@@ -24,7 +24,7 @@ impl Texts<'_> {
         }
     }
 
-    /// The scenario of these texts with another trace, of which each line has its end.
+    /// Returns the scenario of these texts with another trace, each line of which is terminated.
     pub fn scenario(&self, alloc: Global, trace: &str) -> Result<String, AllocError> {
         let Texts {
             bay,
@@ -36,7 +36,7 @@ impl Texts<'_> {
     }
 }
 
-/// The report of a scenario, which ends with this status.
+/// Returns the report of a scenario, which must end with this status.
 pub fn report_of(alloc: Global, scenario: &str, status: u8) -> Result<Vec<u8>> {
     let mut report = Vec::new(alloc);
     let Ok(found) = replay_run(alloc, scenario.as_bytes(), &mut report) else {
@@ -48,7 +48,7 @@ pub fn report_of(alloc: Global, scenario: &str, status: u8) -> Result<Vec<u8>> {
     Ok(report)
 }
 
-/// A report is this text, in which each line has its end.
+/// Checks that a report is this text, each line of which is terminated.
 pub fn check_report(report: &[u8], wanted: &str) -> Result<()> {
     if report == wanted.as_bytes() {
         return Ok(());
@@ -57,7 +57,7 @@ pub fn check_report(report: &[u8], wanted: &str) -> Result<()> {
     bail!("a line ends otherwise")
 }
 
-/// The report of a trace on the device of the texts, behind the line of its load.
+/// Returns the lines after the load line, of a report of a trace on the device of the texts.
 pub fn lines_behind_load(report: &[u8]) -> Result<&str> {
     let text = str::from_utf8(report)?;
     let (head, lines) = text.split_once("\n").context("no report")?;
@@ -67,7 +67,8 @@ pub fn lines_behind_load(report: &[u8]) -> Result<&str> {
     Ok(lines)
 }
 
-/// A trace in which `{OCTETS*TIMES}` stands for octets so many times, and which ends its last line.
+/// Expands a trace in which `{OCTETS*TIMES}` stands for octets repeated that many times, and ends
+/// its last line.
 fn expanded(alloc: Global, trace: &str) -> Result<String> {
     let mut text = String::new(alloc);
     for piece in trace.split("{") {
@@ -82,7 +83,7 @@ fn expanded(alloc: Global, trace: &str) -> Result<String> {
     Ok(text)
 }
 
-/// The scenario of the texts ends with this status and this report.
+/// Checks that the scenario of the texts ends with this status and this report.
 pub fn check_scenario(alloc: Global, texts: &Texts, status: &str, wanted: &str) -> Result<()> {
     let trace = expanded(alloc, texts.trace)?;
     let scenario = texts.scenario(alloc, trace.as_str())?;
@@ -91,15 +92,15 @@ pub fn check_scenario(alloc: Global, texts: &Texts, status: &str, wanted: &str) 
     check_report(report.as_slice(), wanted.as_str())
 }
 
-/// A trace on the device of the texts is reported so.
+/// Checks the report of a trace on the device of the texts.
 pub fn check_trace(alloc: Global, texts: &Texts, trace: &str, wanted: &str) -> Result<()> {
     let scenario = texts.scenario(alloc, trace)?;
     let report = report_of(alloc, scenario.as_str(), 0)?;
     check_lines(lines_behind_load(report.as_slice())?, wanted)
 }
 
-/// What becomes of the bay file with one part replaced and a program of no instructions: `OLD|NEW
-/// -> REPORT`.
+/// Checks what becomes of the bay file with one part replaced and a program without instructions:
+/// `OLD|NEW -> REPORT`.
 pub fn check_changed_bay(alloc: Global, bay: &str, line: &str) -> Result<()> {
     let (change, wanted) = line.split_once(" -> ").context("no answer")?;
     let (old, new) = change.split_once("|").context("no change")?;

@@ -9,7 +9,7 @@ use bay_config::read::read_bay;
 use cases::told::check_lines;
 use std::alloc::{AllocError, Global};
 
-/// The fields of a bay but for points and rows.
+/// Appends the fields of a bay, without points and rows.
 fn put_fields(text: &mut String, bay: &Bay) -> Result<(), AllocError> {
     let (domain, vendor) = (bay.domain.as_str(), bay.vendor.as_str());
     let (model, revision) = (bay.model.as_str(), bay.revision.as_str());
@@ -25,7 +25,7 @@ fn put_fields(text: &mut String, bay: &Bay) -> Result<(), AllocError> {
     )
 }
 
-/// The names of the logical nodes of the switch at a place.
+/// Appends the names of the logical nodes of the switch at an index.
 fn put_switch(alloc: Global, text: &mut String, bay: &Bay, place: usize) -> Result<(), AllocError>
     requires { place < length bay.now.switches }
 {
@@ -37,7 +37,8 @@ fn put_switch(alloc: Global, text: &mut String, bay: &Bay, place: usize) -> Resu
     text.push_str("\n")
 }
 
-/// The names of the logical nodes: a line for each switch with three, and one for each meter.
+/// Appends the names of the logical nodes: a line with three for each switch, and a line with one
+/// for each meter.
 fn put_nodes(alloc: Global, text: &mut String, bay: &Bay) -> Result<(), AllocError> {
     for place in 0..bay.switches.as_slice().len() {
         put_switch(alloc, text, bay, place)?;
@@ -49,7 +50,7 @@ fn put_nodes(alloc: Global, text: &mut String, bay: &Bay) -> Result<(), AllocErr
     Ok(())
 }
 
-/// The points: name, type, whether it may be written, and what it stands for.
+/// Appends the points: name, type, whether they are writable, and their sources.
 fn put_points(text: &mut String, bay: &Bay) -> Result<(), AllocError> {
     for point in bay.points.as_slice() {
         let (name, kind) = (point.name.as_str(), point.kind);
@@ -62,7 +63,7 @@ fn put_points(text: &mut String, bay: &Bay) -> Result<(), AllocError> {
     Ok(())
 }
 
-/// The rows: name and value.
+/// Appends the rows: name and value.
 fn put_rows(text: &mut String, bay: &Bay) -> Result<(), AllocError> {
     for row in bay.rows.as_slice() {
         writeln!(text, "{} {:?}", row.name.as_str(), row.leaf)?;
@@ -70,7 +71,7 @@ fn put_rows(text: &mut String, bay: &Bay) -> Result<(), AllocError> {
     Ok(())
 }
 
-/// What a section tells of a bay.
+/// Checks what a section says of a bay.
 fn check_read(alloc: Global, bay: &Bay, head: &str, wanted: &str) -> Result<()> {
     let mut text = String::new(alloc);
     match head {
@@ -82,7 +83,7 @@ fn check_read(alloc: Global, bay: &Bay, head: &str, wanted: &str) -> Result<()> 
     check_lines(text.as_str(), wanted)
 }
 
-/// The fields, nodes, points or rows of the bay of a file are these, a line each.
+/// Checks the fields, nodes, points or rows of a bay file's bay, one per line.
 pub fn check_bay(alloc: Global, bay: &str, head: &str, wanted: &str) -> Result<()> {
     let bay = read_bay(alloc, bay)?;
     check_read(alloc, &bay, head, wanted)

@@ -24,7 +24,7 @@ use cases::told::check_text;
 use cases::words::{first_word, words_of};
 use std::alloc::{AllocError, Global};
 
-/// Whether a word is the first of two; it is to be one of them.
+/// Whether a word is the first of two. It must be one of them.
 fn is_first(word: &str, first: &str, second: &str) -> Result<bool> {
     if word != first && word != second {
         bail!("neither {first} nor {second}: {word}");
@@ -32,7 +32,7 @@ fn is_first(word: &str, first: &str, second: &str) -> Result<bool> {
     Ok(word == first)
 }
 
-/// Who asks, as `CATEGORY/IDENTITY`.
+/// Reads who asks, as `CATEGORY/IDENTITY`.
 fn origin_of(alloc: Global, word: &str) -> Result<Origin> {
     let (category, identity) = word.split_once("/").context("no identity")?;
     let octets = octets_of(alloc, identity)?;
@@ -46,7 +46,7 @@ fn origin_of(alloc: Global, word: &str) -> Result<Origin> {
     })
 }
 
-/// What is asked for.
+/// Reads what is asked for.
 fn ask_of(alloc: Global, word: &str) -> Result<Ask> {
     let (position, rest) = word.split_once(",").context("no originator")?;
     let (origin, test) = rest.split_once(",").unwrap_or((rest, "live"));
@@ -57,7 +57,7 @@ fn ask_of(alloc: Global, word: &str) -> Result<Ask> {
     })
 }
 
-/// What is seen of a switch.
+/// Reads what is seen of a switch.
 fn view_of(position: &str, age: &str, released: &str) -> Result<View> {
     let (opens, closes) = released.split_at_checked(1).context("no released ways")?;
     Ok(View {
@@ -68,7 +68,7 @@ fn view_of(position: &str, age: &str, released: &str) -> Result<View> {
     })
 }
 
-/// The place of a switch, or `none`.
+/// Returns the index of a switch, or `none`.
 fn place_text(alloc: Global, place: Option<usize>) -> Result<String, AllocError> {
     match place {
         Some(place) => format!(in alloc; "{place}"),
@@ -76,7 +76,7 @@ fn place_text(alloc: Global, place: Option<usize>) -> Result<String, AllocError>
     }
 }
 
-/// Nothing, or the cause of a refusal.
+/// Returns `ok`, or the number of a refusal's cause.
 fn answer_text(alloc: Global, answer: Result<(), AddCause>) -> Result<String, AllocError> {
     match answer {
         Ok(()) => String::from_str(alloc, "ok"),
@@ -84,7 +84,7 @@ fn answer_text(alloc: Global, answer: Result<(), AddCause>) -> Result<String, Al
     }
 }
 
-/// Appends the entry of the bay file for a switch whose control is so.
+/// Appends the bay file's entry for a switch with this control.
 fn put_switch(text: &mut String, number: usize, control: &str) -> Result<(), AllocError> {
     let (control, times) = control.split_once("/").unwrap_or((control, ""));
     write!(
@@ -99,7 +99,7 @@ fn put_switch(text: &mut String, number: usize, control: &str) -> Result<(), All
     text.push_str(" },\n")
 }
 
-/// A bay file with these controls.
+/// Returns a bay file with these controls.
 fn bay_text(alloc: Global, controls: &str) -> Result<String, AllocError> {
     let mut text = String::from_str(
         alloc,
@@ -112,14 +112,14 @@ fn bay_text(alloc: Global, controls: &str) -> Result<String, AllocError> {
     Ok(text)
 }
 
-/// The controls of a bay with these.
+/// Returns the controls of a bay with these controls.
 fn controls_of(alloc: Global, controls: &str) -> Result<Controls> {
     let text = bay_text(alloc, controls)?;
     let bay = read_bay(alloc, text.as_str())?;
     Ok(Controls::new(&bay))
 }
 
-/// The controls of a bay, and what was taken of them.
+/// The controls of a bay, and their kept state.
 #[derive(Drop)]
 pub struct ControlSession {
     alloc: Global,
@@ -128,7 +128,7 @@ pub struct ControlSession {
 }
 
 impl ControlSession {
-    /// The controls of a bay with one switch.
+    /// Creates the controls of a bay with one switch.
     pub fn new(alloc: Global) -> Result<ControlSession> {
         Ok(ControlSession {
             alloc,
@@ -137,7 +137,7 @@ impl ControlSession {
         })
     }
 
-    /// A request of an association at a switch, at a moment.
+    /// Makes a request of an association for a switch at a time.
     fn request(&mut self, now: u64, words: &[&str]) -> Result<Result<(), AddCause>> {
         let [what, association, switch, rest @ ..] = words else {
             bail!("no request");
@@ -160,7 +160,7 @@ impl ControlSession {
         })
     }
 
-    /// What is asked at a moment.
+    /// Answers what is asked at a time.
     fn timed(&mut self, moment: &str, words: &[&str]) -> Result<String> {
         let now = moment.parse::<u64>().context("no moment")?;
         if let ["advance"] = words {
@@ -170,21 +170,21 @@ impl ControlSession {
         Ok(answer_text(self.alloc, answer)?)
     }
 
-    /// `contact`: the switch, and its position.
+    /// Answers `contact`: the switch and its position.
     fn contact(&mut self, switch: &str, position: &str) -> Result<String> {
         let switch = switch.parse::<usize>()?;
         let ends = self.controls.contact(switch, position_of(position)?);
         Ok(format!(in self.alloc; "{ends}")?)
     }
 
-    /// `restore`.
+    /// Answers `restore`.
     fn restore(&mut self) -> Result<()> {
         let kept = self.kept.take().context("nothing was taken")?;
         self.controls.restore(kept);
         Ok(())
     }
 
-    /// The answer to a question.
+    /// Answers a question.
     fn answer(&mut self, words: &[&str]) -> Result<String> {
         match words {
             ["selected"] => return Ok(place_text(self.alloc, self.controls.selected())?),
@@ -198,7 +198,7 @@ impl ControlSession {
         Ok(String::from_str(self.alloc, "ok")?)
     }
 
-    /// A bay, or a question with its answer.
+    /// Processes a bay, or checks the answer to a question.
     pub fn check(&mut self, line: &str) -> Result<()> {
         if let ("bay", controls) = first_word(line) {
             self.controls = controls_of(self.alloc, controls)?;

@@ -15,7 +15,7 @@ use il_scan::machine::Machine;
 use il_verify::verify::{Verified, verify};
 use std::alloc::{AllocError, Global};
 
-/// The image with this code, behind the front.
+/// Returns the image with this code after these front octets.
 pub fn image_of(alloc: Global, front: &str, code: &str) -> Result<Image> {
     let code = octets_of(alloc, code)?;
     let mut octets = octets_of(alloc, front)?;
@@ -24,7 +24,7 @@ pub fn image_of(alloc: Global, front: &str, code: &str) -> Result<Image> {
     Ok(decode(alloc, octets.as_slice())?)
 }
 
-/// The image, if it is not refused.
+/// Verifies the image; an error if it is refused.
 pub fn verified_of(alloc: Global, points: &[Point], image: Image) -> Result<Verified> {
     match verify(alloc, image, points) {
         Ok(verified) => Ok(verified),
@@ -32,7 +32,7 @@ pub fn verified_of(alloc: Global, points: &[Point], image: Image) -> Result<Veri
     }
 }
 
-/// The machine that runs an image.
+/// Creates the machine that runs an image.
 pub fn machine_of(alloc: Global, verified: Verified) -> Result<Machine> {
     match Machine::new(alloc, verified) {
         Ok(machine) => Ok(machine),
@@ -40,8 +40,8 @@ pub fn machine_of(alloc: Global, verified: Verified) -> Result<Machine> {
     }
 }
 
-/// The verdict on an image: it is accepted with a depth and a budget, or refused with a fault's
-/// number at a place, and comes back as it was.
+/// Checks the verdict on an image: it is accepted with a depth and a budget, or refused with a
+/// fault's number at a place and returned unchanged.
 pub fn check_verdict(alloc: Global, points: &[Point], image: Image, wanted: &str) -> Result<()> {
     let octets = encode(alloc, &image)?;
     let found = match verify(alloc, image, points) {
@@ -57,8 +57,8 @@ pub fn check_verdict(alloc: Global, points: &[Point], image: Image, wanted: &str
     check_text(found.as_str(), wanted)
 }
 
-/// Appends an image in words: the points, each with its name, its type, and whether it may be
-/// written, the variables, the timers, and how many octets of code there are.
+/// Appends a description of an image: the points, each with its name, its type, and whether it is
+/// writable, the variables, the timers, and the number of octets of code.
 fn put_image(text: &mut String, image: &Image) -> Result<(), AllocError> {
     for point in image.points() {
         let (name, kind, writable) = (point.name.as_str(), point.elementary, point.writable);
@@ -73,8 +73,8 @@ fn put_image(text: &mut String, image: &Image) -> Result<(), AllocError> {
     )
 }
 
-/// Octets are an image with these octets, in the form that is written, and these words; or are
-/// refused with a number.
+/// Checks that octets decode to an image that is encoded as these octets and has this description,
+/// or are refused with a number.
 fn check_decoded(alloc: Global, octets: &[u8], wanted: &str) -> Result<()> {
     let mut text = String::new(alloc);
     let (written, words) = first_word(wanted);
@@ -91,8 +91,8 @@ fn check_decoded(alloc: Global, octets: &[u8], wanted: &str) -> Result<()> {
     }
 }
 
-/// The place of what octets are among counts: an image, of which a scan ends within its budget
-/// where it is verified, or a fault.
+/// Returns the index in the counts of what octets are: an image, whose scan must end within its
+/// budget if it is verified, or a fault.
 fn place_of(alloc: Global, points: &[Point], octets: &[u8]) -> Result<usize> {
     match decode(alloc, octets) {
         Ok(image) => {
@@ -109,7 +109,7 @@ fn place_of(alloc: Global, points: &[Point], octets: &[u8]) -> Result<usize> {
     }
 }
 
-/// Counts what octets are with the one at a place changed to each other value.
+/// Counts what octets are with the one at an index changed to each other value.
 fn count_at(
     alloc: Global,
     points: &[Point],
@@ -133,8 +133,9 @@ fn count_at(
     Ok(())
 }
 
-/// How many of the octets with each one changed to each other value are an image, and how many have
-/// each fault, by their numbers; a scan of each that is verified ends within its budget.
+/// Checks how many variants of the octets, with one octet changed to each other value, are an
+/// image, and how many have each fault, by number. The scan of each verified one must end within
+/// its budget.
 fn check_changed(alloc: Global, points: &[Point], octets: &mut [u8], wanted: &str) -> Result<()> {
     let mut counts = [0u32; 5];
     for at in 0..octets.len() {
@@ -143,7 +144,7 @@ fn check_changed(alloc: Global, points: &[Point], octets: &mut [u8], wanted: &st
     check_text(format!(in alloc; "{counts:?}")?.as_str(), wanted)
 }
 
-/// A case of octets: `decoded OCTETS WHAT`, or `changed OCTETS COUNTS`.
+/// Runs a case of octets: `decoded OCTETS WHAT`, or `changed OCTETS COUNTS`.
 pub fn check_image_octets(alloc: Global, points: &[Point], kind: &str, words: &str) -> Result<()> {
     let (word, wanted) = first_word(words);
     let mut octets = octets_of(alloc, word)?;

@@ -11,7 +11,7 @@ use cases::told::{check, check_text};
 use cases::words::{truth_of, words_of};
 use std::alloc::{AllocError, Global};
 
-/// The row of a word.
+/// Returns the row of a word.
 fn row_of(alloc: Global, word: &str) -> Result<Row, AllocError> {
     let leaf = match word.ends_with("$") {
         true => None,
@@ -21,7 +21,7 @@ fn row_of(alloc: Global, word: &str) -> Result<Row, AllocError> {
     Ok(Row { name, leaf })
 }
 
-/// The rows of words.
+/// Returns the rows of words.
 fn rows_of(alloc: Global, words: &[&str]) -> Result<Vec<Row>, AllocError> {
     let mut rows = Vec::new(alloc);
     for word in words {
@@ -30,12 +30,13 @@ fn rows_of(alloc: Global, words: &[&str]) -> Result<Vec<Row>, AllocError> {
     Ok(rows)
 }
 
-/// The name in a word at a place.
+/// Returns the name in the word at an index.
 fn name_at<'a>(words: &[&'a str], place: usize) -> Option<&'a str> {
     Some(words.get(place)?.trim_end_matches("$"))
 }
 
-/// A page of a tree's names that begins at a place is what the words say; where the next begins.
+/// Checks that a page of a tree's names, which begins at an index, is as the words say. Returns
+/// where the next page begins.
 fn check_page(page: &Names, words: &[&str], start: usize, count: usize) -> Result<usize> {
     let mut at = start;
     for name in page.names.as_slice() {
@@ -48,7 +49,8 @@ fn check_page(page: &Names, words: &[&str], start: usize, count: usize) -> Resul
     Ok(at)
 }
 
-/// The names of a tree, in pages of so many; each page after a name as text and as octets.
+/// Checks the names of a tree in pages of `count`, each page after a name given as text and as
+/// octets.
 fn check_pages(tree: &Tree, words: &[&str], count: usize) -> Result<()> {
     let mut at = 0usize;
     for _ in 0..=words.len() {
@@ -62,7 +64,7 @@ fn check_pages(tree: &Tree, words: &[&str], count: usize) -> Result<()> {
     check(at == words.len())
 }
 
-/// Each name is found as octets, and what is no text names nothing.
+/// Checks that each name is found as octets, and that octets that are not text name nothing.
 fn check_found(tree: &Tree, words: &[&str]) -> Result<()> {
     for at in 0..words.len() {
         let name = name_at(words, at).unwrap_or("");
@@ -73,7 +75,7 @@ fn check_found(tree: &Tree, words: &[&str]) -> Result<()> {
     check(tree.names_after_octets(Some(no_text), 1).is_err())
 }
 
-/// A tree has names of these words, and lists them in pages of any size.
+/// Checks that a tree has the names of these words, and lists them in pages of several sizes.
 fn check_tree(tree: &Tree, words: &[&str]) -> Result<()> {
     check_found(tree, words)?;
     for count in [1usize, 53, 54, 100, 154, 200] {
@@ -82,7 +84,7 @@ fn check_tree(tree: &Tree, words: &[&str]) -> Result<()> {
     Ok(())
 }
 
-/// The same of the tree of rows of these words, a line each.
+/// Checks the tree of the rows of these words, one per line.
 pub fn check_names(alloc: Global, wanted: &str) -> Result<()> {
     let words: Vec<&str> = wanted.lines().collect(alloc)?;
     let rows = rows_of(alloc, words.as_slice())?;
@@ -92,7 +94,7 @@ pub fn check_names(alloc: Global, wanted: &str) -> Result<()> {
     check_tree(&Tree::build(alloc, rows)?, words.as_slice())
 }
 
-/// Whether the rows of words make a tree: `true` or `false`, and the words.
+/// Checks whether the rows of words make a tree: `true` or `false`, and the words.
 pub fn check_rows(alloc: Global, wanted: &str, words: &str) -> Result<()> {
     let words = words_of(alloc, words)?;
     let rows = rows_of(alloc, words.as_slice())?;

@@ -13,10 +13,10 @@ use cases::octets::octets_of;
 use cases::words::{first_word, truth_of, words_of};
 use std::alloc::Global;
 
-/// The most octets of a response or a report.
+/// The maximum number of octets of a response or a report.
 const SIZE: u32 = 100_000;
 
-/// The names of a page.
+/// Returns the names of a page.
 fn names_of(alloc: Global, words: &[&str]) -> Result<Vec<Text>> {
     let mut names = Vec::new(alloc);
     for name in words {
@@ -25,8 +25,8 @@ fn names_of(alloc: Global, words: &[&str]) -> Result<Vec<Text>> {
     Ok(names)
 }
 
-/// Appends what is read of a variable: `value:` and its name, `text:` and a text in its place, or
-/// `failure:` and a number.
+/// Appends the result of reading a variable: `value:` and its name, `text:` and a text instead of
+/// it, or `failure:` and a number.
 fn add_read(response: &mut ReadResponse, tree: &Tree, word: &str) -> Result<()> {
     match word.split_once(":") {
         Some(("value", name)) => response.value(tree, tree.find(name)?)?,
@@ -37,7 +37,7 @@ fn add_read(response: &mut ReadResponse, tree: &Tree, word: &str) -> Result<()> 
     Ok(())
 }
 
-/// The octets of what is read of variables, each by a word.
+/// Returns the octets of the results of reading variables, each given by a word.
 fn read(alloc: Global, tree: &Tree, id: u32, words: &[&str]) -> Result<Outgoing> {
     let mut response = ReadResponse::new(alloc, SIZE)?;
     for word in words {
@@ -46,7 +46,7 @@ fn read(alloc: Global, tree: &Tree, id: u32, words: &[&str]) -> Result<Outgoing>
     Ok(response.finish(id)?)
 }
 
-/// The octets of what comes of writes, each `success` or a number.
+/// Returns the octets of the results of writes, each `success` or a number.
 fn write(alloc: Global, id: u32, words: &[&str]) -> Result<Outgoing> {
     let mut response = WriteResponse::new(alloc);
     for word in words {
@@ -58,8 +58,8 @@ fn write(alloc: Global, id: u32, words: &[&str]) -> Result<Outgoing> {
     Ok(response.finish(id, SIZE)?)
 }
 
-/// What is agreed: the size, how many may be outstanding on either side, the nesting or `-`, and
-/// the parameters.
+/// Reads the agreed parameters: the size, the number of outstanding calls on either side, the
+/// nesting or `-`, and the parameters.
 fn agreed_of(words: &[&str]) -> Result<Agreed> {
     match words {
         [size, calling, called, nesting, parameters] => Ok(Agreed {
@@ -73,8 +73,8 @@ fn agreed_of(words: &[&str]) -> Result<Agreed> {
     }
 }
 
-/// The octets of a response of a kind, which is made of words alone, of which the first is mostly
-/// its id. They stand in one function: the borrow checker wants the types of a response's parts
+/// Returns the octets of a response that is made of words alone; the first word is usually its id.
+/// The kinds are in one function because the borrow checker wants the types of a response's parts
 /// named where one is written.
 fn plain(alloc: Global, kind: &str, id: Option<u32>, words: &[&str]) -> Result<Outgoing> {
     let written = match (kind, id, words) {
@@ -109,7 +109,7 @@ fn plain(alloc: Global, kind: &str, id: Option<u32>, words: &[&str]) -> Result<O
     Ok(written?)
 }
 
-/// The octets of a page: whether more names follow, and the names.
+/// Returns the octets of a page: whether more names follow, and the names.
 fn page(alloc: Global, id: u32, more: &str, words: &[&str]) -> Result<Outgoing> {
     let names = names_of(alloc, words)?;
     let service = Service::Names {
@@ -119,14 +119,14 @@ fn page(alloc: Global, id: u32, more: &str, words: &[&str]) -> Result<Outgoing> 
     Ok(write_response(alloc, &Response::Confirmed { id, service }, SIZE)?)
 }
 
-/// The octets of the type of a row.
+/// Returns the octets of a row's type.
 fn attributes(alloc: Global, tree: &Tree, id: u32, name: &str) -> Result<Outgoing> {
     let handle = tree.find(name)?;
     let service = Service::Attributes { tree, handle };
     Ok(write_response(alloc, &Response::Confirmed { id, service }, SIZE)?)
 }
 
-/// The octets of a response: its kind, its invoke id, and the other words.
+/// Returns the octets of a response: its kind, its invoke id, and the other words.
 fn response(alloc: Global, tree: &Tree, kind: &str, words: &[&str]) -> Result<Outgoing> {
     let [id, rest @ ..] = words else {
         return plain(alloc, kind, None, words);
@@ -141,7 +141,7 @@ fn response(alloc: Global, tree: &Tree, kind: &str, words: &[&str]) -> Result<Ou
     }
 }
 
-/// The eight octets of a moment.
+/// Returns the eight octets of a time.
 fn moment_of(alloc: Global, word: &str) -> Result<[u8; 8]> {
     let octets = octets_of(alloc, word)?;
     match octets.as_slice() {
@@ -150,8 +150,8 @@ fn moment_of(alloc: Global, word: &str) -> Result<[u8; 8]> {
     }
 }
 
-/// An operate of an identity: its value, category, identity, number, moment, whether it is a test,
-/// and its check.
+/// Reads an operate of an identity: its value, category, identity, number, time, whether it is a
+/// test, and its check.
 fn operate_of<'a>(alloc: Global, words: &[&str], or_ident: &'a [u8]) -> Result<Operate<'a>> {
     match words {
         [value, category, _, number, moment, test, check] => Ok(Operate {
@@ -169,8 +169,8 @@ fn operate_of<'a>(alloc: Global, words: &[&str], or_ident: &'a [u8]) -> Result<O
     }
 }
 
-/// The octets of a report on an operate of an identity: of a failure an object and a cause come
-/// before the domain, the item and the operate.
+/// Returns the octets of a report on an operate of an identity. For a failure, an object and a
+/// cause precede the domain, the item and the operate.
 fn report(alloc: Global, kind: &str, words: &[&str], identity: &[u8]) -> Result<Outgoing> {
     match (kind, words) {
         ("termination", [domain, item, operate @ ..]) => {
@@ -203,7 +203,7 @@ fn report(alloc: Global, kind: &str, words: &[&str], identity: &[u8]) -> Result<
     }
 }
 
-/// The octets of a response or a report.
+/// Returns the octets of a response or a report.
 fn written(alloc: Global, tree: &Tree, kind: &str, words: &[&str]) -> Result<Outgoing> {
     let identity = match (kind, words) {
         ("termination", [_, _, _, _, identity, ..])
@@ -214,7 +214,8 @@ fn written(alloc: Global, tree: &Tree, kind: &str, words: &[&str]) -> Result<Out
     report(alloc, kind, words, identity.as_slice())
 }
 
-/// A response or a report is written in these octets: its octets, its kind, and its words.
+/// Checks that a response or a report is encoded in these octets: its octets, its kind, and its
+/// words.
 pub fn check_response(alloc: Global, tree: &Tree, octets: &str, line: &str) -> Result<()> {
     let (kind, rest) = first_word(line);
     let mut words = Vec::new(alloc);

@@ -19,7 +19,7 @@ use cases::told::check_text;
 use cases::words::{first_word, truth_of};
 use std::alloc::Global;
 
-/// Rows that have come, and the tree of them.
+/// The rows so far, and their tree.
 #[derive(Drop)]
 pub struct Rows {
     alloc: Global,
@@ -27,7 +27,7 @@ pub struct Rows {
     tree: Option<Tree>,
 }
 
-/// A position by its name.
+/// Returns a position by its name.
 pub fn position_of(word: &str) -> Result<Dbpos> {
     match word {
         "intermediate" => Ok(Dbpos::Intermediate),
@@ -38,7 +38,7 @@ pub fn position_of(word: &str) -> Result<Dbpos> {
     }
 }
 
-/// A quality by its name.
+/// Returns a quality by its name.
 fn quality_of(word: &str) -> Result<Quality> {
     match word {
         "good" => Ok(Quality::Good),
@@ -47,7 +47,7 @@ fn quality_of(word: &str) -> Result<Quality> {
     }
 }
 
-/// A leaf by its kind and its value; a structure has none.
+/// Returns a leaf by its kind and its value. A structure has none.
 fn leaf_of(alloc: Global, kind: &str, value: &str) -> Result<Option<Leaf>> {
     Ok(Some(match kind {
         "structure" => return Ok(None),
@@ -66,10 +66,10 @@ fn leaf_of(alloc: Global, kind: &str, value: &str) -> Result<Option<Leaf>> {
     }))
 }
 
-/// The most octets of data and of types.
+/// The maximum number of octets of data and of types.
 const SIZE: u32 = 100_000;
 
-/// A row has these data, as they are written and as a tree.
+/// Checks a row's data, both encoded and as a tree.
 fn check_value(alloc: Global, tree: &Tree, name: &str, words: &str) -> Result<()> {
     let (octets, wanted) = first_word(words);
     let handle = tree.find(name)?;
@@ -82,7 +82,7 @@ fn check_value(alloc: Global, tree: &Tree, name: &str, words: &str) -> Result<()
     check_text(format!(in alloc; "{data:?}")?.as_str(), wanted)
 }
 
-/// A row has this type, as it is written and as a tree.
+/// Checks a row's type, both encoded and as a tree.
 fn check_type(alloc: Global, tree: &Tree, name: &str, words: &str) -> Result<()> {
     let (octets, wanted) = first_word(words);
     let handle = tree.find(name)?;
@@ -95,7 +95,8 @@ fn check_type(alloc: Global, tree: &Tree, name: &str, words: &str) -> Result<()>
     check_text(format!(in alloc; "{kind:?}")?.as_str(), wanted)
 }
 
-/// The page behind a name, or behind none, is written in these octets, or the name is `unknown`.
+/// Checks that the page after a name, or the first page, is encoded in these octets, or that the
+/// name is `unknown`.
 fn check_names(
     alloc: Global,
     tree: &Tree,
@@ -114,8 +115,8 @@ fn check_names(
     }
 }
 
-/// A page of names: its octets, its invoke id, the size of a PDU, and the name before it in octets,
-/// or `first`.
+/// Checks a page of names: its octets, its invoke id, the size of a PDU, and the octets of the name
+/// before it, or `first`.
 fn check_page(alloc: Global, tree: &Tree, octets: &str, words: &str) -> Result<()> {
     let (id, rest) = first_word(words);
     let (size, after) = first_word(rest);
@@ -130,7 +131,7 @@ fn check_page(alloc: Global, tree: &Tree, octets: &str, words: &str) -> Result<(
     check_names(alloc, tree, page, Some(name.as_slice()), octets)
 }
 
-/// A case of a tree's rows: its kind, and its words.
+/// Runs a case of a tree's rows: its kind, and its words.
 fn check_tree(alloc: Global, tree: &Tree, kind: &str, words: &str) -> Result<()> {
     let (first, rest) = first_word(words);
     match kind {
@@ -142,7 +143,7 @@ fn check_tree(alloc: Global, tree: &Tree, kind: &str, words: &str) -> Result<()>
 }
 
 impl Rows {
-    /// No rows.
+    /// Creates an empty set of rows.
     pub fn new(alloc: Global) -> Rows {
         Rows {
             alloc,
@@ -151,7 +152,7 @@ impl Rows {
         }
     }
 
-    /// One row more.
+    /// Appends a row.
     fn add(&mut self, words: &str) -> Result<()> {
         let (name, rest) = first_word(words);
         let (kind, value) = first_word(rest);
@@ -161,7 +162,7 @@ impl Rows {
         Ok(())
     }
 
-    /// The tree of all rows that have come.
+    /// Returns the tree of all rows so far.
     fn tree(&mut self) -> Result<&Tree> {
         if self.tree.is_none() {
             let rows = std::mem::replace(&mut self.rows, Vec::new(self.alloc));
@@ -173,7 +174,7 @@ impl Rows {
         self.tree.as_ref().context("no tree")
     }
 
-    /// A row more, or a case of the rows that have come.
+    /// Appends a row, or runs a case of the rows so far.
     pub fn check(&mut self, line: &str) -> Result<()> {
         let (kind, words) = first_word(line);
         if kind == "row" {

@@ -10,7 +10,7 @@ use il_scan::machine::Machine;
 use il_verify::verify::Verified;
 use std::alloc::{AllocError, Global};
 
-/// The values of the points that may only be read, from their numbers.
+/// Returns the values of the read-only points from their numbers.
 fn inputs_of(alloc: Global, points: &[ImagePoint], numbers: &str) -> Result<Vec<Value>> {
     let mut inputs = Vec::new(alloc);
     let mut words = numbers.split(",");
@@ -23,7 +23,7 @@ fn inputs_of(alloc: Global, points: &[ImagePoint], numbers: &str) -> Result<Vec<
     Ok(inputs)
 }
 
-/// The numbers of values, parted by commas; `-` for none.
+/// Returns the numbers of values, separated by commas; `-` for none.
 fn numbers_text(alloc: Global, values: &[Value]) -> Result<String, AllocError> {
     let mut text = String::new(alloc);
     for value in values {
@@ -38,8 +38,8 @@ fn numbers_text(alloc: Global, values: &[Value]) -> Result<String, AllocError> {
     Ok(text)
 }
 
-/// A scan of a machine: its moment, its steps, and the numbers of what it takes and gives, parted
-/// by commas, with `-` for none.
+/// Checks a scan of a machine: its time, its steps, and the numbers of its inputs and outputs,
+/// separated by commas, with `-` for none.
 pub fn check_scan(alloc: Global, machine: &mut Machine, words: &str) -> Result<()> {
     let (now, rest) = first_word(words);
     let (steps, rest) = first_word(rest);
@@ -53,7 +53,7 @@ pub fn check_scan(alloc: Global, machine: &mut Machine, words: &str) -> Result<(
     check_text(numbers_text(alloc, scan.outputs)?.as_str(), outputs)
 }
 
-/// A scan of a machine ends within its budget.
+/// Checks that a scan of a machine ends within its budget.
 pub fn check_budget(alloc: Global, verified: Verified) -> Result<()> {
     let budget = verified.budget();
     let Ok(mut machine) = Machine::new(alloc, verified) else {
@@ -66,7 +66,7 @@ pub fn check_budget(alloc: Global, verified: Verified) -> Result<()> {
     check(machine.scan(inputs.as_slice(), 0).steps <= budget)
 }
 
-/// Calls a timer, whose IN, PT and moment are words, and whose Q and ET are then these.
+/// Calls a timer with IN, PT and the time from words, and checks Q and ET.
 fn check_call(timer: &mut TimerState, words: &[&str]) -> Result<()> {
     let [input, preset, now, output, elapsed] = words else {
         bail!("five words are wanted");
@@ -77,8 +77,8 @@ fn check_call(timer: &mut TimerState, words: &[&str]) -> Result<()> {
     check(timer.output == truth_of(output)? && timer.elapsed == elapsed.parse::<u32>()?)
 }
 
-/// Calls of a timer of a kind, `TON` or `TOF`, one behind the other, each behind `; `: IN, PT, the
-/// moment, and then Q and ET.
+/// Checks calls of a timer, `TON` or `TOF`, in order and separated by `; `: IN, PT, the time, and
+/// then Q and ET.
 pub fn check_timer(alloc: Global, line: &str) -> Result<()> {
     let (kind, calls) = first_word(line);
     let mut timer = TimerState::new(match kind {

@@ -19,7 +19,8 @@ input = [{ name = \"ES\" }]
 meter = [{ id = \"M1\" }]
 ";
 
-/// What the next images begin with, what the next programs declare, and what is scanned.
+/// What the next images begin with, what the next programs declare, and the machine that is
+/// scanned.
 #[derive(Drop)]
 struct Session<'a> {
     alloc: Global,
@@ -29,15 +30,15 @@ struct Session<'a> {
     machine: Machine,
 }
 
-/// The machine of the image with this code, behind a front.
+/// Returns the machine of the image with this code after these front octets.
 fn machine_of_code(alloc: Global, points: &[Point], front: &str, code: &str) -> Result<Machine> {
     let image = image_of(alloc, front, code)?;
     machine_of(alloc, verified_of(alloc, points, image)?)
 }
 
 impl<'a> Session<'a> {
-    /// A session at its first line: an image has no points, variables and timers, and its code is
-    /// HALT.
+    /// Creates a session at its first line: an image has no points, variables or timers, and the
+    /// machine's code is HALT.
     fn new(alloc: Global, points: &'a [Point]) -> Result<Session<'a>> {
         let front = "494c424302000000000000";
         Ok(Session {
@@ -49,14 +50,14 @@ impl<'a> Session<'a> {
         })
     }
 
-    /// A verdict on the image of a code.
+    /// Checks a verdict on the image of a code.
     fn check_code(&self, line: &str) -> Result<()> {
         let (wanted, code) = front_words(line, 3);
         let image = image_of(self.alloc, self.front, code)?;
         check_verdict(self.alloc, self.points, image, wanted)
     }
 
-    /// A case, or a part of one.
+    /// Runs a case, or processes a part of one.
     fn check(&mut self, line: &'a str) -> Result<()> {
         let (alloc, points) = (self.alloc, self.points);
         let (kind, words) = first_word(line);
@@ -77,7 +78,7 @@ impl<'a> Session<'a> {
     }
 }
 
-/// The lines of a section, with the points of a bay.
+/// Runs the lines of a section with the points of a bay.
 fn tell_lines(alloc: Global, told: &mut Told, points: &[Point], body: &str) -> Result<()> {
     let mut session = Session::new(alloc, points)?;
     for line in body.lines() {
@@ -88,7 +89,7 @@ fn tell_lines(alloc: Global, told: &mut Told, points: &[Point], body: &str) -> R
     Ok(())
 }
 
-/// The lines of a section.
+/// Runs the lines of a section.
 pub fn tell_programs(alloc: Global, told: &mut Told, body: &str) -> Result<()> {
     let bay = read_bay(alloc, BAY)?;
     tell_lines(alloc, told, bay.points.as_slice(), body)

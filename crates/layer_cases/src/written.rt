@@ -5,8 +5,8 @@ use cases::octets::{check_octets, octets_of};
 use cases::told::check;
 use std::alloc::Global;
 
-/// Octets that were written are those that a word spells, and one value of BER, which they are not
-/// with an octet more or less.
+/// Checks that written octets are those of a word and are one value of BER, and that with an octet
+/// more or less they are not.
 pub fn check_written(alloc: Global, written: &[u8], word: &str) -> Result<()> {
     check_octets(alloc, written, word)?;
     let [less @ .., _] = written else {
