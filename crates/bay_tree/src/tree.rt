@@ -96,6 +96,14 @@ impl Tree {
         Ok(Tree { nodes, index })
     }
 
+    /// States that the rows are a tree: their names differ, and each name's parent is a structure
+    /// before it. Does nothing; its callers learn this from its contract.
+    pub fn are_a_tree(&self)
+        ensures { IsTree self.now }
+    {
+        let _ = &self.nodes;
+    }
+
     /// Returns the handle of the row with this name.
     pub fn find(&self, name: &str) -> Result<Handle, TreeFault>
         ensures place { result ≡ ok_or (place_of self.now name.now) TreeFault.NoSuchName }
