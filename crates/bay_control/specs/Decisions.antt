@@ -12,7 +12,6 @@ use Rattle.bay_control.specs.declared.request.Choice.{Choice}
 use Rattle.bay_control.specs.declared.request.View.{View}
 use Rattle.bay_control.specs.declared.selection.Execution.{Execution}
 use Rattle.bay_control.specs.declared.selection.Selection.{Selection}
-use Rattle.bay_control.specs.declared.selection.Ongoing.{Ongoing}
 
 -- the controls of a bay: what its file says of each switch, the selected switch and the operating
 -- one
@@ -241,17 +240,6 @@ is_done k position (Some e) = e.switch == k && is_reached e.on position
 abbrev pub after_contact : ℕ → Dbpos → State → State
 after_contact k position s =
     record s { execution = if is_done k position s.execution then None else s.execution }
-
--- ---- what is taken and put back
-
--- what a decision may change
-abbrev pub standing_of : State → Ongoing
-standing_of s = record { selection = s.selection; execution = s.execution }
-
--- it stands again as it did
-abbrev pub with_standing : Ongoing → State → State
-with_standing standing s =
-    record s { selection = standing.selection; execution = standing.execution }
 
 -- ---- what is shown
 

@@ -1,6 +1,6 @@
 // The controls of one bay.
 ghost use Rattle.std.specs.Prelude.{◌≡◌, ◌≤◌, [], if◌then◌else◌, None, length};
-ghost use Rattle.bay_control.specs.Decisions.{controls_at, answer_of, cancel_outcome, after_contact, without_association, execution_at, initial, operate_outcome, with_standing, rows_of_operate, run_out, select_outcome, select_rows, select_with_outcome, selected_switch, selection_at, standing_of};
+ghost use Rattle.bay_control.specs.Decisions.{controls_at, answer_of, cancel_outcome, after_contact, without_association, execution_at, initial, operate_outcome, rows_of_operate, run_out, select_outcome, select_rows, select_with_outcome, selected_switch, selection_at};
 ghost use Rattle.bay_control.specs.Decisions as spec;
 ghost use Rattle.bay_control.specs.Requests.{control_of};
 ghost use Rattle.bay_control.specs.Requests as spec_requests;
@@ -9,7 +9,7 @@ use crate::cause::AddCause;
 use crate::control::{SwitchControl, is_over};
 use crate::request::{Ask, Choice, View, is_reached};
 use crate::selection::{
-    Execution, Ongoing, Selection, is_chosen, is_done, is_executing, is_selected_by,
+    Execution, Selection, is_chosen, is_done, is_executing, is_selected_by,
     is_selected_by_other, other_is_executing, other_is_selected,
 };
 use arrayvec::ArrayVec;
@@ -357,22 +357,17 @@ impl Controls {
         matches!(self.control(switch).model, Control::SboEnhanced)
     }
 
-    /// Returns what is selected and what is operating, to restore it if a request is to have no
-    /// effect.
-    pub fn standing(&self) -> Ongoing
-        ensures { result ≡ standing_of self.now }
+    /// Copies the controls, so that a request can change the copy and its effect be put in once the
+    /// reply is made. Does not allocate.
+    pub fn duplicate(&self) -> Controls
+        ensures { result ≡ self.now }
     {
-        Ongoing {
+        let mut controls = ArrayVec::new();
+        let _ = controls.try_extend_from_slice(self.controls.as_slice());
+        Controls {
+            controls,
             selection: self.selection.as_ref().map(|s| s.duplicate()),
             execution: self.execution,
         }
-    }
-
-    /// Restores what was selected and what was operating.
-    pub fn restore(&mut self, standing: Ongoing)
-        ensures { self.new ≡ with_standing standing self.old }
-    {
-        self.selection = standing.selection;
-        self.execution = standing.execution;
     }
 }

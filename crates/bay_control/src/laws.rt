@@ -2,8 +2,7 @@
 ghost use Rattle.std.specs.Prelude.{◌≡◌, ℕ, Bool, true, List, [], ◌++◌, None, is_ok};
 ghost use Rattle.bay_control.specs.Acts.{Entry};
 ghost use Rattle.bay_control.specs.Backing.{AreBacked};
-ghost use Rattle.bay_control.specs.Decisions.{State, with_standing, standing_of};
-ghost use Rattle.bay_control.specs.declared.selection.Ongoing.{Ongoing};
+ghost use Rattle.bay_control.specs.Decisions.{State};
 ghost use Rattle.bay_control.specs.Happenings.{Call, Leads, act_of, entries_of, is_open_after, is_orderly_call, outcome_of};
 
 /// Whatever happens to controls that start without a selection, and whichever associations are
@@ -27,11 +26,4 @@ pub fn calls_lead()
         Leads first open_before before open_between between
         → Leads next open_between between open_after after →
         Leads (first ++ next) open_before before open_after after }
-{}
-
-/// Restoring what was standing before some calls has the effect that they were never made.
-pub fn restoring_undoes()
-    ensures calls { (standing : Ongoing) (call : Call) (now : ℕ) (s : State) →
-        with_standing standing (outcome_of call now s).after ≡ with_standing standing s }
-    ensures own { (s : State) → with_standing (standing_of s) s ≡ s }
 {}

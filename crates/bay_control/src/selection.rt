@@ -43,14 +43,7 @@ pub struct Execution {
     pub on: bool,
 }
 
-/// What is selected and what is operating, taken from the controls to be restored.
-#[derive(Debug, Drop)]
-pub struct Ongoing {
-    pub selection: Option<Selection>,
-    pub execution: Option<Execution>,
-}
-
-/// Returns whether the association has selected the switch.
+/// The association has selected the switch.
 pub(crate) fn is_selected_by(selection: &Option<Selection>, association: u16, switch: usize) -> bool
     ensures { result ≡ spec.is_selected_by association switch selection.now }
 {

@@ -22,8 +22,7 @@ use Rattle.bay_process.specs.Told.{AreEnabling, AreInterlocked}
 use Rattle.bay_process.specs.declared.rows.SwitchRows.{SwitchRows}
 use Rattle.bay_process.specs.declared.switch.BoundSwitch.{BoundSwitch}
 use Rattle.bay_process.specs.Values.{with_count, is_operation, operation_counted, position_quality, rows_after_change, rows_after_contact, rows_after_measure, tells, tells_measure, with_enabled, with_output, with_status}
-use Rattle.bay_control.specs.Decisions.{State}
-use Rattle.bay_services.specs.Bay.{ShowSelection}
+use Rattle.bay_services.specs.Bay.{ShowNone}
 use Rattle.bay_services.proofs.ShownLemmas.{shown-kept}
 
 -- ---- names: that of a selection ends with a `d`
@@ -134,10 +133,10 @@ field-apart k PhaseA = phase-apart (meter_node k) (codes "MX$A$phsA")
 field-apart k PhaseB = phase-apart (meter_node k) (codes "MX$A$phsB")
 field-apart k PhaseC = phase-apart (meter_node k) (codes "MX$A$phsC")
 
--- the rows go on showing the selection
-module _ (controls : State) (count : ℕ) where
+-- the rows go on showing no selection
+module _ (count : ℕ) where
   abbrev pub Shows : List Row → Type 0
-  Shows rows = ShowSelection controls count rows
+  Shows rows = ShowNone count rows
 
   shows-if : (b : Bool) (x y : List Row) → Shows x → Shows y → Shows (cond b x y)
   shows-if true x y p q = p
@@ -146,9 +145,9 @@ module _ (controls : State) (count : ℕ) where
   shows-status : (names : StatusNames) (value : Leaf) (q : Quality) (now : ℕ) (rows : List Row)
       → AreApart names → Shows rows → Shows (with_status names value q now rows)
   shows-status names value q now rows apart shows =
-      shown-kept controls count _ names.time _ apart.time_apart
-      (shown-kept controls count _ names.quality _ apart.quality_apart
-      (shown-kept controls count rows names.value _ apart.value_apart shows))
+      shown-kept count _ names.time _ apart.time_apart
+      (shown-kept count _ names.quality _ apart.quality_apart
+      (shown-kept count rows names.value _ apart.value_apart shows))
 
   shows-counted : (names : StatusNames) (o : Option Leaf) (now : ℕ) (rows : List Row)
       → AreApart names → Shows rows → Shows (with_count names o now rows)
@@ -156,8 +155,8 @@ module _ (controls : State) (count : ℕ) where
       shows-if (int_lt n (pos 2147483647))
       (with_leaf_of names.time (leaf.Utc now)
       (with_leaf_of names.value (leaf.Int32 (n +ℤ pos 1)) rows)) rows
-      (shown-kept controls count _ names.time _ apart.time_apart
-      (shown-kept controls count rows names.value _ apart.value_apart shows)) shows
+      (shown-kept count _ names.time _ apart.time_apart
+      (shown-kept count rows names.value _ apart.value_apart shows)) shows
   shows-counted names None now rows apart shows = shows
   shows-counted names (Some (leaf.Truth b)) now rows apart shows = shows
   shows-counted names (Some (leaf.Dbpos p)) now rows apart shows = shows

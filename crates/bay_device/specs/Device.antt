@@ -20,7 +20,7 @@ use Rattle.bay_process.specs.Values.{measure_leaf, number_of_leaf, position_leaf
 use Rattle.bay_control.specs.Decisions as control
 use Rattle.bay_control.specs.Decisions.{after_contact, is_done, run_out}
 use Rattle.bay_connection.specs.Talk.{Talk}
-use Rattle.bay_services.specs.Bay.{Bay, with_controls}
+use Rattle.bay_services.specs.Bay.{Bay}
 use Rattle.bay_device.specs.declared.due.Due.{Due}
 use Rattle.bay_device.specs.declared.event.Sent.{Sent}
 
@@ -118,7 +118,8 @@ missed_if (Some switch) due = missed_report due
 -- the device at a moment, with what has run out ended, a selection and an execution
 abbrev pub device_at : ℕ → State → State
 device_at now s =
-    record (with_bay (with_controls (control.controls_at now s.controls) (bay_of s)) s) {
+    record s {
+      controls = control.controls_at now s.controls;
       moment = now;
       due = due_unless (over_at now s) s.due;
     }

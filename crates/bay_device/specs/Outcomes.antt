@@ -7,7 +7,6 @@ use Rattle.bay_transport.specs.Doings.{start}
 use Rattle.bay_assoc.specs.declared.hearing.Phase.TheVariants.{Idle}
 use Rattle.bay_control.specs.Decisions.{without_association}
 use Rattle.bay_connection.specs.Talk.{Talk, indications, left_by}
-use Rattle.bay_services.specs.Bay.{with_controls}
 use Rattle.bay_device.specs.Device.{State, device_at, bay_of, contact_taken, ended_at, input_taken, measure_taken, ran_at, reached_at, after_scan, with_bay}
 use Rattle.bay_device.specs.Hearing.{Done, AllHeard, after_indications}
 use Rattle.bay_device.specs.declared.due.Due.{Due}
@@ -101,8 +100,7 @@ due_without a (Some due) = if due.association == a then None else Some due
 -- an association is closed, which ends its selection
 abbrev pub without_owner : ℕ → State → State
 without_owner a s =
-    record (with_bay (with_controls (without_association a s.controls) (bay_of s)) s)
-    { due = due_without a s.due }
+    record s { controls = without_association a s.controls; due = due_without a s.due }
 
 -- it is open no more
 abbrev pub without_connection : ℕ → State → State

@@ -44,7 +44,7 @@ use bay_process::meter::BoundMeter;
 use bay_process::parts::{bound_rows, node_names, wired_machine};
 use bay_process::values::ToldValues;
 use bay_services::bay::ServedBay;
-use bay_services::decisions::show;
+use bay_services::decisions::show_none;
 use bay_tree::tree::Tree;
 use il_check::check::check;
 use il_check::program::Typed;
@@ -72,7 +72,7 @@ fn shown_rows(
     ensures layout { OnOk result (layout_of tree.new ≡ layout_of tree.old) }
 {
     let rows = control_rows(alloc, tree, count)?;
-    show(tree, rows.as_slice(), None);
+    show_none(tree, rows.as_slice());
     Ok(Listing::new(rows))
 }
 

@@ -2,13 +2,12 @@
 ghost use Rattle.std.specs.Prelude.{◌≡◌, ◌≤◌, ◌++◌, List, Option, [], All, IfOk, IfSome, IsSome, OnErr, OnOk, length, map, take};
 ghost use Rattle.bay_assoc.specs.Hears.{association_terms};
 ghost use Rattle.bay_connection.specs.Talk.{Talk, sending, terms_of};
-ghost use Rattle.bay_control.specs.declared.selection.Ongoing.{Ongoing};
 ghost use Rattle.bay_services.specs.Answers.{pdu_answer};
 ghost use Rattle.bay_services.specs.Controls.{AreShort, IsShort};
 ghost use Rattle.bay_device.specs.Device.{bay_of};
 ghost use Rattle.bay_device.specs.Hearing.{answered_with, later_due, after_pdu, sending_if, sent_on};
 ghost use Rattle.bay_device.specs.Hearing as spec;
-ghost use Rattle.bay_device.specs.HearingViews.{done_of, put_back};
+ghost use Rattle.bay_device.specs.HearingViews.{done_of, with_effect};
 ghost use Rattle.bay_device.specs.StateView.{state_view};
 
 use crate::due::Due;
@@ -16,6 +15,7 @@ use crate::event::Sent;
 use crate::state::DeviceState;
 use bay_ber::outgoing::Outgoing;
 use bay_connection::connection::Connection;
+use bay_control::controls::Controls;
 use bay_services::answer::{Answer, Command, Ending};
 use bay_services::client::Client;
 use std::alloc::{AllocError, Global};
@@ -124,19 +124,29 @@ fn send_all(
     Ok(())
 }
 
-/// Adds what an answer sends and operates, and returns what will report the end of what it
-/// operates. More may be added than before if an allocation fails.
+/// What an answered PDU does once nothing can fail any more.
+#[derive(Drop)]
+pub struct Effect {
+    /// What will report the end of what it operates.
+    pub due: Option<Due>,
+    /// The controls after it, where it changed them.
+    pub controls: Option<Controls>,
+}
+
+/// Adds the PDUs of an answer to what is sent, and its commands to those to issue. Returns its
+/// effect. If an allocation fails, more may have been added.
 fn reply(
     connection: &Connection,
     association: u16,
     answer: Answer,
     made: &mut Made,
-) -> Result<Option<Due>, AllocError>
+) -> Result<Effect, AllocError>
     requires open { IsSome (association_terms connection.now.talk.phase) }
     requires short { All (λ pdu. length pdu ≤ 65_000) answer.sent.items }
     requires ending { IsShort answer.ending }
-    ensures due { IfOk result
-        (λ due. due ≡ spec.due_if association (terms_of connection.now.talk) answer.ending) }
+    ensures due { IfOk result (λ effect. effect.due
+        ≡ spec.due_if association (terms_of connection.now.talk) answer.ending) }
+    ensures controls { IfOk result (λ effect. effect.controls ≡ answer.controls) }
     ensures sent { OnOk result
         (made.new.sent.items ≡ made.old.sent.items
         ++ map (λ pdu. sent_on association (sending (terms_of connection.now.talk) pdu))
@@ -150,37 +160,48 @@ fn reply(
 {
     send_all(connection, association, answer.sent, &mut made.sent)?;
     made.commands.extend_from_slice(answer.commands.as_slice())?;
-    due_if(connection, association, answer.ending)
+    let due = due_if(connection, association, answer.ending)?;
+    Ok(Effect {
+        due,
+        controls: answer.controls,
+    })
 }
 
-/// Answers a PDU and does what it asks for. If an allocation fails, the selection and the execution
-/// may have changed, and more may have been added than before.
+/// Answers a PDU. Changes nothing but what is made: if an allocation fails, more may have been
+/// added to it.
 fn answer(
     alloc: Global,
-    state: &mut DeviceState,
+    state: &DeviceState,
     client: Client,
     connection: &Connection,
     made: &mut Made,
-) -> Result<(), AllocError>
+) -> Result<Effect, AllocError>
     requires open { IsSome (association_terms connection.now.talk.phase) }
     requires least { 256 ≤ client.size }
     requires most { client.size ≤ 65_000 }
-    ensures ok { OnOk result
-        ((connections : List (Option Talk)) → done_of (state_view connections state.new) made.new
+    ensures ok { IfOk result (λ effect. (connections : List (Option Talk))
+        → done_of (with_effect effect (state_view connections state.now)) made.new
         ≡ answered_with client.association (terms_of connection.now.talk)
-        (pdu_answer client connection.now.pdu (bay_of (state_view connections state.old)))
-        (done_of (state_view connections state.old) made.old)) }
-    ensures back { OnErr result ((connections : List (Option Talk)) (standing : Ongoing)
-        → put_back standing (state_view connections state.new)
-        ≡ put_back standing (state_view connections state.old)) }
+        (pdu_answer client connection.now.pdu (bay_of (state_view connections state.now)))
+        (done_of (state_view connections state.now) made.old)) }
     ensures sent { take (length made.old.sent.items) made.new.sent.items ≡ made.old.sent.items }
     ensures commands { take (length made.old.commands.items) made.new.commands.items
         ≡ made.old.commands.items }
 {
     let answer = state.bay.answer(alloc, client, connection.pdu())?;
-    let due = reply(connection, client.association, answer, made)?;
-    replace_due(&mut state.due, due);
-    Ok(())
+    reply(connection, client.association, answer, made)
+}
+
+/// Puts in what an answered PDU does.
+fn put_in(state: &mut DeviceState, effect: Effect)
+    ensures { (connections : List (Option Talk))
+        → state_view connections state.new
+        ≡ with_effect effect (state_view connections state.old) }
+{
+    if let Some(controls) = effect.controls {
+        state.bay.controls = controls;
+    }
+    replace_due(&mut state.due, effect.due);
 }
 
 /// Answers a PDU of an association and does what it asks for. Changes nothing if an allocation
@@ -209,14 +230,17 @@ pub fn message(
         now,
         fresh: state.is_fresh(now),
     };
-    let before = state.bay.standing();
     let sent = made.sent.len();
     let commands = made.commands.len();
-    let answered = answer(alloc, state, client, connection, made);
-    if answered.is_err() {
-        state.bay.restore(before);
-        made.sent.truncate(sent);
-        made.commands.truncate(commands);
+    match answer(alloc, state, client, connection, made) {
+        Ok(effect) => {
+            put_in(state, effect);
+            Ok(())
+        }
+        Err(fault) => {
+            made.sent.truncate(sent);
+            made.commands.truncate(commands);
+            Err(fault)
+        }
     }
-    answered
 }

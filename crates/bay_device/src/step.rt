@@ -90,7 +90,7 @@ impl DeviceState {
         ensures meters { self.new.meters ≡ self.old.meters }
         ensures layout { layout_of self.new.bay.tree ≡ layout_of self.old.bay.tree }
     {
-        let over = self.bay.advance(now);
+        let over = self.bay.controls.advance(now);
         self.moment = now;
         match over {
             Some(_) => missed(&mut self.due),
@@ -204,7 +204,7 @@ impl DeviceState {
             → state_view connections self.new
             ≡ without_owner association (state_view connections self.old) }
     {
-        self.bay.drop_owner(association);
+        self.bay.controls.drop_owner(association);
         forget(&mut self.due, association);
     }
 }

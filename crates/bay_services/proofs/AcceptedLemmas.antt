@@ -12,7 +12,7 @@ use Rattle.bay_ber.proofs.ListingLemmas.{values-again}
 use Rattle.bay_ber.proofs.SizeLemmas.{length-element, length-integer_octets}
 use Rattle.bay_tree.specs.Rows.{name_at}
 use Rattle.bay_control.specs.Acts.{Entry}
-use Rattle.bay_control.specs.Decisions.{Outcome, cancel_outcome, operate_outcome, select_with_outcome}
+use Rattle.bay_control.specs.Decisions.{Outcome, State, cancel_outcome, operate_outcome, select_with_outcome}
 use Rattle.bay_control.specs.declared.cause.AddCause.{AddCause}
 use Rattle.bay_mms.specs.Controls as asked
 use Rattle.bay_mms.specs.Controls.{Control, operate_in, cancel_in}
@@ -28,7 +28,7 @@ use Rattle.bay_mms.specs.declared.fault.MmsFault.TheVariants.{BadPdu, UnknownSer
 use Rattle.bay_mms.specs.declared.response.ErrorClass.TheVariants.{NoSuchObject, Resource}
 use Rattle.bay_services.specs.Accepted.{AreNamedAlike, accepted_in, behind_id, first_response, is_report, may_be_reported, message_accepted, read_accepted, read_results, service_in, write_accepted, write_results}
 use Rattle.bay_services.specs.Answers.{Answered, answer_of, pdu_answer, attributes_at, plain_answer, service_answer}
-use Rattle.bay_services.specs.Bay.{Bay}
+use Rattle.bay_services.specs.Bay.{Bay, with_controls}
 use Rattle.bay_services.specs.Controls.{ask_of, has_reports, object_of, refusal_report, refusal_reports, view_of}
 use Rattle.bay_services.specs.Entries.{entries_in, message_entries, read_entries, service_entries, target_at, write_entries}
 use Rattle.bay_services.specs.Reads.{Reading, nothing_read, read_all, read_one}
@@ -39,7 +39,7 @@ use Rattle.bay_services.specs.declared.client.Client.{Client}
 use Rattle.bay_services.specs.declared.target.ControlPart.{ControlPart}
 use Rattle.bay_services.specs.declared.target.ControlPart.TheVariants.{Select, SelectWith, Operate, Cancel}
 use Rattle.bay_services.specs.declared.target.Target.{Target}
-use Rattle.bay_services.proofs.VariableLemmas.{AllRead, AllWritten, all-read, all-written, read-row-alike, spell-one, spells-element, within-element, write-row-alike}
+use Rattle.bay_services.proofs.VariableLemmas.{AllRead, AllWritten, all-read, all-written, spell-one, spells-element, within-element}
 
 -- ---- the results in a response
 
@@ -221,66 +221,66 @@ reports-if : (c : Client) (has : Bool) (pdu : List ℕ)
 reports-if c true pdu is = fitting-if (nat_le (length pdu) c.size) pdu is
 reports-if c false pdu is = tt
 
-module _ (c : Client) (small : c.size ≤ 65000) where
-  refusals-are : (k : ℕ) (item : List ℕ) (control : Control) (b : Bay)
-      (answer : Result (Unit {0}) AddCause) → AreReports (refusal_reports c k item control b answer)
-  refusals-are k item control b (Ok done) = tt
-  refusals-are k item control b (Err why) =
+module _ (c : Client) (b : Bay) (small : c.size ≤ 65000) where
+  refusals-are : (k : ℕ) (item : List ℕ) (control : Control) (answer : Result (Unit {0}) AddCause)
+      → AreReports (refusal_reports c k item control b answer)
+  refusals-are k item control (Ok done) = tt
+  refusals-are k item control (Err why) =
       let report : List ℕ = refusal_report (object_of b item) control why in
       reports-if c (has_reports b k) report
       (λ is. let n = fits (length report) c.size is in a-report _ (omega (arith, n, small)))
 
   decided-are : (k : ℕ) (item : List ℕ) (control : Control) (o : Outcome) (w : Writing)
-      → AreReports w.reports → AreReports (after_decision c k item control o w).reports
+      → AreReports w.reports → AreReports (after_decision c b k item control o w).reports
   decided-are k item control o w all =
-      both-reports w.reports (refusal_reports c k item control w.bay o.answer) all
-      (refusals-are k item control w.bay o.answer)
+      both-reports w.reports (refusal_reports c k item control b o.answer) all
+      (refusals-are k item control o.answer)
 
   select-with-are : (k : ℕ) (item : List ℕ) (w : Writing) (o : Result asked.Operate ControlFault)
-      → AreReports w.reports → AreReports (select_with_asked c k item w o).reports
+      → AreReports w.reports → AreReports (select_with_asked c b k item w o).reports
   select-with-are k item w (Ok o) all =
       decided-are k item o.control
-      (select_with_outcome c.association k (ask_of o) c.now w.bay.controls) w all
+      (select_with_outcome c.association k (ask_of o) c.now w.controls) w all
   select-with-are k item w (Err fault) all = all
 
   operate-are : (k : ℕ) (item : List ℕ) (w : Writing) (o : Result asked.Operate ControlFault)
-      → AreReports w.reports → AreReports (operate_asked c k item w o).reports
+      → AreReports w.reports → AreReports (operate_asked c b k item w o).reports
   operate-are k item w (Ok o) all =
       decided-are k item o.control
-      (operate_outcome c.association k (ask_of o) (view_of c k w.bay) c.now w.bay.controls) w all
+      (operate_outcome c.association k (ask_of o) (view_of c k b) c.now w.controls) w all
   operate-are k item w (Err fault) all = all
 
   cancel-are : (k : ℕ) (item : List ℕ) (w : Writing) (o : Result Control ControlFault)
-      → AreReports w.reports → AreReports (cancel_asked c k item w o).reports
+      → AreReports w.reports → AreReports (cancel_asked c b k item w o).reports
   cancel-are k item w (Ok control) all =
-      decided-are k item control (cancel_outcome c.association k c.now w.bay.controls) w all
+      decided-are k item control (cancel_outcome c.association k c.now w.controls) w all
   cancel-are k item w (Err fault) all = all
 
   write-part-are : (k : ℕ) (item : List ℕ) (given : Datum) (w : Writing) (part : ControlPart)
-      → AreReports w.reports → AreReports (write_part c k item given w part).reports
+      → AreReports w.reports → AreReports (write_part c b k item given w part).reports
   write-part-are k item given w Select all = all
   write-part-are k item given w SelectWith all = select-with-are k item w (operate_in given) all
   write-part-are k item given w Operate all = operate-are k item w (operate_in given) all
   write-part-are k item given w Cancel all = cancel-are k item w (cancel_in given) all
 
   write-target-are : (item : List ℕ) (given : Datum) (w : Writing) (target : Option Target)
-      → AreReports w.reports → AreReports (write_target c item given w target).reports
+      → AreReports w.reports → AreReports (write_target c b item given w target).reports
   write-target-are item given w None all = all
   write-target-are item given w (Some t) all = write-part-are t.switch item given w t.part all
 
   write-row-are : (given : Datum) (w : Writing) (row : Option ℕ) → AreReports w.reports
-      → AreReports (write_row c given w row).reports
+      → AreReports (write_row c b given w row).reports
   write-row-are given w None all = all
   write-row-are given w (Some place) all =
-      write-target-are (name_at w.bay.rows place) given w (target_at w.bay (Some place)) all
+      write-target-are (name_at b.rows place) given w (target_at b (Some place)) all
 
   writes-are : (ns : List Naming) (values : List Datum) (w : Writing) → AreReports w.reports
-      → AreReports (write_all c ns values w).reports
+      → AreReports (write_all c b ns values w).reports
   writes-are [] values w all = all
   writes-are (name ∷ ns) [] w all = all
   writes-are (name ∷ ns) (given ∷ values) w all =
-      writes-are ns values (write_one c name given w)
-      (write-row-are given w (row_named w.bay name) all)
+      writes-are ns values (write_one c b name given w)
+      (write-row-are given w (row_named b name) all)
 
 -- ---- the services
 
@@ -306,17 +306,22 @@ first-is true reports later response stands =
     behind-reports reports later response stands.0 stands.1
 
 -- what is sent of a read and of a write whose responses fit
-abbrev read_sent : ℕ → Reading → Answered
-read_sent id r =
-    record { sent = read_text id r.results ∷ []; commands = []; ending = None; after = r.bay }
+abbrev read_sent : ℕ → Bay → Reading → Answered
+read_sent id b r =
+    record {
+      sent = read_text id r.results ∷ [];
+      commands = [];
+      ending = None;
+      after = with_controls r.controls b;
+    }
 
-abbrev write_sent : ℕ → Writing → Answered
-write_sent id w =
+abbrev write_sent : ℕ → Bay → Writing → Answered
+write_sent id b w =
     record {
       sent = w.reports ++ write_text id w.results ∷ [];
       commands = w.commands;
       ending = w.ending;
-      after = w.bay;
+      after = with_controls w.controls b;
     }
 
 module _ (c : Client) (small : c.size ≤ 65000) (n b : Bay) (alike : AreNamedAlike n b) where
@@ -324,14 +329,14 @@ module _ (c : Client) (small : c.size ≤ 65000) (n b : Bay) (alike : AreNamedAl
   Told m sent entries = IsTold c.now c.association n m sent entries
 
   read-told : (id : ℕ) (ns : List Naming) (within : Bool)
-      → nat_le (length (read_text id (read_all c ns (nothing_read b)).results)) c.size ≡ within
+      → nat_le (length (read_text id (read_all c b ns (nothing_read b)).results)) c.size ≡ within
       → Told (Ok (confirmed id (read ns)))
-      (cond within (read_sent id (read_all c ns (nothing_read b)))
+      (cond within (read_sent id b (read_all c b ns (nothing_read b)))
       (plain_answer (error_text id Resource) b)).sent
-      (cond within (read_entries c ns (nothing_read b)) [])
+      (cond within (read_entries c b ns (nothing_read b)) [])
   read-told id ns true is =
-      let all : AllRead c n ns (nothing_read b) = all-read c n ns (nothing_read b) alike in
-      let results : List ℕ = (read_all c ns (nothing_read b)).results in
+      let all : AllRead c n b ns (nothing_read b) = all-read c n b ns (nothing_read b) alike in
+      let results : List ℕ = (read_all c b ns (nothing_read b)).results in
       let size : length (read_text id results) ≤ c.size = fits _ _ is in
       let short : length (read_text id results) < 4294967296 = omega (arith, size, small) in
       let more : length all.more < 4294967296 =
@@ -357,16 +362,16 @@ module _ (c : Client) (small : c.size ≤ 65000) (n b : Bay) (alike : AreNamedAl
   }
 
   write-told : (id : ℕ) (ns : List Naming) (values : List Datum) (within : Bool)
-      → nat_le (length (write_text id (write_all c ns values (nothing_written b)).results)) c.size
+      → nat_le (length (write_text id (write_all c b ns values (nothing_written b)).results)) c.size
       ≡ within
       → Told (Ok (confirmed id (write ns values)))
-      (cond within (write_sent id (write_all c ns values (nothing_written b)))
+      (cond within (write_sent id b (write_all c b ns values (nothing_written b)))
       (plain_answer (error_text id Resource) b)).sent
-      (cond within (write_entries c ns values (nothing_written b)) [])
+      (cond within (write_entries c b ns values (nothing_written b)) [])
   write-told id ns values true is =
-      let all : AllWritten c n ns values (nothing_written b) =
-      all-written c n ns values (nothing_written b) alike in
-      let w : Writing = write_all c ns values (nothing_written b) in
+      let all : AllWritten c n b ns values (nothing_written b) =
+      all-written c n b ns values (nothing_written b) alike in
+      let w : Writing = write_all c b ns values (nothing_written b) in
       let size : length (write_text id w.results) ≤ c.size = fits _ _ is in
       let short : length (write_text id w.results) < 4294967296 = omega (arith, size, small) in
       let more : length all.more < 4294967296 =
@@ -379,7 +384,7 @@ module _ (c : Client) (small : c.size ≤ 65000) (n b : Bay) (alike : AreNamedAl
         response = write_text id w.results;
         is = refl;
         stands = (
-          writes-are c small ns values (nothing_written b) tt,
+          writes-are c b small ns values (nothing_written b) tt,
           not-report (constructed 1) _ (omega arith) refl short,
         );
         told = ap (λ (o : Option (List Part)). write_accepted c.now c.association n ns values
@@ -468,20 +473,6 @@ response-tells c pdu n b later small alike =
 
 -- ---- names behind a PDU
 
-alike-read : (b : Bay) (c : Client) (ns : List Naming) (r : Reading) → AreNamedAlike b r.bay
-    → AreNamedAlike b (read_all c ns r).bay
-alike-read b c [] r alike = alike
-alike-read b c (name ∷ ns) r alike =
-    alike-read b c ns (read_one c name r) (read-row-alike b c r (row_named r.bay name) alike)
-
-alike-written : (b : Bay) (c : Client) (ns : List Naming) (values : List Datum) (w : Writing)
-    → AreNamedAlike b w.bay → AreNamedAlike b (write_all c ns values w).bay
-alike-written b c [] values w alike = alike
-alike-written b c (name ∷ ns) [] w alike = alike
-alike-written b c (name ∷ ns) (given ∷ values) w alike =
-    alike-written b c ns values (write_one c name given w)
-    (write-row-alike b c given w (row_named w.bay name) alike)
-
 alike-if : (n : Bay) (within : Bool) (x y : Answered) → AreNamedAlike n x.after
     → AreNamedAlike n y.after → AreNamedAlike n (cond within x y).after
 alike-if n true x y p q = p
@@ -492,15 +483,19 @@ alike-attributes : (n : Bay) (c : Client) (id : ℕ) (b : Bay) (row : Option ℕ
 alike-attributes n c id b None alike = alike
 alike-attributes n c id b (Some place) alike = alike-if n _ _ _ alike alike
 
+-- other controls change no name
+alike-still : (n b : Bay) (controls : State) → AreNamedAlike n b
+    → AreNamedAlike n (with_controls controls b)
+alike-still n b controls alike =
+    record { domain = alike.domain; switches = alike.switches; names = alike.names }
+
 alike-served : (n : Bay) (c : Client) (id : ℕ) (b : Bay) (asking : Asking) → AreNamedAlike n b
     → AreNamedAlike n (service_answer c id b asking).after
 alike-served n c id b identify alike = alike-if n _ _ _ alike alike
 alike-served n c id b (names class place after) alike = alike-if n _ _ _ alike alike
 alike-served n c id b (attributes name) alike = alike-attributes n c id b (row_named b name) alike
-alike-served n c id b (read ns) alike =
-    alike-if n _ _ _ (alike-read n c ns (nothing_read b) alike) alike
-alike-served n c id b (write ns values) alike =
-    alike-if n _ _ _ (alike-written n c ns values (nothing_written b) alike) alike
+alike-served n c id b (read ns) alike = alike-if n _ _ _ (alike-still n b _ alike) alike
+alike-served n c id b (write ns values) alike = alike-if n _ _ _ (alike-still n b _ alike) alike
 
 alike-answer : (n : Bay) (c : Client) (b : Bay) (m : Result Message MmsFault) → AreNamedAlike n b
     → AreNamedAlike n (answer_of c b m).after

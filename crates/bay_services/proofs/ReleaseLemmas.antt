@@ -26,10 +26,10 @@ use Rattle.bay_mms.specs.declared.fault.ControlFault.{ControlFault}
 use Rattle.bay_mms.specs.declared.fault.MmsFault.{MmsFault}
 use Rattle.bay_mms.specs.declared.fault.MmsFault.TheVariants.{BadPdu, UnknownService, TooMany, OutOfMemory}
 use Rattle.bay_services.specs.Answers.{Answered, answer_of as answer-of, pdu_answer, attributes_at, service_answer, within}
-use Rattle.bay_services.specs.Bay.{Bay, is_selected, rows_shown, with_controls}
+use Rattle.bay_services.specs.Bay.{Bay, with_controls}
 use Rattle.bay_services.specs.Controls.{ask_of, view_of}
 use Rattle.bay_services.specs.Reads.{Reading, nothing_read, read_all, read_one, read_part, read_row, read_target}
-use Rattle.bay_services.specs.Released.{AreTimed, IsReleased, Leaves, TellsNoSelection, releasing}
+use Rattle.bay_services.specs.Released.{AreTimed, IsReleased, Leaves, releasing}
 use Rattle.bay_services.specs.Rows.{row_named}
 use Rattle.bay_services.specs.Targets.{target_of}
 use Rattle.bay_services.specs.Writes.{Writing, nothing_written, cancel_asked, commands_for, after_decision, operate_asked, select_with_asked, write_all, write_one, write_part, write_row, write_target}
@@ -38,23 +38,6 @@ use Rattle.bay_services.specs.declared.client.Client.{Client}
 use Rattle.bay_services.specs.declared.target.ControlPart.{ControlPart}
 use Rattle.bay_services.specs.declared.target.ControlPart.TheVariants.{Select, SelectWith, Operate, Cancel}
 use Rattle.bay_services.specs.declared.target.Target.{Target}
-
--- ---- what shows the selection shows nothing else
-
-away-control : (n : ℕ) (t : List ℕ) → IsAway (node_name (codes "CSWI") n ++ t)
-away-control n t k s e = let second : 73 ≡ 83 = ap (λ l. get_or l 1 0) e in omega (arith, second)
-
--- an interlocking value tells of none
-pub interlocking-apart : (k : ℕ) (s : List ℕ) → TellsNoSelection (interlocking_of k ++ s)
-interlocking-apart k s j e = away-control (j + 1) _ k s e
-
-pub keeps-shown : (selected : Option ℕ) (count : ℕ) (rows : List Row) (name : List ℕ)
-    → TellsNoSelection name → leaf_of name (rows_shown selected count rows) ≡ leaf_of name rows
-keeps-shown selected zero rows name apart = refl
-keeps-shown selected (suc j) rows name apart =
-    leaf-other (rows_shown selected j rows) name ((control_names j).selected)
-    (leaf.Truth (is_selected j selected)) (apart j)
-    ∙ keeps-shown selected j rows name apart
 
 -- ---- an execution that lasts
 
@@ -205,23 +188,15 @@ starting now k on controls timed controlled =
 -- ---- bays
 
 pub leaves-none : (now : ℕ) (b : Bay) → Leaves now b b
-leaves-none now b = record { values = λ name apart. refl; busy = λ e h. h }
+leaves-none now b = record { rows = refl; busy = λ e h. h }
 
-pub leaves-with : (now : ℕ) (b d : Bay) (x : State) → Leaves now b d → Busies now d.controls x
-    → Leaves now b (with_controls x d)
-leaves-with now b d x left busy = record {
-  values =
-      λ name apart. keeps-shown (selected_switch x.selection) (length d.switches) d.rows name apart
-      ∙ left.values name apart;
-  busy = λ e h. busy e (left.busy e h);
-}
+pub leaves-with : (now : ℕ) (b : Bay) (x : State) → Busies now b.controls x
+    → Leaves now b (with_controls x b)
+leaves-with now b x busy = record { rows = refl; busy = busy }
 
 pub leaves-then : (now : ℕ) (b d e : Bay) → Leaves now b d → Leaves now d e → Leaves now b e
 leaves-then now b d e p q =
-    record {
-      values = λ name apart. q.values name apart ∙ p.values name apart;
-      busy = λ x h. q.busy x (p.busy x h);
-    }
+    record { rows = q.rows ∙ p.rows; busy = λ x h. q.busy x (p.busy x h) }
 
 leaves-if : (now : ℕ) (b d e : Bay) (fits : Bool) → Leaves now b d → Leaves now b e
     → Leaves now b (cond fits d e)
@@ -230,64 +205,46 @@ leaves-if now b d e false p q = q
 
 -- ---- a read
 
-read-part-leaves : (c : Client) (b : Bay) (place : ℕ) (r : Reading) (k : ℕ) (part : ControlPart)
-    → Leaves c.now b r.bay → Leaves c.now b (read_part c place r k part).bay
-read-part-leaves c b place r k Select left =
-    leaves-with c.now b r.bay (select_outcome c.association k c.now r.bay.controls).after left
-    (busy-still c.now r.bay.controls)
-read-part-leaves c b place r k SelectWith left = left
-read-part-leaves c b place r k Operate left = left
-read-part-leaves c b place r k Cancel left = left
+-- what a select keeps: what the bay file says of controls, and what operates
+record Selects (now : ℕ) (s t : State) : Type 0 where
+  same : s.controls ≡ t.controls
+  busy : Busies now s t
 
-read-target-leaves : (c : Client) (b : Bay) (place : ℕ) (r : Reading) (t : Option Target)
-    → Leaves c.now b r.bay → Leaves c.now b (read_target c place r t).bay
-read-target-leaves c b place r None left = left
-read-target-leaves c b place r (Some t) left = read-part-leaves c b place r t.switch t.part left
+selects-none : (now : ℕ) (s : State) → Selects now s s
+selects-none now s = record { same = refl; busy = λ e h. h }
 
-read-row-leaves : (c : Client) (b : Bay) (r : Reading) (row : Option ℕ) → Leaves c.now b r.bay
-    → Leaves c.now b (read_row c r row).bay
-read-row-leaves c b r None left = left
-read-row-leaves c b r (Some place) left =
-    read-target-leaves c b place r (target_of (length r.bay.switches) (name_at r.bay.rows place))
-    left
+module _ (c : Client) (b : Bay) where
+  read-part-selects : (s : State) (place : ℕ) (r : Reading) (k : ℕ) (part : ControlPart)
+      → Selects c.now s r.controls → Selects c.now s (read_part c b place r k part).controls
+  read-part-selects s place r k Select p =
+      record { same = p.same; busy = λ e h. busy-still c.now r.controls e (p.busy e h) }
+  read-part-selects s place r k SelectWith p = p
+  read-part-selects s place r k Operate p = p
+  read-part-selects s place r k Cancel p = p
 
-read-all-leaves : (c : Client) (b : Bay) (ns : List Naming) (r : Reading) → Leaves c.now b r.bay
-    → Leaves c.now b (read_all c ns r).bay
-read-all-leaves c b [] r left = left
-read-all-leaves c b (name ∷ ns) r left =
-    read-all-leaves c b ns (read_one c name r) (read-row-leaves c b r (row_named r.bay name) left)
+  read-target-selects : (s : State) (place : ℕ) (r : Reading) (t : Option Target)
+      → Selects c.now s r.controls → Selects c.now s (read_target c b place r t).controls
+  read-target-selects s place r None p = p
+  read-target-selects s place r (Some t) p = read-part-selects s place r t.switch t.part p
 
--- a select keeps what the bay file says of controls
-read-part-timed : (c : Client) (place : ℕ) (r : Reading) (k : ℕ) (part : ControlPart)
-    → AreTimed r.bay.controls.controls → AreTimed (read_part c place r k part).bay.controls.controls
-read-part-timed c place r k Select timed = timed
-read-part-timed c place r k SelectWith timed = timed
-read-part-timed c place r k Operate timed = timed
-read-part-timed c place r k Cancel timed = timed
+  read-row-selects : (s : State) (r : Reading) (row : Option ℕ) → Selects c.now s r.controls
+      → Selects c.now s (read_row c b r row).controls
+  read-row-selects s r None p = p
+  read-row-selects s r (Some place) p =
+      read-target-selects s place r (target_of (length b.switches) (name_at b.rows place)) p
 
-read-target-timed : (c : Client) (place : ℕ) (r : Reading) (t : Option Target)
-    → AreTimed r.bay.controls.controls → AreTimed (read_target c place r t).bay.controls.controls
-read-target-timed c place r None timed = timed
-read-target-timed c place r (Some t) timed = read-part-timed c place r t.switch t.part timed
-
-read-row-timed : (c : Client) (r : Reading) (row : Option ℕ) → AreTimed r.bay.controls.controls
-    → AreTimed (read_row c r row).bay.controls.controls
-read-row-timed c r None timed = timed
-read-row-timed c r (Some place) timed =
-    read-target-timed c place r (target_of (length r.bay.switches) (name_at r.bay.rows place)) timed
-
-read-all-timed : (c : Client) (ns : List Naming) (r : Reading) → AreTimed r.bay.controls.controls
-    → AreTimed (read_all c ns r).bay.controls.controls
-read-all-timed c [] r timed = timed
-read-all-timed c (name ∷ ns) r timed =
-    read-all-timed c ns (read_one c name r) (read-row-timed c r (row_named r.bay name) timed)
+  read-all-selects : (s : State) (ns : List Naming) (r : Reading) → Selects c.now s r.controls
+      → Selects c.now s (read_all c b ns r).controls
+  read-all-selects s [] r p = p
+  read-all-selects s (name ∷ ns) r p =
+      read-all-selects s ns (read_one c b name r) (read-row-selects s r (row_named b name) p)
 
 -- ---- a write
 
 record Kept (c : Client) (b : Bay) (w : Writing) : Type 0 where
-  leaves : Leaves c.now b w.bay
+  busy : Busies c.now b.controls w.controls
   released : AllByRecursion (IsReleased c b) w.commands
-  sole : AreTimed b.controls.controls → Sole c.now w.commands w.bay.controls
+  sole : AreTimed b.controls.controls → Sole c.now w.commands w.controls
 
 both : (c : Client) (b : Bay) (first more : List Command) → AllByRecursion (IsReleased c b) first
     → AllByRecursion (IsReleased c b) more → AllByRecursion (IsReleased c b) (first ++ more)
@@ -298,13 +255,11 @@ true-of : (b : Bool) → not b ≡ false → b ≡ true
 true-of true h = refl
 true-of false h = absurd cc
 
--- an operation that was released when others had been asked for is released now
-enabled-now : (c : Client) (b d : Bay) (k : ℕ) (on : Bool) → Leaves c.now b d
-    → is_released on (view_of c k d) ≡ true → is_truth true (leaf_of (releasing k on) b.rows) ≡ true
-enabled-now c b d k true left h =
-    ap (is_truth true) (sym (left.values _ (interlocking-apart k _))) ∙ h
-enabled-now c b d k false left h =
-    ap (is_truth true) (sym (left.values _ (interlocking-apart k _))) ∙ h
+-- what a decision saw released stands in the tree
+enabled-now : (c : Client) (b : Bay) (k : ℕ) (on : Bool) → is_released on (view_of c k b) ≡ true
+    → is_truth true (leaf_of (releasing k on) b.rows) ≡ true
+enabled-now c b k true h = h
+enabled-now c b k false h = h
 
 pub idle-now : (now : ℕ) (s t : State) (o : Option Execution) → Busies now s t
     → (controls_at now t).execution ≡ None → (controls_at now s).execution ≡ o
@@ -313,149 +268,140 @@ idle-now now s t None busy none is = is
 idle-now now s t (Some e) busy none is =
     absurd (let no : None ≡ (let o : Option Execution = Some e in o) = sym none ∙ busy e is in cc)
 
-released-by : (c : Client) (b d : Bay) (k : ℕ) (o : asked.Operate) → Leaves c.now b d
-    → is_ok (operate_outcome c.association k (ask_of o) (view_of c k d) c.now d.controls).answer
-    ≡ true → IsReleased c b (record { switch = k; on = o.control.ctl_val })
-released-by c b d k o left ok =
-    let seen = saw c.association k (ask_of o) (view_of c k d) (controls_at c.now d.controls) ok in
-    record {
-      fresh = true-of c.fresh seen.fresh;
-      enabled =
-          enabled-now c b d k o.control.ctl_val left
-          (true-of (is_released o.control.ctl_val (view_of c k d)) seen.released);
-      idle = idle-now c.now b.controls d.controls (controls_at c.now b.controls).execution left.busy
-          seen.idle refl;
-    }
+module _ (c : Client) (b : Bay) (s : State) (k : ℕ) (o : asked.Operate) where
+  outcome : Outcome
+  outcome = operate_outcome c.association k (ask_of o) (view_of c k b) c.now s
 
-commands-released : (c : Client) (b d : Bay) (k : ℕ) (o : asked.Operate)
-    (answer : Result (Unit {0}) AddCause) → Leaves c.now b d
-    → (operate_outcome c.association k (ask_of o) (view_of c k d) c.now d.controls).answer ≡ answer
-    → AllByRecursion (IsReleased c b) (commands_for k o answer)
-commands-released c b d k o (Ok done) left is = (released-by c b d k o left (ap is_ok is), tt)
-commands-released c b d k o (Err why) left is = tt
+  released-by : Busies c.now b.controls s → is_ok outcome.answer ≡ true
+      → IsReleased c b (record { switch = k; on = o.control.ctl_val })
+  unfolding outcome
+  released-by busy ok =
+      let seen = saw c.association k (ask_of o) (view_of c k b) (controls_at c.now s) ok in
+      record {
+        fresh = true-of c.fresh seen.fresh;
+        enabled =
+            enabled-now c b k o.control.ctl_val
+            (true-of (is_released o.control.ctl_val (view_of c k b)) seen.released);
+        idle = idle-now c.now b.controls s (controls_at c.now b.controls).execution busy seen.idle
+            refl;
+      }
 
-idle-operated : (c : Client) (d : Bay) (k : ℕ) (o : asked.Operate)
-    (answer : Result (Unit {0}) AddCause)
-    → (operate_outcome c.association k (ask_of o) (view_of c k d) c.now d.controls).answer ≡ answer
-    → AllByRecursion (λ (x : Command). IsIdle c.now d.controls) (commands_for k o answer)
-idle-operated c d k o (Ok done) is = (
-  (saw c.association k (ask_of o) (view_of c k d) (controls_at c.now d.controls)
-      (ap is_ok is)).idle,
-  tt,
-)
-idle-operated c d k o (Err why) is = tt
+  commands-released : (answer : Result (Unit {0}) AddCause) → Busies c.now b.controls s
+      → outcome.answer ≡ answer → AllByRecursion (IsReleased c b) (commands_for k o answer)
+  commands-released (Ok done) busy is = (released-by busy (ap is_ok is), tt)
+  commands-released (Err why) busy is = tt
 
-single-operated : (c : Client) (d : Bay) (k : ℕ) (o : asked.Operate)
-    (answer : Result (Unit {0}) AddCause) → AreTimed d.controls.controls
-    → (operate_outcome c.association k (ask_of o) (view_of c k d) c.now d.controls).answer ≡ answer
-    → Single c.now (commands_for k o answer)
-    (operate_outcome c.association k (ask_of o) (view_of c k d) c.now d.controls).after
-single-operated c d k o (Ok done) timed is =
-    let seen =
-    saw c.association k (ask_of o) (view_of c k d) (controls_at c.now d.controls) (ap is_ok is) in
-    let e : Execution = record { switch = k; start = c.now; on = o.control.ctl_val } in
-    let starts : (operate_outcome c.association k (ask_of o) (view_of c k d) c.now
-    d.controls).after.execution ≡ Some e =
-    ap (λ (b : Bool). let x : Option Execution =
-    cond b (Some e) (controls_at c.now d.controls).execution in x) (ap is_ok is) in (
-      e,
-      ap (execution_at c.now d.controls.controls) starts
-          ∙ starting c.now k o.control.ctl_val d.controls.controls timed
-          (true-of (is_controlled (control_of d.controls.controls k).model) seen.controlled),
-    )
-single-operated c d k o (Err why) timed is = tt
+  idle-operated : (answer : Result (Unit {0}) AddCause) → outcome.answer ≡ answer
+      → AllByRecursion (λ (x : Command). IsIdle c.now s) (commands_for k o answer)
+  unfolding outcome
+  idle-operated (Ok done) is =
+      ((saw c.association k (ask_of o) (view_of c k b) (controls_at c.now s) (ap is_ok is)).idle, tt)
+  idle-operated (Err why) is = tt
+
+  single-operated : (answer : Result (Unit {0}) AddCause) → AreTimed s.controls
+      → outcome.answer ≡ answer → Single c.now (commands_for k o answer) outcome.after
+  unfolding outcome
+  single-operated (Ok done) timed is =
+      let seen = saw c.association k (ask_of o) (view_of c k b) (controls_at c.now s) (ap is_ok is) in
+      let e : Execution = record { switch = k; start = c.now; on = o.control.ctl_val } in
+      let starts : outcome.after.execution ≡ Some e =
+      ap (λ (t : Bool). let x : Option Execution =
+      cond t (Some e) (controls_at c.now s).execution in x) (ap is_ok is) in (
+        e,
+        ap (execution_at c.now s.controls) starts
+            ∙ starting c.now k o.control.ctl_val s.controls timed
+            (true-of (is_controlled (control_of s.controls k).model) seen.controlled),
+      )
+  single-operated (Err why) timed is = tt
 
 kept-nothing : (c : Client) (b : Bay) → Kept c b (nothing_written b)
 kept-nothing c b =
     record {
-      leaves = leaves-none c.now b;
+      busy = λ e h. h;
       released = tt;
       sole = λ timed. record { timed = timed; single = tt };
     }
 
 kept-decided : (c : Client) (b : Bay) (k : ℕ) (item : List ℕ) (control : Control) (o : Outcome)
-    (w : Writing) → w.bay.controls.controls ≡ o.after.controls → Kept c b w
-    → Busies c.now w.bay.controls o.after → Kept c b (after_decision c k item control o w)
+    (w : Writing) → w.controls.controls ≡ o.after.controls → Kept c b w
+    → Busies c.now w.controls o.after → Kept c b (after_decision c b k item control o w)
 kept-decided c b k item control o w same kept busy = record {
-  leaves = leaves-with c.now b w.bay o.after kept.leaves busy;
+  busy = λ e h. busy e (kept.busy e h);
   released = kept.released;
-  sole = λ timed. sole-still c.now w.commands w.bay.controls o.after same busy (kept.sole timed);
+  sole = λ timed. sole-still c.now w.commands w.controls o.after same busy (kept.sole timed);
 }
 
 kept-select : (c : Client) (b : Bay) (k : ℕ) (item : List ℕ) (w : Writing)
-    (r : Result asked.Operate ControlFault) → Kept c b w → Kept c b (select_with_asked c k item w r)
+    (r : Result asked.Operate ControlFault) → Kept c b w → Kept c b (select_with_asked c b k item w r)
 kept-select c b k item w (Err fault) kept =
-    record { leaves = kept.leaves; released = kept.released; sole = kept.sole }
+    record { busy = kept.busy; released = kept.released; sole = kept.sole }
 kept-select c b k item w (Ok o) kept =
     kept-decided c b k item o.control
-    (select_with_outcome c.association k (ask_of o) c.now w.bay.controls) w refl kept
-    (busy-still c.now w.bay.controls)
+    (select_with_outcome c.association k (ask_of o) c.now w.controls) w refl kept
+    (busy-still c.now w.controls)
 
 kept-operate : (c : Client) (b : Bay) (k : ℕ) (item : List ℕ) (w : Writing)
-    (r : Result asked.Operate ControlFault) → Kept c b w → Kept c b (operate_asked c k item w r)
+    (r : Result asked.Operate ControlFault) → Kept c b w → Kept c b (operate_asked c b k item w r)
 kept-operate c b k item w (Err fault) kept =
-    record { leaves = kept.leaves; released = kept.released; sole = kept.sole }
+    record { busy = kept.busy; released = kept.released; sole = kept.sole }
 kept-operate c b k item w (Ok o) kept =
-    let out = operate_outcome c.association k (ask_of o) (view_of c k w.bay) c.now w.bay.controls in
+    let out = operate_outcome c.association k (ask_of o) (view_of c k b) c.now w.controls in
+    let busy : Busies c.now w.controls out.after =
+    busy-operated c.now k o.control.ctl_val c.association (ask_of o) (view_of c k b) w.controls
+    (is_ok out.answer) refl in
     record {
-      leaves =
-          leaves-with c.now b w.bay out.after kept.leaves
-          (busy-operated c.now k o.control.ctl_val c.association (ask_of o) (view_of c k w.bay)
-          w.bay.controls (is_ok out.answer) refl);
+      busy = λ e h. busy e (kept.busy e h);
       released =
           both c b w.commands (commands_for k o out.answer) kept.released
-          (commands-released c b w.bay k o out.answer kept.leaves refl);
+          (commands-released c b w.controls k o out.answer kept.busy refl);
       sole = λ timed.
           let before = kept.sole timed in
           record {
             timed = before.timed;
             single =
-                single-joined c.now w.commands (commands_for k o out.answer) w.bay.controls
-                out.after
-                (busy-operated c.now k o.control.ctl_val c.association (ask_of o)
-                (view_of c k w.bay) w.bay.controls (is_ok out.answer) refl)
-                (idle-operated c w.bay k o out.answer refl) before.single
-                (single-operated c w.bay k o out.answer before.timed refl);
+                single-joined c.now w.commands (commands_for k o out.answer) w.controls
+                out.after busy (idle-operated c b w.controls k o out.answer refl) before.single
+                (single-operated c b w.controls k o out.answer before.timed refl);
           };
     }
 
 kept-cancel : (c : Client) (b : Bay) (k : ℕ) (item : List ℕ) (w : Writing)
-    (r : Result Control ControlFault) → Kept c b w → Kept c b (cancel_asked c k item w r)
+    (r : Result Control ControlFault) → Kept c b w → Kept c b (cancel_asked c b k item w r)
 kept-cancel c b k item w (Err fault) kept =
-    record { leaves = kept.leaves; released = kept.released; sole = kept.sole }
+    record { busy = kept.busy; released = kept.released; sole = kept.sole }
 kept-cancel c b k item w (Ok control) kept =
-    kept-decided c b k item control (cancel_outcome c.association k c.now w.bay.controls) w refl
-    kept (busy-still c.now w.bay.controls)
+    kept-decided c b k item control (cancel_outcome c.association k c.now w.controls) w refl
+    kept (busy-still c.now w.controls)
 
 kept-part : (c : Client) (b : Bay) (k : ℕ) (item : List ℕ) (given : Datum) (w : Writing)
-    (part : ControlPart) → Kept c b w → Kept c b (write_part c k item given w part)
+    (part : ControlPart) → Kept c b w → Kept c b (write_part c b k item given w part)
 kept-part c b k item given w Select kept =
-    record { leaves = kept.leaves; released = kept.released; sole = kept.sole }
+    record { busy = kept.busy; released = kept.released; sole = kept.sole }
 kept-part c b k item given w SelectWith kept = kept-select c b k item w (operate_in given) kept
 kept-part c b k item given w Operate kept = kept-operate c b k item w (operate_in given) kept
 kept-part c b k item given w Cancel kept = kept-cancel c b k item w (cancel_in given) kept
 
 kept-target : (c : Client) (b : Bay) (item : List ℕ) (given : Datum) (w : Writing)
-    (t : Option Target) → Kept c b w → Kept c b (write_target c item given w t)
+    (t : Option Target) → Kept c b w → Kept c b (write_target c b item given w t)
 kept-target c b item given w None kept =
-    record { leaves = kept.leaves; released = kept.released; sole = kept.sole }
+    record { busy = kept.busy; released = kept.released; sole = kept.sole }
 kept-target c b item given w (Some t) kept = kept-part c b t.switch item given w t.part kept
 
 kept-row : (c : Client) (b : Bay) (given : Datum) (w : Writing) (row : Option ℕ) → Kept c b w
-    → Kept c b (write_row c given w row)
+    → Kept c b (write_row c b given w row)
 kept-row c b given w None kept =
-    record { leaves = kept.leaves; released = kept.released; sole = kept.sole }
+    record { busy = kept.busy; released = kept.released; sole = kept.sole }
 kept-row c b given w (Some place) kept =
-    kept-target c b (name_at w.bay.rows place) given w
-    (target_of (length w.bay.switches) (name_at w.bay.rows place)) kept
+    kept-target c b (name_at b.rows place) given w
+    (target_of (length b.switches) (name_at b.rows place)) kept
 
 kept-all : (c : Client) (b : Bay) (ns : List Naming) (values : List Datum) (w : Writing)
-    → Kept c b w → Kept c b (write_all c ns values w)
+    → Kept c b w → Kept c b (write_all c b ns values w)
 kept-all c b [] values w kept = kept
 kept-all c b (name ∷ ns) [] w kept = kept
 kept-all c b (name ∷ ns) (given ∷ values) w kept =
-    kept-all c b ns values (write_one c name given w)
-    (kept-row c b given w (row_named w.bay name) kept)
+    kept-all c b ns values (write_one c b name given w)
+    (kept-row c b given w (row_named b name) kept)
 
 -- ---- an answer
 
@@ -493,15 +439,19 @@ does-served c b id identify = does-within c b id _ _ (does-nothing c b _)
 does-served c b id (names class place after) = does-within c b id _ _ (does-nothing c b _)
 does-served c b id (attributes name) = does-attributes c b id (row_named b name)
 does-served c b id (read ns) =
+    let kept = read-all-selects c b b.controls ns (nothing_read b) (selects-none c.now b.controls) in
     does-within c b id _ _ (record {
-      leaves = read-all-leaves c b ns (nothing_read b) (leaves-none c.now b);
+      leaves = leaves-with c.now b _ kept.busy;
       released = tt;
-      sole = λ timed. record { timed = read-all-timed c ns (nothing_read b) timed; single = tt };
+      sole = λ timed. record { timed = rw (← kept.same) timed; single = tt };
     })
 does-served c b id (write ns values) =
     let kept = kept-all c b ns values (nothing_written b) (kept-nothing c b) in
-    does-within c b id _ _ (record
-    { leaves = kept.leaves; released = kept.released; sole = kept.sole })
+    does-within c b id _ _ (record {
+      leaves = leaves-with c.now b _ kept.busy;
+      released = kept.released;
+      sole = kept.sole;
+    })
 
 does-answer : (c : Client) (b : Bay) (r : Result Message MmsFault) → Does c b (answer-of c b r)
 does-answer c b (Ok (initiate proposal)) = does-nothing c b _

@@ -2,7 +2,7 @@
 use Rattle.std.proofs.Common.{◌≡◌, ◌≤◌, ℕ, zero, suc, Bool, true, false, cond, nat_le, All, IfSome, List, [], ◌∷◌, ◌++◌, length, Option, Some, None, option_to_list, Result, Ok, Err, refl, arith}
 use Rattle.std.proofs.lemmas.Bool.Decides.{nat_tests}
 use Rattle.std.proofs.lemmas.List.Elements.{All-append}
-use Rattle.bay_control.specs.Decisions.{cancel_outcome, operate_outcome, select_with_outcome}
+use Rattle.bay_control.specs.Decisions.{Outcome, operate_outcome}
 use Rattle.bay_control.specs.declared.cause.AddCause.{AddCause}
 use Rattle.bay_mms.specs.Controls as asked
 use Rattle.bay_mms.specs.Controls.{Control, cancel_in, operate_in}
@@ -28,7 +28,7 @@ use Rattle.bay_services.specs.Reads.{nothing_read, read_all}
 use Rattle.bay_services.specs.Replies.{fitting}
 use Rattle.bay_services.specs.Rows.{row_named}
 use Rattle.bay_services.specs.Targets.{target_of}
-use Rattle.bay_services.specs.Writes.{Writing, cancel_asked, later_ending, nothing_written, operate_asked, select_with_asked, write_all, write_one, write_part, write_row, write_target}
+use Rattle.bay_services.specs.Writes.{Writing, after_decision, cancel_asked, later_ending, nothing_written, operate_asked, select_with_asked, write_all, write_one, write_part, write_row, write_target}
 use Rattle.bay_services.specs.declared.answer.Ending.{Ending}
 use Rattle.bay_services.specs.declared.client.Client.{Client}
 use Rattle.bay_services.specs.declared.target.ControlPart.{ControlPart}
@@ -88,13 +88,6 @@ refusals-short c k item control b (Ok done) most = none-long
 refusals-short c k item control b (Err why) most =
     report-if c (refusal_report (object_of b item) control why) (has_reports b k) most
 
-more-short : (c : Client) (k : ℕ) (item : List ℕ) (control : Control) (w : Writing)
-    (answer : Result (Unit {0}) AddCause) → c.size ≤ 65000 → AreShort w.reports
-    → AreShort (w.reports ++ refusal_reports c k item control w.bay answer)
-more-short c k item control w answer most short =
-    both-short w.reports (refusal_reports c k item control w.bay answer) short
-    (refusals-short c k item control w.bay answer most)
-
 -- ---- the reports of an end
 
 fitting-some : (size : ℕ) (pdu : List ℕ) (t : Bool) → nat_le (length pdu) size ≡ t → size ≤ 65000
@@ -133,67 +126,60 @@ later-short before (Some ending) a b = b
 abbrev IsFit : Writing → Type 0
 IsFit w = AreShort w.reports × IsShort w.ending
 
-select-with-short : (c : Client) (k : ℕ) (item : List ℕ) (w : Writing)
-    (x : Result asked.Operate ControlFault) → c.size ≤ 65000 → IsFit w
-    → IsFit (select_with_asked c k item w x)
-select-with-short c k item w (Err fault) most short = short
-select-with-short c k item w (Ok o) most short = (
-  more-short c k item o.control w
-      (select_with_outcome c.association k (ask_of o) c.now w.bay.controls).answer most short.0,
-  short.1,
-)
+module _ (c : Client) (b : Bay) (most : c.size ≤ 65000) where
+  decided-short : (k : ℕ) (item : List ℕ) (control : Control) (o : Outcome) (w : Writing) → IsFit w
+      → IsFit (after_decision c b k item control o w)
+  decided-short k item control o w short = (
+    both-short w.reports (refusal_reports c k item control b o.answer) short.0
+        (refusals-short c k item control b o.answer most),
+    short.1,
+  )
 
-operate-short : (c : Client) (k : ℕ) (item : List ℕ) (w : Writing)
-    (x : Result asked.Operate ControlFault) → c.size ≤ 65000 → IsFit w
-    → IsFit (operate_asked c k item w x)
-operate-short c k item w (Err fault) most short = short
-operate-short c k item w (Ok o) most short =
-    let answer =
-    (operate_outcome c.association k (ask_of o) (view_of c k w.bay) c.now w.bay.controls).answer
-    in (
-      more-short c k item o.control w answer most short.0,
-      later-short w.ending (endings c k item o w.bay answer) short.1
-          (endings-short c k item o w.bay answer most),
-    )
+  select-with-short : (k : ℕ) (item : List ℕ) (w : Writing) (x : Result asked.Operate ControlFault)
+      → IsFit w → IsFit (select_with_asked c b k item w x)
+  select-with-short k item w (Err fault) short = short
+  select-with-short k item w (Ok o) short = decided-short k item o.control _ w short
 
-cancel-short : (c : Client) (k : ℕ) (item : List ℕ) (w : Writing) (x : Result Control ControlFault)
-    → c.size ≤ 65000 → IsFit w → IsFit (cancel_asked c k item w x)
-cancel-short c k item w (Err fault) most short = short
-cancel-short c k item w (Ok control) most short = (
-  more-short c k item control w (cancel_outcome c.association k c.now w.bay.controls).answer most
-      short.0,
-  short.1,
-)
+  operate-short : (k : ℕ) (item : List ℕ) (w : Writing) (x : Result asked.Operate ControlFault)
+      → IsFit w → IsFit (operate_asked c b k item w x)
+  operate-short k item w (Err fault) short = short
+  operate-short k item w (Ok o) short =
+      let out = operate_outcome c.association k (ask_of o) (view_of c k b) c.now w.controls in (
+        (decided-short k item o.control out w short).0,
+        later-short w.ending (endings c k item o b out.answer) short.1
+            (endings-short c k item o b out.answer most),
+      )
 
-part-short : (c : Client) (k : ℕ) (item : List ℕ) (given : Datum) (w : Writing) (part : ControlPart)
-    → c.size ≤ 65000 → IsFit w → IsFit (write_part c k item given w part)
-part-short c k item given w Select most short = short
-part-short c k item given w SelectWith most short =
-    select-with-short c k item w (operate_in given) most short
-part-short c k item given w Operate most short =
-    operate-short c k item w (operate_in given) most short
-part-short c k item given w Cancel most short = cancel-short c k item w (cancel_in given) most short
+  cancel-short : (k : ℕ) (item : List ℕ) (w : Writing) (x : Result Control ControlFault)
+      → IsFit w → IsFit (cancel_asked c b k item w x)
+  cancel-short k item w (Err fault) short = short
+  cancel-short k item w (Ok control) short = decided-short k item control _ w short
 
-target-short : (c : Client) (item : List ℕ) (given : Datum) (w : Writing) (t : Option Target)
-    → c.size ≤ 65000 → IsFit w → IsFit (write_target c item given w t)
-target-short c item given w None most short = short
-target-short c item given w (Some t) most short =
-    part-short c t.switch item given w t.part most short
+  part-short : (k : ℕ) (item : List ℕ) (given : Datum) (w : Writing) (part : ControlPart)
+      → IsFit w → IsFit (write_part c b k item given w part)
+  part-short k item given w Select short = short
+  part-short k item given w SelectWith short = select-with-short k item w (operate_in given) short
+  part-short k item given w Operate short = operate-short k item w (operate_in given) short
+  part-short k item given w Cancel short = cancel-short k item w (cancel_in given) short
 
-row-short : (c : Client) (given : Datum) (w : Writing) (place : Option ℕ) → c.size ≤ 65000 → IsFit w
-    → IsFit (write_row c given w place)
-row-short c given w None most short = short
-row-short c given w (Some place) most short =
-    target-short c (name_at w.bay.rows place) given w
-    (target_of (length w.bay.switches) (name_at w.bay.rows place)) most short
+  target-short : (item : List ℕ) (given : Datum) (w : Writing) (t : Option Target)
+      → IsFit w → IsFit (write_target c b item given w t)
+  target-short item given w None short = short
+  target-short item given w (Some t) short = part-short t.switch item given w t.part short
 
-all-short : (c : Client) (ns : List Naming) (values : List Datum) (w : Writing) → c.size ≤ 65000
-    → IsFit w → IsFit (write_all c ns values w)
-all-short c [] values w most short = short
-all-short c (n ∷ ns) [] w most short = short
-all-short c (n ∷ ns) (given ∷ values) w most short =
-    all-short c ns values (write_one c n given w) most
-    (row-short c given w (row_named w.bay n) most short)
+  row-short : (given : Datum) (w : Writing) (place : Option ℕ) → IsFit w
+      → IsFit (write_row c b given w place)
+  row-short given w None short = short
+  row-short given w (Some place) short =
+      target-short (name_at b.rows place) given w
+      (target_of (length b.switches) (name_at b.rows place)) short
+
+  all-short : (ns : List Naming) (values : List Datum) (w : Writing) → IsFit w
+      → IsFit (write_all c b ns values w)
+  all-short [] values w short = short
+  all-short (n ∷ ns) [] w short = short
+  all-short (n ∷ ns) (given ∷ values) w short =
+      all-short ns values (write_one c b n given w) (row-short given w (row_named b n) short)
 
 -- ---- all answers
 
@@ -205,18 +191,18 @@ attributes-short c id b (Some place) most = responded-short c id b _ most
 read-short : (c : Client) (id : ℕ) (b : Bay) (ns : List Naming) → c.size ≤ 65000
     → AreShort (read_asked c id b ns).sent
 read-short c id b ns most =
-    let text = read_text id (read_all c ns (nothing_read b)).results in
+    let text = read_text id (read_all c b ns (nothing_read b)).results in
     within-if c id b text _ (nat_le (length text) c.size)
     (λ is. one-short text (fits-size c.size text most is))
 
 write-short : (c : Client) (id : ℕ) (b : Bay) (ns : List Naming) (values : List Datum)
     → c.size ≤ 65000 → AreShort (write_asked c id b ns values).sent
 write-short c id b ns values most =
-    let w = write_all c ns values (nothing_written b) in
+    let w = write_all c b ns values (nothing_written b) in
     let text = write_text id w.results in
     within-if c id b text _ (nat_le (length text) c.size)
     (λ is. both-short w.reports (text ∷ [])
-    (all-short c ns values (nothing_written b) most (none-long, tt)).0
+    (all-short c b most ns values (nothing_written b) (none-long, tt)).0
     (one-short text (fits-size c.size text most is)))
 
 served-short : (c : Client) (id : ℕ) (b : Bay) (x : Asking) → c.size ≤ 65000
@@ -262,15 +248,15 @@ attributes-end c id b (Some place) = responded-end c id b _
 read-end : (c : Client) (id : ℕ) (b : Bay) (ns : List Naming)
     → IsShort (read_asked c id b ns).ending
 read-end c id b ns =
-    let text = read_text id (read_all c ns (nothing_read b)).results in
+    let text = read_text id (read_all c b ns (nothing_read b)).results in
     ending-within c id b text _ (nat_le (length text) c.size) tt
 
 write-end : (c : Client) (id : ℕ) (b : Bay) (ns : List Naming) (values : List Datum)
     → c.size ≤ 65000 → IsShort (write_asked c id b ns values).ending
 write-end c id b ns values most =
-    let text = write_text id (write_all c ns values (nothing_written b)).results in
+    let text = write_text id (write_all c b ns values (nothing_written b)).results in
     ending-within c id b text _ (nat_le (length text) c.size)
-    (all-short c ns values (nothing_written b) most (none-long, tt)).1
+    (all-short c b most ns values (nothing_written b) (none-long, tt)).1
 
 served-end : (c : Client) (id : ℕ) (b : Bay) (x : Asking) → c.size ≤ 65000
     → IsShort (service_answer c id b x).ending

@@ -33,7 +33,7 @@ use Rattle.bay_mms.specs.Tags.{context}
 use Rattle.bay_mms.specs.declared.fault.ControlFault.{ControlFault}
 use Rattle.bay_mms.proofs.LawLemmas.{datum-spells}
 use Rattle.bay_services.specs.Accepted.{AreNamedAlike, act_of_read, act_of_write, cancel_act, is_granted, is_some_text, is_success, operate_act, read_accepted, read_act, select_with_act, write_accepted, write_act}
-use Rattle.bay_services.specs.Bay.{Bay, is_selected, rows_shown, with_controls}
+use Rattle.bay_services.specs.Bay.{Bay, seen_rows}
 use Rattle.bay_services.specs.Controls.{ask_of, object_of, view_of}
 use Rattle.bay_services.specs.Entries.{call_of_read, call_of_write, cancel_call, operate_call, read_call, read_entries, entries_of_call, select_with_call, target_at, write_call, write_entries}
 use Rattle.bay_services.specs.Reads.{Reading, read_all, read_one, read_part, read_row, read_target, selected_text, value_read}
@@ -45,34 +45,7 @@ use Rattle.bay_services.specs.declared.target.ControlPart.{ControlPart}
 use Rattle.bay_services.specs.declared.target.ControlPart.TheVariants.{Select, SelectWith, Operate, Cancel}
 use Rattle.bay_services.specs.declared.target.Target.{Target}
 
--- ---- the names of variables stay
-
-named-if : (b : Bool) (r : Row) (v : Leaf)
-    → (cond b (let s : Row = record { name = r.name; leaf = Some v } in s) r).name ≡ r.name
-named-if true r v = refl
-named-if false r v = refl
-
-names-with-leaf : (name : List ℕ) (v : Leaf) (rows : List Row)
-    → names_of (with_leaf_of name v rows) ≡ names_of rows
-names-with-leaf name v [] = refl
-names-with-leaf name v (r ∷ rows) =
-    ap₂ (λ (n : List ℕ) (ns : List (List ℕ)). n ∷ ns) (named-if (bytes_eq r.name name) r v)
-    (names-with-leaf name v rows)
-
-names-shown : (selected : Option ℕ) (count : ℕ) (rows : List Row)
-    → names_of (rows_shown selected count rows) ≡ names_of rows
-names-shown selected zero rows = refl
-names-shown selected (suc k) rows =
-    names-with-leaf ((control_names k).selected) (leaf.Truth (is_selected k selected))
-    (rows_shown selected k rows) ∙ names-shown selected k rows
-
-pub alike-still : (b d : Bay) (controls : State) → AreNamedAlike b d
-    → AreNamedAlike b (with_controls controls d)
-alike-still b d controls alike = record {
-  domain = alike.domain;
-  switches = alike.switches;
-  names = names-shown (selected_switch controls.selection) (length d.switches) d.rows ∙ alike.names;
-}
+-- ---- the names of variables
 
 row-alike : (b d : Bay) (name : Naming) → AreNamedAlike b d → row_named d name ≡ row_named b name
 row-alike b d (vmd name) alike = refl
@@ -144,16 +117,19 @@ record OneRead (c : Client) (asks : Option Act) (asked : Option Call) (r next : 
   front : List ℕ
   is : next.results ≡ r.results ++ front
   spelled : length front < 4294967296 → Spells front part.tag part.content
-  told : entries_of c.now asks (is_granted part) ≡ entries_of_call c r.bay asked
+  told : entries_of c.now asks (is_granted part) ≡ entries_of_call c r.controls asked
 
-data-read : (c : Client) (place : ℕ) (r : Reading) → OneRead c None None r (value_read place r)
-data-read c place r = record {
-  part = value (datum_tag (data_at r.bay.rows place)) (datum_content (data_at r.bay.rows place));
-  front = datum_text (data_at r.bay.rows place);
-  is = refl;
-  spelled = datum-spells (data_at r.bay.rows place) (node-small (node_at r.bay.rows place));
-  told = refl;
-}
+data-read : (c : Client) (b : Bay) (place : ℕ) (r : Reading)
+    → OneRead c None None r (value_read b place r)
+data-read c b place r =
+    let rows : List Row = seen_rows b r.controls in
+    record {
+      part = value (datum_tag (data_at rows place)) (datum_content (data_at rows place));
+      front = datum_text (data_at rows place);
+      is = refl;
+      spelled = datum-spells (data_at rows place) (node-small (node_at rows place));
+      told = refl;
+    }
 
 some-text : (xs ys : List ℕ) → is_some_text (xs ++ (codes "/" ++ ys)) ≡ true
 some-text [] ys = refl
@@ -164,73 +140,54 @@ granted-by : (b : Bay) (item : List ℕ) (answer : Result (Unit {0}) AddCause)
 granted-by b item (Ok done) = some-text b.domain item
 granted-by b item (Err why) = refl
 
-read-part-is : (c : Client) (place : ℕ) (r : Reading) (k : ℕ) (part : ControlPart)
-    → OneRead c (read_act c.association k part) (read_call c k part) r (read_part c place r k part)
-read-part-is c place r k Select =
-    let o : Outcome = select_outcome c.association k c.now r.bay.controls in
-    let text : List ℕ = selected_text (object_of r.bay (name_at r.bay.rows place)) o.answer in
+read-part-is : (c : Client) (b : Bay) (place : ℕ) (r : Reading) (k : ℕ) (part : ControlPart)
+    → OneRead c (read_act c.association k part) (read_call c k part) r
+    (read_part c b place r k part)
+read-part-is c b place r k Select =
+    let o : Outcome = select_outcome c.association k c.now r.controls in
+    let text : List ℕ = selected_text (object_of b (name_at b.rows place)) o.answer in
     record {
       part = value (context 10) text;
       front = text_result text;
       is = refl;
       spelled = spells-element (context 10) text (omega arith);
       told = ap (λ (granted : Bool). entries_of c.now (Some (act.Select c.association k)) granted)
-          (granted-by r.bay (name_at r.bay.rows place) o.answer);
+          (granted-by b (name_at b.rows place) o.answer);
     }
-read-part-is c place r k SelectWith = data-read c place r
-read-part-is c place r k Operate = data-read c place r
-read-part-is c place r k Cancel = data-read c place r
+read-part-is c b place r k SelectWith = data-read c b place r
+read-part-is c b place r k Operate = data-read c b place r
+read-part-is c b place r k Cancel = data-read c b place r
 
-read-target-is : (c : Client) (place : ℕ) (r : Reading) (target : Option Target)
+read-target-is : (c : Client) (b : Bay) (place : ℕ) (r : Reading) (target : Option Target)
     → OneRead c (act_of_read c.association target) (call_of_read c target) r
-    (read_target c place r target)
-read-target-is c place r None = data-read c place r
-read-target-is c place r (Some t) = read-part-is c place r t.switch t.part
+    (read_target c b place r target)
+read-target-is c b place r None = data-read c b place r
+read-target-is c b place r (Some t) = read-part-is c b place r t.switch t.part
 
-read-row-is : (c : Client) (r : Reading) (row : Option ℕ)
-    → OneRead c (act_of_read c.association (target_at r.bay row))
-    (call_of_read c (target_at r.bay row)) r (read_row c r row)
-read-row-is c r None = record {
+read-row-is : (c : Client) (b : Bay) (r : Reading) (row : Option ℕ)
+    → OneRead c (act_of_read c.association (target_at b row))
+    (call_of_read c (target_at b row)) r (read_row c b r row)
+read-row-is c b r None = record {
   part = value (context 0) (integer_octets (pos 10));
   front = failure_result 10;
   is = refl;
   spelled = spells-element (context 0) (integer_octets (pos 10)) (omega arith);
   told = refl;
 }
-read-row-is c r (Some place) = read-target-is c place r (target_at r.bay (Some place))
-
--- the bay's names stay
-read-part-alike : (b : Bay) (c : Client) (place : ℕ) (r : Reading) (k : ℕ) (part : ControlPart)
-    → AreNamedAlike b r.bay → AreNamedAlike b (read_part c place r k part).bay
-read-part-alike b c place r k Select alike =
-    alike-still b r.bay (select_outcome c.association k c.now r.bay.controls).after alike
-read-part-alike b c place r k SelectWith alike = alike
-read-part-alike b c place r k Operate alike = alike
-read-part-alike b c place r k Cancel alike = alike
-
-read-target-alike : (b : Bay) (c : Client) (place : ℕ) (r : Reading) (target : Option Target)
-    → AreNamedAlike b r.bay → AreNamedAlike b (read_target c place r target).bay
-read-target-alike b c place r None alike = alike
-read-target-alike b c place r (Some t) alike = read-part-alike b c place r t.switch t.part alike
-
-pub read-row-alike : (b : Bay) (c : Client) (r : Reading) (row : Option ℕ) → AreNamedAlike b r.bay
-    → AreNamedAlike b (read_row c r row).bay
-read-row-alike b c r None alike = alike
-read-row-alike b c r (Some place) alike =
-    read-target-alike b c place r (target_at r.bay (Some place)) alike
+read-row-is c b r (Some place) = read-target-is c b place r (target_at b (Some place))
 
 -- ---- all variables that are read
 
-pub record AllRead (c : Client) (b : Bay) (ns : List Naming) (r : Reading) : Type 0 where
+pub record AllRead (c : Client) (n b : Bay) (ns : List Naming) (r : Reading) : Type 0 where
   pub parts : List Part
   pub more : List ℕ
-  pub is : (read_all c ns r).results ≡ r.results ++ more
+  pub is : (read_all c b ns r).results ≡ r.results ++ more
   pub spelled : length more < 4294967296 → SpellAll more parts
-  pub told : read_accepted c.now c.association b ns parts ≡ read_entries c ns r
+  pub told : read_accepted c.now c.association n ns parts ≡ read_entries c b ns r
 
-pub all-read : (c : Client) (b : Bay) (ns : List Naming) (r : Reading) → AreNamedAlike b r.bay
-    → AllRead c b ns r
-all-read c b [] r alike =
+pub all-read : (c : Client) (n b : Bay) (ns : List Naming) (r : Reading) → AreNamedAlike n b
+    → AllRead c n b ns r
+all-read c n b [] r alike =
     record {
       parts = [];
       more = [];
@@ -238,17 +195,16 @@ all-read c b [] r alike =
       spelled = λ short. refl;
       told = refl;
     }
-all-read c b (name ∷ ns) r alike =
-    let next : Reading = read_one c name r in
-    let target : Option Target = target_at r.bay (row_named r.bay name) in
+all-read c n b (name ∷ ns) r alike =
+    let next : Reading = read_one c b name r in
+    let target : Option Target = target_at b (row_named b name) in
     let one : OneRead c (act_of_read c.association target) (call_of_read c target) r next =
-    read-row-is c r (row_named r.bay name) in
-    let rest : AllRead c b ns next =
-    all-read c b ns next (read-row-alike b c r (row_named r.bay name) alike) in
-    let here : entries_of c.now (act_of_read c.association (target_at b (row_named b name)))
-    (is_granted one.part) ≡ entries_of_call c r.bay (call_of_read c target) =
+    read-row-is c b r (row_named b name) in
+    let rest : AllRead c n b ns next = all-read c n b ns next alike in
+    let here : entries_of c.now (act_of_read c.association (target_at n (row_named n name)))
+    (is_granted one.part) ≡ entries_of_call c r.controls (call_of_read c target) =
     ap (λ (t : Option Target). entries_of c.now (act_of_read c.association t) (is_granted one.part))
-    (sym (named-target b r.bay name alike)) ∙ one.told in
+    (sym (named-target n b name alike)) ∙ one.told in
     record {
       parts = one.part ∷ rest.parts;
       more = one.front ++ rest.more;
@@ -273,7 +229,7 @@ record OneWritten (c : Client) (asks : Option Act) (asked : Option Call) (w next
   front : List ℕ
   is : next.results ≡ w.results ++ front
   spelled : length front < 4294967296 → Spells front part.tag part.content
-  told : entries_of c.now asks (is_success part) ≡ entries_of_call c w.bay asked
+  told : entries_of c.now asks (is_success part) ≡ entries_of_call c w.controls asked
 
 nothing-done : (c : Client) (number : ℕ) (w : Writing)
     → OneWritten c None None w (write_failed number w)
@@ -305,10 +261,10 @@ decision-success (Err why) = refl
 
 -- what a decision answers tells whether it was accepted
 decided-is : (c : Client) (asks : Act) (asked : Call) (w next : Writing) → act_of asked ≡ Some asks
-    → next.results ≡ w.results ++ decision_result (outcome_of asked c.now w.bay.controls).answer
+    → next.results ≡ w.results ++ decision_result (outcome_of asked c.now w.controls).answer
     → OneWritten c (Some asks) (Some asked) w next
 decided-is c asks asked w next by is =
-    let answer : Result (Unit {0}) AddCause = (outcome_of asked c.now w.bay.controls).answer in
+    let answer : Result (Unit {0}) AddCause = (outcome_of asked c.now w.controls).answer in
     record {
       part = decision-part answer;
       front = decision_result answer;
@@ -318,113 +274,66 @@ decided-is c asks asked w next by is =
           (decision-success answer);
     }
 
-select-with-is : (c : Client) (k : ℕ) (item : List ℕ) (w : Writing)
+select-with-is : (c : Client) (b : Bay) (k : ℕ) (item : List ℕ) (w : Writing)
     (o : Result asked.Operate ControlFault)
     → OneWritten c (select_with_act c.association k o) (select_with_call c k o) w
-    (select_with_asked c k item w o)
-select-with-is c k item w (Ok o) =
+    (select_with_asked c b k item w o)
+select-with-is c b k item w (Ok o) =
     decided-is c (act.SelectWith c.association k (asked_choice (ask_of o)))
     (call.SelectWith c.association k (ask_of o)) w _ refl refl
-select-with-is c k item w (Err fault) = nothing-done c (control_code_of fault) w
+select-with-is c b k item w (Err fault) = nothing-done c (control_code_of fault) w
 
-operate-is : (c : Client) (k : ℕ) (item : List ℕ) (w : Writing)
+operate-is : (c : Client) (b : Bay) (k : ℕ) (item : List ℕ) (w : Writing)
     (o : Result asked.Operate ControlFault)
-    → OneWritten c (operate_act c.association k o) (operate_call c k w.bay o) w
-    (operate_asked c k item w o)
-operate-is c k item w (Ok o) =
+    → OneWritten c (operate_act c.association k o) (operate_call c k b o) w
+    (operate_asked c b k item w o)
+operate-is c b k item w (Ok o) =
     decided-is c (act.Operate c.association k (asked_choice (ask_of o)))
-    (call.Operate c.association k (ask_of o) (view_of c k w.bay)) w _ refl refl
-operate-is c k item w (Err fault) = nothing-done c (control_code_of fault) w
+    (call.Operate c.association k (ask_of o) (view_of c k b)) w _ refl refl
+operate-is c b k item w (Err fault) = nothing-done c (control_code_of fault) w
 
-cancel-is : (c : Client) (k : ℕ) (item : List ℕ) (w : Writing) (o : Result Control ControlFault)
-    → OneWritten c (cancel_act c.association k o) (cancel_call c k o) w (cancel_asked c k item w o)
-cancel-is c k item w (Ok control) =
+cancel-is : (c : Client) (b : Bay) (k : ℕ) (item : List ℕ) (w : Writing) (o : Result Control ControlFault)
+    → OneWritten c (cancel_act c.association k o) (cancel_call c k o) w (cancel_asked c b k item w o)
+cancel-is c b k item w (Ok control) =
     decided-is c (act.Cancel c.association k) (call.Cancel c.association k) w _ refl refl
-cancel-is c k item w (Err fault) = nothing-done c (control_code_of fault) w
+cancel-is c b k item w (Err fault) = nothing-done c (control_code_of fault) w
 
-write-part-is : (c : Client) (k : ℕ) (item : List ℕ) (given : Datum) (w : Writing)
+write-part-is : (c : Client) (b : Bay) (k : ℕ) (item : List ℕ) (given : Datum) (w : Writing)
     (part : ControlPart)
-    → OneWritten c (write_act c.association given k part) (write_call c w.bay given k part) w
-    (write_part c k item given w part)
-write-part-is c k item given w Select = nothing-done c 3 w
-write-part-is c k item given w SelectWith = select-with-is c k item w (operate_in given)
-write-part-is c k item given w Operate = operate-is c k item w (operate_in given)
-write-part-is c k item given w Cancel = cancel-is c k item w (cancel_in given)
+    → OneWritten c (write_act c.association given k part) (write_call c b given k part) w
+    (write_part c b k item given w part)
+write-part-is c b k item given w Select = nothing-done c 3 w
+write-part-is c b k item given w SelectWith = select-with-is c b k item w (operate_in given)
+write-part-is c b k item given w Operate = operate-is c b k item w (operate_in given)
+write-part-is c b k item given w Cancel = cancel-is c b k item w (cancel_in given)
 
-write-target-is : (c : Client) (item : List ℕ) (given : Datum) (w : Writing)
+write-target-is : (c : Client) (b : Bay) (item : List ℕ) (given : Datum) (w : Writing)
     (target : Option Target)
-    → OneWritten c (act_of_write c.association given target) (call_of_write c w.bay given target) w
-    (write_target c item given w target)
-write-target-is c item given w None = nothing-done c 3 w
-write-target-is c item given w (Some t) = write-part-is c t.switch item given w t.part
+    → OneWritten c (act_of_write c.association given target) (call_of_write c b given target) w
+    (write_target c b item given w target)
+write-target-is c b item given w None = nothing-done c 3 w
+write-target-is c b item given w (Some t) = write-part-is c b t.switch item given w t.part
 
-write-row-is : (c : Client) (given : Datum) (w : Writing) (row : Option ℕ)
-    → OneWritten c (act_of_write c.association given (target_at w.bay row))
-    (call_of_write c w.bay given (target_at w.bay row)) w (write_row c given w row)
-write-row-is c given w None = nothing-done c 10 w
-write-row-is c given w (Some place) =
-    write-target-is c (name_at w.bay.rows place) given w (target_at w.bay (Some place))
-
--- the bay's names stay
-select-with-alike : (b : Bay) (c : Client) (k : ℕ) (item : List ℕ) (w : Writing)
-    (o : Result asked.Operate ControlFault) → AreNamedAlike b w.bay
-    → AreNamedAlike b (select_with_asked c k item w o).bay
-select-with-alike b c k item w (Ok o) alike =
-    alike-still b w.bay (select_with_outcome c.association k (ask_of o) c.now w.bay.controls).after
-    alike
-select-with-alike b c k item w (Err fault) alike = alike
-
-operate-alike : (b : Bay) (c : Client) (k : ℕ) (item : List ℕ) (w : Writing)
-    (o : Result asked.Operate ControlFault) → AreNamedAlike b w.bay
-    → AreNamedAlike b (operate_asked c k item w o).bay
-operate-alike b c k item w (Ok o) alike =
-    alike-still b w.bay (operate_outcome c.association k (ask_of o) (view_of c k w.bay) c.now
-    w.bay.controls).after alike
-operate-alike b c k item w (Err fault) alike = alike
-
-cancel-alike : (b : Bay) (c : Client) (k : ℕ) (item : List ℕ) (w : Writing)
-    (o : Result Control ControlFault) → AreNamedAlike b w.bay
-    → AreNamedAlike b (cancel_asked c k item w o).bay
-cancel-alike b c k item w (Ok control) alike =
-    alike-still b w.bay (cancel_outcome c.association k c.now w.bay.controls).after alike
-cancel-alike b c k item w (Err fault) alike = alike
-
-write-part-alike : (b : Bay) (c : Client) (k : ℕ) (item : List ℕ) (given : Datum) (w : Writing)
-    (part : ControlPart) → AreNamedAlike b w.bay
-    → AreNamedAlike b (write_part c k item given w part).bay
-write-part-alike b c k item given w Select alike = alike
-write-part-alike b c k item given w SelectWith alike =
-    select-with-alike b c k item w (operate_in given) alike
-write-part-alike b c k item given w Operate alike =
-    operate-alike b c k item w (operate_in given) alike
-write-part-alike b c k item given w Cancel alike = cancel-alike b c k item w (cancel_in given) alike
-
-write-target-alike : (b : Bay) (c : Client) (item : List ℕ) (given : Datum) (w : Writing)
-    (target : Option Target) → AreNamedAlike b w.bay
-    → AreNamedAlike b (write_target c item given w target).bay
-write-target-alike b c item given w None alike = alike
-write-target-alike b c item given w (Some t) alike =
-    write-part-alike b c t.switch item given w t.part alike
-
-pub write-row-alike : (b : Bay) (c : Client) (given : Datum) (w : Writing) (row : Option ℕ)
-    → AreNamedAlike b w.bay → AreNamedAlike b (write_row c given w row).bay
-write-row-alike b c given w None alike = alike
-write-row-alike b c given w (Some place) alike =
-    write-target-alike b c (name_at w.bay.rows place) given w (target_at w.bay (Some place)) alike
+write-row-is : (c : Client) (b : Bay) (given : Datum) (w : Writing) (row : Option ℕ)
+    → OneWritten c (act_of_write c.association given (target_at b row))
+    (call_of_write c b given (target_at b row)) w (write_row c b given w row)
+write-row-is c b given w None = nothing-done c 10 w
+write-row-is c b given w (Some place) =
+    write-target-is c b (name_at b.rows place) given w (target_at b (Some place))
 
 -- ---- all variables that are written
 
-pub record AllWritten (c : Client) (b : Bay) (ns : List Naming) (values : List Datum) (w : Writing)
+pub record AllWritten (c : Client) (n b : Bay) (ns : List Naming) (values : List Datum) (w : Writing)
     : Type 0 where
   pub parts : List Part
   pub more : List ℕ
-  pub is : (write_all c ns values w).results ≡ w.results ++ more
+  pub is : (write_all c b ns values w).results ≡ w.results ++ more
   pub spelled : length more < 4294967296 → SpellAll more parts
-  pub told : write_accepted c.now c.association b ns values parts ≡ write_entries c ns values w
+  pub told : write_accepted c.now c.association n ns values parts ≡ write_entries c b ns values w
 
-pub all-written : (c : Client) (b : Bay) (ns : List Naming) (values : List Datum) (w : Writing)
-    → AreNamedAlike b w.bay → AllWritten c b ns values w
-all-written c b [] values w alike =
+pub all-written : (c : Client) (n b : Bay) (ns : List Naming) (values : List Datum) (w : Writing)
+    → AreNamedAlike n b → AllWritten c n b ns values w
+all-written c n b [] values w alike =
     record {
       parts = [];
       more = [];
@@ -432,7 +341,7 @@ all-written c b [] values w alike =
       spelled = λ short. refl;
       told = refl;
     }
-all-written c b (name ∷ ns) [] w alike =
+all-written c n b (name ∷ ns) [] w alike =
     record {
       parts = [];
       more = [];
@@ -440,18 +349,17 @@ all-written c b (name ∷ ns) [] w alike =
       spelled = λ short. refl;
       told = refl;
     }
-all-written c b (name ∷ ns) (given ∷ values) w alike =
-    let next : Writing = write_one c name given w in
-    let target : Option Target = target_at w.bay (row_named w.bay name) in
+all-written c n b (name ∷ ns) (given ∷ values) w alike =
+    let next : Writing = write_one c b name given w in
+    let target : Option Target = target_at b (row_named b name) in
     let one : OneWritten c (act_of_write c.association given target)
-    (call_of_write c w.bay given target) w next =
-    write-row-is c given w (row_named w.bay name) in
-    let rest : AllWritten c b ns values next =
-    all-written c b ns values next (write-row-alike b c given w (row_named w.bay name) alike) in
-    let here : entries_of c.now (act_of_write c.association given (target_at b (row_named b name)))
-    (is_success one.part) ≡ entries_of_call c w.bay (call_of_write c w.bay given target) =
+    (call_of_write c b given target) w next =
+    write-row-is c b given w (row_named b name) in
+    let rest : AllWritten c n b ns values next = all-written c n b ns values next alike in
+    let here : entries_of c.now (act_of_write c.association given (target_at n (row_named n name)))
+    (is_success one.part) ≡ entries_of_call c w.controls (call_of_write c b given target) =
     ap (λ (t : Option Target). entries_of c.now (act_of_write c.association given t)
-    (is_success one.part)) (sym (named-target b w.bay name alike)) ∙ one.told in
+    (is_success one.part)) (sym (named-target n b name alike)) ∙ one.told in
     record {
       parts = one.part ∷ rest.parts;
       more = one.front ++ rest.more;

@@ -14,7 +14,7 @@ use Rattle.bay_mms.specs.declared.fault.MmsFault.TheVariants.{BadPdu, UnknownSer
 use Rattle.bay_mms.specs.declared.response.ErrorClass.TheVariants.{NoSuchObject, Resource}
 use Rattle.bay_mms.specs.declared.response.RejectReason.{RejectReason}
 use Rattle.bay_mms.specs.declared.response.RejectReason.TheVariants.{UnrecognizedService, InvalidPdu}
-use Rattle.bay_services.specs.Bay.{Bay}
+use Rattle.bay_services.specs.Bay.{Bay, with_controls}
 use Rattle.bay_services.specs.Names.{listing}
 use Rattle.bay_services.specs.Reads.{Reading, nothing_read, read_all}
 use Rattle.bay_services.specs.Rows.{row_named}
@@ -65,10 +65,15 @@ attributes_at c id b (Some place) =
 abbrev pub read_done : Client → ℕ → Bay → Reading → Answered
 read_done c id b r =
     within c id b (read_text id r.results)
-    (record { sent = read_text id r.results ∷ []; commands = []; ending = None; after = r.bay })
+    (record {
+      sent = read_text id r.results ∷ [];
+      commands = [];
+      ending = None;
+      after = with_controls r.controls b;
+    })
 
 abbrev pub read_asked : Client → ℕ → Bay → List Naming → Answered
-read_asked c id b ns = read_done c id b (read_all c ns (nothing_read b))
+read_asked c id b ns = read_done c id b (read_all c b ns (nothing_read b))
 
 -- what is written, if its response fits; the reports of refusals come before it
 abbrev pub write_done : Client → ℕ → Bay → Writing → Answered
@@ -77,12 +82,12 @@ write_done c id b w = within c id b (write_text id w.results)
       sent = w.reports ++ write_text id w.results ∷ [];
       commands = w.commands;
       ending = w.ending;
-      after = w.bay;
+      after = with_controls w.controls b;
     })
 
 abbrev pub write_asked : Client → ℕ → Bay → List Naming → List Datum → Answered
 write_asked c id b ns values =
-    write_done c id b (write_all c ns values (nothing_written b))
+    write_done c id b (write_all c b ns values (nothing_written b))
 
 -- the answer to a confirmed request
 abbrev pub service_answer : Client → ℕ → Bay → Asking → Answered

@@ -1,12 +1,11 @@
 -- What clients see of a bay and do to it.
-use Rattle.std.specs.Prelude.{ℕ, zero, suc, ◌==◌, ◌≡◌, Bool, false, List, length, Option, Some, None}
+use Rattle.std.specs.Prelude.{ℕ, zero, suc, ◌==◌, ◌≡◌, ◌<◌, Bool, false, List, length, Option, Some, None}
 use Rattle.bay_nodes.specs.declared.switch.Switch.{Switch}
 use Rattle.bay_nodes.specs.Names.{control_names}
 use Rattle.bay_tree.specs.Rows.{with_leaf_of}
 use Rattle.bay_tree.specs.declared.row.Row.{Row}
 use Rattle.bay_tree.specs.declared.leaf.Leaf.TheVariants as leaf
-use Rattle.bay_control.specs.Decisions.{State, with_standing, selected_switch}
-use Rattle.bay_control.specs.declared.selection.Ongoing.{Ongoing}
+use Rattle.bay_control.specs.Decisions.{State, selected_switch}
 
 -- a bay: its name and its nameplate, its switches, the rows of its tree, and its controls
 pub record Bay : Type 0 where
@@ -30,19 +29,21 @@ rows_shown selected (suc k) rows =
     with_leaf_of ((control_names k).selected) (leaf.Truth (is_selected k selected))
     (rows_shown selected k rows)
 
--- The rows show which of so many switches is selected.
-abbrev pub ShowSelection : State → ℕ → List Row → Type 0
-ShowSelection controls count rows =
-    rows_shown (selected_switch controls.selection) count rows ≡ rows
+-- The tree itself shows none: it holds FALSE as stSeld of each of so many switches.
+abbrev pub ShowNone : ℕ → List Row → Type 0
+ShowNone count rows = (k : ℕ) → k < count
+    → with_leaf_of ((control_names k).selected) (leaf.Truth false) rows ≡ rows
 
--- a bay with these controls, whose selection its rows show
+-- the rows as clients see them while the controls are these
+abbrev pub seen_rows : Bay → State → List Row
+seen_rows b controls =
+    rows_shown (selected_switch controls.selection) (length b.switches) b.rows
+
+-- a bay with these controls
 abbrev pub with_controls : State → Bay → Bay
-with_controls controls b =
-    record b {
-      controls = controls;
-      rows = rows_shown (selected_switch controls.selection) (length b.switches) b.rows;
-    }
+with_controls controls b = record b { controls = controls }
 
--- a bay with what stood before
-abbrev pub standing_again : Ongoing → Bay → Bay
-standing_again standing b = with_controls (with_standing standing b.controls) b
+-- the controls that a request has left, where it has changed them
+abbrev pub left_by : Option State → State → State
+left_by None before = before
+left_by (Some after) before = after

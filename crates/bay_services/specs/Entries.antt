@@ -3,6 +3,7 @@ use Rattle.std.specs.Prelude.{ℕ, Bool, List, [], ◌∷◌, ◌++◌, length, 
 use Rattle.bay_tree.specs.Rows.{name_at}
 use Rattle.bay_control.specs.Acts as act
 use Rattle.bay_control.specs.Acts.{Act, Entry}
+use Rattle.bay_control.specs.Decisions.{State}
 use Rattle.bay_control.specs.Happenings as call
 use Rattle.bay_control.specs.Happenings.{Call, act_of, entries_of, outcome_of}
 use Rattle.bay_mms.specs.Controls as asked
@@ -72,23 +73,23 @@ call_of_write c b given (Some t) = write_call c b given t.switch t.part
 -- ---- what is seen of it
 
 -- what was asked at a moment, and whether the controls accepted it
-abbrev pub entries_of_call : Client → Bay → Option Call → List Entry
-entries_of_call c b None = []
-entries_of_call c b (Some asked) =
-    entries_of c.now (act_of asked) (is_ok (outcome_of asked c.now b.controls).answer)
+abbrev pub entries_of_call : Client → State → Option Call → List Entry
+entries_of_call c controls None = []
+entries_of_call c controls (Some asked) =
+    entries_of c.now (act_of asked) (is_ok (outcome_of asked c.now controls).answer)
 
-abbrev pub read_entries : Client → List Naming → Reading → List Entry
-read_entries c [] r = []
-read_entries c (name ∷ ns) r =
-    entries_of_call c r.bay (call_of_read c (target_at r.bay (row_named r.bay name)))
-    ++ read_entries c ns (read_one c name r)
+abbrev pub read_entries : Client → Bay → List Naming → Reading → List Entry
+read_entries c b [] r = []
+read_entries c b (name ∷ ns) r =
+    entries_of_call c r.controls (call_of_read c (target_at b (row_named b name)))
+    ++ read_entries c b ns (read_one c b name r)
 
-abbrev pub write_entries : Client → List Naming → List Datum → Writing → List Entry
-write_entries c [] values w = []
-write_entries c (name ∷ ns) [] w = []
-write_entries c (name ∷ ns) (given ∷ values) w =
-    entries_of_call c w.bay (call_of_write c w.bay given (target_at w.bay (row_named w.bay name)))
-    ++ write_entries c ns values (write_one c name given w)
+abbrev pub write_entries : Client → Bay → List Naming → List Datum → Writing → List Entry
+write_entries c b [] values w = []
+write_entries c b (name ∷ ns) [] w = []
+write_entries c b (name ∷ ns) (given ∷ values) w =
+    entries_of_call c w.controls (call_of_write c b given (target_at b (row_named b name)))
+    ++ write_entries c b ns values (write_one c b name given w)
 
 -- what a response answers that is not too long; the others do nothing
 abbrev pub within_size : Client → List ℕ → List Entry → List Entry
@@ -100,11 +101,11 @@ service_entries c id b identify = []
 service_entries c id b (names class place after) = []
 service_entries c id b (attributes name) = []
 service_entries c id b (read ns) =
-    within_size c (read_text id (read_all c ns (nothing_read b)).results)
-    (read_entries c ns (nothing_read b))
+    within_size c (read_text id (read_all c b ns (nothing_read b)).results)
+    (read_entries c b ns (nothing_read b))
 service_entries c id b (write ns values) =
-    within_size c (write_text id (write_all c ns values (nothing_written b)).results)
-    (write_entries c ns values (nothing_written b))
+    within_size c (write_text id (write_all c b ns values (nothing_written b)).results)
+    (write_entries c b ns values (nothing_written b))
 
 -- the same of a PDU
 abbrev pub message_entries : Client → Bay → Result Message MmsFault → List Entry

@@ -1,13 +1,13 @@
 -- What a read answers and does (ISO 9506-2, Read; IEC 61850-8-1, a select by a read of SBO).
 use Rattle.std.specs.Prelude.{ℕ, List, [], ◌∷◌, ◌++◌, length, Option, Some, None, Result, Ok, Err}
 use Rattle.bay_tree.specs.Rows.{name_at}
-use Rattle.bay_control.specs.Decisions.{Outcome, select_outcome}
+use Rattle.bay_control.specs.Decisions.{Outcome, State, select_outcome}
 use Rattle.bay_control.specs.declared.cause.AddCause.{AddCause}
 use Rattle.bay_mms.specs.Data.{datum_text}
 use Rattle.bay_mms.specs.Nodes.{data_at}
 use Rattle.bay_mms.specs.Requests.{Naming}
 use Rattle.bay_mms.specs.Responses.{text_result, failure_result}
-use Rattle.bay_services.specs.Bay.{Bay, with_controls}
+use Rattle.bay_services.specs.Bay.{Bay, seen_rows}
 use Rattle.bay_services.specs.Controls.{object_of}
 use Rattle.bay_services.specs.Rows.{row_named}
 use Rattle.bay_services.specs.Targets.{target_of}
@@ -16,14 +16,14 @@ use Rattle.bay_services.specs.declared.target.ControlPart.{ControlPart}
 use Rattle.bay_services.specs.declared.target.ControlPart.TheVariants.{Select, SelectWith, Operate, Cancel}
 use Rattle.bay_services.specs.declared.target.Target.{Target}
 
--- what has been read of a list of variables: the bay then, and the octets of the results
+-- what has been read of a list of variables: the controls then, and the octets of the results
 pub record Reading : Type 0 where
-  pub bay : Bay
+  pub controls : State
   pub results : List ℕ
 
 -- before the first variable
 abbrev pub nothing_read : Bay → Reading
-nothing_read b = record { bay = b; results = [] }
+nothing_read b = record { controls = b.controls; results = [] }
 
 -- the text that a select answers: the object where it is granted, and no text where it is refused
 abbrev pub selected_text : List ℕ → Result (Unit {0}) AddCause → List ℕ
@@ -31,38 +31,39 @@ selected_text object (Ok done) = object
 selected_text object (Err why) = []
 
 -- a read of SBO selects the switch
-abbrev pub select_done : Client → ℕ → List ℕ → Reading → Outcome → Reading
-select_done c k item r o = record {
-  bay = with_controls o.after r.bay;
-  results = r.results ++ text_result (selected_text (object_of r.bay item) o.answer);
+abbrev pub select_done : Bay → List ℕ → Reading → Outcome → Reading
+select_done b item r o = record {
+  controls = o.after;
+  results = r.results ++ text_result (selected_text (object_of b item) o.answer);
 }
 
-abbrev pub value_read : ℕ → Reading → Reading
-value_read place r = record r { results = r.results ++ datum_text (data_at r.bay.rows place) }
+-- a value, as clients see the bay then
+abbrev pub value_read : Bay → ℕ → Reading → Reading
+value_read b place r =
+    record r { results = r.results ++ datum_text (data_at (seen_rows b r.controls) place) }
 
-abbrev pub read_part : Client → ℕ → Reading → ℕ → ControlPart → Reading
-read_part c place r k Select =
-    select_done c k (name_at r.bay.rows place) r
-    (select_outcome c.association k c.now r.bay.controls)
-read_part c place r k SelectWith = value_read place r
-read_part c place r k Operate = value_read place r
-read_part c place r k Cancel = value_read place r
+abbrev pub read_part : Client → Bay → ℕ → Reading → ℕ → ControlPart → Reading
+read_part c b place r k Select =
+    select_done b (name_at b.rows place) r (select_outcome c.association k c.now r.controls)
+read_part c b place r k SelectWith = value_read b place r
+read_part c b place r k Operate = value_read b place r
+read_part c b place r k Cancel = value_read b place r
 
-abbrev pub read_target : Client → ℕ → Reading → Option Target → Reading
-read_target c place r None = value_read place r
-read_target c place r (Some t) = read_part c place r t.switch t.part
+abbrev pub read_target : Client → Bay → ℕ → Reading → Option Target → Reading
+read_target c b place r None = value_read b place r
+read_target c b place r (Some t) = read_part c b place r t.switch t.part
 
 -- a variable that is not there is refused by 10 (DataAccessError: object-non-existent)
-abbrev pub read_row : Client → Reading → Option ℕ → Reading
-read_row c r None = record r { results = r.results ++ failure_result 10 }
-read_row c r (Some place) =
-    read_target c place r (target_of (length r.bay.switches) (name_at r.bay.rows place))
+abbrev pub read_row : Client → Bay → Reading → Option ℕ → Reading
+read_row c b r None = record r { results = r.results ++ failure_result 10 }
+read_row c b r (Some place) =
+    read_target c b place r (target_of (length b.switches) (name_at b.rows place))
 
 -- one variable of a read
-abbrev pub read_one : Client → Naming → Reading → Reading
-read_one c name r = read_row c r (row_named r.bay name)
+abbrev pub read_one : Client → Bay → Naming → Reading → Reading
+read_one c b name r = read_row c b r (row_named b name)
 
 -- the variables in their order; each sees what those before it did
-abbrev pub read_all : Client → List Naming → Reading → Reading
-read_all c [] r = r
-read_all c (name ∷ names) r = read_all c names (read_one c name r)
+abbrev pub read_all : Client → Bay → List Naming → Reading → Reading
+read_all c b [] r = r
+read_all c b (name ∷ names) r = read_all c b names (read_one c b name r)

@@ -1,7 +1,7 @@
 -- When a switch may be operated, and what of a bay no client changes (IEC 61850-7-4, CILO).
-use Rattle.std.specs.Prelude.{ℕ, ◌≡◌, ◌≢◌, ◌≤◌, Bool, true, false, List, Some, None}
+use Rattle.std.specs.Prelude.{ℕ, ◌≡◌, ◌≤◌, Bool, true, false, List, Some, None}
 use Rattle.bay_tree.specs.Rows.{leaf_of}
-use Rattle.bay_nodes.specs.Names.{closing_of, control_names, opening_of}
+use Rattle.bay_nodes.specs.Names.{closing_of, opening_of}
 use Rattle.bay_process.specs.Values.{is_truth}
 use Rattle.bay_control.specs.Decisions.{controls_at}
 use Rattle.bay_control.specs.Requests.{control_of, is_controlled}
@@ -23,14 +23,9 @@ pub record IsReleased (c : Client) (b : Bay) (command : Command) : Type 0 where
   pub enabled : is_truth true (leaf_of (releasing command.switch command.on) b.rows) ≡ true
   pub idle : (controls_at c.now b.controls).execution ≡ None
 
--- a name that tells of no selection
-abbrev pub TellsNoSelection : List ℕ → Type 0
-TellsNoSelection name = (k : ℕ) → name ≢ (control_names k).selected
-
--- No client changes a value that tells of no selection, nor what is operating.
+-- No client changes a value of the tree, nor what is operating.
 pub record Leaves (now : ℕ) (before after : Bay) : Type 0 where
-  pub values : (name : List ℕ) → TellsNoSelection name
-      → leaf_of name after.rows ≡ leaf_of name before.rows
+  pub rows : after.rows ≡ before.rows
   pub busy : (e : Execution) → (controls_at now before.controls).execution ≡ Some e
       → (controls_at now after.controls).execution ≡ Some e
 

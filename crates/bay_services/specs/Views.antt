@@ -1,12 +1,13 @@
 -- What the fields of the code mean.
-use Rattle.std.specs.Prelude.{ℕ, ◌≡◌, List, Result, Ok, Err}
+use Rattle.std.specs.Prelude.{ℕ, ◌≡◌, List, Option, Result, Ok, Err}
 use Rattle.bay_mms.specs.RequestViews.{message}
 use Rattle.bay_mms.specs.Requests.{Message}
 use Rattle.bay_mms.specs.declared.fault.MmsFault.{MmsFault}
 use Rattle.bay_mms.specs.declared.request.Request.{Request}
+use Rattle.bay_control.specs.Decisions.{State}
 use Rattle.bay_process.specs.Layout.{switches_of}
 use Rattle.bay_services.specs.Answers.{Answered}
-use Rattle.bay_services.specs.Bay.{Bay}
+use Rattle.bay_services.specs.Bay.{Bay, left_by, with_controls}
 use Rattle.bay_services.specs.Reads.{Reading}
 use Rattle.bay_services.specs.Writes.{Writing}
 use Rattle.bay_services.specs.declared.answer.Answer.{Answer}
@@ -25,25 +26,26 @@ bay_view b = record {
   controls = b.controls;
 }
 
-abbrev pub reading : ServedBay → List ℕ → Reading
-reading b results = record { bay = bay_view b; results = results }
+-- what has been read and written of a list of variables, with the controls that they have left
+abbrev pub reading : ServedBay → Option State → List ℕ → Reading
+reading b changed results = record { controls = left_by changed b.controls; results = results }
 
-abbrev pub writing : ServedBay → Written → Writing
-writing b w =
+abbrev pub writing : ServedBay → Option State → Written → Writing
+writing b changed w =
     record {
-      bay = bay_view b;
+      controls = left_by changed b.controls;
       results = w.response;
       reports = w.reports.items;
       commands = w.commands.items;
       ending = w.ending;
     }
 
--- The answer, and the bay after it, are these.
-pub record AnswersAs (answer : Answer) (after : Bay) (answered : Answered) : Type 0 where
+-- The answer is this, and so is the bay once its controls are put in.
+pub record AnswersAs (answer : Answer) (before : Bay) (answered : Answered) : Type 0 where
   pub sent : answer.sent.items ≡ answered.sent
   pub commands : answer.commands.items ≡ answered.commands
   pub ending : answer.ending ≡ answered.ending
-  pub left : after ≡ answered.after
+  pub left : with_controls (left_by answer.controls before.controls) before ≡ answered.after
 
 -- what was read of a PDU
 abbrev pub read_as : Result Request MmsFault → Result Message MmsFault

@@ -1,7 +1,7 @@
 -- What a write answers and does (ISO 9506-2, Write; IEC 61850-8-1: SBOw, Oper and Cancel).
 use Rattle.std.specs.Prelude.{ℕ, List, [], ◌∷◌, ◌++◌, length, Option, Some, None, Result, Ok, Err}
 use Rattle.bay_tree.specs.Rows.{name_at}
-use Rattle.bay_control.specs.Decisions.{Outcome, select_with_outcome, operate_outcome, cancel_outcome}
+use Rattle.bay_control.specs.Decisions.{Outcome, State, select_with_outcome, operate_outcome, cancel_outcome}
 use Rattle.bay_control.specs.declared.cause.AddCause.{AddCause}
 use Rattle.bay_mms.specs.Code.{control_code_of}
 use Rattle.bay_mms.specs.Controls as asked
@@ -10,7 +10,7 @@ use Rattle.bay_mms.specs.Data.{Datum}
 use Rattle.bay_mms.specs.Requests.{Naming}
 use Rattle.bay_mms.specs.Responses.{failure_result, success_result}
 use Rattle.bay_mms.specs.declared.fault.ControlFault.{ControlFault}
-use Rattle.bay_services.specs.Bay.{Bay, with_controls}
+use Rattle.bay_services.specs.Bay.{Bay}
 use Rattle.bay_services.specs.Controls.{ask_of, endings, refusal_reports, view_of}
 use Rattle.bay_services.specs.Rows.{row_named}
 use Rattle.bay_services.specs.Targets.{target_of}
@@ -21,10 +21,10 @@ use Rattle.bay_services.specs.declared.target.ControlPart.{ControlPart}
 use Rattle.bay_services.specs.declared.target.ControlPart.TheVariants.{Select, SelectWith, Operate, Cancel}
 use Rattle.bay_services.specs.declared.target.Target.{Target}
 
--- what has been done of a list of variables: the bay then, the octets of the results, the reports
--- of refusals, the commands, and the reports of the end of what is operating
+-- what has been done of a list of variables: the controls then, the octets of the results, the
+-- reports of refusals, the commands, and the reports of the end of what is operating
 pub record Writing : Type 0 where
-  pub bay : Bay
+  pub controls : State
   pub results : List ℕ
   pub reports : List (List ℕ)
   pub commands : List Command
@@ -32,7 +32,8 @@ pub record Writing : Type 0 where
 
 -- before the first variable
 abbrev pub nothing_written : Bay → Writing
-nothing_written b = record { bay = b; results = []; reports = []; commands = []; ending = None }
+nothing_written b =
+    record { controls = b.controls; results = []; reports = []; commands = []; ending = None }
 
 -- the number of an error: 10 no such object, 3 access denied, 7 another type, 11 a value that is
 -- out of range (DataAccessError)
@@ -44,13 +45,13 @@ abbrev pub decision_result : Result (Unit {0}) AddCause → List ℕ
 decision_result (Ok done) = success_result
 decision_result (Err why) = failure_result 3
 
--- a decision on a control: the bay after it, its result, and where it refuses the report of that,
--- which names the control
-abbrev pub after_decision : Client → ℕ → List ℕ → Control → Outcome → Writing → Writing
-after_decision c k item control o w = record w {
-  bay = with_controls o.after w.bay;
+-- a decision on a control: the controls after it, its result, and where it refuses the report of
+-- that, which names the control
+abbrev pub after_decision : Client → Bay → ℕ → List ℕ → Control → Outcome → Writing → Writing
+after_decision c b k item control o w = record w {
+  controls = o.after;
   results = w.results ++ decision_result o.answer;
-  reports = w.reports ++ refusal_reports c k item control w.bay o.answer;
+  reports = w.reports ++ refusal_reports c k item control b o.answer;
 }
 
 -- an accepted operate is one command
@@ -64,55 +65,57 @@ later_ending before None = before
 later_ending before (Some ending) = Some ending
 
 -- an operate after its decision
-abbrev pub after_operate : Client → ℕ → List ℕ → asked.Operate → Outcome → Writing → Writing
-after_operate c k item o outcome w = record (after_decision c k item o.control outcome w) {
+abbrev pub after_operate : Client → Bay → ℕ → List ℕ → asked.Operate → Outcome → Writing → Writing
+after_operate c b k item o outcome w = record (after_decision c b k item o.control outcome w) {
   commands = w.commands ++ commands_for k o outcome.answer;
-  ending = later_ending w.ending (endings c k item o w.bay outcome.answer);
+  ending = later_ending w.ending (endings c k item o b outcome.answer);
 }
 
-abbrev pub select_with_asked : Client → ℕ → List ℕ → Writing → Result asked.Operate ControlFault
-    → Writing
-select_with_asked c k item w (Err fault) = write_failed (control_code_of fault) w
-select_with_asked c k item w (Ok o) =
-    after_decision c k item o.control
-    (select_with_outcome c.association k (ask_of o) c.now w.bay.controls)
+abbrev pub select_with_asked : Client → Bay → ℕ → List ℕ → Writing
+    → Result asked.Operate ControlFault → Writing
+select_with_asked c b k item w (Err fault) = write_failed (control_code_of fault) w
+select_with_asked c b k item w (Ok o) =
+    after_decision c b k item o.control
+    (select_with_outcome c.association k (ask_of o) c.now w.controls)
     w
 
-abbrev pub operate_asked : Client → ℕ → List ℕ → Writing → Result asked.Operate ControlFault
-    → Writing
-operate_asked c k item w (Err fault) = write_failed (control_code_of fault) w
-operate_asked c k item w (Ok o) =
-    after_operate c k item o (operate_outcome c.association k (ask_of o) (view_of c k w.bay) c.now
-    w.bay.controls) w
+abbrev pub operate_asked : Client → Bay → ℕ → List ℕ → Writing
+    → Result asked.Operate ControlFault → Writing
+operate_asked c b k item w (Err fault) = write_failed (control_code_of fault) w
+operate_asked c b k item w (Ok o) =
+    after_operate c b k item o
+    (operate_outcome c.association k (ask_of o) (view_of c k b) c.now w.controls) w
 
-abbrev pub cancel_asked : Client → ℕ → List ℕ → Writing → Result Control ControlFault → Writing
-cancel_asked c k item w (Err fault) = write_failed (control_code_of fault) w
-cancel_asked c k item w (Ok control) =
-    after_decision c k item control (cancel_outcome c.association k c.now w.bay.controls) w
+abbrev pub cancel_asked : Client → Bay → ℕ → List ℕ → Writing → Result Control ControlFault
+    → Writing
+cancel_asked c b k item w (Err fault) = write_failed (control_code_of fault) w
+cancel_asked c b k item w (Ok control) =
+    after_decision c b k item control (cancel_outcome c.association k c.now w.controls) w
 
 -- the part of a control that is written, as a whole; SBO is read alone
-abbrev pub write_part : Client → ℕ → List ℕ → Datum → Writing → ControlPart → Writing
-write_part c k item given w Select = write_failed 3 w
-write_part c k item given w SelectWith = select_with_asked c k item w (operate_in given)
-write_part c k item given w Operate = operate_asked c k item w (operate_in given)
-write_part c k item given w Cancel = cancel_asked c k item w (cancel_in given)
+abbrev pub write_part : Client → Bay → ℕ → List ℕ → Datum → Writing → ControlPart → Writing
+write_part c b k item given w Select = write_failed 3 w
+write_part c b k item given w SelectWith = select_with_asked c b k item w (operate_in given)
+write_part c b k item given w Operate = operate_asked c b k item w (operate_in given)
+write_part c b k item given w Cancel = cancel_asked c b k item w (cancel_in given)
 
-abbrev pub write_target : Client → List ℕ → Datum → Writing → Option Target → Writing
-write_target c item given w None = write_failed 3 w
-write_target c item given w (Some t) = write_part c t.switch item given w t.part
+abbrev pub write_target : Client → Bay → List ℕ → Datum → Writing → Option Target → Writing
+write_target c b item given w None = write_failed 3 w
+write_target c b item given w (Some t) = write_part c b t.switch item given w t.part
 
-abbrev pub write_row : Client → Datum → Writing → Option ℕ → Writing
-write_row c given w None = write_failed 10 w
-write_row c given w (Some place) =
-    write_target c (name_at w.bay.rows place) given w
-    (target_of (length w.bay.switches) (name_at w.bay.rows place))
+abbrev pub write_row : Client → Bay → Datum → Writing → Option ℕ → Writing
+write_row c b given w None = write_failed 10 w
+write_row c b given w (Some place) =
+    write_target c b (name_at b.rows place) given w
+    (target_of (length b.switches) (name_at b.rows place))
 
 -- one variable of a write
-abbrev pub write_one : Client → Naming → Datum → Writing → Writing
-write_one c name given w = write_row c given w (row_named w.bay name)
+abbrev pub write_one : Client → Bay → Naming → Datum → Writing → Writing
+write_one c b name given w = write_row c b given w (row_named b name)
 
 -- the variables in their order; each sees what those before it did
-abbrev pub write_all : Client → List Naming → List Datum → Writing → Writing
-write_all c [] values w = w
-write_all c (name ∷ names) [] w = w
-write_all c (name ∷ names) (given ∷ values) w = write_all c names values (write_one c name given w)
+abbrev pub write_all : Client → Bay → List Naming → List Datum → Writing → Writing
+write_all c b [] values w = w
+write_all c b (name ∷ names) [] w = w
+write_all c b (name ∷ names) (given ∷ values) w =
+    write_all c b names values (write_one c b name given w)

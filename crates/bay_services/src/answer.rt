@@ -1,5 +1,6 @@
 // What a PDU comes to.
 use bay_ber::outgoing::Outgoing;
+use bay_control::controls::Controls;
 
 /// A command to operate a switch.
 #[derive(Clone, Copy, Debug, PartialEq, Eq)]
@@ -20,7 +21,7 @@ pub struct Ending {
     pub negative: Option<Outgoing>,
 }
 
-/// The answer to a PDU of a client, and what the PDU asks for outside the bay.
+/// What a PDU of a client is answered, and what it does once that is sent.
 #[derive(Drop)]
 pub struct Answer {
     /// The PDUs of MMS to send, in order: reports that controls are refused, and then the response.
@@ -29,4 +30,6 @@ pub struct Answer {
     pub commands: Vec<Command>,
     /// The reports of the end, for an operate of a switch with enhanced security.
     pub ending: Option<Ending>,
+    /// The controls after it, where it changed them.
+    pub controls: Option<Controls>,
 }

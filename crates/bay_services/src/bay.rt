@@ -3,7 +3,7 @@ ghost use Rattle.std.specs.Prelude.{◌≡◌, length};
 ghost use Rattle.bay_mms.specs.Pages.{text_of_names};
 ghost use Rattle.bay_process.specs.Controls.{AreAllControlRows};
 ghost use Rattle.bay_process.specs.Layout.{layout_of, switches_of};
-ghost use Rattle.bay_services.specs.Bay.{ShowSelection};
+ghost use Rattle.bay_services.specs.Bay.{ShowNone};
 ghost use Rattle.bay_services.specs.Places.{ArePlaced};
 
 use bay_base::listing::Listing;
@@ -14,8 +14,9 @@ use bay_process::controls::ControlRows;
 use bay_process::switch::BoundSwitch;
 use bay_tree::tree::Tree;
 
-/// A bay as its clients see it: its name and nameplate, the tree of its values, its switches and
-/// their controls. The tree shows which switch is selected.
+/// A bay as its clients see it: its name and its nameplate, the tree of its values, its switches
+/// and their controls. The tree itself shows no switch as selected: what clients see of that follows
+/// from the controls.
 #[derive(Drop)]
 pub struct ServedBay {
     /// The name of the logical device.
@@ -35,5 +36,5 @@ pub struct ServedBay {
     ghost placed: { ArePlaced (layout_of tree) switches },
     ghost controlled: { AreAllControlRows tree control_rows },
     ghost sized: { length control_rows ≡ length (switches_of switches) },
-    ghost shows: { ShowSelection controls (length (switches_of switches)) tree },
+    ghost quiet: { ShowNone (length (switches_of switches)) tree },
 }

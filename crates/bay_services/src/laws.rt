@@ -1,13 +1,12 @@
 // Laws of what clients see of a bay. Each function does nothing, and its contract is the law.
 ghost use Rattle.std.specs.Prelude.{◌≡◌, ◌≤◌, ◌++◌, ℕ, All, Bool, List, false, length, true};
 ghost use Rattle.std.specs.Str.{bytes_eq};
-ghost use Rattle.bay_control.specs.Decisions.{State};
 ghost use Rattle.bay_control.specs.Happenings.{Leads};
 ghost use Rattle.bay_mms.specs.Grammar.{answer_to};
 ghost use Rattle.bay_nodes.specs.Names.{control_names};
 ghost use Rattle.bay_services.specs.Accepted.{AreNamedAlike, accepted_in, first_response, may_be_reported};
 ghost use Rattle.bay_services.specs.Answers.{pdu_answer};
-ghost use Rattle.bay_services.specs.Bay.{Bay, ShowSelection};
+ghost use Rattle.bay_services.specs.Bay.{Bay, ShowNone};
 ghost use Rattle.bay_services.specs.Entries.{entries_in, operates_in};
 ghost use Rattle.bay_services.specs.Released.{AreTimed, IsReleased, Leaves};
 ghost use Rattle.bay_services.specs.declared.client.Client.{Client};
@@ -15,13 +14,11 @@ ghost use Rattle.bay_tree.specs.Rows.{with_leaf_of};
 ghost use Rattle.bay_tree.specs.declared.leaf.Leaf.{Leaf};
 ghost use Rattle.bay_tree.specs.declared.row.Row.{Row};
 
-/// The rows still show which switch is selected after any write to a row that does not say whether
-/// a switch is selected.
-pub fn selection_stays_shown()
-    ensures { (controls : State) (count : ℕ) (rows : List Row) (name : List ℕ) (value : Leaf)
+/// The tree still shows no switch as selected after a write to any row that tells of no selection.
+pub fn a_tree_shows_no_selection()
+    ensures { (count : ℕ) (rows : List Row) (name : List ℕ) (value : Leaf)
         → ((k : ℕ) → bytes_eq name (control_names k).selected ≡ false)
-        → ShowSelection controls count rows
-        → ShowSelection controls count (with_leaf_of name value rows) }
+        → ShowNone count rows → ShowNone count (with_leaf_of name value rows) }
 {}
 
 /// The commands of an answer are exactly those of the operates that it accepts, one for each and in

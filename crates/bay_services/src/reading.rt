@@ -1,12 +1,10 @@
 // The variables of a read, one after the other.
 ghost use Rattle.std.specs.Prelude.{◌≡◌, ◌≤◌, ◌<◌, Some, map, length, IfErr, IfSome, OnOk};
-ghost use Rattle.bay_control.specs.declared.selection.Ongoing.{Ongoing};
 ghost use Rattle.bay_mms.specs.RequestViews.{naming};
 ghost use Rattle.bay_mms.specs.declared.fault.EncodeFault.TheVariants.{TooLong};
 ghost use Rattle.bay_control.specs.Decisions.{select_outcome};
 ghost use Rattle.bay_tree.specs.Rows.{IsHandle, name_at};
-ghost use Rattle.bay_process.specs.Layout.{layout_of};
-ghost use Rattle.bay_services.specs.Bay.{standing_again};
+ghost use Rattle.bay_services.specs.Bay.{left_by};
 ghost use Rattle.bay_services.specs.Places.{IsFound};
 ghost use Rattle.bay_services.specs.Reads.{select_done};
 ghost use Rattle.bay_services.specs.Reads as spec;
@@ -17,6 +15,7 @@ ghost use Rattle.bay_services.specs.Views.{bay_view, reading};
 use crate::bay::ServedBay;
 use crate::client::Client;
 use crate::target::{ControlPart, Target, target_at};
+use bay_control::controls::Controls;
 use bay_mms::fault::EncodeFault;
 use bay_mms::request::ObjectName;
 use bay_mms::results::ReadResponse;
@@ -57,30 +56,31 @@ impl ServedBay {
 
     // Selects a switch by a read of its SBO, which answers the name of the control, or no text.
     fn read_select(
-        &mut self,
+        &self,
         alloc: Global,
         client: Client,
         switch: usize,
         row: Handle,
+        changed: &mut Option<Controls>,
         response: &mut ReadResponse,
     ) -> Result<(), EncodeFault>
-        requires { IsHandle self.old.tree row }
-        ensures ok { OnOk result (reading self.new response.new.octets
-            ≡ select_done client switch (name_at self.old.tree row)
-            (reading self.old response.old.octets)
-            (select_outcome client.association switch client.now self.old.controls)) }
+        requires { IsHandle self.now.tree row }
+        ensures ok { OnOk result (reading self.now changed.new response.new.octets
+            ≡ select_done (bay_view self.now) (name_at self.now.tree row)
+            (reading self.now changed.old response.old.octets)
+            (select_outcome client.association switch client.now
+            (left_by changed.old self.now.controls))) }
         ensures long { IfErr result (λ fault. fault ≡ TooLong
-            → response.old.size < length (select_done client switch (name_at self.old.tree row)
-            (reading self.old response.old.octets)
-            (select_outcome client.association switch client.now self.old.controls)).results) }
+            → response.old.size < length (select_done (bay_view self.now)
+            (name_at self.now.tree row) (reading self.now changed.old response.old.octets)
+            (select_outcome client.association switch client.now
+            (left_by changed.old self.now.controls))).results) }
         ensures size { response.new.size ≡ response.old.size }
-        ensures back { (standing : Ongoing)
-            → standing_again standing (bay_view self.new)
-            ≡ standing_again standing (bay_view self.old) }
-        ensures switches { self.new.switches ≡ self.old.switches }
-        ensures layout { layout_of self.new.tree ≡ layout_of self.old.tree }
     {
-        match self.select(client, switch) {
+        let mut controls = self.left(changed).duplicate();
+        let answer = controls.select(client.association, switch, client.now);
+        *changed = Some(controls);
+        match answer {
             Ok(()) => {
                 let object = self.object(alloc, row)?;
                 response.text(object.as_str())
@@ -91,27 +91,24 @@ impl ServedBay {
 
     // Reads a variable that is there.
     fn read_row(
-        &mut self,
+        &self,
         alloc: Global,
         client: Client,
         row: Handle,
+        changed: &mut Option<Controls>,
         response: &mut ReadResponse,
     ) -> Result<(), EncodeFault>
-        requires { IsFound self.old.tree row }
+        requires { IsFound self.now.tree row }
         ensures ok { OnOk result
-            (reading self.new response.new.octets
-            ≡ spec.read_row client (reading self.old response.old.octets) (Some row)) }
+            (reading self.now changed.new response.new.octets
+            ≡ spec.read_row client (bay_view self.now)
+            (reading self.now changed.old response.old.octets) (Some row)) }
         ensures long { IfErr result
             (λ fault. fault ≡ TooLong
             → response.old.size < length
-            (spec.read_row client (reading self.old response.old.octets)
-            (Some row)).results) }
+            (spec.read_row client (bay_view self.now)
+            (reading self.now changed.old response.old.octets) (Some row)).results) }
         ensures size { response.new.size ≡ response.old.size }
-        ensures back { (standing : Ongoing)
-            → standing_again standing (bay_view self.new)
-            ≡ standing_again standing (bay_view self.old) }
-        ensures switches { self.new.switches ≡ self.old.switches }
-        ensures layout { layout_of self.new.tree ≡ layout_of self.old.tree }
     {
         match self.target(row) {
             Some(
@@ -119,63 +116,58 @@ impl ServedBay {
                     switch,
                     part: ControlPart::Select,
                 },
-            ) => self.read_select(alloc, client, switch, row, response),
-            _ => response.value(&self.tree, row),
+            ) => self.read_select(alloc, client, switch, row, changed, response),
+            _ => response.value(&self.seen(self.left(changed)), row),
         }
     }
 
     // Reads a variable.
     fn read_one(
-        &mut self,
+        &self,
         alloc: Global,
         client: Client,
         name: &ObjectName<'_>,
+        changed: &mut Option<Controls>,
         response: &mut ReadResponse,
     ) -> Result<(), EncodeFault>
         ensures ok { OnOk result
-            (reading self.new response.new.octets
-            ≡ spec.read_one client (naming name.now) (reading self.old response.old.octets)) }
+            (reading self.now changed.new response.new.octets
+            ≡ spec.read_one client (bay_view self.now) (naming name.now)
+            (reading self.now changed.old response.old.octets)) }
         ensures long { IfErr result
             (λ fault. fault ≡ TooLong
-            → response.old.size < length (spec.read_one client (naming name.now)
-            (reading self.old response.old.octets)).results) }
+            → response.old.size < length (spec.read_one client (bay_view self.now)
+            (naming name.now) (reading self.now changed.old response.old.octets)).results) }
         ensures size { response.new.size ≡ response.old.size }
-        ensures back { (standing : Ongoing)
-            → standing_again standing (bay_view self.new)
-            ≡ standing_again standing (bay_view self.old) }
-        ensures switches { self.new.switches ≡ self.old.switches }
-        ensures layout { layout_of self.new.tree ≡ layout_of self.old.tree }
     {
         match self.row_named(name) {
-            Some(row) => self.read_row(alloc, client, row, response),
+            Some(row) => self.read_row(alloc, client, row, changed, response),
             None => response.failure(NO_SUCH_OBJECT),
         }
     }
 
     /// Reads variables in order. Each read sees the effects of those before it.
     pub(crate) fn read_all(
-        &mut self,
+        &self,
         alloc: Global,
         client: Client,
         names: &[ObjectName<'_>],
+        changed: &mut Option<Controls>,
         response: &mut ReadResponse,
     ) -> Result<(), EncodeFault>
         ensures ok { OnOk result
-            (reading self.new response.new.octets
-            ≡ spec.read_all client (map naming names.now) (reading self.old response.old.octets)) }
+            (reading self.now changed.new response.new.octets
+            ≡ spec.read_all client (bay_view self.now) (map naming names.now)
+            (reading self.now changed.old response.old.octets)) }
         ensures long { IfErr result
             (λ fault. fault ≡ TooLong
-            → response.old.size < length (spec.read_all client (map naming names.now)
-            (reading self.old response.old.octets)).results) }
+            → response.old.size < length (spec.read_all client (bay_view self.now)
+            (map naming names.now)
+            (reading self.now changed.old response.old.octets)).results) }
         ensures size { response.new.size ≡ response.old.size }
-        ensures back { (standing : Ongoing)
-            → standing_again standing (bay_view self.new)
-            ≡ standing_again standing (bay_view self.old) }
-        ensures switches { self.new.switches ≡ self.old.switches }
-        ensures layout { layout_of self.new.tree ≡ layout_of self.old.tree }
     {
         for name in names {
-            self.read_one(alloc, client, name, response)?;
+            self.read_one(alloc, client, name, changed, response)?;
         }
         Ok(())
     }

@@ -1,15 +1,13 @@
 // A PDU of a client, answered and done.
-ghost use Rattle.std.specs.Prelude.{◌≡◌, ◌≢◌, ◌≤◌, ◌∷◌, [], All, List, ℕ, length, map, option_map, IfOk, OnOk, OnErr, None, Some, Err};
+ghost use Rattle.std.specs.Prelude.{◌≡◌, ◌≢◌, ◌≤◌, ◌∷◌, [], All, List, ℕ, length, map, option_map, IfOk, OnOk, None, Some, Err};
 ghost use Rattle.bay_base.specs.Exact.{Gives};
-ghost use Rattle.bay_control.specs.declared.selection.Ongoing.{Ongoing};
 ghost use Rattle.bay_mms.specs.RequestViews.{asking, naming};
 ghost use Rattle.bay_mms.specs.Responses.{concluded_text, error_text, read_text};
 ghost use Rattle.bay_mms.specs.Views.{data_in};
 ghost use Rattle.bay_mms.specs.Writing.{text_within};
-ghost use Rattle.bay_process.specs.Layout.{layout_of};
 ghost use Rattle.bay_services.specs.Answers.{Answered, answer_of, pdu_answer, attributes_at, identify_answer, read_asked, service_answer, write_asked};
 ghost use Rattle.bay_services.specs.Answers as spec;
-ghost use Rattle.bay_services.specs.Bay.{Bay, standing_again};
+ghost use Rattle.bay_services.specs.Bay.{Bay, left_by};
 ghost use Rattle.bay_services.specs.Rows.{row_named};
 ghost use Rattle.bay_mms.specs.declared.fault.MmsFault.TheVariants as MmsFault;
 ghost use Rattle.bay_services.specs.Controls.{IsShort};
@@ -22,6 +20,7 @@ use crate::client::Client;
 use crate::reply::fitting;
 use crate::writing::Written;
 use bay_ber::outgoing::Outgoing;
+use bay_control::controls::Controls;
 use bay_mms::data::Data;
 use bay_mms::fault::{EncodeFault, MmsFault};
 use bay_mms::request::{Call, ObjectName, Request, read_request};
@@ -40,6 +39,7 @@ fn said(alloc: Global, pdu: Outgoing) -> Result<Answer, AllocError>
         sent: vec![in alloc; pdu]?,
         commands: Vec::new(alloc),
         ending: None,
+        controls: None,
     })
 }
 
@@ -148,85 +148,74 @@ impl ServedBay {
 
     // The response to a read.
     fn read_response(
-        &mut self,
+        &self,
         alloc: Global,
         client: Client,
         id: u32,
         names: &[ObjectName<'_>],
+        changed: &mut Option<Controls>,
     ) -> Result<Outgoing, EncodeFault>
+        requires { changed.old ≡ None }
         ensures response { Gives EncodeFault.OutOfMemory (λ octets. octets) result
             (text_within client.size (read_text id
-            (read_all client (map naming names.now) (nothing_read (bay_view self.old))).results)) }
+            (read_all client (bay_view self.now) (map naming names.now)
+            (nothing_read (bay_view self.now))).results)) }
         ensures after { OnOk result
-            (bay_view self.new ≡ (read_all client (map naming names.now)
-            (nothing_read (bay_view self.old))).bay) }
-        ensures back { (standing : Ongoing)
-            → standing_again standing (bay_view self.new)
-            ≡ standing_again standing (bay_view self.old) }
-        ensures switches { self.new.switches ≡ self.old.switches }
-        ensures layout { layout_of self.new.tree ≡ layout_of self.old.tree }
+            (left_by changed.new self.now.controls
+            ≡ (read_all client (bay_view self.now) (map naming names.now)
+            (nothing_read (bay_view self.now))).controls) }
     {
         let mut response = ReadResponse::new(alloc, client.size)?;
-        self.read_all(alloc, client, names, &mut response)?;
+        self.read_all(alloc, client, names, changed, &mut response)?;
         response.finish(id)
     }
 
-    // The values of variables. Where they have more octets than are agreed, what the reads selected
-    // is undone, and the answer is an error.
+    // The values of variables. Where they have more octets than are agreed, the answer is an error,
+    // and nothing is selected.
     fn read(
-        &mut self,
+        &self,
         alloc: Global,
         client: Client,
         id: u32,
         names: &[ObjectName<'_>],
     ) -> Result<Answer, AllocError>
-        ensures ok { IfOk result
-            (λ answer. AnswersAs answer (bay_view self.new)
-            (read_asked client id (bay_view self.old) (map naming names.now))) }
-        ensures back { (standing : Ongoing)
-            → standing_again standing (bay_view self.new)
-            ≡ standing_again standing (bay_view self.old) }
-        ensures switches { self.new.switches ≡ self.old.switches }
-        ensures layout { layout_of self.new.tree ≡ layout_of self.old.tree }
+        ensures { IfOk result (λ answer. AnswersAs answer (bay_view self.now)
+            (read_asked client id (bay_view self.now) (map naming names.now))) }
     {
-        let before = self.standing();
-        let response = self.read_response(alloc, client, id, names);
+        let mut controls = None;
+        let response = self.read_response(alloc, client, id, names, &mut controls);
         match fitting(response)? {
-            Some(pdu) => said(alloc, pdu),
-            None => {
-                self.restore(before);
-                failed(alloc, id, ErrorClass::Resource)
-            }
+            Some(pdu) => Ok(Answer {
+                sent: vec![in alloc; pdu]?,
+                commands: Vec::new(alloc),
+                ending: None,
+                controls,
+            }),
+            None => failed(alloc, id, ErrorClass::Resource),
         }
     }
 
-    // Writes variables in their order. Where the response has more octets than are agreed, what
-    // they did to controls is undone, and the answer is an error.
+    // Writes variables in their order. Where the response has more octets than are agreed, the
+    // answer is an error, and nothing is done.
     fn write(
-        &mut self,
+        &self,
         alloc: Global,
         client: Client,
         id: u32,
         names: &[ObjectName<'_>],
         values: &[Data<'_>],
     ) -> Result<Answer, AllocError>
-        ensures ok { IfOk result
-            (λ answer. AnswersAs answer (bay_view self.new)
-            (write_asked client id (bay_view self.old) (map naming names.now) (data_in values.now))) }
-        ensures back { (standing : Ongoing)
-            → standing_again standing (bay_view self.new)
-            ≡ standing_again standing (bay_view self.old) }
-        ensures switches { self.new.switches ≡ self.old.switches }
-        ensures layout { layout_of self.new.tree ≡ layout_of self.old.tree }
+        ensures { IfOk result (λ answer. AnswersAs answer (bay_view self.now)
+            (write_asked client id (bay_view self.now) (map naming names.now) (data_in values.now))) }
     {
-        let before = self.standing();
+        let mut controls = None;
         let mut done = Written {
             response: WriteResponse::new(alloc),
             reports: Vec::new(alloc),
             commands: Vec::new(alloc),
             ending: None,
         };
-        self.write_all(alloc, client, names, values, &mut done)?;
+        self.write_all(alloc, client, names, values, &mut controls, &mut done)?;
         let Written {
             response,
             mut reports,
@@ -240,18 +229,16 @@ impl ServedBay {
                     sent: reports,
                     commands,
                     ending,
+                    controls,
                 })
             }
-            None => {
-                self.restore(before);
-                failed(alloc, id, ErrorClass::Resource)
-            }
+            None => failed(alloc, id, ErrorClass::Resource),
         }
     }
 
     // A service that is asked for under an invoke id.
     fn serve(
-        &mut self,
+        &self,
         alloc: Global,
         client: Client,
         id: u32,
@@ -259,14 +246,8 @@ impl ServedBay {
     ) -> Result<Answer, AllocError>
         requires least { 256 ≤ client.size }
         requires most { client.size ≤ 65_000 }
-        ensures ok { IfOk result
-            (λ answer. AnswersAs answer (bay_view self.new)
-            (service_answer client id (bay_view self.old) (asking call.now))) }
-        ensures back { (standing : Ongoing)
-            → standing_again standing (bay_view self.new)
-            ≡ standing_again standing (bay_view self.old) }
-        ensures switches { self.new.switches ≡ self.old.switches }
-        ensures layout { layout_of self.new.tree ≡ layout_of self.old.tree }
+        ensures { IfOk result (λ answer. AnswersAs answer (bay_view self.now)
+            (service_answer client id (bay_view self.now) (asking call.now))) }
     {
         match call {
             Call::Identify => self.identify(alloc, client, id),
@@ -286,7 +267,7 @@ impl ServedBay {
 
     // What is asked, or why nothing is.
     fn respond(
-        &mut self,
+        &self,
         alloc: Global,
         client: Client,
         request: Result<Request<'_>, MmsFault>,
@@ -294,14 +275,9 @@ impl ServedBay {
         requires least { 256 ≤ client.size }
         requires most { client.size ≤ 65_000 }
         ensures ok { IfOk result
-            (λ answer. AnswersAs answer (bay_view self.new)
-            (answer_of client (bay_view self.old) (read_as request.entry))) }
+            (λ answer. AnswersAs answer (bay_view self.now)
+            (answer_of client (bay_view self.now) (read_as request.entry))) }
         ensures memory { IfOk result (λ _. request.entry ≢ Err MmsFault.OutOfMemory) }
-        ensures back { (standing : Ongoing)
-            → standing_again standing (bay_view self.new)
-            ≡ standing_again standing (bay_view self.old) }
-        ensures switches { self.new.switches ≡ self.old.switches }
-        ensures layout { layout_of self.new.tree ≡ layout_of self.old.tree }
     {
         match request {
             Ok(Request::Initiate(_)) => rejected(alloc, None, RejectReason::InvalidPdu),
@@ -311,13 +287,14 @@ impl ServedBay {
         }
     }
 
-    /// Answers the octets that a client sent as a PDU of MMS, and does what they ask for.
+    /// Answers the octets that a client sent as a PDU of MMS. Changes nothing: what the PDU does to
+    /// the controls is part of the answer, and is put in once the answer can be sent.
     ///
-    /// Each PDU of the answer has at most 65,000 octets, and so has each report of an end. If a
-    /// response has more octets than agreed, an error of the class resource is sent instead and
-    /// nothing is done. If an allocation fails, nothing is done and nothing is sent.
+    /// Each PDU of the answer has at most 65,000 octets, and so have the reports of an end. A
+    /// response longer than the agreed size is replaced by an error of the class resource, and then
+    /// the answer does nothing. An error means that an allocation failed.
     pub fn answer(
-        &mut self,
+        &self,
         alloc: Global,
         client: Client,
         pdu: &[u8],
@@ -325,24 +302,12 @@ impl ServedBay {
         requires least { 256 ≤ client.size }
         requires most { client.size ≤ 65_000 }
         ensures ok { IfOk result
-            (λ answer. AnswersAs answer (bay_view self.new)
-            (pdu_answer client pdu.now (bay_view self.old))) }
+            (λ answer. AnswersAs answer (bay_view self.now)
+            (pdu_answer client pdu.now (bay_view self.now))) }
         ensures short { IfOk result (λ answer. All (λ pdu. length pdu ≤ 65_000) answer.sent.items) }
         ensures ending { IfOk result (λ answer. IsShort answer.ending) }
-        ensures err { OnErr result (bay_view self.new ≡ bay_view self.old) }
-        // What it did can be undone, where what it is to send finds no memory.
-        ensures back { (standing : Ongoing)
-            → standing_again standing (bay_view self.new)
-            ≡ standing_again standing (bay_view self.old) }
-        ensures switches { self.new.switches ≡ self.old.switches }
-        ensures layout { layout_of self.new.tree ≡ layout_of self.old.tree }
     {
-        let before = self.standing();
         let request = read_request(alloc, pdu);
-        let answer = self.respond(alloc, client, request);
-        if answer.is_err() {
-            self.restore(before);
-        }
-        answer
+        self.respond(alloc, client, request)
     }
 }

@@ -3,17 +3,14 @@ ghost use Rattle.std.specs.Prelude.{◌≡◌, ◌≤◌, ◌<◌, ◌++◌, Som
 ghost use Rattle.bay_mms.specs.ControlViews.{cancelling, operating};
 ghost use Rattle.bay_mms.specs.Controls.{cancel_in, operate_in};
 ghost use Rattle.bay_tree.specs.Rows.{IsHandle, name_at};
-ghost use Rattle.bay_process.specs.Layout.{layout_of};
 ghost use Rattle.bay_services.specs.Controls.{ending_of, endings, object_of, refusal_reports};
 ghost use Rattle.bay_services.specs.Controls as spec_controls;
 ghost use Rattle.bay_services.specs.Places.{IsFound};
 ghost use Rattle.bay_services.specs.Writes.{cancel_asked, commands_for, decision_result, later_ending, operate_asked, select_with_asked};
 ghost use Rattle.bay_services.specs.Writes as spec;
-ghost use Rattle.bay_control.specs.declared.selection.Ongoing.{Ongoing};
 ghost use Rattle.bay_mms.specs.RequestViews.{naming};
 ghost use Rattle.bay_mms.specs.Responses.{failure_result, success_result};
 ghost use Rattle.bay_mms.specs.Views.{data_in, datum_of};
-ghost use Rattle.bay_services.specs.Bay.{standing_again};
 ghost use Rattle.bay_services.specs.Views.{bay_view, writing};
 
 use crate::answer::{Command, Ending};
@@ -25,6 +22,7 @@ use arrayvec::ArrayVec;
 use bay_base::text::Text;
 use bay_ber::outgoing::Outgoing;
 use bay_control::cause::AddCause;
+use bay_control::controls::Controls;
 use bay_control::request::{Ask, Origin};
 use bay_mms::control::{Cancel, Operate, cancel_of, operate_of};
 use bay_mms::data::Data;
@@ -48,7 +46,7 @@ struct Part {
     row: Handle,
 }
 
-/// What a write has produced so far, besides its effects on the bay.
+/// What a write has made so far, beside what it did to the controls.
 #[derive(Drop)]
 pub struct Written {
     /// The results of the variables.
@@ -190,56 +188,57 @@ impl ServedBay {
 
     // Does a select with value that was written.
     fn write_select_with(
-        &mut self,
+        &self,
         alloc: Global,
         client: Client,
         part: Part,
         given: &Data<'_>,
+        changed: &mut Option<Controls>,
         written: &mut Written,
     ) -> Result<(), AllocError>
-        requires { IsHandle self.old.tree part.row }
-        ensures ok { OnOk result (writing self.new written.new
-            ≡ select_with_asked client part.switch (name_at self.old.tree part.row)
-            (writing self.old written.old) (operate_in (datum_of given.now))) }
-        ensures back { (standing : Ongoing)
-            → standing_again standing (bay_view self.new)
-            ≡ standing_again standing (bay_view self.old) }
-        ensures switches { self.new.switches ≡ self.old.switches }
-        ensures layout { layout_of self.new.tree ≡ layout_of self.old.tree }
+        requires { IsHandle self.now.tree part.row }
+        ensures { OnOk result (writing self.now changed.new written.new
+            ≡ select_with_asked client (bay_view self.now) part.switch (name_at self.now.tree part.row)
+            (writing self.now changed.old written.old) (operate_in (datum_of given.now))) }
     {
         let operate = match operate_of(given) {
             Ok(operate) => operate,
             Err(fault) => return written.response.failure(fault.code()),
         };
-        let answer = self.select_with(client, part.switch, ask_of(&operate));
+        let mut controls = self.left(changed).duplicate();
+        let answer = controls.select_with(
+            client.association,
+            part.switch,
+            ask_of(&operate),
+            client.now,
+        );
+        *changed = Some(controls);
         self.put_decision(alloc, client, part, &control_of(&operate), answer, written)
     }
 
     // Does a cancel that was written.
     fn write_cancel(
-        &mut self,
+        &self,
         alloc: Global,
         client: Client,
         part: Part,
         given: &Data<'_>,
+        changed: &mut Option<Controls>,
         written: &mut Written,
     ) -> Result<(), AllocError>
-        requires { IsHandle self.old.tree part.row }
-        ensures ok { OnOk result
-            (writing self.new written.new
-            ≡ cancel_asked client part.switch (name_at self.old.tree part.row)
-            (writing self.old written.old) (cancel_in (datum_of given.now))) }
-        ensures back { (standing : Ongoing)
-            → standing_again standing (bay_view self.new)
-            ≡ standing_again standing (bay_view self.old) }
-        ensures switches { self.new.switches ≡ self.old.switches }
-        ensures layout { layout_of self.new.tree ≡ layout_of self.old.tree }
+        requires { IsHandle self.now.tree part.row }
+        ensures { OnOk result
+            (writing self.now changed.new written.new
+            ≡ cancel_asked client (bay_view self.now) part.switch (name_at self.now.tree part.row)
+            (writing self.now changed.old written.old) (cancel_in (datum_of given.now))) }
     {
         let cancel = match cancel_of(given) {
             Ok(cancel) => cancel,
             Err(fault) => return written.response.failure(fault.code()),
         };
-        let answer = self.cancel(client, part.switch);
+        let mut controls = self.left(changed).duplicate();
+        let answer = controls.cancel(client.association, part.switch, client.now);
+        *changed = Some(controls);
         self.put_decision(alloc, client, part, &cancel, answer, written)
     }
 
@@ -309,30 +308,35 @@ impl ServedBay {
 
     // Does an operate that was written.
     fn write_operate(
-        &mut self,
+        &self,
         alloc: Global,
         client: Client,
         part: Part,
         given: &Data<'_>,
+        changed: &mut Option<Controls>,
         written: &mut Written,
     ) -> Result<(), AllocError>
-        requires there { IsHandle self.old.tree part.row }
-        requires switch { part.switch < length self.old.switches }
-        ensures ok { OnOk result
-            (writing self.new written.new
-            ≡ operate_asked client part.switch (name_at self.old.tree part.row)
-            (writing self.old written.old) (operate_in (datum_of given.now))) }
-        ensures back { (standing : Ongoing)
-            → standing_again standing (bay_view self.new)
-            ≡ standing_again standing (bay_view self.old) }
-        ensures switches { self.new.switches ≡ self.old.switches }
-        ensures layout { layout_of self.new.tree ≡ layout_of self.old.tree }
+        requires there { IsHandle self.now.tree part.row }
+        requires switch { part.switch < length self.now.switches }
+        ensures { OnOk result
+            (writing self.now changed.new written.new
+            ≡ operate_asked client (bay_view self.now) part.switch (name_at self.now.tree part.row)
+            (writing self.now changed.old written.old) (operate_in (datum_of given.now))) }
     {
         let operate = match operate_of(given) {
             Ok(operate) => operate,
             Err(fault) => return written.response.failure(fault.code()),
         };
-        match self.operate(client, part.switch, ask_of(&operate)) {
+        let mut controls = self.left(changed).duplicate();
+        let answer = controls.operate(
+            client.association,
+            part.switch,
+            ask_of(&operate),
+            self.view(client, part.switch),
+            client.now,
+        );
+        *changed = Some(controls);
+        match answer {
             Ok(()) => self.accept(alloc, client, part, &operate, written),
             Err(why) => self.refuse(alloc, client, part, &control_of(&operate), why, written),
         }
@@ -340,22 +344,18 @@ impl ServedBay {
 
     // Writes a variable that is there.
     fn write_row(
-        &mut self,
+        &self,
         alloc: Global,
         client: Client,
         row: Handle,
         given: &Data<'_>,
+        changed: &mut Option<Controls>,
         written: &mut Written,
     ) -> Result<(), AllocError>
-        requires { IsFound self.old.tree row }
-        ensures ok { OnOk result
-            (writing self.new written.new
-            ≡ spec.write_row client (datum_of given.now) (writing self.old written.old) (Some row)) }
-        ensures back { (standing : Ongoing)
-            → standing_again standing (bay_view self.new)
-            ≡ standing_again standing (bay_view self.old) }
-        ensures switches { self.new.switches ≡ self.old.switches }
-        ensures layout { layout_of self.new.tree ≡ layout_of self.old.tree }
+        requires { IsFound self.now.tree row }
+        ensures { OnOk result
+            (writing self.now changed.new written.new
+            ≡ spec.write_row client (bay_view self.now) (datum_of given.now) (writing self.now changed.old written.old) (Some row)) }
     {
         let target = match self.target(row) {
             Some(target) => target,
@@ -367,58 +367,50 @@ impl ServedBay {
         };
         match target.part {
             ControlPart::Select => written.response.failure(DENIED),
-            ControlPart::SelectWith => self.write_select_with(alloc, client, part, given, written),
-            ControlPart::Operate => self.write_operate(alloc, client, part, given, written),
-            ControlPart::Cancel => self.write_cancel(alloc, client, part, given, written),
+            ControlPart::SelectWith => self.write_select_with(alloc, client, part, given, changed, written),
+            ControlPart::Operate => self.write_operate(alloc, client, part, given, changed, written),
+            ControlPart::Cancel => self.write_cancel(alloc, client, part, given, changed, written),
         }
     }
 
     // Writes a variable.
     fn write_one(
-        &mut self,
+        &self,
         alloc: Global,
         client: Client,
         name: &ObjectName<'_>,
         given: &Data<'_>,
+        changed: &mut Option<Controls>,
         written: &mut Written,
     ) -> Result<(), AllocError>
-        ensures ok { OnOk result
-            (writing self.new written.new
-            ≡ spec.write_one client (naming name.now) (datum_of given.now)
-            (writing self.old written.old)) }
-        ensures back { (standing : Ongoing)
-            → standing_again standing (bay_view self.new)
-            ≡ standing_again standing (bay_view self.old) }
-        ensures switches { self.new.switches ≡ self.old.switches }
-        ensures layout { layout_of self.new.tree ≡ layout_of self.old.tree }
+        ensures { OnOk result
+            (writing self.now changed.new written.new
+            ≡ spec.write_one client (bay_view self.now) (naming name.now) (datum_of given.now)
+            (writing self.now changed.old written.old)) }
     {
         match self.row_named(name) {
-            Some(row) => self.write_row(alloc, client, row, given, written),
+            Some(row) => self.write_row(alloc, client, row, given, changed, written),
             None => written.response.failure(NO_SUCH_OBJECT),
         }
     }
 
     /// Writes variables in order. Each write sees the effects of those before it.
     pub(crate) fn write_all(
-        &mut self,
+        &self,
         alloc: Global,
         client: Client,
         names: &[ObjectName<'_>],
         values: &[Data<'_>],
+        changed: &mut Option<Controls>,
         written: &mut Written,
     ) -> Result<(), AllocError>
-        ensures ok { OnOk result
-            (writing self.new written.new
-            ≡ spec.write_all client (map naming names.now) (data_in values.now)
-            (writing self.old written.old)) }
-        ensures back { (standing : Ongoing)
-            → standing_again standing (bay_view self.new)
-            ≡ standing_again standing (bay_view self.old) }
-        ensures switches { self.new.switches ≡ self.old.switches }
-        ensures layout { layout_of self.new.tree ≡ layout_of self.old.tree }
+        ensures { OnOk result
+            (writing self.now changed.new written.new
+            ≡ spec.write_all client (bay_view self.now) (map naming names.now) (data_in values.now)
+            (writing self.now changed.old written.old)) }
     {
         for i in 0..names.len().min(values.len()) {
-            self.write_one(alloc, client, &names[i], &values[i], written)?;
+            self.write_one(alloc, client, &names[i], &values[i], changed, written)?;
         }
         Ok(())
     }

@@ -7,8 +7,8 @@ use Rattle.bay_services.specs.Views.{writing}
 use Rattle.bay_services.proofs.WriteLemmas.{none-left}
 use Rattle.bay_services.proofs.bay.ServedBay.write_all.Goals as goal
 
-pub returns-clause-ok : goal.returns-clause-ok
-returns-clause-ok c =
+pub returns : goal.returns
+returns c =
     let names = c.args.names.now in
     let values = c.args.values.now in
     let i = c.loop-i.i in
@@ -18,5 +18,4 @@ returns-clause-ok c =
           (drop_of_length-le values (omega (arith, lt, c.loop-i-test.false, c.min-i-end.ensures))))
       | inr ge ↦ inl (ap (map naming) (drop_of_length-le names ge))
     ] in
-    sym (c.loop-i.invariant.ok
-    ∙ none-left c.args.client _ _ (writing c.loop-i.self c.loop-i.written) left)
+    sym (c.loop-i.invariant ∙ none-left c.args.client _ _ _ _ left)

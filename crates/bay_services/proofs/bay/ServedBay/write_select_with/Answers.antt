@@ -7,30 +7,29 @@ use Rattle.bay_tree.specs.Rows.{name_at}
 use Rattle.bay_control.specs.declared.request.Ask.{Ask}
 use Rattle.bay_services.specs.Views.{bay_view, writing}
 use Rattle.bay_services.specs.Writes.{select_with_asked, after_decision}
-use Rattle.bay_services.proofs.PlaceLemmas.{name-kept}
 use Rattle.bay_services.proofs.ReplyLemmas.{both}
 use Rattle.bay_services.proofs.WriteLemmas.{put-down}
 use Rattle.bay_services.proofs.bay.ServedBay.write_select_with.Goals as goal
 
-pub returns-clause-ok : goal.returns-clause-ok
-returns-clause-ok c =
+pub returns : goal.returns
+returns c =
     let d = c.args.self.now in
+    let b = bay_view d in
     let a = c.args.client in
     let k = c.args.part.switch in
     let item = name_at d.tree c.args.part.row in
-    let new = c.select_with-answer.new.self in
-    let w = writing d c.args.written.now in
+    let w = writing d c.args.changed.now c.args.written.now in
+    let same : c.duplicate-controls.result ≡ w.controls =
+    c.duplicate-controls.ensures ∙ c.left.ensures in
     let read : operate_in (datum_of c.args.given.now) ≡ Ok (operating c.in-Ok.operate) =
     sym c.operate_of.ensures ∙ ap (result_view operating) c.in-Ok.is in
     let control = (operating c.in-Ok.operate).control in
-    let o = select_with_outcome a.association k c.ask_of.result a.now d.controls in
+    let o = select_with_outcome a.association k c.ask_of.result a.now w.controls in
     both c.put_decision.result _ _ _ c.put_decision.ensures.response c.put_decision.ensures.reports
-    (λ has told. put-down a k item (name_at new.tree c.args.part.row) control
-    (cancelling c.control_of.result) w o (bay_view new) c.select_with-answer.result _ _ _ _
-    c.select_with-answer.ensures.after refl c.select_with-answer.ensures.answer
-    (name-kept new.tree d.tree c.args.part.row c.select_with-answer.ensures.layout)
+    (λ has told. put-down a b k item control (cancelling c.control_of.result) w o _ _ _ _ _ _
+    (rw same at c.select_with-answer.ensures.after) (rw same at c.select_with-answer.ensures.answer)
     c.control_of.ensures has told (ap (λ (v : _). v.items) c.put_decision.ensures.commands)
     c.put_decision.ensures.ending
-    ∙ ap (λ (x : Ask). after_decision a k item control
-    (select_with_outcome a.association k x a.now d.controls) w) c.ask_of.ensures
-    ∙ sym (ap (select_with_asked a k item w) read))
+    ∙ ap (λ (x : Ask). after_decision a b k item control
+    (select_with_outcome a.association k x a.now w.controls) w) c.ask_of.ensures
+    ∙ sym (ap (select_with_asked a b k item w) read))

@@ -2,7 +2,7 @@ use Rattle.std.proofs.Common.{◌<◌, ◌∙◌, length, arith}
 use Rattle.std.proofs.lemmas.Option.{slice_get-get_or}
 use Rattle.bay_services.proofs.PlaceLemmas.{selected-named}
 use Rattle.bay_services.proofs.ShownLemmas.{leaf-type-kept, shown-more}
-use Rattle.bay_services.proofs.decisions.show.Goals as goal
+use Rattle.bay_services.proofs.decisions.show_none.Goals as goal
 
 pub put-requires : goal.put-requires
 put-requires c =
@@ -19,8 +19,8 @@ loop-switch-preserved c =
     let names =
     c.requires k _ (slice_get-get_or c.args.rows.now k c.index-rows-switch.result within) in
     record {
-      rows = shown-more c.args.selected k c.args.tree.now c.loop-switch.tree c.put.new.tree _ _
+      rows = shown-more k c.args.tree.now c.loop-switch.tree c.put.new.tree _ _
           c.loop-switch.invariant.layout (selected-named c.args.tree.now _ _ names.selected)
-          c.is_selected.ensures c.loop-switch.invariant.rows c.put.ensures.rows;
+          c.loop-switch.invariant.rows c.put.ensures.rows;
       layout = c.put.ensures.layout ∙ c.loop-switch.invariant.layout;
     }
