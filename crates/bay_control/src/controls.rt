@@ -9,8 +9,8 @@ use crate::cause::AddCause;
 use crate::control::{SwitchControl, is_over};
 use crate::request::{Ask, Choice, View, is_reached};
 use crate::selection::{
-    Execution, Selection, is_chosen, is_done, is_executing, is_selected_by,
-    is_selected_by_other, other_is_executing, other_is_selected,
+    Execution, Selection, is_chosen, is_done, is_executing, is_selected_by, is_selected_by_other,
+    other_is_executing, other_is_selected,
 };
 use arrayvec::ArrayVec;
 use bay_config::bay::{Bay, Control, Switch};

@@ -13,7 +13,7 @@ use Rattle.bay_services.specs.Bay.{Bay}
 use Rattle.bay_services.specs.Released.{AreTimed, Leaves, releasing}
 use Rattle.bay_services.specs.Released as services
 use Rattle.bay_services.specs.declared.answer.Command.{Command}
-use Rattle.bay_services.proofs.ReleaseLemmas.{Sole, all-of, answer-sent, at-most-one, busy-still, commands-each, idle-now, interlocking-apart, leaves-none, leaves-then, leaves-with, request-leaves, sole-said}
+use Rattle.bay_services.proofs.ReleaseLemmas.{Sole, all-of, answer-sent, at-most-one, busy-still, commands-each, idle-now, leaves-then, leaves-with, request-leaves, sole-said}
 use Rattle.bay_device.specs.Commands.{AllCommanded, AreCommanded, IsReleasedAt, IsSingle}
 use Rattle.bay_device.specs.Device.{State, device_at, bay_of, ended_at, is_recent}
 use Rattle.bay_device.specs.Hearing.{Done, AllHeard, client_at, after_indications, on_heard, after_pdu, sent_on, with_sent}
@@ -51,21 +51,12 @@ pub record Makes (now : ℕ) (s : State) (d : Done) : Type 0 where
 pub begins : (now : ℕ) (s : State) → Makes now s (nothing_done (device_at now s))
 begins now s = record {
   leaves =
-      leaves-with now (bay_of s) (bay_of s) (control.controls_at now s.controls)
-      (leaves-none now (bay_of s)) (busy-still now s.controls);
+      leaves-with now (bay_of s) (control.controls_at now s.controls) (busy-still now s.controls);
   notes = refl;
   released = tt;
   replied = λ some. absurd (some refl);
   sole = λ timed. record { timed = timed; single = tt };
 }
-
-enabled-before : (now k : ℕ) (on : Bool) (b d : Bay) → Leaves now b d
-    → is_truth true (leaf_of (releasing k on) d.rows) ≡ true
-    → is_truth true (leaf_of (releasing k on) b.rows) ≡ true
-enabled-before now k true b d left h =
-    ap (is_truth true) (sym (left.values _ (interlocking-apart k _))) ∙ h
-enabled-before now k false b d left h =
-    ap (is_truth true) (sym (left.values _ (interlocking-apart k _))) ∙ h
 
 released-before : (now a : ℕ) (terms : Terms) (s : State) (d : Done) (command : Command)
     → Makes now s d → services.IsReleased (client_at now a terms d.state) (bay_of d.state) command
@@ -73,9 +64,7 @@ released-before : (now a : ℕ) (terms : Terms) (s : State) (d : Done) (command 
 released-before now a terms s d command makes is = record {
   fresh = sym (ap (λ (n : Notes). is_recent now n.age n.last_scan && not n.is_stale) makes.notes)
       ∙ is.fresh;
-  enabled =
-      enabled-before now command.switch command.on (bay_of s) (bay_of d.state) makes.leaves
-      is.enabled;
+  enabled = rw makes.leaves.rows at is.enabled;
   idle = idle-now now s.controls d.state.controls (control.controls_at now s.controls).execution
       makes.leaves.busy is.idle refl;
 }

@@ -20,9 +20,8 @@ use Rattle.bay_nodes.specs.declared.switch.SwitchKind.{SwitchKind}
 use Rattle.bay_nodes.specs.declared.switch.SwitchKind.TheVariants.{Breaker, Disconnector, Earthing}
 use Rattle.bay_process.specs.Names.{field_names}
 use Rattle.bay_process.specs.Values.{measure_leaf, number_of_leaf, position_leaf, position_value, rows_after_change, rows_after_contact, rows_after_measure, tells, tells_measure, with_status}
-use Rattle.bay_services.specs.Released.{TellsNoSelection}
 use Rattle.bay_services.specs.declared.answer.Command.{Command}
-use Rattle.bay_services.proofs.ReleaseLemmas.{all-of, keeps-shown}
+use Rattle.bay_services.proofs.ReleaseLemmas.{all-of}
 use Rattle.bay_tree.specs.Rows.{leaf_of}
 use Rattle.bay_tree.specs.declared.leaf.Dbpos.{Dbpos}
 use Rattle.bay_tree.specs.declared.leaf.Leaf.TheVariants as leaf
@@ -43,48 +42,12 @@ use Rattle.bay_device.proofs.CommandLemmas.{Makes, Notes, begins, makes-heard, s
 
 -- ---- what the process tells
 
--- what tells of no selection is the same
-abbrev Kept : List Row → List Row → Type 0
-Kept before after =
-    (name : List ℕ) → TellsNoSelection name → leaf_of name after ≡ leaf_of name before
-
-position-apart : (kind : SwitchKind) (n : ℕ) (t : List ℕ)
-    → TellsNoSelection (node_name (class_of kind) n ++ t)
-position-apart Breaker n t k e = let first : 88 ≡ 67 =
-    ap (λ l. get_or l 0 0) e in omega (arith, first)
-position-apart Disconnector n t k e = let first : 88 ≡ 67 =
-    ap (λ l. get_or l 0 0) e in omega (arith, first)
-position-apart Earthing n t k e = let first : 88 ≡ 67 =
-    ap (λ l. get_or l 0 0) e in omega (arith, first)
-
-meter-apart : (n : ℕ) (t : List ℕ) → TellsNoSelection (node_name (codes "MMXU") n ++ t)
-meter-apart n t k e = let first : 77 ≡ 67 = ap (λ l. get_or l 0 0) e in omega (arith, first)
-
-field-same : (k : ℕ) (field : MeterField) (before after : List Row) → Kept before after
-    → IsSameStatus (field_names field (meter_names k)) before after
-field-same k TotW before after kept =
-    record { value = kept _ (meter-apart (k + 1) _); quality = kept _ (meter-apart (k + 1) _) }
-field-same k TotVAr before after kept =
-    record { value = kept _ (meter-apart (k + 1) _); quality = kept _ (meter-apart (k + 1) _) }
-field-same k Hz before after kept =
-    record { value = kept _ (meter-apart (k + 1) _); quality = kept _ (meter-apart (k + 1) _) }
-field-same k PhaseA before after kept =
-    record { value = kept _ (meter-apart (k + 1) _); quality = kept _ (meter-apart (k + 1) _) }
-field-same k PhaseB before after kept =
-    record { value = kept _ (meter-apart (k + 1) _); quality = kept _ (meter-apart (k + 1) _) }
-field-same k PhaseC before after kept =
-    record { value = kept _ (meter-apart (k + 1) _); quality = kept _ (meter-apart (k + 1) _) }
-
-process-same : (s t : State) → Kept s.rows t.rows → t.input_values ≡ s.input_values
+process-same : (s t : State) → t.rows ≡ s.rows → t.input_values ≡ s.input_values
     → IsSameProcess s t
-process-same s t kept inputs = record {
-  positions =
-      λ kind n. record {
-        value = kept _ (position-apart kind n _);
-        quality = kept _ (position-apart kind n _);
-      };
+process-same s t rows inputs = record {
+  positions = λ kind n. record { value = ap (leaf_of _) rows; quality = ap (leaf_of _) rows };
   inputs = inputs;
-  measures = λ k field. field-same k field s.rows t.rows kept;
+  measures = λ k field. record { value = ap (leaf_of _) rows; quality = ap (leaf_of _) rows };
 }
 
 same-then : (s t u : State) → IsSameProcess s t → IsSameProcess t u → IsSameProcess s u
@@ -110,17 +73,17 @@ record Still (s t : State) : Type 0 where
   stale : t.is_stale ≡ false → s.is_stale ≡ false
   same : t.is_stale ≡ false → IsSameProcess s t
 
-still-kept : (s t : State) → Kept s.rows t.rows → t.input_values ≡ s.input_values
+still-kept : (s t : State) → t.rows ≡ s.rows → t.input_values ≡ s.input_values
     → t.last_scan ≡ s.last_scan → t.is_stale ≡ s.is_stale → Still s t
-still-kept s t kept inputs scans stale =
+still-kept s t rows inputs scans stale =
     record {
       scans = scans;
       stale = λ h. sym stale ∙ h;
-      same = λ h. process-same s t kept inputs;
+      same = λ h. process-same s t rows inputs;
     }
 
 still-none : (s : State) → Still s s
-still-none s = still-kept s s (λ name apart. refl) refl refl refl
+still-none s = still-kept s s refl refl refl refl
 
 still-then : (s t u : State) → Still s t → Still t u → Still s u
 still-then s t u p q = record {
@@ -130,18 +93,10 @@ still-then s t u p q = record {
 }
 
 still-advanced : (now : ℕ) (s : State) → Still s (device_at now s)
-still-advanced now s =
-    still-kept s (device_at now s)
-    (keeps-shown (selected_switch (control.controls_at now s.controls).selection)
-    (length s.switches)
-    s.rows) refl refl refl
+still-advanced now s = still-kept s (device_at now s) refl refl refl refl
 
 still-dropped : (a : ℕ) (s : State) → Still s (without_owner a s)
-still-dropped a s =
-    still-kept s (without_owner a s)
-    (keeps-shown (selected_switch (without_association a s.controls).selection) (length s.switches)
-    s.rows)
-    refl refl refl
+still-dropped a s = still-kept s (without_owner a s) refl refl refl refl
 
 still-with : (s : State) (o : Option ℕ) (x : Option Talk) (t : State) → Still s t
     → Still s (with_connection o x t)
@@ -187,8 +142,7 @@ still-contact now k switch position s =
           let is : told ≡ true = not-none told (or-none s.is_stale (not told) h).1 in
           let rows : rows_after_contact names position now s.rows ≡ s.rows =
           ap (λ (b : Bool). cond b s.rows (rows_after_change names position now s.rows)) is in
-          process-same s (contact_taken now k switch position s)
-          (λ name apart. ap (leaf_of name) rows) refl;
+          process-same s (contact_taken now k switch position s) rows refl;
     }
 
 still-input : (k : ℕ) (value before : Bool) (s : State)
@@ -201,7 +155,7 @@ still-input k value before s here =
       same = λ h.
           let is : value ≡ before =
           same-truth value before (not-none told (or-none s.is_stale (not told) h).1) in
-          process-same s (input_taken k value before s) (λ name apart. refl)
+          process-same s (input_taken k value before s) refl
           (ap (slice_set s.input_values k) is ∙ set-same s.input_values k before here);
     }
 
@@ -218,8 +172,7 @@ still-measure now k field value s =
           let rows : rows_after_measure names value now s.rows ≡ s.rows =
           ap (λ (b : Bool). cond b s.rows (with_status names (leaf.Int32 value) Good now s.rows)) is
           in
-          process-same s (measure_taken now k field value s)
-          (λ name apart. ap (leaf_of name) rows) refl;
+          process-same s (measure_taken now k field value s) rows refl;
     }
 
 -- ---- octets
@@ -231,7 +184,7 @@ still-recv a left s t (Some why) p = still-closed s a t p
 
 still-made : (now : ℕ) (s : State) (d : Done) → Makes now s d → Still s d.state
 still-made now s d makes =
-    still-kept s d.state makes.leaves.values (ap (λ (n : Notes). n.inputs) makes.notes)
+    still-kept s d.state makes.leaves.rows (ap (λ (n : Notes). n.inputs) makes.notes)
     (ap (λ (n : Notes). n.last_scan) makes.notes) (ap (λ (n : Notes). n.is_stale) makes.notes)
 
 still-octets : (choice : Option ℕ) (now a : ℕ) (s : State) (talk : Talk) (octets : List ℕ)
@@ -311,7 +264,7 @@ module _ (past : List Past) (s : State) (tracks : Tracks past s) (now : ℕ) whe
           done = refl;
           at = at;
           unchanged = tt;
-          here = process-same t t (λ name apart. refl) refl;
+          here = process-same t t refl refl;
         };
   }
 

@@ -11,8 +11,6 @@ use Rattle.bay_process.specs.declared.nodes.Nodes.{Nodes}
 use Rattle.bay_process.proofs.BoundLemmas.{are-bound, bound-switches}
 use Rattle.bay_process.specs.declared.switch.BoundSwitch.{BoundSwitch}
 use Rattle.bay_services.specs.Bay as services
-use Rattle.bay_services.specs.Bay.{ShowSelection, rows_shown}
-use Rattle.bay_services.proofs.ShownLemmas.{shown-again}
 use Rattle.bay_config.specs.declared.bay.Bay.{Bay}
 use Rattle.bay_config.specs.declared.bay.Source.{Source}
 use Rattle.bay_nodes.specs.declared.switch.Switch.{Switch}
@@ -84,13 +82,6 @@ loaded-view bay image served age inputs input_values meters reads writes machine
     ∙ ap (λ x. record s { reads = x; writes = writes; machine = machine }) e
     ∙ ap (λ x. record s { writes = x; machine = machine }) f
     ∙ ap (λ x. record s { machine = x }) h
-
--- rows that show that nothing is selected
-pub shows-first : (controls : control.State) (all : List SwitchControl) (count many : ℕ)
-    (old new : List Row) → controls ≡ initial all → many ≡ count → new ≡ rows_shown None count old
-    → ShowSelection controls many new
-shows-first controls all count many old new first same is =
-    rw (first, same, is) (shown-again None None count old)
 
 -- what was bound of a bay's switches
 pub record IsBoundTo (bay : Bay) (layout : Layout) (writes : List Source)

@@ -1,15 +1,13 @@
--- What is made of an answer, and put back where there was no memory for it.
+-- What is made of an answer.
 use Rattle.std.proofs.Common.{◌≡◌, ◌≤◌, ℕ, suc, All, List, [], ◌∷◌, ◌++◌, length, map, take, Option, Some, None, IsSome, IfSome, Result, Ok, Err, refl, ap, ◌∙◌, arith}
-use Rattle.std.specs.Result.{OnErr, OnOk}
+use Rattle.std.specs.Result.{IfOk, OnErr, OnOk}
 use Rattle.bay_assoc.specs.declared.hearing.AssociationTerms.{AssociationTerms}
 use Rattle.bay_connection.specs.Talk.{Terms, sending}
-use Rattle.bay_control.specs.declared.selection.Ongoing.{Ongoing}
 use Rattle.bay_services.specs.Answers.{Answered}
-use Rattle.bay_services.specs.Bay.{Bay, standing_again}
+use Rattle.bay_services.specs.Bay.{Bay}
 use Rattle.bay_services.specs.declared.answer.Command.{Command}
 use Rattle.bay_device.specs.Device.{State, bay_of, with_bay}
 use Rattle.bay_device.specs.Hearing.{Done, answered_with, due_if, later_due, sent_on, size_of}
-use Rattle.bay_device.specs.HearingViews.{put_back}
 use Rattle.bay_device.specs.declared.due.Due.{Due}
 use Rattle.bay_device.specs.declared.event.Sent.{Sent}
 
@@ -67,16 +65,10 @@ answered-done a terms x s sent made commands obeyed b due after is sends does =
     (record (with_bay x.after s) { due = later_due s.due (due_if a terms x.ending) })
     (sent ++ map (λ pdu. sent_on a (sending terms pdu)) x.sent) y) does
 
--- what stood before is put back
-pub put-back-done : (standing : Ongoing) (s m : State) (b : Bay) (sent made : List Sent)
-    (commands obeyed : List Command) → b ≡ standing_again standing (bay_of m)
-    → put_back standing m ≡ put_back standing s → standing_again standing (bay_of s) ≡ bay_of s
-    → made ≡ sent → obeyed ≡ commands → done (with_bay b m) made obeyed ≡ done s sent commands
-put-back-done standing s m b sent made commands obeyed restored back own sends does =
-    ap (λ (y : Bay). done (with_bay y m) made obeyed) restored
-    ∙ ap (λ (t : State). done t made obeyed) back
-    ∙ ap (λ (y : Bay). done (with_bay y s) made obeyed) own
-    ∙ ap (λ (y : List Sent). done s y obeyed) sends ∙ ap (λ (y : List Command). done s sent y) does
+pub all-ok : {T E : Type 0} (r : Result T E) (P Q R : T → Type 0) (S U : Type 0) → IfOk r P
+    → IfOk r Q → OnOk r S → OnOk r U → ((x : T) → P x → Q x → S → U → R x) → IfOk r R
+all-ok (Ok x) P Q R S U p q s u f = f x p q s u
+all-ok (Err e) P Q R S U p q s u f = tt
 
 -- the size that is agreed
 pub size-is : (o : Option AssociationTerms) (n : ℕ) → IsSome o

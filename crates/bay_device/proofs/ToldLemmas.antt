@@ -29,8 +29,7 @@ use Rattle.bay_services.specs.Answers.{Answered, pdu_answer}
 use Rattle.bay_services.specs.Bay.{Bay}
 use Rattle.bay_services.specs.Entries.{entries_in}
 use Rattle.bay_services.specs.declared.client.Client.{Client}
-use Rattle.bay_services.proofs.AcceptedLemmas.{alike-after, none-read, none-written, response-tells}
-use Rattle.bay_services.proofs.VariableLemmas.{alike-still}
+use Rattle.bay_services.proofs.AcceptedLemmas.{alike-after, alike-still, none-read, none-written, response-tells}
 use Rattle.bay_services.proofs.ShortLemmas.{AreShort, answer-short}
 use Rattle.bay_device.specs.Device.{State, device_at, bay_of, ran_at}
 use Rattle.bay_device.specs.Entries.{IsIdle, Leading, opens, entries_all, entries_at, entries_close, entries_closed, entries_heard, entries_octets, entries_of_event, entries_on, entries_open, entries_recv}

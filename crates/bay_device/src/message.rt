@@ -3,6 +3,7 @@ ghost use Rattle.std.specs.Prelude.{◌≡◌, ◌≤◌, ◌++◌, List, Option
 ghost use Rattle.bay_assoc.specs.Hears.{association_terms};
 ghost use Rattle.bay_connection.specs.Talk.{Talk, sending, terms_of};
 ghost use Rattle.bay_services.specs.Answers.{pdu_answer};
+ghost use Rattle.bay_services.specs.Bay.{left_by};
 ghost use Rattle.bay_services.specs.Controls.{AreShort, IsShort};
 ghost use Rattle.bay_device.specs.Device.{bay_of};
 ghost use Rattle.bay_device.specs.Hearing.{answered_with, later_due, after_pdu, sending_if, sent_on};
@@ -192,15 +193,23 @@ fn answer(
     reply(connection, client.association, answer, made)
 }
 
+/// Replaces the controls by those that a request has left, where it has changed them.
+fn replace_controls(controls: &mut Controls, changed: Option<Controls>)
+    ensures { controls.new ≡ left_by changed controls.old }
+{
+    match changed {
+        Some(after) => *controls = after,
+        None => {}
+    }
+}
+
 /// Puts in what an answered PDU does.
 fn put_in(state: &mut DeviceState, effect: Effect)
     ensures { (connections : List (Option Talk))
         → state_view connections state.new
         ≡ with_effect effect (state_view connections state.old) }
 {
-    if let Some(controls) = effect.controls {
-        state.bay.controls = controls;
-    }
+    replace_controls(&mut state.bay.controls, effect.controls);
     replace_due(&mut state.due, effect.due);
 }
 

@@ -8,6 +8,7 @@ pub mod DataLemmas
 pub mod EachLemmas
 pub mod InitiateLemmas
 pub mod LawLemmas
+pub mod MarkLemmas
 pub mod NodeLemmas
 pub mod PageLemmas
 pub mod PlainLemmas

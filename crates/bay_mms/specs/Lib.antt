@@ -14,8 +14,8 @@
 --
 -- `Data`, `Types` and `Utc`: data and types of named variables as trees with their canonical texts,
 -- and the eight bytes of a time. `Nodes`: what stands below a row of the tree, as data and as a
--- type. `Controls`: what Oper, SBOw and Cancel ask for, the data that this is, and the ranges; laws
--- say that its text reads back.
+-- type. `Marks`: the rows of a tree as a client sees them. `Controls`: what Oper, SBOw and Cancel
+-- ask for, the data that this is, and the ranges; laws say that its text reads back.
 --
 -- `Responses`: the one text of each response, error and reject. `Pages`: the greatest number of
 -- names, up to 100, whose response fits a PDU. `Reports`: LastApplError and CommandTermination.
@@ -39,6 +39,7 @@ pub mod Controls
 pub mod Data
 pub mod Grammar
 pub mod Laws
+pub mod Marks
 pub mod Nodes
 pub mod Pages
 pub mod Reports

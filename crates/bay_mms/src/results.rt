@@ -15,11 +15,12 @@ ghost use Rattle.bay_mms.specs.Writing.{Adds, Held, no_results, text_within};
 use crate::fault::EncodeFault;
 use crate::put::finish;
 use crate::response::put_id;
+use crate::seen::Seen;
 use crate::value::put_value;
 use bay_ber::outgoing::Outgoing;
 use bay_ber::tag::Tag;
 use bay_ber::writer::Writer;
-use bay_tree::tree::{Handle, Tree};
+use bay_tree::tree::Handle;
 use std::alloc::{AllocError, Global};
 use std::marker::Model;
 
@@ -51,14 +52,14 @@ impl ReadResponse {
         })
     }
 
-    /// Appends the data of a row of a tree.
-    pub fn value(&mut self, tree: &Tree, handle: Handle) -> Result<(), EncodeFault>
-        requires { IsHandle tree.now handle }
+    /// Appends the data of a row, as a client sees it.
+    pub fn value(&mut self, seen: &Seen<'_>, handle: Handle) -> Result<(), EncodeFault>
+        requires { IsHandle seen.now handle }
         ensures added { Adds self.old.size self.old.octets result self.new.octets
-            (datum_text (data_at tree.now handle)) }
+            (datum_text (data_at seen.now handle)) }
         ensures size { self.new.size ≡ self.old.size }
     {
-        put_value(&mut self.results, tree, handle);
+        put_value(&mut self.results, seen, handle);
         held(&mut self.results)
     }
 

@@ -11,6 +11,7 @@ ghost use Rattle.bay_mms.specs.Writing.{text_within};
 use crate::fault::EncodeFault;
 use crate::leaf::{put_leaf, put_leaf_type};
 use crate::put::finish;
+use crate::seen::Seen;
 use bay_ber::outgoing::Outgoing;
 use bay_ber::tag::Tag;
 use bay_ber::writer::Writer;
@@ -18,18 +19,18 @@ use bay_tree::tree::{Handle, Tree};
 use std::alloc::Global;
 
 /// Writes the data of a row.
-pub(crate) fn put_value(writer: &mut Writer, tree: &Tree, handle: Handle)
-    requires { IsHandle tree.now handle }
-    ensures { writer.new ≡ sheet_with writer.old (datum_text (data_at tree.now handle)) }
+pub(crate) fn put_value(writer: &mut Writer, seen: &Seen<'_>, handle: Handle)
+    requires { IsHandle seen.now handle }
+    ensures { writer.new ≡ sheet_with writer.old (datum_text (data_at seen.now handle)) }
 {
-    match tree.get(handle) {
+    match seen.get(handle) {
         Some(leaf) => put_leaf(writer, leaf),
         None => {
             let start = writer.open(Tag::context_constructed(2));
-            let mut next = tree.below(handle);
+            let mut next = seen.below(handle);
             while let Some(part) = next {
-                put_value(writer, tree, part);
-                next = tree.beside(part);
+                put_value(writer, seen, part);
+                next = seen.beside(part);
             }
             writer.close(start);
         }
@@ -76,7 +77,7 @@ pub fn write_value(
         (text_within size (datum_text (data_at tree.now handle))) }
 {
     let mut writer = Writer::new(alloc, size)?;
-    put_value(&mut writer, tree, handle);
+    put_value(&mut writer, &Seen::new(tree, None), handle);
     finish(writer)
 }
 

@@ -484,7 +484,7 @@ alike-attributes n c id b None alike = alike
 alike-attributes n c id b (Some place) alike = alike-if n _ _ _ alike alike
 
 -- other controls change no name
-alike-still : (n b : Bay) (controls : State) → AreNamedAlike n b
+pub alike-still : (n b : Bay) (controls : State) → AreNamedAlike n b
     → AreNamedAlike n (with_controls controls b)
 alike-still n b controls alike =
     record { domain = alike.domain; switches = alike.switches; names = alike.names }

@@ -21,32 +21,32 @@ asked-is (Ok r) held gives known = gives
 asked-is (Err e) held gives known =
     ⊎_elim (λ (is : e ≡ OutOfMemory). absurd (known (ap Err is))) (λ (is : held ≡ Err e). is) gives
 
-pub answered_as : (r : Result Answer AllocError) (c : Client) (old new : Bay)
+pub answered_as : (r : Result Answer AllocError) (c : Client) (b : Bay)
     (request : Result Request MmsFault) (held : Result Message MmsFault)
     → Gives OutOfMemory message request held
     → IfOk r (λ _. request ≢ Err OutOfMemory)
-    → IfOk r (λ a. AnswersAs a new (answer_of c old (read_as request)))
-    → IfOk r (λ a. AnswersAs a new (answer_of c old held))
-answered_as (Err e) c old new request held gives known told = tt
-answered_as (Ok a) c old new request held gives known told =
-    subst (λ (x : Result Message MmsFault). AnswersAs a new (answer_of c old x))
+    → IfOk r (λ a. AnswersAs a b (answer_of c b (read_as request)))
+    → IfOk r (λ a. AnswersAs a b (answer_of c b held))
+answered_as (Err e) c b request held gives known told = tt
+answered_as (Ok a) c b request held gives known told =
+    subst (λ (x : Result Message MmsFault). AnswersAs a b (answer_of c b x))
     (sym (asked-is request held gives known)) told
 
-pub sent_short : (r : Result Answer AllocError) (c : Client) (old new : Bay)
+pub sent_short : (r : Result Answer AllocError) (c : Client) (b : Bay)
     (request : Result Request MmsFault) → c.size ≤ 65000
-    → IfOk r (λ a. AnswersAs a new (answer_of c old (read_as request)))
+    → IfOk r (λ a. AnswersAs a b (answer_of c b (read_as request)))
     → IfOk r (λ a. AreShort a.sent.items)
-sent_short (Err e) c old new request most told = tt
-sent_short (Ok a) c old new request most told =
-    subst AreShort (sym told.sent) (answer-short c old (read_as request) most)
+sent_short (Err e) c b request most told = tt
+sent_short (Ok a) c b request most told =
+    subst AreShort (sym told.sent) (answer-short c b (read_as request) most)
 
-pub end_short : (r : Result Answer AllocError) (c : Client) (old new : Bay)
+pub end_short : (r : Result Answer AllocError) (c : Client) (b : Bay)
     (request : Result Request MmsFault) → c.size ≤ 65000
-    → IfOk r (λ a. AnswersAs a new (answer_of c old (read_as request)))
+    → IfOk r (λ a. AnswersAs a b (answer_of c b (read_as request)))
     → IfOk r (λ a. IsShort a.ending)
-end_short (Err e) c old new request most told = tt
-end_short (Ok a) c old new request most told =
-    subst IsShort (sym told.ending) (answer-end c old (read_as request) most)
+end_short (Err e) c b request most told = tt
+end_short (Ok a) c b request most told =
+    subst IsShort (sym told.ending) (answer-end c b (read_as request) most)
 
 pub not-memory : (r : Result Answer AllocError) (request : Result Request MmsFault)
     (fault : MmsFault) → request ≡ Err fault → IfOk r (λ _. fault ≢ OutOfMemory)

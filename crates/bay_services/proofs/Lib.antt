@@ -1,6 +1,5 @@
 pub mod AcceptedLemmas
 pub mod AnswerLemmas
-pub mod DecisionLemmas
 pub mod EntryLemmas
 pub mod NameLemmas
 pub mod OperateLemmas
@@ -10,7 +9,6 @@ pub mod ReleaseLemmas
 pub mod ReplyLemmas
 pub mod ShortLemmas
 pub mod ShownLemmas
-pub mod StandingLemmas
 pub mod VariableLemmas
 pub mod ViewLemmas
 pub mod WriteLemmas

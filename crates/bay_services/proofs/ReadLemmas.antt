@@ -1,5 +1,5 @@
 -- What reads come to.
-use Rattle.std.proofs.Common.{◌≡◌, ◌≤◌, ℕ, List, [], ◌∷◌, ◌++◌, length, drop, drop-cons, get_or, map, ◌<◌, ◌+◌, add-one, Option, Some, None, Result, ap, ◌∙◌, arith}
+use Rattle.std.proofs.Common.{◌≡◌, ◌≤◌, ℕ, List, [], ◌∷◌, ◌++◌, length, drop, drop-cons, get_or, map, ◌<◌, ◌+◌, add-one, Option, Some, None, Result, refl, ap, ◌∙◌, arith}
 use Rattle.std.proofs.lemmas.List.{length-append}
 use Rattle.bay_mms.specs.Responses.{text_result}
 use Rattle.bay_control.specs.declared.cause.AddCause.{AddCause}

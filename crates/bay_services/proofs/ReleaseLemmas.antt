@@ -342,6 +342,7 @@ kept-select c b k item w (Ok o) kept =
 
 kept-operate : (c : Client) (b : Bay) (k : ℕ) (item : List ℕ) (w : Writing)
     (r : Result asked.Operate ControlFault) → Kept c b w → Kept c b (operate_asked c b k item w r)
+unfolding outcome
 kept-operate c b k item w (Err fault) kept =
     record { busy = kept.busy; released = kept.released; sole = kept.sole }
 kept-operate c b k item w (Ok o) kept =

@@ -16,7 +16,7 @@ use Rattle.bay_mms.specs.declared.fault.EncodeFault.TheVariants.{TooLong, OutOfM
 use Rattle.bay_mms.specs.declared.response.ErrorClass.TheVariants.{Resource}
 use Rattle.bay_mms.specs.Writing.{Adds, text_within}
 use Rattle.bay_services.specs.Answers.{Answered, read_done, response_answer, plain_answer, within, write_done}
-use Rattle.bay_services.specs.Bay.{Bay}
+use Rattle.bay_services.specs.Bay.{Bay, with_controls}
 use Rattle.bay_services.specs.Reads.{Reading}
 use Rattle.bay_services.specs.Replies.{fitting}
 use Rattle.bay_services.specs.Views.{AnswersAs}
@@ -81,14 +81,14 @@ pub responded-over : (c : Client) (id : ℕ) (b : Bay) (pdu : List ℕ) (was : O
     → response_answer c id b pdu ≡ plain_answer (error_text id Resource) b
 responded-over c id b pdu was is none = within-over c id b pdu (plain_answer pdu b) (sym is ∙ none)
 
-pub read-fits : (c : Client) (id : ℕ) (b new : Bay) (r : Reading) (found : List ℕ)
+pub read-fits : (c : Client) (id : ℕ) (b : Bay) (r : Reading) (found : List ℕ)
     (was : Option (List ℕ)) → was ≡ fitting c.size (read_text id r.results) → was ≡ Some found
-    → new ≡ r.bay → read_done c id b r ≡ plain_answer found new
-read-fits c id b new r found was is some at =
+    → read_done c id b r ≡ record (plain_answer found b) { after = with_controls r.controls b }
+read-fits c id b r found was is some =
     let fit = sym is ∙ some in
-    let whole : Bay → Answered = λ (d : Bay). plain_answer (read_text id r.results) d in
-    within-fits c id b (read_text id r.results) found _ fit ∙ ap whole (sym at)
-    ∙ ap (λ p. plain_answer p new) (sym (fits c.size (read_text id r.results) found fit).1)
+    within-fits c id b (read_text id r.results) found _ fit
+    ∙ ap (λ p. let x : Answered = record (plain_answer p b) { after = with_controls r.controls b }
+    in x) (sym (fits c.size (read_text id r.results) found fit).1)
 
 pub read-over : (c : Client) (id : ℕ) (b : Bay) (r : Reading) (was : Option (List ℕ))
     → was ≡ fitting c.size (read_text id r.results) → was ≡ None

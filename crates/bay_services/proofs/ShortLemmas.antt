@@ -2,7 +2,7 @@
 use Rattle.std.proofs.Common.{◌≡◌, ◌≤◌, ℕ, zero, suc, Bool, true, false, cond, nat_le, All, IfSome, List, [], ◌∷◌, ◌++◌, length, Option, Some, None, option_to_list, Result, Ok, Err, refl, arith}
 use Rattle.std.proofs.lemmas.Bool.Decides.{nat_tests}
 use Rattle.std.proofs.lemmas.List.Elements.{All-append}
-use Rattle.bay_control.specs.Decisions.{Outcome, operate_outcome}
+use Rattle.bay_control.specs.Decisions.{Outcome, cancel_outcome, operate_outcome, select_with_outcome}
 use Rattle.bay_control.specs.declared.cause.AddCause.{AddCause}
 use Rattle.bay_mms.specs.Controls as asked
 use Rattle.bay_mms.specs.Controls.{Control, cancel_in, operate_in}
@@ -138,7 +138,8 @@ module _ (c : Client) (b : Bay) (most : c.size ≤ 65000) where
   select-with-short : (k : ℕ) (item : List ℕ) (w : Writing) (x : Result asked.Operate ControlFault)
       → IsFit w → IsFit (select_with_asked c b k item w x)
   select-with-short k item w (Err fault) short = short
-  select-with-short k item w (Ok o) short = decided-short k item o.control _ w short
+  select-with-short k item w (Ok o) short = decided-short k item o.control
+      (select_with_outcome c.association k (ask_of o) c.now w.controls) w short
 
   operate-short : (k : ℕ) (item : List ℕ) (w : Writing) (x : Result asked.Operate ControlFault)
       → IsFit w → IsFit (operate_asked c b k item w x)
@@ -153,7 +154,8 @@ module _ (c : Client) (b : Bay) (most : c.size ≤ 65000) where
   cancel-short : (k : ℕ) (item : List ℕ) (w : Writing) (x : Result Control ControlFault)
       → IsFit w → IsFit (cancel_asked c b k item w x)
   cancel-short k item w (Err fault) short = short
-  cancel-short k item w (Ok control) short = decided-short k item control _ w short
+  cancel-short k item w (Ok control) short = decided-short k item control
+      (cancel_outcome c.association k c.now w.controls) w short
 
   part-short : (k : ℕ) (item : List ℕ) (given : Datum) (w : Writing) (part : ControlPart)
       → IsFit w → IsFit (write_part c b k item given w part)

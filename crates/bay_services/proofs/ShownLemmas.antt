@@ -1,20 +1,27 @@
 -- A tree that shows no selection, and how clients see it.
-use Rattle.std.proofs.Common.{◌≡◌, ◌≢◌, ℕ, zero, suc, ◌+◌, ◌<◌, ◌≤◌, ◌⊎◌, inl, inr, cases_lt, ⊥, add-one, Bool, true, false, cond, nat_eq, List, [], ◌∷◌, ◌++◌, codes, map, Option, Some, None, refl, ap, sym, subst, ◌∙◌, arith}
+use Rattle.std.proofs.Common.{◌≡◌, ◌≢◌, ℕ, zero, suc, ◌+◌, ◌<◌, ◌≤◌, ◌⊎◌, inl, inr, ◌^◌, ◌==◌, add-one, Bool, true, false, cond, nat_eq, List, [], ◌∷◌, ◌++◌, codes, length, map, option_map, slice_get, Option, Some, None, refl, ap, sym, subst, ◌∙◌, arith}
 use Rattle.std.specs.Fmt.{decimal}
 use Rattle.std.specs.Str.{bytes_eq}
+use Rattle.std.proofs.lemmas.Bool.{cases_lt}
 use Rattle.std.proofs.lemmas.Bool.Decides.{nat_tests}
 use Rattle.std.proofs.lemmas.Fmt.{decimal_injective}
 use Rattle.std.proofs.lemmas.List.{append_cancel_left, append_cancel_right}
+use Rattle.std.proofs.lemmas.Option.{slice_get-get_or, slice_get_within}
 use Rattle.std.proofs.lemmas.Slice.Eq.{bytes_eq-Decides}
-use Rattle.bay_tree.proofs.NamedLemmas.{same-text}
+use Rattle.bay_tree.proofs.NamedLemmas.{same-text, with_leaf-named}
+use Rattle.bay_tree.proofs.SearchLemmas.{place_of-found}
 use Rattle.bay_nodes.specs.Names.{control_names}
-use Rattle.bay_tree.specs.Rows.{with_leaf_of}
+use Rattle.bay_tree.specs.Rows.{IsTree, with_leaf_of}
 use Rattle.bay_tree.specs.declared.leaf.LeafType.{LeafType}
 use Rattle.bay_tree.specs.declared.leaf.Leaf.{Leaf}
 use Rattle.bay_tree.specs.declared.leaf.Leaf.TheVariants as leaf
 use Rattle.bay_tree.specs.declared.row.Row.{Row}
 use Rattle.bay_process.specs.Layout.{HasLeafType, Layout, layout_of, name_in}
+use Rattle.bay_mms.specs.Marks.{rows_marked}
+use Rattle.bay_process.specs.Controls.{AreAllControlRows}
+use Rattle.bay_process.specs.declared.controls.ControlRows.{ControlRows}
 use Rattle.bay_services.specs.Bay.{ShowNone, is_selected, rows_shown}
+use Rattle.bay_services.specs.Places.{marked_row}
 
 -- one row with a new value, if it has the name
 abbrev written : Bool → Leaf → Row → Row
@@ -70,7 +77,7 @@ twice (r ∷ rows) name value =
     ∙ ap (λ rs. written (bytes_eq r.name name) value r ∷ rs) (twice rows name value)
 
 -- a tree in which none was written shows none
-pub shows-none : (count : ℕ) (rows : List Row) → ShowNone count (rows_shown None count rows)
+shows-none : (count : ℕ) (rows : List Row) → ShowNone count (rows_shown None count rows)
 shows-none zero rows k low = absurd (omega (arith, low))
 shows-none (suc n) rows k low =
     let off = leaf.Truth false in
@@ -85,10 +92,14 @@ shows-none (suc n) rows k low =
           rw same (twice before ((control_names n).selected) off)
     ]
 
+pub shows-first : (count many : ℕ) (old new : List Row) → many ≡ count
+    → new ≡ rows_shown None count old → ShowNone many new
+shows-first count many old new same is = rw (same, is) (shows-none count old)
+
 -- ---- what clients see
 
 -- switches have controls of different names
-names-differ : (j k : ℕ) → j < 2 ^ 32 → k < 2 ^ 32 → j ≢ k
+names-differ : (j k : ℕ) → j + 1 < 2 ^ 64 → k + 1 < 2 ^ 64 → j ≢ k
     → bytes_eq (control_names j).selected (control_names k).selected ≡ true → ⊥
 names-differ j k a b other is =
     let same : (control_names j).selected ≡ (control_names k).selected =
@@ -96,7 +107,7 @@ names-differ j k a b other is =
     let numbers : decimal (j + 1) ≡ decimal (k + 1) =
     append_cancel_left (codes "CSWI") (decimal (j + 1)) (decimal (k + 1))
     (append_cancel_right _ _ (codes "$ST$Pos$stSeld") same) in
-    let equal : j + 1 ≡ k + 1 = decimal_injective (j + 1) (k + 1) (omega (arith, a)) (omega (arith, b)) numbers in
+    let equal : j + 1 ≡ k + 1 = decimal_injective (j + 1) (k + 1) a b numbers in
     other (omega (arith, equal))
 
 itself : (k : ℕ) → nat_eq k k ≡ true
@@ -122,7 +133,7 @@ pub seen-none : (count : ℕ) (rows : List Row) → ShowNone count rows
 seen-none count rows none = unmarked None count rows (λ k low. refl) none
 
 -- else with TRUE for the one that is selected
-pub seen-one : (k count : ℕ) (rows : List Row) → count ≤ 2 ^ 32 → k < count → ShowNone count rows
+pub seen-one : (k count : ℕ) (rows : List Row) → count < 2 ^ 64 → k < count → ShowNone count rows
     → rows_shown (Some k) count rows
     ≡ with_leaf_of ((control_names k).selected) (leaf.Truth true) rows
 seen-one k zero rows few low none = absurd (omega (arith, low))
@@ -149,6 +160,46 @@ pub seen-past : (k count : ℕ) (rows : List Row) → count ≤ k → ShowNone c
     → rows_shown (Some k) count rows ≡ rows
 seen-past k count rows past none =
     unmarked (Some k) count rows (λ j low. other k j (λ e. omega (arith, e, low, past))) none
+
+no_rows : ControlRows
+no_rows = record {
+  selected = 0;
+  select = None;
+  select_with_value = None;
+  operate = None;
+  cancel = None;
+}
+
+past-if : (controls : List ControlRows) (k : ℕ) → slice_get controls k ≡ None
+    → length controls ≤ k
+past-if controls k none =
+    elim (cases_lt k (length controls)) [
+      | inl less ↦
+          let some = slice_get-get_or controls k no_rows less in
+          absurd (let no : Some _ ≡ (let o : Option ControlRows = None in o) = sym some ∙ none in cc)
+      | inr past ↦ past
+    ]
+
+-- a tree that is marked at the row of the selected switch is what clients see
+marked-if : (controls : List ControlRows) (rows : List Row) (k : ℕ) (o : Option ControlRows)
+    → slice_get controls k ≡ o → IsTree rows → AreAllControlRows rows controls
+    → length controls < 2 ^ 64 → ShowNone (length controls) rows
+    → rows_marked (option_map (λ r. r.selected) o) rows ≡ rows_shown (Some k) (length controls) rows
+marked-if controls rows k None here tree are few none =
+    sym (seen-past k (length controls) rows (past-if controls k here) none)
+marked-if controls rows k (Some own) here tree are few none =
+    let found =
+    place_of-found rows ((control_names k).selected) own.selected (are k own here).selected in
+    with_leaf-named rows own.selected (leaf.Truth true) tree found.0
+    ∙ ap (λ (n : List ℕ). with_leaf_of n (leaf.Truth true) rows) found.1
+    ∙ sym (seen-one k (length controls) rows few (slice_get_within controls k own here) none)
+
+pub marked-seen : (controls : List ControlRows) (rows : List Row) (o : Option ℕ) → IsTree rows
+    → AreAllControlRows rows controls → length controls < 2 ^ 64 → ShowNone (length controls) rows
+    → rows_marked (marked_row controls o) rows ≡ rows_shown o (length controls) rows
+marked-seen controls rows None tree are few none = sym (seen-none (length controls) rows none)
+marked-seen controls rows (Some k) tree are few none =
+    marked-if controls rows k (slice_get controls k) refl tree are few none
 
 -- ---- writing them
 

@@ -1,5 +1,5 @@
 -- Where the values of controls stand in a tree.
-use Rattle.std.specs.Prelude.{◌≡◌, ℕ, ◌==◌, Bool, false, List, Option, Some, None, slice_get, if◌then◌else◌}
+use Rattle.std.specs.Prelude.{◌≡◌, ℕ, ◌==◌, Bool, false, List, Option, Some, None, option_map, slice_get, if◌then◌else◌}
 use Rattle.bay_tree.specs.Rows.{IsHandle, name_at, place_of}
 use Rattle.bay_tree.specs.declared.row.Row.{Row}
 use Rattle.bay_process.specs.Layout.{Layout, switch_in, switches_of, AreSwitchRows}
@@ -38,3 +38,8 @@ ArePlaced layout switches =
 pub record IsFound (rows : List Row) (row : ℕ) : Type 0 where
   pub there : IsHandle rows row
   pub first : place_of rows (name_at rows row) ≡ Some row
+
+-- the row that shows a switch as selected, if there is a selected switch
+abbrev pub marked_row : List ControlRows → Option ℕ → Option ℕ
+marked_row controls None = None
+marked_row controls (Some k) = option_map (λ rows. rows.selected) (slice_get controls k)

@@ -1,9 +1,10 @@
 // What is selected, as clients see it, and what a decision on a control sees.
-ghost use Rattle.std.specs.Prelude.{◌≡◌, ◌<◌, length, option_map, IfSome};
+ghost use Rattle.std.specs.Prelude.{◌≡◌, ◌<◌, length};
 ghost use Rattle.bay_process.specs.Controls.{AreAllControlRows};
 ghost use Rattle.bay_process.specs.Layout.{layout_of};
 ghost use Rattle.bay_services.specs.Bay.{left_by, rows_shown, seen_rows};
 ghost use Rattle.bay_services.specs.Controls.{view_of};
+ghost use Rattle.bay_services.specs.Places.{marked_row};
 ghost use Rattle.bay_services.specs.Views.{bay_view};
 
 use crate::bay::ServedBay;
@@ -14,7 +15,7 @@ use bay_mms::seen::Seen;
 use bay_process::controls::ControlRows;
 use bay_process::rows::{is_truth, position_at, put};
 use bay_tree::leaf::Leaf;
-use bay_tree::tree::Tree;
+use bay_tree::tree::{Handle, Tree};
 
 /// Stores FALSE as stSeld of each switch (IEC 61850-7-3), in a tree that is to be served.
 pub fn show_none(tree: &mut Tree, rows: &[ControlRows])
@@ -38,6 +39,15 @@ impl ServedBay {
         }
     }
 
+    /// Returns the row that shows a selected switch as selected.
+    fn mark(&self, selected: Option<usize>) -> Option<Handle>
+        ensures row { result ≡ marked_row self.now.control_rows selected }
+        ensures few { length self.now.control_rows < 18_446_744_073_709_551_616 }
+    {
+        let rows = self.control_rows.as_slice();
+        Some(rows.get(selected?)?.selected)
+    }
+
     /// Returns the tree as clients see it under these controls, with TRUE as stSeld of the selected
     /// switch (IEC 61850-7-3).
     pub(crate) fn seen(&self, controls: &Controls) -> Seen<'_>
@@ -45,15 +55,7 @@ impl ServedBay {
         ensures handles { length result ≡ length self.now.tree }
     {
         self.tree.are_a_tree();
-        let marked = match controls.selected() {
-            Some(switch) => self
-                .control_rows
-                .as_slice()
-                .get(switch)
-                .map(|rows| rows.selected),
-            None => None,
-        };
-        Seen::new(&self.tree, marked)
+        Seen::new(&self.tree, self.mark(controls.selected()))
     }
 
     /// Returns what a decision sees of a switch.

@@ -11,8 +11,8 @@ ghost use Rattle.bay_services.specs.Bay.{Bay, left_by};
 ghost use Rattle.bay_services.specs.Rows.{row_named};
 ghost use Rattle.bay_mms.specs.declared.fault.MmsFault.TheVariants as MmsFault;
 ghost use Rattle.bay_services.specs.Controls.{IsShort};
-ghost use Rattle.bay_services.specs.Reads.{nothing_read, read_all};
-ghost use Rattle.bay_services.specs.Views.{bay_view, read_as, AnswersAs};
+ghost use Rattle.bay_services.specs.Reads.{read_all};
+ghost use Rattle.bay_services.specs.Views.{bay_view, read_as, reading, AnswersAs};
 
 use crate::answer::Answer;
 use crate::bay::ServedBay;
@@ -155,15 +155,14 @@ impl ServedBay {
         names: &[ObjectName<'_>],
         changed: &mut Option<Controls>,
     ) -> Result<Outgoing, EncodeFault>
-        requires { changed.old ≡ None }
         ensures response { Gives EncodeFault.OutOfMemory (λ octets. octets) result
             (text_within client.size (read_text id
             (read_all client (bay_view self.now) (map naming names.now)
-            (nothing_read (bay_view self.now))).results)) }
+            (reading self.now changed.old [])).results)) }
         ensures after { OnOk result
             (left_by changed.new self.now.controls
             ≡ (read_all client (bay_view self.now) (map naming names.now)
-            (nothing_read (bay_view self.now))).controls) }
+            (reading self.now changed.old [])).controls) }
     {
         let mut response = ReadResponse::new(alloc, client.size)?;
         self.read_all(alloc, client, names, changed, &mut response)?;
@@ -185,12 +184,11 @@ impl ServedBay {
         let mut controls = None;
         let response = self.read_response(alloc, client, id, names, &mut controls);
         match fitting(response)? {
-            Some(pdu) => Ok(Answer {
-                sent: vec![in alloc; pdu]?,
-                commands: Vec::new(alloc),
-                ending: None,
-                controls,
-            }),
+            Some(pdu) => {
+                let mut answer = said(alloc, pdu)?;
+                answer.controls = controls;
+                Ok(answer)
+            }
             None => failed(alloc, id, ErrorClass::Resource),
         }
     }
@@ -293,12 +291,7 @@ impl ServedBay {
     /// Each PDU of the answer has at most 65,000 octets, and so have the reports of an end. A
     /// response longer than the agreed size is replaced by an error of the class resource, and then
     /// the answer does nothing. An error means that an allocation failed.
-    pub fn answer(
-        &self,
-        alloc: Global,
-        client: Client,
-        pdu: &[u8],
-    ) -> Result<Answer, AllocError>
+    pub fn answer(&self, alloc: Global, client: Client, pdu: &[u8]) -> Result<Answer, AllocError>
         requires least { 256 ≤ client.size }
         requires most { client.size ≤ 65_000 }
         ensures ok { IfOk result

@@ -367,8 +367,12 @@ impl ServedBay {
         };
         match target.part {
             ControlPart::Select => written.response.failure(DENIED),
-            ControlPart::SelectWith => self.write_select_with(alloc, client, part, given, changed, written),
-            ControlPart::Operate => self.write_operate(alloc, client, part, given, changed, written),
+            ControlPart::SelectWith => self.write_select_with(
+                alloc, client, part, given, changed, written,
+            ),
+            ControlPart::Operate => self.write_operate(
+                alloc, client, part, given, changed, written,
+            ),
             ControlPart::Cancel => self.write_cancel(alloc, client, part, given, changed, written),
         }
     }

@@ -33,8 +33,8 @@ invariant_of-bay c =
       placed = rw did.layout d.placed;
       controlled = rows-kept _ d.tree d.control_rows (sym did.layout) d.controlled;
       sized = d.sized;
-      shows = rw written (shows-contact d.controls (length (switches_of d.switches))
-          (switches_of d.switches) k bound.switch c.args.position c.args.now d.tree d.shows);
+      quiet = rw written (shows-contact (length (switches_of d.switches))
+          (switches_of d.switches) k bound.switch c.args.position c.args.now d.tree d.quiet);
     }
 
 pub returns-clause-changed : goal.returns-clause-changed

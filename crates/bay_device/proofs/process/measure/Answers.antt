@@ -34,8 +34,8 @@ invariant_of-bay c =
       placed = rw did.layout d.placed;
       controlled = rows-kept _ d.tree d.control_rows (sym did.layout) d.controlled;
       sized = d.sized;
-      shows = rw written (shows-measure d.controls (length (switches_of d.switches)) c.args._meter f
-          c.args.value c.args.now d.tree d.shows);
+      quiet = rw written (shows-measure (length (switches_of d.switches)) c.args._meter f
+          c.args.value c.args.now d.tree d.quiet);
     }
 
 pub returns-clause-changed : goal.returns-clause-changed

@@ -3,10 +3,10 @@ use Rattle.bay_mms.proofs.NodeLemmas.{Written, nodes_text, left_of}
 use Rattle.bay_mms.proofs.value.+put_value.Given as goal
 
 abbrev pub decreases-put_value : goal.decreases-put_value
-decreases-put_value l = length l.tree.now - l.handle
+decreases-put_value l = length l.seen.now - l.handle
 
 abbrev pub invariant-loop-next : goal.invariant-loop-next
-invariant-loop-next l = Written l.tree l.fn.handle nodes_text 0xA2 l.fn.writer l.writer l.next
+invariant-loop-next l = Written l.seen l.fn.handle nodes_text 0xA2 l.fn.writer l.writer l.next
 
 abbrev pub decreases-loop-next : goal.decreases-loop-next
-decreases-loop-next l = left_of l.tree l.next
+decreases-loop-next l = left_of l.seen l.next

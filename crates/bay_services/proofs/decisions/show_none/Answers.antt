@@ -19,7 +19,7 @@ loop-switch-preserved c =
     let names =
     c.requires k _ (slice_get-get_or c.args.rows.now k c.index-rows-switch.result within) in
     record {
-      rows = shown-more k c.args.tree.now c.loop-switch.tree c.put.new.tree _ _
+      rows = shown-more k c.args.tree.now c.loop-switch.tree c.put.new.tree _
           c.loop-switch.invariant.layout (selected-named c.args.tree.now _ _ names.selected)
           c.loop-switch.invariant.rows c.put.ensures.rows;
       layout = c.put.ensures.layout ∙ c.loop-switch.invariant.layout;

@@ -1,9 +1,9 @@
-use Rattle.std.proofs.Common.{map, arith}
+use Rattle.std.proofs.Common.{[], map, arith}
 use Rattle.std.proofs.lemmas.Result.{err_from_is_err_and}
 use Rattle.bay_mms.specs.RequestViews.{naming}
 use Rattle.bay_mms.specs.Responses.{read_text}
-use Rattle.bay_services.specs.Reads.{nothing_read, read_all}
-use Rattle.bay_services.specs.Views.{bay_view}
+use Rattle.bay_services.specs.Reads.{read_all}
+use Rattle.bay_services.specs.Views.{bay_view, reading}
 use Rattle.bay_services.proofs.ReplyLemmas.{fault-told, response-more}
 use Rattle.bay_services.proofs.bay.ServedBay.read_response.Goals as goal
 
@@ -12,8 +12,8 @@ returns-in_err-read_all-clause-response c =
     let p = err_from_is_err_and c.from_residual-in_err-read_all.result
     c.from_residual-in_err-read_all.ensures.1 in
     let results =
-    (read_all c.args.client (map naming c.args.names.now)
-    (nothing_read (bay_view c.args.self.now))).results in
+    (read_all c.args.client (bay_view c.args.self.now) (map naming c.args.names.now)
+    (reading c.args.self.now c.args.changed.now [])).results in
     rw (p.1, p.2) (fault-told c.in_err-read_all.field-0.0 c.args.client.size
     (read_text c.args.id results)
     (λ is. let long = rw c.in_ok-response.ensures at c.in_err-read_all.ensures.long is in
