@@ -1,5 +1,5 @@
 -- Each command of a step is released, and there is one at most.
-use Rattle.std.proofs.Common.{◌≡◌, ◌≢◌, ◌≤◌, ℕ, zero, suc, Bool, true, false, not, ◌&&◌, cond, nat_lt, List, [], ◌∷◌, ◌++◌, map, slice_get, Option, Some, None, Result, IfOk, refl, ap, sym, ◌∙◌, arith}
+use Rattle.std.proofs.Common.{◌≡◌, ◌≢◌, ◌≤◌, ℕ, zero, suc, Bool, true, false, not, ◌&&◌, cond, nat_lt, List, [], ◌∷◌, ◌++◌, drop, get_or, map, slice_get, Option, Some, None, Result, IfOk, refl, ap, sym, ◌∙◌, arith}
 use Rattle.std.specs.List.{AllByRecursion}
 use Rattle.bay_tree.specs.Rows.{leaf_of}
 use Rattle.bay_tree.specs.declared.leaf.Dbpos.{Dbpos}
@@ -230,10 +230,8 @@ step-commanded choice now event s =
 pub all-commanded : (choices : List (Option ℕ)) (events : List (ℕ × Event)) (s : State)
     → AllCommanded choices events s
 all-commanded choices [] s = tt
-all-commanded [] (e ∷ es) s =
-    (step-commanded None e.0 e.1 s, all-commanded [] es (outcome None e.0 e.1 s).after)
-all-commanded (choice ∷ choices) (e ∷ es) s =
-    (step-commanded choice e.0 e.1 s, all-commanded choices es (outcome choice e.0 e.1 s).after)
+all-commanded choices (e ∷ es) s =
+    (step-commanded (get_or choices 0 None) e.0 e.1 s, all-commanded (drop 1 choices) es _)
 
 -- ---- one command at most
 
@@ -407,19 +405,8 @@ step-timed choice now event s timed =
 pub all-single : (choices : List (Option ℕ)) (events : List (ℕ × Event)) (s : State)
     → AreTimed s.controls.controls → AllByRecursion IsSingle (outcomes choices events s).answers
 all-single choices [] s timed = tt
-all-single [] (e ∷ es) s timed = (
-  step-single None e.0 e.1 s timed,
-  all-single [] es (outcome None e.0 e.1 s).after (step-timed None e.0 e.1 s timed),
-)
-all-single (choice ∷ choices) (e ∷ es) s timed = (
-  step-single choice e.0 e.1 s timed,
-  all-single choices es (outcome choice e.0 e.1 s).after (step-timed choice e.0 e.1 s timed),
-)
-
-pub all-timed : (choices : List (Option ℕ)) (events : List (ℕ × Event)) (s : State)
-    → AreTimed s.controls.controls → AreTimed (outcomes choices events s).after.controls.controls
-all-timed choices [] s timed = timed
-all-timed [] (e ∷ es) s timed =
-    all-timed [] es (outcome None e.0 e.1 s).after (step-timed None e.0 e.1 s timed)
-all-timed (choice ∷ choices) (e ∷ es) s timed =
-    all-timed choices es (outcome choice e.0 e.1 s).after (step-timed choice e.0 e.1 s timed)
+all-single choices (e ∷ es) s timed =
+    let choice = get_or choices 0 None in (
+      step-single choice e.0 e.1 s timed,
+      all-single (drop 1 choices) es _ (step-timed choice e.0 e.1 s timed),
+    )

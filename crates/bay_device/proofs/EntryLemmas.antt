@@ -1,5 +1,5 @@
 -- What events ask of a device's controls leads them from those before to those after.
-use Rattle.std.proofs.Common.{◌≡◌, ◌≢◌, ◌<◌, ◌+◌, ◌-◌, ℕ, zero, suc, Bool, true, false, not, ◌&&◌, ◌||◌, cond, nat_lt, List, [], ◌∷◌, ◌++◌, length, Option, None, Some, is_some, unwrap_or, slice_get, slice_set, refl, ap, sym, subst, ◌∙◌, arith, append-nil}
+use Rattle.std.proofs.Common.{◌≡◌, ◌≢◌, ◌<◌, ◌+◌, ◌-◌, ℕ, zero, suc, Bool, true, false, not, ◌&&◌, ◌||◌, cond, nat_lt, List, [], ◌∷◌, ◌++◌, drop, get_or, length, Option, None, Some, is_some, unwrap_or, slice_get, slice_set, refl, ap, sym, subst, ◌∙◌, arith, append-nil}
 use Rattle.std.specs.Prelude.{ℤ, ◌==◌, Result, is_ok}
 use Rattle.std.proofs.lemmas.Bool.{eqb-true, eq-eqb}
 use Rattle.std.proofs.lemmas.List.{length-set}
@@ -432,16 +432,9 @@ led-all : (choices : List (Option ℕ)) (events : List (ℕ × Event)) (s : Stat
     → length s.connections ≡ 8
     → Led (entries_all choices events s) s (outcomes choices events s).after
 led-all choices [] s sized = nothing s
-led-all [] (e ∷ es) s sized =
-    let t : State = (outcome None e.0 e.1 s).after in
-    let first : Led (entries_at None e.0 e.1 s) s t = led-outcome e.0 s sized None e.1 in
-    behind (entries_at None e.0 e.1 s) (entries_all [] es t) s t (outcomes [] es t).after first
-    (led-all [] es t (first.sized ∙ sized))
-led-all (choice ∷ choices) (e ∷ es) s sized =
-    let t : State = (outcome choice e.0 e.1 s).after in
-    let first : Led (entries_at choice e.0 e.1 s) s t = led-outcome e.0 s sized choice e.1 in
-    behind (entries_at choice e.0 e.1 s) (entries_all choices es t) s t
-    (outcomes choices es t).after first (led-all choices es t (first.sized ∙ sized))
+led-all choices (e ∷ es) s sized =
+    let first = led-outcome e.0 s sized (get_or choices 0 None) e.1 in
+    behind _ _ _ _ _ first (led-all (drop 1 choices) es _ (first.sized ∙ sized))
 
 pub all-are-backed : (choices : List (Option ℕ)) (events : List (ℕ × Event)) (s : State)
     → length s.connections ≡ 8 → s.controls.selection ≡ None

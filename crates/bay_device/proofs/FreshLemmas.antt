@@ -1,5 +1,5 @@
 -- Behind each command is a fresh scan, by what the process told after each event since.
-use Rattle.std.proofs.Common.{◌≡◌, ◌≢◌, ◌≤◌, ◌+◌, ◌-◌, ℕ, ℤ, Bool, true, false, not, ◌||◌, cond, nat_lt, List, [], ◌∷◌, ◌++◌, All, codes, get_or, length, map, slice_get, slice_set, unwrap_or, Option, None, Some, Result, Ok, Err, IfOk, IsOk, refl, ap, ap₂, sym, ◌∙◌, subst, arith}
+use Rattle.std.proofs.Common.{◌≡◌, ◌≢◌, ◌≤◌, ◌+◌, ◌-◌, ℕ, ℤ, Bool, true, false, not, ◌||◌, cond, nat_lt, List, [], ◌∷◌, ◌++◌, All, codes, drop, get_or, length, map, slice_get, slice_set, unwrap_or, Option, None, Some, Result, Ok, Err, IfOk, IsOk, refl, ap, ap₂, sym, ◌∙◌, subst, arith}
 use Rattle.std.specs.Bool.{beq}
 use Rattle.std.specs.List.{AllByRecursion}
 use Rattle.std.proofs.lemmas.Bool.{and_parts, leb-true}
@@ -376,25 +376,16 @@ fresh-if now past s (Ok step) tracks commanded =
     λ some. has-scan now past s tracks (first-fresh now s step.commands commanded.released some)
 fresh-if now past s (Err fault) tracks commanded = tt
 
-step-fresh : (choice : Option ℕ) (now : ℕ) (event : Event) (past : List Past) (s : State)
-    → Tracks past s → IsFresh now s.scan_max_age_ms past (outcome choice now event s).answer
-step-fresh choice now event past s tracks =
-    fresh-if now past s (outcome choice now event s).answer tracks
-    (step-commanded choice now event s)
-
 fresh-from : (past : List Past) (choices : List (Option ℕ)) (events : List (ℕ × Event)) (s : State)
     → Tracks past s → AllFresh past choices events s
 fresh-from past choices [] s tracks = tt
-fresh-from past [] (e ∷ es) s tracks = (
-  step-fresh None e.0 e.1 past s tracks,
-  fresh-from (with_event e.0 e.1 (outcome None e.0 e.1 s) past) [] es
-      (outcome None e.0 e.1 s).after (led past s tracks e.0 None e.1),
-)
-fresh-from past (choice ∷ choices) (e ∷ es) s tracks = (
-  step-fresh choice e.0 e.1 past s tracks,
-  fresh-from (with_event e.0 e.1 (outcome choice e.0 e.1 s) past) choices es
-      (outcome choice e.0 e.1 s).after (led past s tracks e.0 choice e.1),
-)
+fresh-from past choices (e ∷ es) s tracks =
+    let choice = get_or choices 0 None in
+    let o = outcome choice e.0 e.1 s in (
+      fresh-if e.0 past s o.answer tracks (step-commanded choice e.0 e.1 s),
+      fresh-from (with_event e.0 e.1 o past) (drop 1 choices) es o.after
+          (led past s tracks e.0 choice e.1),
+    )
 
 -- ---- since load
 
@@ -429,8 +420,9 @@ pub came-fresh : (past : List Past) (now : ℕ) (event : Event) (s : State)
     → answer ≡ (outcome choice now event s).answer → Came past s
     → IsFresh now s.scan_max_age_ms past answer
 came-fresh past now event s answer choice is came =
-    subst (λ (r : Result Step StepFault). IsFresh now s.scan_max_age_ms past r) (sym is)
-    (step-fresh choice now event past s (came-tracks past s came))
+    fresh-if now past s answer (came-tracks past s came)
+    (subst (λ (r : Result Step StepFault). IfOk r (AreCommanded now s)) (sym is)
+    (step-commanded choice now event s))
 
 pub all-fresh : (past : List Past) (choices : List (Option ℕ)) (events : List (ℕ × Event))
     (s : State) → Came past s → AllFresh past choices events s

@@ -1,5 +1,5 @@
 -- A device that runs a text does what the text means.
-use Rattle.std.proofs.Common.{◌≡◌, ℕ, zero, suc, Bool, true, false, not, cond, nat_lt, List, [], ◌∷◌, ◌++◌, length, map, take, drop, slice_get, Option, Some, None, refl, sym, ap, ap₂, subst, ◌∙◌, arith}
+use Rattle.std.proofs.Common.{◌≡◌, ℕ, zero, suc, Bool, true, false, not, cond, nat_lt, List, [], ◌∷◌, ◌++◌, length, map, take, drop, get_or, slice_get, Option, Some, None, refl, sym, ap, ap₂, subst, ◌∙◌, arith}
 use Rattle.std.proofs.lemmas.List.{length-map, take-append-drop}
 use Rattle.std.proofs.Math.Seq.{drop-append_seam, take-append_seam}
 use Rattle.bay_base.specs.declared.types.ElementaryType.{ElementaryType}
@@ -34,7 +34,7 @@ use Rattle.il_scan.specs.Scans.{Held, first_input, first_slots, outputs_of, read
 use Rattle.bay_connection.specs.Talk.{Talk, Indication, indications, left_by, answers, tells, releases, ends as ends-heard, fails}
 use Rattle.bay_device.specs.Device.{State, Ran, device_at, ending_at, inputs_of, point_value, ran_at, ran_of, after_scan}
 use Rattle.bay_device.specs.Hearing.{Done, AllHeard, after_indications, on_heard}
-use Rattle.bay_device.specs.Outcomes.{Outcome, close_outcome, connection_at, contact_outcome, event_outcome, input_outcome, last_moment, measure_outcome, nothing_done, octets_outcome, open_outcome, outcome, outcomes, place_of, recv_after, recv_outcome, with_connection}
+use Rattle.bay_device.specs.Outcomes.{Outcome, close_outcome, connection_at, contact_outcome, event_outcome, input_outcome, last_moment, measure_outcome, nothing_done, octets_outcome, open_outcome, outcome, place_of, recv_after, recv_outcome, with_connection}
 use Rattle.bay_device.specs.declared.event.Why.{Why}
 use Rattle.bay_process.specs.Values.{with_outputs}
 use Rattle.bay_device.specs.Meaning.{AllMean, Means, MeansAt, Runs, memory_before, memory_of}
@@ -356,22 +356,10 @@ module _ (c : Checked) (s : State) (r : Runs c s) (now : ℕ) where
 pub all-mean : (c : Checked) (choices : List (Option ℕ)) (events : List (ℕ × Event)) (s : State)
     → Runs c s → AllMean c choices events s
 all-mean c choices [] s r = tt
-all-mean c [] (e ∷ events) s r = (
+all-mean c choices (e ∷ events) s r = (
   means-event c s r e.0 e.1,
-  all-mean c [] events (outcome None e.0 e.1 s).after (runs-still c s r e.0 None e.1),
+  all-mean c (drop 1 choices) events _ (runs-still c s r e.0 (get_or choices 0 None) e.1),
 )
-all-mean c (choice ∷ choices) (e ∷ events) s r = (
-  means-event c s r e.0 e.1,
-  all-mean c choices events (outcome choice e.0 e.1 s).after (runs-still c s r e.0 choice e.1),
-)
-
-pub all-run : (c : Checked) (choices : List (Option ℕ)) (events : List (ℕ × Event)) (s : State)
-    → Runs c s → Runs c (outcomes choices events s).after
-all-run c choices [] s r = r
-all-run c [] (e ∷ events) s r =
-    all-run c [] events (outcome None e.0 e.1 s).after (runs-still c s r e.0 None e.1)
-all-run c (choice ∷ choices) (e ∷ events) s r =
-    all-run c choices events (outcome choice e.0 e.1 s).after (runs-still c s r e.0 choice e.1)
 
 -- ---- before the first event
 

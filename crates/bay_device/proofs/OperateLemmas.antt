@@ -1,5 +1,5 @@
 -- The commands of events are the operates that are accepted in what they tell.
-use Rattle.std.proofs.Common.{◌≡◌, ℕ, ℤ, zero, suc, Bool, true, false, ◌&&◌, cond, nat_lt, List, [], ◌∷◌, ◌++◌, slice_get, Option, None, Some, Result, Ok, Err, IfOk, ◌⊎◌, inl, inr, refl, ap, sym, ◌∙◌, subst, arith, append-nil, append_assoc}
+use Rattle.std.proofs.Common.{◌≡◌, ℕ, ℤ, zero, suc, Bool, true, false, ◌&&◌, cond, nat_lt, List, [], ◌∷◌, ◌++◌, drop, get_or, slice_get, Option, None, Some, Result, Ok, Err, IfOk, ◌⊎◌, inl, inr, refl, ap, sym, ◌∙◌, subst, arith, append-nil, append_assoc}
 use Rattle.std.specs.List.{Contains}
 use Rattle.std.proofs.lemmas.List.Elements.{Contains-append_cases, Contains-append_left, Contains-append_right}
 use Rattle.bay_config.specs.declared.bay.MeterField.{MeterField}
@@ -296,20 +296,13 @@ all-operate : (n : Bay) (choices : List (Option ℕ)) (events : List (ℕ × Eve
     → AreNamedAlike n (bay_of s) → AreTalks s.connections
     → AllOperate n s.connections events (outcomes choices events s).answers
 all-operate n choices [] s alike sized = tt
-all-operate n [] (e ∷ es) s alike sized =
-    let o : Outcome = outcome None e.0 e.1 s in
-    let t = outcome-told n e.0 s alike sized None e.1 in (
-      step-operates n None e.0 e.1 s alike sized,
-      subst (λ (talks : List (Option Talk)). AllOperate n talks es (outcomes [] es o.after).answers)
-          t.left (all-operate n [] es o.after t.alike t.sized),
-    )
-all-operate n (choice ∷ choices) (e ∷ es) s alike sized =
-    let o : Outcome = outcome choice e.0 e.1 s in
+all-operate n choices (e ∷ es) s alike sized =
+    let choice = get_or choices 0 None in
+    let later = outcomes (drop 1 choices) es (outcome choice e.0 e.1 s).after in
     let t = outcome-told n e.0 s alike sized choice e.1 in (
       step-operates n choice e.0 e.1 s alike sized,
-      subst (λ (talks : List (Option Talk)).
-          AllOperate n talks es (outcomes choices es o.after).answers)
-          t.left (all-operate n choices es o.after t.alike t.sized),
+      subst (λ (talks : List (Option Talk)). AllOperate n talks es later.answers) t.left
+          (all-operate n (drop 1 choices) es _ t.alike t.sized),
     )
 
 -- on a device as load made it

@@ -1,5 +1,5 @@
 -- A run, event by event.
-use Rattle.std.proofs.Common.{◌≡◌, ℕ, ◌+◌, false, List, [], ◌∷◌, ◌++◌, length, Option, Result, refl, ap, sym, ◌∙◌, arith, append_assoc, append-nil}
+use Rattle.std.proofs.Common.{◌≡◌, ℕ, ◌+◌, false, List, [], ◌∷◌, ◌++◌, drop, get_or, length, Option, None, Result, refl, ap, sym, ◌∙◌, arith, append_assoc, append-nil}
 use Rattle.bay_device.specs.Device.{State}
 use Rattle.bay_device.specs.Meaning.{AllHalt, Halting, HaltsAt, is_refused}
 use Rattle.bay_device.specs.Outcomes.{outcome, outcomes}
@@ -65,10 +65,6 @@ leads-step events old answers e rest s done answer t leads step halts = record {
       };
 }
 
-none-left : (choices : List (Option ℕ)) (s : State) → AllHalt choices [] s
-none-left [] s = tt
-none-left (choice ∷ choices) s = tt
-
 pub runs-all : (events : List (ℕ × Event)) (old : State) (answers : List (Result Step StepFault))
     (new : State) (done : ℕ) → done ≡ length events
     → Leads events old answers [] new done → Halting events old answers new
@@ -83,3 +79,12 @@ runs-all events old answers new done all leads =
       };
       halts = g.halts tt;
     }
+
+-- What each event keeps is so after all of them.
+pub kept-all : (P : State → Type 0) → ((choice : Option ℕ) (now : ℕ) (event : Event) (s : State)
+    → P s → P (outcome choice now event s).after)
+    → (choices : List (Option ℕ)) (events : List (ℕ × Event)) (s : State) → P s
+    → P (outcomes choices events s).after
+kept-all P kept choices [] s p = p
+kept-all P kept choices (e ∷ es) s p =
+    kept-all P kept (drop 1 choices) es _ (kept (get_or choices 0 None) e.0 e.1 s p)

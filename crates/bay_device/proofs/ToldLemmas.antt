@@ -1,6 +1,6 @@
 -- What events and their answers tell is what the device's definitions say of them.
 use Rattle.std.specs.Prelude.{replicate}
-use Rattle.std.proofs.Common.{◌≡◌, ◌≤◌, ℕ, zero, suc, ℤ, Bool, true, false, cond, nat_lt, List, [], ◌∷◌, ◌++◌, length, map, slice_get, slice_set, Option, None, Some, IsSome, unwrap_or, Result, Ok, Err, refl, ap, ap₂, sym, ◌∙◌, subst, arith, append-nil, append_assoc}
+use Rattle.std.proofs.Common.{◌≡◌, ◌≤◌, ℕ, zero, suc, ℤ, Bool, true, false, cond, nat_lt, List, [], ◌∷◌, ◌++◌, drop, get_or, length, map, slice_get, slice_set, Option, None, Some, IsSome, unwrap_or, Result, Ok, Err, refl, ap, ap₂, sym, ◌∙◌, subst, arith, append-nil, append_assoc}
 use Rattle.bay_base.specs.Options.{◌>>=◌}
 use Rattle.bay_ber.specs.Values.{Part, only_one, under, value_in, values_in}
 use Rattle.bay_ber.proofs.ListingLemmas.{no-values}
@@ -493,22 +493,13 @@ pub all-told : (n : Bay) (choices : List (Option ℕ)) (events : List (ℕ × Ev
     → told_all n s.connections events (outcomes choices events s).answers
     ≡ entries_all choices events s
 all-told n choices [] s alike sized = refl
-all-told n [] (e ∷ es) s alike sized =
-    let o : Outcome = outcome None e.0 e.1 s in
-    let t : IsTold n s.connections (told_step e.0 e.1 n s.connections)
-    (talks_step e.1 s.connections) o (entries_at None e.0 e.1 s) =
-    outcome-told n e.0 s alike sized None e.1 in
+all-told n choices (e ∷ es) s alike sized =
+    let choice = get_or choices 0 None in
+    let later = outcomes (drop 1 choices) es (outcome choice e.0 e.1 s).after in
+    let t = outcome-told n e.0 s alike sized choice e.1 in
     ap₂ (λ (xs ys : List Entry). xs ++ ys) t.told
-    (ap (λ (talks : List (Option Talk)). told_all n talks es (outcomes [] es o.after).answers)
-    (sym t.left) ∙ all-told n [] es o.after t.alike t.sized)
-all-told n (choice ∷ choices) (e ∷ es) s alike sized =
-    let o : Outcome = outcome choice e.0 e.1 s in
-    let t : IsTold n s.connections (told_step e.0 e.1 n s.connections)
-    (talks_step e.1 s.connections) o (entries_at choice e.0 e.1 s) =
-    outcome-told n e.0 s alike sized choice e.1 in
-    ap₂ (λ (xs ys : List Entry). xs ++ ys) t.told
-    (ap (λ (talks : List (Option Talk)). told_all n talks es (outcomes choices es o.after).answers)
-    (sym t.left) ∙ all-told n choices es o.after t.alike t.sized)
+    (ap (λ (talks : List (Option Talk)). told_all n talks es later.answers) (sym t.left)
+    ∙ all-told n (drop 1 choices) es _ t.alike t.sized)
 
 -- ---- a device as load made it
 

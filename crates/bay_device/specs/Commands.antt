@@ -1,12 +1,12 @@
 -- When a device issues a command.
-use Rattle.std.specs.Prelude.{ℕ, ◌≡◌, ◌≢◌, ◌≤◌, true, List, [], ◌∷◌, length, All, Option, None, Result, IfOk}
+use Rattle.std.specs.Prelude.{ℕ, ◌≡◌, ◌≢◌, ◌≤◌, true, List, [], length, All, Option, None, Result, IfOk}
 use Rattle.bay_tree.specs.Rows.{leaf_of}
 use Rattle.bay_process.specs.Values.{is_truth}
 use Rattle.bay_control.specs.Decisions as control
 use Rattle.bay_services.specs.Released.{releasing}
 use Rattle.bay_services.specs.declared.answer.Command.{Command}
 use Rattle.bay_device.specs.Device.{State, is_fresh}
-use Rattle.bay_device.specs.Outcomes.{outcome}
+use Rattle.bay_device.specs.Steps.{EachEvent}
 use Rattle.bay_device.specs.declared.event.Event.{Event}
 use Rattle.bay_device.specs.declared.event.Step.{Step}
 use Rattle.bay_device.specs.declared.fault.StepFault.{StepFault}
@@ -25,13 +25,7 @@ pub record AreCommanded (now : ℕ) (s : State) (step : Step) : Type 0 where
 
 -- Those of each step of a list of events are.
 abbrev pub AllCommanded : List (Option ℕ) → List (ℕ × Event) → State → Type 0
-AllCommanded choices [] s = Unit {0}
-AllCommanded [] (e ∷ es) s =
-    IfOk (outcome None e.0 e.1 s).answer (AreCommanded e.0 s)
-    × AllCommanded [] es (outcome None e.0 e.1 s).after
-AllCommanded (choice ∷ choices) (e ∷ es) s =
-    IfOk (outcome choice e.0 e.1 s).answer (AreCommanded e.0 s)
-    × AllCommanded choices es (outcome choice e.0 e.1 s).after
+AllCommanded = EachEvent (λ now event s answer. IfOk answer (AreCommanded now s))
 
 -- A step has one command at most.
 abbrev pub IsSingle : Result Step StepFault → Type 0

@@ -1,6 +1,6 @@
 -- What events ask of a device's controls, and what was accepted of it, as it is seen from outside;
 -- and which associations are open.
-use Rattle.std.specs.Prelude.{ℕ, ◌≡◌, zero, suc, nat_lt, Bool, true, List, [], ◌∷◌, ◌++◌, Option, None, Some, is_some, replicate, Result, if◌then◌else◌}
+use Rattle.std.specs.Prelude.{ℕ, ◌≡◌, zero, suc, nat_lt, Bool, true, List, [], ◌∷◌, ◌++◌, drop, get_or, Option, None, Some, is_some, replicate, Result, if◌then◌else◌}
 use Rattle.bay_control.specs.Acts.{Act, Opened, Closed, Entry}
 use Rattle.bay_control.specs.Decisions as control
 use Rattle.bay_control.specs.Happenings.{Leads}
@@ -102,10 +102,9 @@ entries_at choice now event s =
 -- is not refused.
 abbrev pub entries_all : List (Option ℕ) → List (ℕ × Event) → State → List Entry
 entries_all choices [] s = []
-entries_all [] (e ∷ es) s =
-    entries_at None e.0 e.1 s ++ entries_all [] es (outcome None e.0 e.1 s).after
-entries_all (choice ∷ choices) (e ∷ es) s =
-    entries_at choice e.0 e.1 s ++ entries_all choices es (outcome choice e.0 e.1 s).after
+entries_all choices (e ∷ es) s =
+    let choice = get_or choices 0 None in
+    entries_at choice e.0 e.1 s ++ entries_all (drop 1 choices) es (outcome choice e.0 e.1 s).after
 
 -- ---- steps
 

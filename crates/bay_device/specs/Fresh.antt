@@ -1,7 +1,7 @@
 -- What stands behind a command: a scan that is not too old, since which no contact, no input and no
 -- measure has changed. It is said of what the process tells after each event, and nothing here
 -- looks at what a device notes of its scans.
-use Rattle.std.specs.Prelude.{ℕ, ◌≡◌, ◌≢◌, ◌+◌, ◌≤◌, All, List, [], ◌∷◌, ◌++◌, Option, None, Result, IfOk, IsOk}
+use Rattle.std.specs.Prelude.{ℕ, ◌≡◌, ◌≢◌, ◌+◌, ◌≤◌, All, List, [], ◌∷◌, ◌++◌, drop, get_or, Option, None, Result, IfOk, IsOk}
 use Rattle.bay_config.specs.declared.bay.Bay.{Bay}
 use Rattle.bay_config.specs.declared.bay.MeterField.{MeterField}
 use Rattle.bay_nodes.specs.Names.{StatusNames, meter_names, position_names}
@@ -83,11 +83,7 @@ with_event now event o past =
 -- So it is of each step of a list of events, with the events before it.
 abbrev pub AllFresh : List Past → List (Option ℕ) → List (ℕ × Event) → State → Type 0
 AllFresh past choices [] s = Unit {0}
-AllFresh past [] (e ∷ es) s =
-    IsFresh e.0 s.scan_max_age_ms past (outcome None e.0 e.1 s).answer
-    × AllFresh (with_event e.0 e.1 (outcome None e.0 e.1 s) past) [] es
-    (outcome None e.0 e.1 s).after
-AllFresh past (choice ∷ choices) (e ∷ es) s =
-    IsFresh e.0 s.scan_max_age_ms past (outcome choice e.0 e.1 s).answer
-    × AllFresh (with_event e.0 e.1 (outcome choice e.0 e.1 s) past) choices es
-    (outcome choice e.0 e.1 s).after
+AllFresh past choices (e ∷ es) s =
+    let o = outcome (get_or choices 0 None) e.0 e.1 s in
+    IsFresh e.0 s.scan_max_age_ms past o.answer
+    × AllFresh (with_event e.0 e.1 o past) (drop 1 choices) es o.after

@@ -1,6 +1,6 @@
 -- What the events of a device come to that was loaded from the text of a program: each scan leaves
 -- what the text means.
-use Rattle.std.specs.Prelude.{ℕ, ◌≡◌, ◌≤◌, Bool, false, nat_lt, ◌||◌, List, [], ◌∷◌, length, map, take, drop, Option, Some, None, Result}
+use Rattle.std.specs.Prelude.{ℕ, ◌≡◌, ◌≤◌, Bool, false, nat_lt, ◌||◌, List, length, map, take, drop, Option, Some, Result}
 use Rattle.il_image.specs.Machine.{Halted}
 use Rattle.il_image.specs.declared.timer.TimerState.{TimerState}
 use Rattle.il_image.specs.declared.value.Value.{Value}
@@ -11,8 +11,8 @@ use Rattle.il_compile.specs.Meaning.{Memory, mean}
 use Rattle.il_verify.specs.Verdicts.{IsBudget}
 use Rattle.il_scan.specs.Scans.{outputs_of, read_only, scan_start, type_of_point}
 use Rattle.bay_device.specs.Device.{State, device_at, ending_at, inputs_of, after_scan}
-use Rattle.bay_device.specs.Outcomes.{last_moment, outcome}
-use Rattle.bay_device.specs.Steps.{AllSteps}
+use Rattle.bay_device.specs.Outcomes.{last_moment}
+use Rattle.bay_device.specs.Steps.{AllSteps, EachEvent}
 use Rattle.bay_process.specs.Values.{with_outputs}
 use Rattle.bay_device.specs.declared.event.Event.{Event}
 use Rattle.bay_device.specs.declared.event.Event.TheVariants.{Open, Recv, Close, Contact, Input, Measure, Scan}
@@ -46,12 +46,7 @@ is_refused now s = nat_lt last_moment now || nat_lt now s.moment
 
 -- Each scan of a list of events that its moment does not refuse halts so.
 abbrev pub AllHalt : List (Option ℕ) → List (ℕ × Event) → State → Type 0
-AllHalt choices [] s = Unit {0}
-AllHalt [] (e ∷ es) s =
-    (is_refused e.0 s ≡ false → HaltsAt e.0 e.1 s) × AllHalt [] es (outcome None e.0 e.1 s).after
-AllHalt (choice ∷ choices) (e ∷ es) s =
-    (is_refused e.0 s ≡ false → HaltsAt e.0 e.1 s)
-    × AllHalt choices es (outcome choice e.0 e.1 s).after
+AllHalt = EachEvent (λ now event s answer. is_refused now s ≡ false → HaltsAt now event s)
 
 -- A list of events is answered so, leaves this, and each of its scans halts so.
 pub record Halting (events : List (ℕ × Event)) (old : State)
@@ -98,10 +93,7 @@ MeansAt c now (Measure k field value) s = Unit {0}
 
 -- Each scan of a list of events does so.
 abbrev pub AllMean : Checked → List (Option ℕ) → List (ℕ × Event) → State → Type 0
-AllMean c choices [] s = Unit {0}
-AllMean c [] (e ∷ es) s = MeansAt c e.0 e.1 s × AllMean c [] es (outcome None e.0 e.1 s).after
-AllMean c (choice ∷ choices) (e ∷ es) s =
-    MeansAt c e.0 e.1 s × AllMean c choices es (outcome choice e.0 e.1 s).after
+AllMean c = EachEvent (λ now event s answer. MeansAt c now event s)
 
 -- ---- which device runs a text
 

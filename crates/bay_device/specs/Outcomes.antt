@@ -1,5 +1,5 @@
 -- What an event makes of a device, and what it is answered: the device's step.
-use Rattle.std.specs.Prelude.{ℕ, ℤ, ◌-◌, ◌==◌, ◌&&◌, nat_lt, Bool, List, [], ◌∷◌, slice_get, slice_set, unwrap_or, Option, None, Some, Result, Ok, Err, if◌then◌else◌}
+use Rattle.std.specs.Prelude.{ℕ, ℤ, ◌-◌, ◌==◌, ◌&&◌, nat_lt, Bool, List, [], ◌∷◌, drop, get_or, slice_get, slice_set, unwrap_or, Option, None, Some, Result, Ok, Err, if◌then◌else◌}
 use Rattle.bay_tree.specs.declared.leaf.Dbpos.{Dbpos}
 use Rattle.bay_nodes.specs.declared.switch.Switch.{Switch}
 use Rattle.bay_config.specs.declared.bay.MeterField.{MeterField}
@@ -201,8 +201,6 @@ with_first answer rest = record { answers = answer ∷ rest.answers; after = res
 -- one event after the other
 abbrev pub outcomes : List (Option ℕ) → List (ℕ × Event) → State → Outcomes
 outcomes choices [] s = record { answers = []; after = s }
-outcomes [] (e ∷ es) s =
-    with_first (outcome None e.0 e.1 s).answer (outcomes [] es (outcome None e.0 e.1 s).after)
-outcomes (choice ∷ choices) (e ∷ es) s =
-    with_first (outcome choice e.0 e.1 s).answer
-    (outcomes choices es (outcome choice e.0 e.1 s).after)
+outcomes choices (e ∷ es) s =
+    let o = outcome (get_or choices 0 None) e.0 e.1 s in
+    with_first o.answer (outcomes (drop 1 choices) es o.after)

@@ -1,5 +1,5 @@
 -- What a step and a run come to: there are choices with which they are the outcome.
-use Rattle.std.specs.Prelude.{ℕ, ◌≡◌, List, [], length, Option, Some, None, Result, Ok, Err}
+use Rattle.std.specs.Prelude.{ℕ, ◌≡◌, List, [], ◌∷◌, drop, get_or, length, Option, Some, None, Result, Ok, Err}
 use Rattle.bay_connection.specs.Talk.{Talk, indications, left_by}
 use Rattle.bay_device.specs.Device.{State}
 use Rattle.bay_device.specs.Hearing.{after_indications}
@@ -66,6 +66,15 @@ IsWithoutOctets (Contact k position) = Unit {0}
 IsWithoutOctets (Input k value) = Unit {0}
 IsWithoutOctets (Measure k field value) = Unit {0}
 IsWithoutOctets Scan = Unit {0}
+
+-- This is so of each event of a list, one after the other with a choice for each: of its moment, of
+-- it, of the device before it and of its answer.
+abbrev pub EachEvent : (ℕ → Event → State → Result Step StepFault → Type 0) → List (Option ℕ)
+    → List (ℕ × Event) → State → Type 0
+EachEvent P choices [] s = Unit {0}
+EachEvent P choices (e ∷ es) s =
+    let o = outcome (get_or choices 0 None) e.0 e.1 s in
+    P e.0 e.1 s o.answer × EachEvent P (drop 1 choices) es o.after
 
 -- A list of events is answered so, and leaves this: there are choices, one for each event, with
 -- which that is their outcome.

@@ -11,12 +11,12 @@ use Rattle.bay_device.specs.declared.event.Step.{Step}
 use Rattle.bay_device.specs.declared.fault.StepFault.{StepFault}
 use Rattle.bay_device.specs.declared.event.Event.{Event}
 use Rattle.bay_device.specs.declared.event.Event.TheVariants.{Open}
-use Rattle.bay_device.proofs.CommandLemmas.{all-commanded, all-single, all-timed}
+use Rattle.bay_device.proofs.CommandLemmas.{all-commanded, all-single, step-timed}
 use Rattle.bay_device.proofs.EntryLemmas.{all-are-backed}
 use Rattle.bay_device.proofs.FreshLemmas.{all-fresh}
-use Rattle.bay_device.proofs.MeaningLemmas.{all-mean, all-run}
+use Rattle.bay_device.proofs.MeaningLemmas.{all-mean, runs-still}
 use Rattle.bay_device.proofs.OperateLemmas.{all-operate-idle}
-use Rattle.bay_device.proofs.RunLemmas.{leads-none, leads-step, runs-all}
+use Rattle.bay_device.proofs.RunLemmas.{kept-all, leads-none, leads-step, runs-all}
 use Rattle.bay_device.proofs.ToldLemmas.{told-backed}
 use Rattle.bay_device.proofs.device.Device.run.Goals as goal
 
@@ -80,7 +80,8 @@ pub returns-clause-runs : goal.returns-clause-runs
 returns-clause-runs c program runs =
     let done = returns-clause-ok c in
     subst (Runs program) (sym done.steps.left)
-    (all-run program done.steps.choices c.args.events.now c.args.self.now runs)
+    (kept-all (Runs program) (λ choice now event s r. runs-still program s r now choice event)
+    done.steps.choices c.args.events.now c.args.self.now runs)
 
 pub returns-clause-commanded : goal.returns-clause-commanded
 returns-clause-commanded c choices = all-commanded choices c.args.events.now c.args.self.now
@@ -96,8 +97,9 @@ returns-clause-single c timed =
 pub returns-clause-timed : goal.returns-clause-timed
 returns-clause-timed c timed =
     let done = returns-clause-ok c in
-    subst (λ (s : State). AreTimed s.controls.controls) (sym done.steps.left)
-    (all-timed done.steps.choices c.args.events.now c.args.self.now timed)
+    let IsSo = λ (s : State). AreTimed s.controls.controls in
+    subst IsSo (sym done.steps.left)
+    (kept-all IsSo step-timed done.steps.choices c.args.events.now c.args.self.now timed)
 
 pub returns-clause-backed : goal.returns-clause-backed
 returns-clause-backed c none choices =
