@@ -6,8 +6,8 @@
 // ASK VIEW` and `MS cancel A K`, whose answer is `ok` or the number of the cause; `MS advance`,
 // whose answer is the place of the switch whose execution ran out, or `none`; `contact K POSITION`,
 // whether it ends the execution; `close A`, which ends the association's selection; `selected`, the
-// place of the selected switch, or `none`; `keep`, which takes what stands, and `restore`, which
-// puts it back.
+// place of the selected switch, or `none`; `keep`, which keeps a copy of the controls, and
+// `restore`, which goes on with it.
 //
 // An ASK is `POSITION,CATEGORY/IDENTITY` with `on` or `off` and the identity's octets, and `,test`
 // for a test. A VIEW is the position, `fresh` or `stale`, and EnaOpn and EnaCls, as `01`.
@@ -18,7 +18,6 @@ use bay_config::read::read_bay;
 use bay_control::cause::AddCause;
 use bay_control::controls::Controls;
 use bay_control::request::{Ask, Origin, View};
-use bay_control::selection::Ongoing;
 use cases::octets::octets_of;
 use cases::told::check_text;
 use cases::words::{first_word, words_of};
@@ -119,12 +118,12 @@ fn controls_of(alloc: Global, controls: &str) -> Result<Controls> {
     Ok(Controls::new(&bay))
 }
 
-/// The controls of a bay, and their kept state.
+/// The controls of a bay, and a copy of them that was kept.
 #[derive(Drop)]
 pub struct ControlSession {
     alloc: Global,
     controls: Controls,
-    kept: Option<Ongoing>,
+    kept: Option<Controls>,
 }
 
 impl ControlSession {
@@ -179,8 +178,7 @@ impl ControlSession {
 
     /// Answers `restore`.
     fn restore(&mut self) -> Result<()> {
-        let kept = self.kept.take().context("nothing was taken")?;
-        self.controls.restore(kept);
+        self.controls = self.kept.take().context("nothing was kept")?;
         Ok(())
     }
 
@@ -189,7 +187,7 @@ impl ControlSession {
         match words {
             ["selected"] => return Ok(place_text(self.alloc, self.controls.selected())?),
             ["contact", switch, position] => return self.contact(switch, position),
-            ["keep"] => self.kept = Some(self.controls.standing()),
+            ["keep"] => self.kept = Some(self.controls.duplicate()),
             ["restore"] => self.restore()?,
             ["close", association] => self.controls.drop_owner(association.parse::<u16>()?),
             [moment, rest @ ..] => return self.timed(moment, rest),

@@ -8,6 +8,7 @@ use bay_mms::control::{Operate, Origin};
 use bay_mms::report::{ControlError, write_failed_termination, write_failure, write_termination};
 use bay_mms::response::{Agreed, ErrorClass, RejectReason, Response, Service, write_response};
 use bay_mms::results::{ReadResponse, WriteResponse};
+use bay_mms::seen::Seen;
 use bay_tree::tree::Tree;
 use cases::octets::octets_of;
 use cases::words::{first_word, truth_of, words_of};
@@ -25,11 +26,22 @@ fn names_of(alloc: Global, words: &[&str]) -> Result<Vec<Text>> {
     Ok(names)
 }
 
+/// Appends the value of a variable, with TRUE at the marked row if there is one: `NAME`, or
+/// `NAME@MARK`.
+fn add_value(response: &mut ReadResponse, tree: &Tree, word: &str) -> Result<()> {
+    let (name, marked) = match word.split_once("@") {
+        Some((name, mark)) => (name, Some(tree.find(mark)?)),
+        None => (word, None),
+    };
+    response.value(&Seen::new(tree, marked), tree.find(name)?)?;
+    Ok(())
+}
+
 /// Appends the result of reading a variable: `value:` and its name, `text:` and a text instead of
 /// it, or `failure:` and a number.
 fn add_read(response: &mut ReadResponse, tree: &Tree, word: &str) -> Result<()> {
     match word.split_once(":") {
-        Some(("value", name)) => response.value(tree, tree.find(name)?)?,
+        Some(("value", value)) => add_value(response, tree, value)?,
         Some(("text", text)) => response.text(text)?,
         Some(("failure", number)) => response.failure(number.parse::<u8>()?)?,
         _ => bail!("what is read: {word}"),
