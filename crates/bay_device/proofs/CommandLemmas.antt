@@ -1,15 +1,12 @@
 -- Each command of a step is released, and there is one at most.
 use Rattle.std.proofs.Common.{◌≡◌, ◌≢◌, ◌≤◌, ℕ, zero, suc, Bool, true, false, not, ◌&&◌, cond, nat_lt, List, [], ◌∷◌, ◌++◌, drop, get_or, map, slice_get, Option, Some, None, Result, IfOk, refl, ap, sym, ◌∙◌, arith}
 use Rattle.std.specs.List.{AllByRecursion}
-use Rattle.bay_tree.specs.Rows.{leaf_of}
 use Rattle.bay_tree.specs.declared.leaf.Dbpos.{Dbpos}
 use Rattle.bay_nodes.specs.declared.switch.Switch.{Switch}
 use Rattle.bay_config.specs.declared.bay.MeterField.{MeterField}
-use Rattle.bay_process.specs.Values.{is_truth}
 use Rattle.bay_control.specs.Decisions as control
 use Rattle.bay_connection.specs.Talk.{Indication, answers, tells, releases, ends as ends-heard, fails, Talk, Terms, indications, left_by, sending}
 use Rattle.bay_services.specs.Answers.{pdu_answer}
-use Rattle.bay_services.specs.Bay.{Bay}
 use Rattle.bay_services.specs.Released.{AreTimed, Leaves, releasing}
 use Rattle.bay_services.specs.Released as services
 use Rattle.bay_services.specs.declared.answer.Command.{Command}

@@ -1,23 +1,18 @@
 -- Behind each command is a fresh scan, by what the process told after each event since.
-use Rattle.std.proofs.Common.{◌≡◌, ◌≢◌, ◌≤◌, ◌+◌, ◌-◌, ℕ, ℤ, Bool, true, false, not, ◌||◌, cond, nat_lt, List, [], ◌∷◌, ◌++◌, All, codes, drop, get_or, length, map, slice_get, slice_set, unwrap_or, Option, None, Some, Result, Ok, Err, IfOk, IsOk, refl, ap, ap₂, sym, ◌∙◌, subst, arith}
+use Rattle.std.proofs.Common.{◌≡◌, ◌≢◌, ◌≤◌, ◌+◌, ◌-◌, ℕ, ℤ, Bool, true, false, not, ◌||◌, cond, nat_lt, List, [], ◌∷◌, ◌++◌, All, drop, get_or, map, slice_get, slice_set, unwrap_or, Option, None, Some, Result, Ok, Err, IfOk, IsOk, refl, ap, ap₂, sym, ◌∙◌, subst, arith}
 use Rattle.std.specs.Bool.{beq}
 use Rattle.std.specs.List.{AllByRecursion}
 use Rattle.std.proofs.lemmas.Bool.{and_parts, leb-true}
 use Rattle.bay_config.specs.declared.bay.MeterField.{MeterField}
-use Rattle.bay_config.specs.declared.bay.MeterField.TheVariants.{TotW, TotVAr, Hz, PhaseA, PhaseB, PhaseC}
 use Rattle.bay_config.specs.declared.bay.Source.{Source}
 use Rattle.bay_config.specs.declared.bay.Source.TheVariants as source
 use Rattle.bay_connection.specs.Talk.{Indication, Talk, indications, left_by}
-use Rattle.bay_control.specs.Decisions as control
-use Rattle.bay_control.specs.Decisions.{without_association, selected_switch}
 use Rattle.il_compile.proofs.Memories.{set-same}
 use Rattle.il_image.specs.declared.value.Value.{Value}
 use Rattle.il_image.specs.declared.value.Value.TheVariants.{Long, Truth}
 use Rattle.bay_nodes.specs.Names.{switch_names, meter_names}
-use Rattle.bay_nodes.specs.Node.{class_of, node_name, node_number}
+use Rattle.bay_nodes.specs.Node.{node_number}
 use Rattle.bay_nodes.specs.declared.switch.Switch.{Switch}
-use Rattle.bay_nodes.specs.declared.switch.SwitchKind.{SwitchKind}
-use Rattle.bay_nodes.specs.declared.switch.SwitchKind.TheVariants.{Breaker, Disconnector, Earthing}
 use Rattle.bay_process.specs.Names.{field_names}
 use Rattle.bay_process.specs.Values.{measure_leaf, number_of_leaf, position_leaf, position_value, rows_after_change, rows_after_contact, rows_after_measure, tells, tells_measure, with_status}
 use Rattle.bay_services.specs.declared.answer.Command.{Command}
@@ -26,10 +21,9 @@ use Rattle.bay_tree.specs.Rows.{leaf_of}
 use Rattle.bay_tree.specs.declared.leaf.Dbpos.{Dbpos}
 use Rattle.bay_tree.specs.declared.leaf.Leaf.TheVariants as leaf
 use Rattle.bay_tree.specs.declared.leaf.Quality.TheVariants.{Good}
-use Rattle.bay_tree.specs.declared.row.Row.{Row}
 use Rattle.bay_device.specs.Commands.{AreCommanded, IsReleasedAt}
 use Rattle.bay_device.specs.Device.{State, device_at, contact_taken, input_taken, inputs_of, is_fresh, is_recent, measure_taken, point_value, after_scan}
-use Rattle.bay_device.specs.Fresh.{AllFresh, Came, HasScan, IsFresh, IsSameProcess, IsSameStatus, Past, with_event}
+use Rattle.bay_device.specs.Fresh.{AllFresh, Came, HasScan, IsFresh, IsSameProcess, Past, with_event}
 use Rattle.bay_device.specs.Hearing.{Done, AllHeard, after_indications}
 use Rattle.bay_device.specs.Outcomes.{Outcome, close_outcome, without_connection, connection_at, contact_outcome, event_outcome, first_talk, input_outcome, last_moment, measure_outcome, nothing_done, octets_outcome, open_outcome, outcome, place_of, recv_after, recv_outcome, refusal_of, with_connection, without_owner}
 use Rattle.bay_device.specs.declared.event.Event.{Event}

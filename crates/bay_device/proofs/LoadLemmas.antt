@@ -1,9 +1,6 @@
 -- What load makes of a bay and a verified image.
-use Rattle.std.proofs.Common.{◌≡◌, ◌≢◌, ℕ, Bool, true, false, cond, nat_le, Result, Ok, Err, List, length, None, refl, subst, ap, sym, ◌∙◌}
+use Rattle.std.proofs.Common.{◌≡◌, ◌≢◌, ℕ, Bool, true, false, cond, nat_le, Result, Ok, Err, List, length, refl, subst, ap, sym, ◌∙◌}
 use Rattle.std.proofs.lemmas.List.{length-map}
-use Rattle.bay_control.specs.Decisions as control
-use Rattle.bay_control.specs.Decisions.{initial}
-use Rattle.bay_control.specs.declared.control.SwitchControl.{SwitchControl}
 use Rattle.bay_process.specs.Layout.{AreBound, Layout, bound_from, switches_of}
 use Rattle.bay_process.specs.Nodes.{AreAllNodes}
 use Rattle.bay_process.specs.Parts.{AreBoundSwitches}
@@ -14,7 +11,6 @@ use Rattle.bay_services.specs.Bay as services
 use Rattle.bay_config.specs.declared.bay.Bay.{Bay}
 use Rattle.bay_config.specs.declared.bay.Source.{Source}
 use Rattle.bay_nodes.specs.declared.switch.Switch.{Switch}
-use Rattle.bay_tree.specs.declared.row.Row.{Row}
 use Rattle.il_image.specs.Images.{Image}
 use Rattle.il_check.specs.Program.{Checked}
 use Rattle.il_compile.specs.Compiled.{compiled_of, image_of, image_size}

@@ -6,7 +6,7 @@ use Rattle.bay_connection.specs.Talk.{Terms, sending}
 use Rattle.bay_services.specs.Answers.{Answered}
 use Rattle.bay_services.specs.Bay.{Bay}
 use Rattle.bay_services.specs.declared.answer.Command.{Command}
-use Rattle.bay_device.specs.Device.{State, bay_of, with_bay}
+use Rattle.bay_device.specs.Device.{State, with_bay}
 use Rattle.bay_device.specs.Hearing.{Done, answered_with, due_if, later_due, sent_on, size_of}
 use Rattle.bay_device.specs.declared.due.Due.{Due}
 use Rattle.bay_device.specs.declared.event.Sent.{Sent}

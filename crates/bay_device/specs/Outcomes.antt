@@ -7,7 +7,7 @@ use Rattle.bay_transport.specs.Doings.{start}
 use Rattle.bay_assoc.specs.declared.hearing.Phase.TheVariants.{Idle}
 use Rattle.bay_control.specs.Decisions.{without_association}
 use Rattle.bay_connection.specs.Talk.{Talk, indications, left_by}
-use Rattle.bay_device.specs.Device.{State, device_at, bay_of, contact_taken, ended_at, input_taken, measure_taken, ran_at, reached_at, after_scan, with_bay}
+use Rattle.bay_device.specs.Device.{State, device_at, contact_taken, ended_at, input_taken, measure_taken, ran_at, reached_at, after_scan}
 use Rattle.bay_device.specs.Hearing.{Done, AllHeard, after_indications}
 use Rattle.bay_device.specs.declared.due.Due.{Due}
 use Rattle.bay_device.specs.declared.event.Event.{Event}

@@ -31,7 +31,7 @@ use Rattle.bay_services.specs.Answers.{Answered, answer_of, pdu_answer, attribut
 use Rattle.bay_services.specs.Bay.{Bay, with_controls}
 use Rattle.bay_services.specs.Controls.{ask_of, has_reports, object_of, refusal_report, refusal_reports, view_of}
 use Rattle.bay_services.specs.Entries.{entries_in, message_entries, read_entries, service_entries, target_at, write_entries}
-use Rattle.bay_services.specs.Reads.{Reading, nothing_read, read_all, read_one}
+use Rattle.bay_services.specs.Reads.{Reading, nothing_read, read_all}
 use Rattle.bay_services.specs.Replies.{fitting}
 use Rattle.bay_services.specs.Rows.{row_named}
 use Rattle.bay_services.specs.Writes.{Writing, cancel_asked, after_decision, nothing_written, operate_asked, select_with_asked, write_all, write_one, write_part, write_row, write_target}

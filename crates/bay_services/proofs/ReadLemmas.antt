@@ -6,11 +6,8 @@ use Rattle.bay_control.specs.declared.cause.AddCause.{AddCause}
 use Rattle.bay_control.specs.Decisions.{Outcome, State}
 use Rattle.bay_services.specs.Bay.{Bay}
 use Rattle.bay_services.specs.Controls.{object_of}
-use Rattle.bay_mms.specs.Data.{datum_text}
-use Rattle.bay_mms.specs.Nodes.{data_at}
 use Rattle.bay_mms.specs.RequestViews.{naming}
 use Rattle.bay_mms.specs.Requests.{Naming}
-use Rattle.bay_mms.specs.Responses.{failure_result}
 use Rattle.bay_mms.specs.declared.request.ObjectName.{ObjectName}
 use Rattle.bay_tree.specs.Rows.{name_at}
 use Rattle.bay_services.specs.Reads.{Reading, read_all, read_one, read_part, read_row, read_target, select_done, selected_text}

@@ -1,15 +1,10 @@
 -- Each command is released, and there is one at most; no client changes what releases it.
-use Rattle.std.proofs.Common.{◌≡◌, ◌≢◌, ◌≤◌, ℕ, zero, suc, ◌+◌, Bool, true, false, not, cond, nat_eq, nat_le, List, [], ◌∷◌, ◌++◌, All, codes, get_or, length, Option, Some, None, Result, Ok, Err, is_ok, refl, ap, sym, subst, ◌∙◌, append-nil, arith}
+use Rattle.std.proofs.Common.{◌≡◌, ◌≢◌, ◌≤◌, ℕ, zero, suc, ◌+◌, Bool, true, false, not, cond, nat_eq, nat_le, List, [], ◌∷◌, ◌++◌, All, length, Option, Some, None, Result, Ok, Err, is_ok, refl, ap, sym, subst, ◌∙◌, append-nil, arith}
 use Rattle.std.specs.List.{AllByRecursion}
 use Rattle.std.proofs.lemmas.Bool.Decides.{nat_tests}
 use Rattle.bay_tree.specs.Rows.{leaf_of, name_at}
-use Rattle.bay_tree.specs.declared.leaf.Leaf.TheVariants as leaf
-use Rattle.bay_tree.specs.declared.row.Row.{Row}
-use Rattle.bay_nodes.specs.Names.{control_names, interlocking_of}
-use Rattle.bay_nodes.specs.Node.{node_name}
 use Rattle.bay_process.specs.Values.{is_truth}
-use Rattle.bay_process.proofs.ToldLemmas.{IsAway, leaf-other}
-use Rattle.bay_control.specs.Decisions.{Outcome, State, controls_at, answer_of, cancel_outcome, execution_at, is_executing, is_over_at, operate_outcome, other_is_executing, rows_of_operate, select_outcome, select_with_outcome, selected_switch}
+use Rattle.bay_control.specs.Decisions.{Outcome, State, controls_at, answer_of, cancel_outcome, execution_at, is_executing, is_over_at, operate_outcome, other_is_executing, rows_of_operate, select_with_outcome}
 use Rattle.bay_control.specs.Decisions.{Row as DecisionRow}
 use Rattle.bay_control.specs.Requests.{control_of, is_controlled, is_released}
 use Rattle.bay_control.specs.declared.cause.AddCause.{AddCause}

@@ -1,5 +1,5 @@
 -- A tree that shows no selection, and how clients see it.
-use Rattle.std.proofs.Common.{◌≡◌, ◌≢◌, ℕ, zero, suc, ◌+◌, ◌<◌, ◌≤◌, ◌⊎◌, inl, inr, ◌^◌, ◌==◌, add-one, Bool, true, false, cond, nat_eq, List, [], ◌∷◌, ◌++◌, codes, length, map, option_map, slice_get, Option, Some, None, refl, ap, sym, subst, ◌∙◌, arith}
+use Rattle.std.proofs.Common.{◌≡◌, ◌≢◌, ℕ, zero, suc, ◌+◌, ◌<◌, ◌≤◌, inl, inr, ◌^◌, ◌==◌, add-one, Bool, true, false, cond, nat_eq, List, [], ◌∷◌, codes, length, option_map, slice_get, Option, Some, None, refl, ap, sym, subst, ◌∙◌, arith}
 use Rattle.std.specs.Fmt.{decimal}
 use Rattle.std.specs.Str.{bytes_eq}
 use Rattle.std.proofs.lemmas.Bool.{cases_lt}
@@ -11,7 +11,8 @@ use Rattle.std.proofs.lemmas.Slice.Eq.{bytes_eq-Decides}
 use Rattle.bay_tree.proofs.NamedLemmas.{same-text, with_leaf-named}
 use Rattle.bay_tree.proofs.SearchLemmas.{place_of-found}
 use Rattle.bay_nodes.specs.Names.{control_names}
-use Rattle.bay_tree.specs.Rows.{IsTree, with_leaf_of}
+use Rattle.bay_tree.specs.Rows.{IsTree, leaf_of, with_leaf_of}
+use Rattle.bay_process.proofs.ToldLemmas.{leaf-other, leaf-own}
 use Rattle.bay_tree.specs.declared.leaf.LeafType.{LeafType}
 use Rattle.bay_tree.specs.declared.leaf.Leaf.{Leaf}
 use Rattle.bay_tree.specs.declared.leaf.Leaf.TheVariants as leaf
@@ -155,6 +156,52 @@ seen-one k (suc n) rows few low none =
           (unmarked (Some k) n rows (λ j less. other k j (λ e. omega (arith, e, less, more))) rest)
           ∙ rw same (ap (λ (b : Bool). with_leaf_of name (leaf.Truth b) rows) (itself n))
     ]
+
+-- ---- what they read
+
+apart : (j k : ℕ) → j + 1 < 2 ^ 64 → k + 1 < 2 ^ 64 → j ≢ k
+    → (control_names j).selected ≢ (control_names k).selected
+apart j k a b differ same = names-differ j k a b differ
+    ((bytes_eq-Decides ((control_names j).selected) ((control_names k).selected)).1 same)
+
+-- stSeld of a switch before it is written
+unwritten : (o : Option ℕ) (k n : ℕ) (rows : List Row) → n ≤ k → k + 1 < 2 ^ 64
+    → leaf_of ((control_names k).selected) (rows_shown o n rows)
+    ≡ leaf_of ((control_names k).selected) rows
+unwritten o k zero rows low few = refl
+unwritten o k (suc n) rows low few =
+    leaf-other (rows_shown o n rows) ((control_names k).selected) ((control_names n).selected) _
+    (apart k n few (omega (arith, low, few)) (λ e. omega (arith, e, low)))
+    ∙ unwritten o k n rows (omega (arith, low)) few
+
+pub shown-own : (o : Option ℕ) (k count : ℕ) (rows : List Row) → k < count → count < 2 ^ 64
+    → leaf_of ((control_names k).selected) rows ≢ None
+    → leaf_of ((control_names k).selected) (rows_shown o count rows)
+    ≡ Some (leaf.Truth (is_selected k o))
+shown-own o k zero rows low few there = absurd (omega (arith, low))
+shown-own o k (suc n) rows low few there =
+    elim (cases_lt k n) [
+      | inl less ↦
+          leaf-other (rows_shown o n rows) ((control_names k).selected)
+          ((control_names n).selected) _
+          (apart k n (omega (arith, few, less)) (omega (arith, few)) (λ e. omega (arith, e, less)))
+          ∙ shown-own o k n rows less (omega (arith, few)) there
+      | inr more ↦
+          let same : n ≡ k = omega (arith, low, more) in
+          rw same (leaf-own (rows_shown o k rows) ((control_names k).selected)
+          (leaf.Truth (is_selected k o))
+          (λ none. there (sym (unwritten o k k rows (omega arith) (omega (arith, few, same))) ∙ none)))
+    ]
+
+pub shown-others : (o : Option ℕ) (count : ℕ) (rows : List Row) (name : List ℕ)
+    → ((k : ℕ) → name ≢ (control_names k).selected)
+    → leaf_of name (rows_shown o count rows) ≡ leaf_of name rows
+shown-others o zero rows name other = refl
+shown-others o (suc n) rows name other =
+    leaf-other (rows_shown o n rows) name ((control_names n).selected) _ (other n)
+    ∙ shown-others o n rows name other
+
+-- ---- what the code shows them
 
 pub seen-past : (k count : ℕ) (rows : List Row) → count ≤ k → ShowNone count rows
     → rows_shown (Some k) count rows ≡ rows

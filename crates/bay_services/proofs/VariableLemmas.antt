@@ -1,5 +1,5 @@
 -- What the result of a variable that is read or written tells is what was accepted of it.
-use Rattle.std.proofs.Common.{◌≡◌, ◌<◌, ◌≤◌, ℕ, zero, suc, Bool, true, false, cond, List, [], ◌∷◌, ◌++◌, length, codes, Option, Some, None, Result, Ok, Err, refl, ap, ap₂, sym, ◌∙◌, arith, append-nil, append_assoc, length-append}
+use Rattle.std.proofs.Common.{◌≡◌, ◌<◌, ◌≤◌, ℕ, Bool, true, cond, List, [], ◌∷◌, ◌++◌, length, codes, Option, Some, None, Result, Ok, Err, refl, ap, ap₂, sym, ◌∙◌, arith, append-nil, append_assoc, length-append}
 use Rattle.std.specs.Prelude.{pos, is_ok}
 use Rattle.std.specs.Str.{bytes_eq}
 use Rattle.bay_ber.specs.Spelling.{Spells}
@@ -8,19 +8,18 @@ use Rattle.bay_ber.specs.Writing.{element, integer_octets, length_octets}
 use Rattle.bay_ber.specs.declared.tag.Tag.{Tag}
 use Rattle.bay_ber.proofs.WriteLemmas.{element-spells}
 use Rattle.bay_nodes.specs.declared.switch.Switch.{Switch}
-use Rattle.bay_tree.specs.Rows.{name_at, names_of, place_of, with_leaf_of}
+use Rattle.bay_tree.specs.Rows.{name_at, place_of}
 use Rattle.bay_tree.specs.declared.leaf.Leaf.{Leaf}
 use Rattle.bay_tree.specs.declared.leaf.Leaf.TheVariants as leaf
 use Rattle.bay_tree.specs.declared.row.Row.{Row}
 use Rattle.bay_tree.proofs.ArenaLemmas.{name_at-same, place_of-same}
 use Rattle.bay_control.specs.Acts as act
 use Rattle.bay_control.specs.Acts.{Act, Entry}
-use Rattle.bay_control.specs.Decisions.{Outcome, State, cancel_outcome, operate_outcome, select_outcome, select_with_outcome, selected_switch}
+use Rattle.bay_control.specs.Decisions.{Outcome, select_outcome}
 use Rattle.bay_control.specs.Happenings as call
 use Rattle.bay_control.specs.Happenings.{Call, act_of, entries_of, outcome_of}
 use Rattle.bay_control.specs.Requests.{asked_choice}
 use Rattle.bay_control.specs.declared.cause.AddCause.{AddCause}
-use Rattle.bay_nodes.specs.Names.{control_names}
 use Rattle.bay_mms.specs.Code.{control_code_of}
 use Rattle.bay_mms.specs.Controls as asked
 use Rattle.bay_mms.specs.Controls.{Control, operate_in, cancel_in}

@@ -1,5 +1,5 @@
 -- What writes come to.
-use Rattle.std.proofs.Common.{◌≡◌, ℕ, List, [], ◌∷◌, ◌++◌, Option, Result, Ok, Err, ◌⊎◌, inl, inr, refl, ap, sym, ◌∙◌}
+use Rattle.std.proofs.Common.{◌≡◌, ℕ, List, [], ◌∷◌, ◌++◌, Option, Result, Ok, Err, ◌⊎◌, inl, inr, refl}
 use Rattle.std.proofs.lemmas.List.{append-nil}
 use Rattle.bay_control.specs.Decisions.{Outcome, State}
 use Rattle.bay_control.specs.declared.cause.AddCause.{AddCause}

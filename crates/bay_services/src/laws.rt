@@ -1,17 +1,19 @@
 // Laws of what clients see of a bay. Each function does nothing, and its contract is the law.
-ghost use Rattle.std.specs.Prelude.{◌≡◌, ◌≤◌, ◌++◌, ℕ, All, Bool, List, false, length, true};
+ghost use Rattle.std.specs.Prelude.{◌≡◌, ◌≢◌, ◌≤◌, ◌<◌, ◌++◌, ℕ, All, Bool, List, None, Some, false, length, true};
 ghost use Rattle.std.specs.Str.{bytes_eq};
+ghost use Rattle.bay_control.specs.Decisions.{State, selected_switch};
 ghost use Rattle.bay_control.specs.Happenings.{Leads};
 ghost use Rattle.bay_mms.specs.Grammar.{answer_to};
 ghost use Rattle.bay_nodes.specs.Names.{control_names};
 ghost use Rattle.bay_services.specs.Accepted.{AreNamedAlike, accepted_in, first_response, may_be_reported};
 ghost use Rattle.bay_services.specs.Answers.{pdu_answer};
-ghost use Rattle.bay_services.specs.Bay.{Bay, ShowNone};
+ghost use Rattle.bay_services.specs.Bay.{Bay, ShowNone, is_selected, seen_rows};
 ghost use Rattle.bay_services.specs.Entries.{entries_in, operates_in};
 ghost use Rattle.bay_services.specs.Released.{AreTimed, IsReleased, Leaves};
 ghost use Rattle.bay_services.specs.declared.client.Client.{Client};
-ghost use Rattle.bay_tree.specs.Rows.{with_leaf_of};
+ghost use Rattle.bay_tree.specs.Rows.{leaf_of, with_leaf_of};
 ghost use Rattle.bay_tree.specs.declared.leaf.Leaf.{Leaf};
+ghost use Rattle.bay_tree.specs.declared.leaf.Leaf.TheVariants.{Truth};
 ghost use Rattle.bay_tree.specs.declared.row.Row.{Row};
 
 /// The tree still shows no switch as selected after a write to any row that tells of no selection.
@@ -21,11 +23,23 @@ pub fn a_tree_shows_no_selection()
         → ShowNone count rows → ShowNone count (with_leaf_of name value rows) }
 {}
 
+/// Clients read TRUE as stSeld of the selected switch and FALSE as that of each other switch (IEC
+/// 61850-7-3), whatever the tree holds there, and every other value as the tree holds it.
+pub fn a_read_shows_the_selection()
+    ensures shown { (b : Bay) (controls : State) (k : ℕ) → k < length b.switches
+        → length b.switches < 18446744073709551616
+        → leaf_of (control_names k).selected b.rows ≢ None
+        → leaf_of (control_names k).selected (seen_rows b controls)
+        ≡ Some (Truth (is_selected k (selected_switch controls.selection))) }
+    ensures others { (b : Bay) (controls : State) (name : List ℕ)
+        → ((k : ℕ) → name ≢ (control_names k).selected)
+        → leaf_of name (seen_rows b controls) ≡ leaf_of name b.rows }
+{}
+
 /// The commands of an answer are exactly those of the operates that it accepts, one for each and in
 /// their order. Each comes while the last scan is fresh, the interlocking releases it and no switch
 /// is operating. There is at most one if each switch takes some time. No client changes a value of
-/// the tree other than which switch is selected, and no client changes an execution that still
-/// lasts.
+/// the tree, and no client changes an execution that still lasts.
 pub fn commands_are_released()
     ensures operated { (c : Client) (pdu : List ℕ) (b : Bay)
         → (pdu_answer c pdu b).commands ≡ operates_in (entries_in c pdu b) }

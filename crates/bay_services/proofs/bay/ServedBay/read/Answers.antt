@@ -1,4 +1,4 @@
-use Rattle.std.proofs.Common.{◌≡◌, [], true, is_ok, map, ap, sym, subst}
+use Rattle.std.proofs.Common.{◌≡◌, true, is_ok, map, ap, sym, subst}
 use Rattle.bay_control.specs.Decisions.{State}
 use Rattle.bay_mms.specs.RequestViews.{naming}
 use Rattle.bay_services.specs.Bay.{with_controls}

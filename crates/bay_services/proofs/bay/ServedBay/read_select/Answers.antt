@@ -1,4 +1,4 @@
-use Rattle.std.proofs.Common.{◌≡◌, Ok, ap, sym, ◌∙◌}
+use Rattle.std.proofs.Common.{◌≡◌, Ok, sym, ◌∙◌}
 use Rattle.bay_services.specs.Controls.{object_of}
 use Rattle.bay_services.specs.Reads.{selected_text}
 use Rattle.bay_services.specs.Views.{bay_view, reading}

@@ -1,4 +1,4 @@
-use Rattle.std.proofs.Common.{◌≡◌, Ok, refl, ap, sym, ◌∙◌}
+use Rattle.std.proofs.Common.{◌≡◌, Ok, ap, sym, ◌∙◌}
 use Rattle.bay_control.specs.Decisions.{operate_outcome}
 use Rattle.bay_control.specs.declared.request.Ask.{Ask}
 use Rattle.bay_mms.specs.ControlViews.{cancelling, operating, result_view}
