@@ -1,7 +1,6 @@
-// What contacts, measures and scans do to a bay that clients see: its rows go on showing which
-// switch is selected.
+// What contacts, measures and scans do to a bay that clients see: its tree goes on showing no switch
+// as selected.
 ghost use Rattle.std.specs.Prelude.{◌≡◌, ◌<◌, Some, length, not, slice_get};
-ghost use Rattle.bay_control.specs.Decisions.{after_contact, is_done};
 ghost use Rattle.bay_nodes.specs.Names.{meter_names, switch_names};
 ghost use Rattle.bay_nodes.specs.declared.switch.Switch.{Switch};
 ghost use Rattle.bay_process.specs.Layout.{layout_of, switches_of, IsMeterBound};
@@ -36,18 +35,6 @@ pub fn contact(bay: &mut ServedBay, now: u64, switch: usize, position: Dbpos) ->
 {
     let rows = bay.switches.as_slice()[switch].rows;
     take_position(&mut bay.tree, &rows, position, now)
-}
-
-/// Tells the controls the position of the switch at an index. Returns whether that ends its
-/// execution.
-pub fn reach(bay: &mut ServedBay, switch: usize, position: Dbpos) -> bool
-    ensures done { result ≡ is_done switch position bay.old.controls.execution }
-    ensures after { bay_view bay.new
-        ≡ record (bay_view bay.old) { controls = after_contact switch position bay.old.controls } }
-    ensures switches { bay.new.switches ≡ bay.old.switches }
-    ensures tree { bay.new.tree ≡ bay.old.tree }
-{
-    bay.controls.contact(switch, position)
 }
 
 /// Takes a measured value of the meter at an index. Returns whether the value or its quality

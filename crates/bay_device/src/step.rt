@@ -110,7 +110,7 @@ impl DeviceState {
     {
         let changed = process::contact(&mut self.bay, now, switch, position);
         self.is_stale |= changed;
-        if process::reach(&mut self.bay, switch, position) {
+        if self.bay.controls.contact(switch, position) {
             reached(&mut self.due)
         } else {
             None
