@@ -56,20 +56,6 @@ agreed-joined Broken phase some = absurd (cc)
 pub sized-joined : (t : Talk) → IsSome (size_agreed t.stream) → IsJoined t
 sized-joined t some = agreed-joined t.stream.left t.phase some
 
-open-agreed : (left : Left) (phase : Phase) → AreJoined left phase
-    → IsSome (association_terms phase) → IsSome (agreed_from left)
-open-agreed (Going connection rest) phases.Idle joined some = absurd (cc)
-open-agreed (Going connection rest) (phases.Open l) joined some = joined
-open-agreed (Going connection rest) phases.Over joined some = absurd (cc)
-open-agreed (Going connection rest) phases.Failed joined some = absurd (cc)
-open-agreed Over phase joined some =
-    absurd (let f : IsSome (association_terms phases.Over) = rw joined at some in cc)
-open-agreed Broken phase joined some = absurd joined
-
-pub joined-agreed : (t : Talk) → IsJoined t → IsSome (association_terms t.phase)
-    → IsSome (size_agreed t.stream)
-joined-agreed t joined some = open-agreed t.stream.left t.phase joined some
-
 going-joined : (old new : Left) (phase : Phase) → AreJoined old phase → IsGoing old → IsGoing new
     → agreed_from new ≡ agreed_from old → AreJoined new phase
 going-joined (Going connection rest) (Going next more) phases.Idle joined a b e = tt
@@ -303,21 +289,6 @@ is-ready t r got.Tsdu piece used joined fed is =
     rw is (tsdu-ready t.stream.number t.stream.left piece used _ fed)
 is-ready t r got.Ended piece used joined fed is = tt
 
-going-from : (left : Left) (s : Stream) (piece : List ℕ) (used : ℕ) (d : Doing)
-    → feeding.FeedsFrom left s piece used (Some d) → (d ≡ Ends → ⊥) → IsGoing left
-going-from (Going connection rest) s piece used d fed not = tt
-going-from Over s piece used d fed not = absurd (not (let f : Some d ≡ Some Ends = fed.1 in cc))
-going-from Broken s piece used d fed not = absurd fed
-
-pub takes-going : (t : Talk) (r : Received) (got : Got) (piece : List ℕ) (used : ℕ)
-    → feeding.Feeds t.stream piece used (doing_for got r) → TakesMemory got → IsGoing t.stream.left
-takes-going t r got.More piece used fed takes = absurd takes
-takes-going t r got.Answer piece used fed takes =
-    going-from t.stream.left t.stream piece used _ fed (λ e. cc)
-takes-going t r got.Tsdu piece used fed takes =
-    going-from t.stream.left t.stream piece used _ fed (λ e. cc)
-takes-going t r got.Ended piece used fed takes = absurd takes
-
 -- ---- a fault of the transport
 
 fault-done : (number : ℕ) (left : Left) (phase : Phase) (piece : List ℕ) (fault : TransportFault)
@@ -367,13 +338,3 @@ fed-fault t piece TsduTooLong code joined refused k =
 fed-fault t piece Failed code joined refused k =
     absurd (joined-sound t.stream.left t.phase joined refused)
 fed-fault t piece OutOfMemory code joined refused k = absurd (cc)
-
-pub fault-memory : (t : Talk) (piece : List ℕ) (fault : TransportFault)
-    → RefusesPiece t.stream piece fault → code_of fault ≡ None
-    → IsGoing t.stream.left × (0 < length piece)
-fault-memory t piece BadTpkt refused k = absurd (cc)
-fault-memory t piece BadCotp refused k = absurd (cc)
-fault-memory t piece ClassRefused refused k = absurd (cc)
-fault-memory t piece TsduTooLong refused k = absurd (cc)
-fault-memory t piece Failed refused k = absurd (cc)
-fault-memory t piece OutOfMemory refused k = refused

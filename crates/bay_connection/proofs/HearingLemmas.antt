@@ -10,12 +10,6 @@ use Rattle.bay_connection.specs.Talk.{answers, tells, releases, ends, fails, tal
 
 -- ---- what is heard
 
-pub hears-answer : (s : Stream) (size : Option ℕ) (phase next : Phase) (tsdu octets frames : List ℕ)
-    → hearing phase tsdu ≡ Ok (answer octets, next) → frames ≡ data_tpdus size octets
-    → talk_after s (Delivers tsdu ∷ []) size phase
-    ≡ record { indications = answers frames ∷ []; left = record { stream = s; phase = next } }
-hears-answer s size phase next tsdu octets frames h f = rw (h, f) refl
-
 pub hears-pdu : (s : Stream) (size : Option ℕ) (phase next : Phase) (tsdu pdu : List ℕ)
     → hearing phase tsdu ≡ Ok (mms pdu, next)
     → talk_after s (Delivers tsdu ∷ []) size phase
@@ -24,25 +18,6 @@ pub hears-pdu : (s : Stream) (size : Option ℕ) (phase next : Phase) (tsdu pdu 
       left = record { stream = s; phase = next };
     }
 hears-pdu s size phase next tsdu pdu h = rw h refl
-
-pub hears-release : (s : Stream) (size : Option ℕ) (phase next : Phase)
-    (tsdu octets frames : List ℕ) → hearing phase tsdu ≡ Ok (released octets, next)
-    → frames ≡ data_tpdus size octets
-    → talk_after s (Delivers tsdu ∷ []) size phase
-    ≡ record { indications = releases frames ∷ []; left = talk_over s }
-hears-release s size phase next tsdu octets frames h f = rw (h, f) refl
-
-pub hears-abort : (s : Stream) (size : Option ℕ) (phase next : Phase) (tsdu : List ℕ)
-    → hearing phase tsdu ≡ Ok (aborted, next)
-    → talk_after s (Delivers tsdu ∷ []) size phase
-    ≡ record { indications = ends ∷ []; left = talk_over s }
-hears-abort s size phase next tsdu h = rw h refl
-
-pub hears-fault : (s : Stream) (size : Option ℕ) (phase : Phase) (tsdu : List ℕ)
-    (fault : AssocFault) (code : ℕ) → hearing phase tsdu ≡ Err fault → code_of fault ≡ Some code
-    → talk_after s (Delivers tsdu ∷ []) size phase
-    ≡ record { indications = fails code ∷ []; left = talk_over s }
-hears-fault s size phase tsdu fault code h k = rw (h, k) refl
 
 -- what stands last, by its length
 pub last-part : (octets front part : List ℕ) → octets ≡ front ++ part

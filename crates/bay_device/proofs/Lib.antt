@@ -15,7 +15,6 @@ pub mod RecvLemmas
 pub mod RunLemmas
 pub mod ScanLemmas
 pub mod SentLemmas
-pub mod StepLemmas
 pub mod TableLemmas
 pub mod TalkLemmas
 pub mod ToldLemmas

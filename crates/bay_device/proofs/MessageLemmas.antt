@@ -75,11 +75,3 @@ pub size-is : (o : Option AssociationTerms) (n : ℕ) → IsSome o
     → IfSome o (λ (l : AssociationTerms). n ≡ l.size) → n ≡ size_of o
 size-is None n some is = absurd (cc)
 size-is (Some l) n some is = is
-
-pub on-err : {T E : Type 0} (r : Result T E) (P Q : Type 0) → (P → Q) → OnErr r P → OnErr r Q
-on-err (Ok x) P Q f h = tt
-on-err (Err e) P Q f h = f h
-
-pub on-ok : {T E : Type 0} (r : Result T E) (P Q : Type 0) → (P → Q) → OnOk r P → OnOk r Q
-on-ok (Ok x) P Q f h = f h
-on-ok (Err e) P Q f h = tt

@@ -100,18 +100,6 @@ received-none now a old talk here =
       left = sym (ap (λ (o : Outcome). o.after) whole);
     }
 
-pub received-refused : (now a : ℕ) (octets : List ℕ) (old : State) (fault : StepFault)
-    → connection_at (place_of a) old ≡ None
-    → Err fault ≡ (recv_outcome None now a octets old None).answer
-    → Receives now a octets old (Err fault) old
-received-refused now a octets old fault none is =
-    let whole = ap (recv_outcome None now a octets old) none in
-    record {
-      choice = None;
-      answered = is ∙ sym (ap (λ (o : Outcome). o.answer) whole);
-      left = sym (ap (λ (o : Outcome). o.after) whole);
-    }
-
 -- an association that is open has a connection
 pub opened : (o : Option Talk) → is_some o ≡ true → (talk : Talk) × (o ≡ Some talk)
 opened (Some talk) is = (talk, refl)

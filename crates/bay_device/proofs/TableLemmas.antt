@@ -137,14 +137,6 @@ Tabled-start names firsts sized all =
       first = λ place name h here. absurd (omega arith);
     }
 
-pub Tabled-all : (names : List (List ℕ)) (firsts : List ℕ) → Tabled names (length names) firsts
-    → IsTable names firsts
-Tabled-all names firsts t =
-    record {
-      within = t.within;
-      first = λ place name here. t.first place name (slice_get_within names place name here) here;
-    }
-
 -- ---- a search
 
 module _ {X : Type 0} (p : X → Bool) where

@@ -20,10 +20,6 @@ use Rattle.bay_mms.specs.declared.fault.Refusal.TheVariants.{Bad, Unknown, Many,
 
 -- ---- one thing after another
 
-pub right-is : {A E : Type 0} (x y : A) → let a : Result A E = Ok x in let b : Result A E =
-    Ok y in a ≡ b → x ≡ y
-right-is x y e = cc
-
 -- an answer that is not for bad spelling
 abbrev pub IsFair : {A : Type 0} → Result A Refusal → Type 0
 IsFair r = r ≡ Err Bad → ⊥

@@ -12,7 +12,7 @@ use Rattle.bay_tree.specs.declared.leaf.Dbpos.{Dbpos}
 use Rattle.bay_tree.specs.declared.leaf.Dbpos.TheVariants.{Intermediate, Off, On, Bad}
 use Rattle.bay_mms.specs.Data.{Datum, Data, structure, truth, bits, integer, unsigned, octets, text, utc, other, no_data, datum, datum_text, position_octet}
 use Rattle.bay_mms.specs.Views.{data_before}
-use Rattle.bay_mms.specs.Controls.{Origin, Control, Operate, origin_datum, control_before, operate_datum, cancel_datum, AreChecks, IsOperate, truth_as, integer_as, unsigned_as, octets_as, moment_as, position_by, first_position, check_as, list_of, parts_as, origin_of, origin_as, control_of, cancel_of, operate_of, cancel_as, operate_as, is_category, is_number, is_in_range, operate_in, cancel_in}
+use Rattle.bay_mms.specs.Controls.{Origin, Control, Operate, origin_datum, control_before, operate_datum, cancel_datum, AreChecks, IsOperate, truth_as, integer_as, unsigned_as, octets_as, moment_as, position_by, first_position, check_as, list_of, parts_as, origin_of, origin_as, control_of, cancel_of, operate_of, cancel_as, operate_as, is_category, is_number, is_in_range, operate_in}
 use Rattle.bay_mms.specs.Laws.{IsHeld, IsPlain}
 
 pub list-before : (ds : List Datum) → list_of (data_before ds no_data) ≡ ds
@@ -292,11 +292,6 @@ pub operate_back : (o : Operate) → is_in_range o.control ≡ true
 operate_back o fits =
     let e : operate_as (operate_datum o) ≡ Some o =
     operate-again (operate_datum o) o (record { held = _; checks = own o.check; is = refl }) in
-    rw (e, fits) refl
-
-pub cancel-back : (c : Control) → is_in_range c ≡ true → cancel_in (cancel_datum c) ≡ Ok c
-cancel-back c fits =
-    let e : cancel_as (cancel_datum c) ≡ Some c = cancel-again (cancel_datum c) c refl in
     rw (e, fits) refl
 
 -- ---- its text is spelled as its data

@@ -1,17 +1,10 @@
 -- What a mark leaves as it was: how many rows there are, and their names.
-use Rattle.std.proofs.Common.{◌≡◌, ℕ, true, Option, Some, None, List, [], length, refl}
-use Rattle.std.proofs.Math.ListN.{length-set}
+use Rattle.std.proofs.Common.{◌≡◌, ℕ, true, Option, Some, None, List, [], refl}
 use Rattle.std.proofs.Math.Seq.{map-set_same}
 use Rattle.bay_tree.specs.declared.row.Row.{Row}
 use Rattle.bay_tree.specs.declared.leaf.Leaf.TheVariants as leaf
 use Rattle.bay_tree.specs.Rows.{name_at, names_of}
 use Rattle.bay_mms.specs.Marks.{rows_marked}
-
-pub length-marked : (marked : Option ℕ) (rows : List Row)
-    → length (rows_marked marked rows) ≡ length rows
-length-marked None rows = refl
-length-marked (Some place) rows =
-    length-set rows place (record { name = name_at rows place; leaf = Some (leaf.Truth true) })
 
 pub names_of-marked : (marked : Option ℕ) (rows : List Row)
     → names_of (rows_marked marked rows) ≡ names_of rows

@@ -4,9 +4,9 @@ use Rattle.std.proofs.lemmas.Bool.{cases_lt, lt-ltb, le-ltb, le-leb, lt-leb, leb
 use Rattle.std.proofs.lemmas.Bool.Decides.{nat_tests}
 use Rattle.std.proofs.lemmas.List.{append_assoc, length-append, length-drop, length-map, drop-map, drop_more, drop_all}
 use Rattle.std.proofs.Math.Seq.{drop-append_seam, take-append_seam}
-use Rattle.bay_ber.specs.Writing.{element, element_length, integer_octets, octets_needed}
+use Rattle.bay_ber.specs.Writing.{element, element_length, integer_octets}
 use Rattle.bay_ber.specs.Sheets.{Sheet, behind, empty, message, sheet_with, within}
-use Rattle.bay_ber.proofs.SheetLemmas.{put-put, fits as fits_limit}
+use Rattle.bay_ber.proofs.SheetLemmas.{put-put}
 use Rattle.bay_ber.proofs.SizeLemmas.{length-integer_octets}
 use Rattle.bay_tree.specs.declared.row.Row.{Row}
 use Rattle.bay_tree.specs.Rows.{name_at, names_of}
@@ -49,9 +49,6 @@ greatest-is test (suc most) n le some none =
 
 -- ---- longer names, longer page
 
-needed-le : (a b : ℕ) → a ≤ b → octets_needed a ≤ octets_needed b
-needed-le a b le = grind (arith, nat_tests)
-
 pub element-length-le : (a b : ℕ) → a ≤ b → element_length a ≤ element_length b
 element-length-le a b le = grind (arith, nat_tests)
 
@@ -63,14 +60,6 @@ page-length-le id a b le =
 
 pub more-than : (n : ℕ) → n ≤ element_length n
 more-than n = grind (arith, nat_tests)
-
-pub page-length-more : (id n : ℕ) → n ≤ page_length id n
-page-length-more id n =
-    let a = more-than n in
-    let b = more-than (element_length n + 3) in
-    let d = more-than (element_length (length (integer_octets (pos id)))
-    + element_length (element_length n + 3)) in
-    omega arith
 
 -- ---- names, one behind another
 
@@ -132,18 +121,6 @@ put-next rows row next now new here at is =
     ap (λ (s : Sheet). sheet_with s (names_text (names_from rows next))) is
     ∙ put-put now (element visible_tag (name_at rows row)) (names_text (names_from rows next))
     ∙ ap (λ (ns : List (List ℕ)). sheet_with now (names_text ns))
-    (sym (names-next rows row next here at))
-
-pub ends-next : (rows : List Row) (row : ℕ) (next : Option ℕ) (ends new : List ℕ) (end more : ℕ)
-    → row < length rows → next ≡ place_if rows (row + 1) → new ≡ ends ++ (more ∷ [])
-    → more ≡ end + length (element visible_tag (name_at rows row))
-    → new ++ ends_from more (names_from rows next)
-    ≡ ends ++ ends_from end (names_from rows (Some row))
-ends-next rows row next ends new end more here at is size =
-    ap (λ (xs : List ℕ). xs ++ ends_from more (names_from rows next)) is
-    ∙ append_assoc ends (more ∷ []) (ends_from more (names_from rows next))
-    ∙ ap (λ (n : ℕ). ends ++ (n ∷ ends_from n (names_from rows next))) size
-    ∙ ap (λ (ns : List (List ℕ)). ends ++ ends_from end ns)
     (sym (names-next rows row next here at))
 
 -- what an empty writer holds behind a text is the text
@@ -376,8 +353,3 @@ first-page-short id size names some =
     page-short id size (page_count id size names) names
     (ltb (page_count id size names) (length names)) some
     (greatest-passes (λ n. fits id size (take n names)) (min 100 (length names)))
-
-pub page-within : (id size : ℕ) (names : List (List ℕ)) → 256 ≤ size
-    → within size (first_page id size names) ≡ Some (first_page id size names)
-page-within id size names some =
-    fits_limit size (first_page id size names) (first-page-short id size names some)

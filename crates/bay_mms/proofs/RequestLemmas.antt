@@ -8,7 +8,7 @@ use Rattle.bay_base.specs.Options.{◌>>=◌}
 use Rattle.bay_base.specs.Results.{◌>>=◌ as ◌>>◌}
 use Rattle.bay_ber.specs.Tags.{same_tag}
 use Rattle.bay_ber.specs.Values.{Part, values_in, onto, all_of, each_in}
-use Rattle.bay_ber.proofs.ListingLemmas.{Passed, passed-more, passed-end, bind-some, some-is}
+use Rattle.bay_ber.proofs.ListingLemmas.{Passed, passed-more, bind-some, some-is}
 use Rattle.bay_mms.specs.Answers.{names_none}
 use Rattle.bay_mms.specs.Data as mms
 use Rattle.bay_mms.specs.Data.{Datum}
@@ -53,12 +53,6 @@ listing-more octets rest new names more alternate both part one l step is are an
     one-any true b = refl
     one-any false true = refl
     one-any false false = refl
-
-pub listing-end : (count : Option ℕ) (octets rest : List ℕ) (names : List ObjectName)
-    (alternate : Bool) → Listing octets rest names alternate → values_in rest ≡ Some []
-    → listed_in count octets ≡ counted_names count (map naming names) alternate
-listing-end count octets rest names alternate l last =
-    rw (passed-end variable_as octets rest l.vs l.passed last, l.are, l.any) refl
 
 pub listing-bad : (count : Option ℕ) (octets : List ℕ) → each_in variable_as octets ≡ None
     → listed_in count octets ≡ Err Bad

@@ -10,10 +10,6 @@ use Rattle.bay_report.proofs.PieceLemmas.{concat-pieces}
 abbrev pub after : List ℕ → Option (List ℕ × List ℕ) → Option (List ℕ × List ℕ)
 after before parts = option_map (λ p. (before ++ p.0, p.1)) parts
 
-pub after-nil : (parts : Option (List ℕ × List ℕ)) → parts ≡ after [] parts
-after-nil None = refl
-after-nil (Some p) = refl
-
 after-after : (xs ys : List ℕ) (parts : Option (List ℕ × List ℕ))
     → after xs (after ys parts) ≡ after (xs ++ ys) parts
 after-after xs ys None = refl
@@ -40,10 +36,6 @@ pub record PartSoFar (text rest : List ℕ) (taken : ℕ) : Type 0 where
   pub whole : text ≡ before ++ rest
   pub counted : length before ≡ taken
   pub parts : part_of (pieces text) ≡ after before (part_of (pieces rest))
-
-pub PartSoFar-start : (text : List ℕ) → PartSoFar text text 0
-PartSoFar-start text =
-    record { before = []; whole = refl; counted = refl; parts = after-nil (part_of (pieces text)) }
 
 pub PartSoFar-step : (text rest line next : List ℕ) (taken : ℕ) → PartSoFar text rest taken
     → CutsLine rest line next → is_separator line ≡ false
@@ -74,13 +66,3 @@ PartSoFar-end text rest line next taken p c e =
     p.parts ∙ ap (λ ps. after p.before (part_of ps)) c.first
     ∙ separator-first p.before c.piece next (ap is_separator (sym c.line_is) ∙ e)
     ∙ ap (λ l. Some (l, next)) (sym front)
-
-pub PartSoFar-none : (text rest : List ℕ) (taken : ℕ) → PartSoFar text rest taken → length rest ≡ 0
-    → part_of (pieces text) ≡ None
-PartSoFar-none text [] taken p e = p.parts
-PartSoFar-none text (b ∷ rest) taken p e = absurd (omega arith)
-
-pub PartSoFar-length : (text rest : List ℕ) (taken : ℕ) → PartSoFar text rest taken
-    → taken + length rest ≡ length text
-PartSoFar-length text rest taken p =
-    omega (arith, p.counted, ap length p.whole, length-append p.before rest)

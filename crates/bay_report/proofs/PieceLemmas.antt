@@ -123,7 +123,3 @@ concat-pieces (b ∷ bs) = concat-step b bs (is_line_feed b) (concat-pieces bs)
 pub lines-cut : (xs line rest : List ℕ) → CutsLine xs line rest
     → lines_of xs ≡ line ∷ lines_of rest
 lines-cut xs line rest c = ap (map content) c.first ∙ ap (λ l. l ∷ lines_of rest) (sym c.line_is)
-
-pub CutsLine-length : (text line rest : List ℕ) → CutsLine text line rest
-    → length rest ≤ length text
-CutsLine-length text line rest c = omega (arith, ap length c.whole, length-append c.piece rest)

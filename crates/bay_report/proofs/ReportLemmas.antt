@@ -198,8 +198,5 @@ pub other : (A : Type 0) {B : Type 0} (b : Bool) → b ≡ false → B → Match
 other A true e x = absurd cc
 other A false e x = x
 
-pub is-zero : (status : ℕ) → status ≡ 0 → (status == 0) ≡ true
-is-zero status e = grind (arith, nat_tests)
-
 pub is-not : (status : ℕ) → (status ≡ 0 → ⊥) → (status == 0) ≡ false
 is-not status isnt = grind (arith, nat_tests)

@@ -50,11 +50,3 @@ pub line-outcome : (now : ℕ) (s : State) (named : NamedData) (e : Event)
     → outcome None now e s ≡ outcome None now (placed_event s named) s
 line-outcome now s named e is =
     sym (outcome-anywhere None now e s) ∙ ap (λ x. outcome None now x s) is
-
--- the number of the association at a place
-pub place-of-number : (place : ℕ) → place < 8 → place_of (place + 1) ≡ Some place
-place-of-number place h =
-    let low : nat_lt 0 (place + 1) ≡ true = lt-ltb 0 (place + 1) (omega arith) in
-    let high : nat_lt (place + 1) 9 ≡ true = lt-ltb (place + 1) 9 (omega arith) in
-    let same : place + 1 - 1 ≡ place = omega arith in
-    rw (low, high) (ap (λ n. Some n) same)

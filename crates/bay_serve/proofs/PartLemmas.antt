@@ -38,14 +38,6 @@ module _ {L : Type 0} (step : L → Call → L → Type 0) where
         is = is ∙ ap (λ o. on_accept now o taken before) (sym e);
       }
 
-  pub accepts-none : (l : L) (now : ℕ) (before : Turning) → free_place before.server ≡ None
-      → Goes step (with_accept now) (accept_calls now) l l before before
-  accepts-none l now before e = record {
-    choice = None;
-    talks = subst (λ o. Talks step l (accept_calls_at now o None before) l) (sym e) refl;
-    is = ap (λ o. on_accept now o None before) (sym e);
-  }
-
   pub accepts-true : (old mid new : L) (now place : ℕ) (taken : Bool)
       (before between after : Turning) → free_place before.server ≡ Some place
       → taken ≡ true → step old (Accepts (place + 1) (Some taken)) mid

@@ -42,12 +42,6 @@ calls_of_each-more f calls place (b ∷ cs) c s =
     ∙ sym (append_assoc (calls place b s) (calls_of_each f calls (place + 1) cs (f place b s))
     (calls (place + suc (length cs)) c (after_each f (place + 1) cs (f place b s))))
 
--- nothing was done yet
-pub GoesEach-none : {L C : Type 0} (step : L → Call → L → Type 0) (f : ℕ → C → Turning → Turning)
-    (calls : ℕ → C → Turning → List Call) (l : L) (s : Turning)
-    → GoesEach step f calls l l 0 s s
-GoesEach-none step f calls l s = record { choices = []; many = refl; talks = refl; is = refl }
-
 -- and then the next place
 pub GoesEach-more : {L C : Type 0} (step : L → Call → L → Type 0) (f : ℕ → C → Turning → Turning)
     (calls : ℕ → C → Turning → List Call)

@@ -66,10 +66,6 @@ pub Carried-sent : (now p : ℕ) (held taken sent more : List ℕ) (s : Turning)
     → Carried now p held taken sent s → sent ≡ more → Carried now p held taken more s
 Carried-sent now p held taken sent more s c e = subst (λ l. Carried now p held taken l s) e c
 
-pub Carried-taken : (now p : ℕ) (held taken more sent : List ℕ) (s : Turning)
-    → Carried now p held taken sent s → taken ≡ more → Carried now p held more sent s
-Carried-taken now p held taken more sent s c e = subst (λ l. Carried now p held l sent s) e c
-
 Carried-if : (now p : ℕ) (held taken sent : List ℕ) (b : Bool) (s t : Turning)
     → Carried now p held taken sent s → Carried now p held taken sent t
     → Carried now p held taken sent (if b then s else t)

@@ -50,14 +50,6 @@ cut-remaining now place why s e =
     ap (λ l. suc (remaining l)) (gone-standings now place why s)
     ∙ goes-remaining t.noted.standings place (puts.fills.full place e) ∙ puts.fills.remain
 
-cut-length : (now place : ℕ) (why : Closing) (s : Turning)
-    → length (cut_off now why place s).noted.standings ≡ length s.noted.standings
-cut-length now place why s =
-    let t : Turning = after_event now (Close (place + 1)) s in
-    let puts : Puts s t = closing-puts now place s in
-    ap length (gone-standings now place why s) ∙ length-set t.noted.standings place Gone
-    ∙ puts.fills.sized
-
 pub cut-kept : (now place i : ℕ) (why : Closing) (s : Turning)
     → is_leaving (standing_of i s) ≡ false
     → is_leaving (standing_of i (cut_off now why place s)) ≡ false

@@ -126,18 +126,6 @@ switch-there count total name t is same =
 
 -- ---- a tree of the same layout
 
-pub name-kept : (rows old : List Row) (row : ℕ) → layout_of rows ≡ layout_of old
-    → name_at rows row ≡ name_at old row
-name-kept rows old row same =
-    sym (name-here rows row) ∙ ap (λ (l : Layout). name_in l row) same ∙ name-here old row
-
-pub handle-kept : (rows old : List Row) (row : ℕ) → layout_of rows ≡ layout_of old
-    → IsHandle old row → IsHandle rows row
-handle-kept rows old row same there =
-    let few : length (names_of rows) ≡ length (names_of old) =
-    ap (λ (l : Layout). length l.names) same in
-    omega (arith, few, length-map rows (λ (r : Row). r.name), length-map old (λ (r : Row). r.name))
-
 -- the row of a name has it
 pub selected-named : (rows : List Row) (row : ℕ) (name : List ℕ) → place_of rows name ≡ Some row
     → name_in (layout_of rows) row ≡ name

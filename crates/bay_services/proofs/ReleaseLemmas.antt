@@ -193,11 +193,6 @@ pub leaves-then : (now : ℕ) (b d e : Bay) → Leaves now b d → Leaves now d 
 leaves-then now b d e p q =
     record { rows = q.rows ∙ p.rows; busy = λ x h. q.busy x (p.busy x h) }
 
-leaves-if : (now : ℕ) (b d e : Bay) (fits : Bool) → Leaves now b d → Leaves now b e
-    → Leaves now b (cond fits d e)
-leaves-if now b d e true p q = p
-leaves-if now b d e false p q = q
-
 -- ---- a read
 
 -- what a select keeps: what the bay file says of controls, and what operates

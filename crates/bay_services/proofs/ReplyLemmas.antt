@@ -90,16 +90,6 @@ read-fits c id b r found was is some =
     ∙ ap (λ p. let x : Answered = record (plain_answer p b) { after = with_controls r.controls b }
     in x) (sym (fits c.size (read_text id r.results) found fit).1)
 
-pub read-over : (c : Client) (id : ℕ) (b : Bay) (r : Reading) (was : Option (List ℕ))
-    → was ≡ fitting c.size (read_text id r.results) → was ≡ None
-    → read_done c id b r ≡ plain_answer (error_text id Resource) b
-read-over c id b r was is none = within-over c id b (read_text id r.results) _ (sym is ∙ none)
-
-pub write-over : (c : Client) (id : ℕ) (b : Bay) (w : Writing) (was : Option (List ℕ))
-    → was ≡ fitting c.size (write_text id w.results) → was ≡ None
-    → write_done c id b w ≡ plain_answer (error_text id Resource) b
-write-over c id b w was is none = within-over c id b (write_text id w.results) _ (sym is ∙ none)
-
 -- ---- results of calls
 
 pub both : (r : Result (Unit {0}) AllocError) (P Q R : Type 0) → OnOk r P → OnOk r Q → (P → Q → R)

@@ -83,12 +83,6 @@ octets-even (b ∷ bs) false some even e = by-octets (octets_of (b ∷ bs)) refl
     by-octets (Some octets) is = let all =
         digits-all (b ∷ bs) (octets-digits (b ∷ bs) octets is) in absurd cc
 
-pub octets-odd : (word : List ℕ) → length word % 2 ≡ 1 → false ≡ is_some (octets_of word)
-octets-odd [] odd = refl
-octets-odd (b ∷ bs) odd =
-    sym (ap (λ (r : Result (List ℕ) FromHexError). is_some (result_ok r))
-    (decode_of-odd (b ∷ bs) odd))
-
 pub octets-none : (word : List ℕ) → eqb (length word) 0 ≡ true → false ≡ is_some (octets_of word)
 octets-none [] e = refl
 octets-none (b ∷ bs) e = absurd (grind (arith, nat_tests))

@@ -123,31 +123,11 @@ number_from-none n b bs e =
     by-tests true true d f = let none : Some (n * 10 + (b - 48)) ≡ None =
         rw (d, f) at e in absurd cc
 
--- a list that isn't empty
-abbrev HasFirst : List (List ℕ) → Type 0
-HasFirst ps = (w : List ℕ) × (ws : List (List ℕ)) × (ps ≡ w ∷ ws)
-
-some-first : (b : ℕ) (ps : List (List ℕ)) (v : Bool) → HasFirst (cond v ([] ∷ ps) (onto_first b ps))
-some-first b ps true = ([], ps, refl)
-some-first b [] false = (b ∷ [], [], refl)
-some-first b (p ∷ ps) false = (b ∷ p, ps, refl)
-
-some-word : (bs : List ℕ) → HasFirst (slice_split is_space bs)
-some-word [] = ([], [], refl)
-some-word (b ∷ bs) = some-first b (slice_split is_space bs) (is_space b)
-
 -- the number that the first of several words is behind a number, and the words behind it
 abbrev pub number_behind : ℕ → List (List ℕ) → Option (ℕ × List (List ℕ))
 number_behind n [] = None
 number_behind n (word ∷ []) = None
 number_behind n (word ∷ next ∷ words) = option_map (λ m. (m, next ∷ words)) (number_from n word)
-
-behind-some : (n b m : ℕ) (ws : List (List ℕ)) → with_digit n b ≡ Some m
-    → number_behind n (onto_first b ws) ≡ number_behind m ws
-behind-some n b m [] e = refl
-behind-some n b m (word ∷ []) e = refl
-behind-some n b m (word ∷ next ∷ ws) e =
-    ap (option_map (λ k. (k, next ∷ ws))) (number_from-step n b word m e)
 
 behind-none : (n b : ℕ) (ws : List (List ℕ)) → with_digit n b ≡ None
     → number_behind n (onto_first b ws) ≡ None
@@ -163,39 +143,8 @@ first-behind b (word ∷ []) = refl
 first-behind b (word ∷ next ∷ ws) =
     ap (option_map (λ k. (k, next ∷ ws))) (read_number-some (b ∷ word) (grind (arith, nat_tests)))
 
-no-digit-first : (ws : List (List ℕ)) → first_number ([] ∷ ws) ≡ None
-no-digit-first [] = refl
-no-digit-first (word ∷ ws) = refl
-
 pub not-space : (b : ℕ) → is_ascii_digit b ≡ true → is_space b ≡ false
 not-space b h = grind (arith, nat_tests)
-
--- the first octet of a text is the first digit of its number, or there is no number
-pub first_number-some : (b m : ℕ) (bs : List ℕ) → with_digit 0 b ≡ Some m
-    → first_number (slice_split is_space (b ∷ bs)) ≡ number_behind m (slice_split is_space bs)
-first_number-some b m bs e =
-    let no = slice_split-cons_no is_space b bs (not-space b (with_digit-some 0 b m e).0) in
-    ap first_number no ∙ first-behind b (slice_split is_space bs)
-    ∙ behind-some 0 b m (slice_split is_space bs) e
-
-pub first_number-none : (b : ℕ) (bs : List ℕ) → with_digit 0 b ≡ None
-    → first_number (slice_split is_space (b ∷ bs)) ≡ None
-first_number-none b bs e = by_test (is_space b) refl
-  where
-    by_test : (v : Bool) → is_space b ≡ v → first_number (slice_split is_space (b ∷ bs)) ≡ None
-    by_test true s =
-        ap first_number (slice_split-cons_yes is_space b bs s)
-        ∙ no-digit-first (slice_split is_space bs)
-    by_test false s =
-        ap first_number (slice_split-cons_no is_space b bs s)
-        ∙ first-behind b (slice_split is_space bs) ∙ behind-none 0 b (slice_split is_space bs) e
-
--- a later octet is a digit, the space, or neither
-pub behind-digit : (n b m : ℕ) (bs : List ℕ) → is_space b ≡ false → with_digit n b ≡ Some m
-    → number_behind n (slice_split is_space (b ∷ bs)) ≡ number_behind m (slice_split is_space bs)
-behind-digit n b m bs s e =
-    ap (number_behind n) (slice_split-cons_no is_space b bs s)
-    ∙ behind-some n b m (slice_split is_space bs) e
 
 pub behind-other : (n : ℕ) (bs : List ℕ) → 0 < length bs → get_or bs 0 0 ≢ 32
     → with_digit n (get_or bs 0 0) ≡ None → number_behind n (slice_split is_space bs) ≡ None
@@ -203,15 +152,6 @@ behind-other n [] l other e = absurd (omega (arith, l))
 behind-other n (b ∷ bs) l other e =
     ap (number_behind n) (slice_split-cons_no is_space b bs (grind (arith, nat_tests)))
     ∙ behind-none n b (slice_split is_space bs) e
-
-pub behind-space : (n b : ℕ) (bs : List ℕ) → n < 2 ^ 64 → is_space b ≡ true
-    → number_behind n (slice_split is_space (b ∷ bs)) ≡ Some (n, slice_split is_space bs)
-behind-space n b bs lt s =
-    ap (number_behind n) (slice_split-cons_yes is_space b bs s) ∙ by-words (some-word bs)
-  where
-    by-words : HasFirst (slice_split is_space bs)
-        → number_behind n ([] ∷ slice_split is_space bs) ≡ Some (n, slice_split is_space bs)
-    by-words h = rw h.2 (ap (option_map (λ k. (k, h.0 ∷ h.1))) (number_from-end n lt))
 
 -- what says something of a word only where it is this text, or where something is said further on,
 -- says it of what has the text's property
@@ -242,13 +182,3 @@ name_of-text (b ∷ bs) e text =
 pub name_of-no_text : (bs : List ℕ) → eqb (length bs) 0 ≡ false → ¬ (IsUtf8 bs) → name_of bs ≡ None
 name_of-no_text [] e bad = absurd (grind (arith, nat_tests))
 name_of-no_text (b ∷ bs) e bad = ap (λ v. cond v (Some (b ∷ bs)) None) (is-utf8-false (b ∷ bs) bad)
-
--- what doesn't begin with `-` and is no number is no integer
-pub read_integer-none : (bs : List ℕ) → ((rest : List ℕ) → bs ≢ 45 ∷ rest) → read_number bs ≡ None
-    → read_integer bs ≡ None
-read_integer-none [] h none = refl
-read_integer-none (b ∷ bs) h none = by_test (eqb b 45) refl
-  where
-    by_test : (v : Bool) → eqb b 45 ≡ v → read_integer (b ∷ bs) ≡ None
-    by_test true e = absurd (h bs (grind (arith, nat_tests)))
-    by_test false e = rw (e, none)

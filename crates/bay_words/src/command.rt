@@ -11,7 +11,7 @@ use std::alloc::{AllocError, Global};
 
 /// The version of the program, of its formats and of its fault numbers. CHANGELOG.md lists the
 /// changes of each version.
-const VERSION: &str = "0.9.0";
+const VERSION: &str = "1.0.0";
 
 /// Adds an optional option `--ID F` to the command.
 fn with_file<'a>(
