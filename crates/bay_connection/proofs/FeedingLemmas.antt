@@ -1,5 +1,5 @@
 -- What one feeding comes to.
-use Rattle.std.proofs.Common.{◌≡◌, ℕ, ◌-◌, ◌<◌, ◌≤◌, List, [], ◌∷◌, ◌++◌, length, take, drop, Option, Some, None, Result, Ok, Err, IsSome, unwrap_or, option_to_list, refl, sym, ap, ◌∙◌, arith}
+use Rattle.std.proofs.Common.{◌≡◌, ℕ, ◌-◌, ◌≤◌, List, [], ◌∷◌, ◌++◌, length, take, drop, Option, Some, None, Result, Ok, Err, IsSome, unwrap_or, option_to_list, refl, sym, ap, ◌∙◌, arith}
 use Rattle.std.proofs.lemmas.List.{take_all}
 use Rattle.bay_transport.specs.declared.fault.TransportFault.{TransportFault}
 use Rattle.bay_transport.specs.declared.fault.TransportFault.TheVariants.{BadTpkt, BadCotp, ClassRefused, TsduTooLong, Failed, OutOfMemory}
@@ -14,10 +14,9 @@ use Rattle.bay_assoc.specs.declared.fault.AssocFault.{AssocFault}
 use Rattle.bay_assoc.specs.declared.hearing.Phase.{Phase}
 use Rattle.bay_assoc.specs.declared.hearing.Phase.TheVariants as phases
 use Rattle.bay_assoc.specs.Hearing.{Hearing, answer, mms, released, aborted, hearing}
-use Rattle.bay_assoc.specs.Hears.{association_terms}
 use Rattle.bay_connection.specs.Talk.{Talk, Indication, answers, tells, releases, ends, fails, Told, talk_over, on_hearing, talk_after, comes_to, indications, left_by}
 use Rattle.bay_connection.specs.Feeding.{CompletesIndication, Comes, Feeds, GoesOn}
-use Rattle.bay_connection.specs.Line.{AreJoined, IsJoined, IsReady, TakesMemory, TellsOf}
+use Rattle.bay_connection.specs.Line.{AreJoined, IsJoined, IsReady, TellsOf}
 use Rattle.bay_connection.proofs.CuttingLemmas.{indications-take, left_by-take}
 
 -- ---- the law

@@ -1,12 +1,10 @@
 -- What the association hears.
-use Rattle.std.proofs.Common.{◌≡◌, ℕ, ◌-◌, List, [], ◌∷◌, ◌++◌, length, drop, Option, Some, None, Ok, Err, ok_or, refl, sym, ap, ◌∙◌, arith}
+use Rattle.std.proofs.Common.{◌≡◌, ℕ, ◌-◌, List, [], ◌∷◌, ◌++◌, length, drop, Option, Some, None, Ok, ok_or, refl, sym, ap, ◌∙◌, arith}
 use Rattle.std.proofs.lemmas.List.{length-append, drop_at}
 use Rattle.bay_transport.specs.Doings.{Delivers, Stream}
-use Rattle.bay_assoc.specs.declared.fault.AssocFault.{AssocFault}
 use Rattle.bay_assoc.specs.declared.hearing.Phase.{Phase}
-use Rattle.bay_assoc.specs.Code.{code_of}
-use Rattle.bay_assoc.specs.Hearing.{answer, mms, released, aborted, hearing}
-use Rattle.bay_connection.specs.Talk.{answers, tells, releases, ends, fails, talk_over, data_tpdus, talk_after}
+use Rattle.bay_assoc.specs.Hearing.{mms, hearing}
+use Rattle.bay_connection.specs.Talk.{tells, talk_after}
 
 -- ---- what is heard
 

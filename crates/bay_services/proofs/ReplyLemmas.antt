@@ -10,17 +10,16 @@ use Rattle.bay_ber.specs.declared.tag.Tag.{Tag}
 use Rattle.bay_ber.proofs.SizeLemmas.{length-element-is}
 use Rattle.bay_mms.proofs.PageLemmas.{more-than}
 use Rattle.bay_mms.specs.Tags.{constructed, int_tag}
-use Rattle.bay_mms.specs.Responses.{error_text, read_text, write_text}
+use Rattle.bay_mms.specs.Responses.{error_text, read_text}
 use Rattle.bay_mms.specs.declared.fault.EncodeFault.{EncodeFault}
 use Rattle.bay_mms.specs.declared.fault.EncodeFault.TheVariants.{TooLong, OutOfMemory}
 use Rattle.bay_mms.specs.declared.response.ErrorClass.TheVariants.{Resource}
 use Rattle.bay_mms.specs.Writing.{Adds, text_within}
-use Rattle.bay_services.specs.Answers.{Answered, read_done, response_answer, plain_answer, within, write_done}
+use Rattle.bay_services.specs.Answers.{Answered, read_done, response_answer, plain_answer, within}
 use Rattle.bay_services.specs.Bay.{Bay, with_controls}
 use Rattle.bay_services.specs.Reads.{Reading}
 use Rattle.bay_services.specs.Replies.{fitting}
 use Rattle.bay_services.specs.Views.{AnswersAs}
-use Rattle.bay_services.specs.Writes.{Writing}
 use Rattle.bay_services.specs.declared.answer.Answer.{Answer}
 use Rattle.bay_services.specs.declared.client.Client.{Client}
 
