@@ -59,6 +59,9 @@ fn fitting(names: &NameTexts, start: usize, id: u32, size: u32) -> usize
 {
     let head = id_length(id);
     let most = (names.count() - start).min(NAMES_MAX);
+    if has_room(head, names.size(start, most), size) {
+        return most;
+    }
     let mut count = 0;
     while count < most {
         if !has_room(head, names.size(start, count + 1), size) {
