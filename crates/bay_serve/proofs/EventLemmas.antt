@@ -1,8 +1,7 @@
 -- Events of the device as a turn steps them.
-use Rattle.std.proofs.Common.{◌≡◌, ℕ, ◌+◌, ◌-◌, ◌<◌, [], Option, Some, None, nat_lt, true, refl, ap, sym, ◌∙◌, subst, arith}
-use Rattle.std.proofs.lemmas.Bool.{lt-ltb}
+use Rattle.std.proofs.Common.{◌≡◌, ℕ, [], Option, None, refl, ap, sym, ◌∙◌, subst}
 use Rattle.bay_device.specs.Device.{State}
-use Rattle.bay_device.specs.Outcomes.{outcome, place_of}
+use Rattle.bay_device.specs.Outcomes.{outcome}
 use Rattle.bay_device.specs.Steps.{IsWithoutOctets}
 use Rattle.bay_device.specs.declared.event.Event.{Event}
 use Rattle.bay_device.specs.declared.event.Event.TheVariants.{Open, Recv, Close, Contact, Input, Measure, Scan}

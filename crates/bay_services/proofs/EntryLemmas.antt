@@ -150,7 +150,8 @@ module _ (c : Client) (b : Bay) (opens : ℕ → Bool) (is_open : opens c.associ
   service-leads id (names class place after) = quiet-leads _ _ _
   service-leads id (attributes name) = attributes-lead id (row_named b name)
   service-leads id (read ns) =
-      within-leads (nat_le (length (read_text id (read_all c b ns (nothing_read b)).results)) c.size)
+      within-leads (nat_le (length (read_text id (read_all c b ns (nothing_read b)).results))
+      c.size)
       _ _ _ (read-leads ns (nothing_read b))
   service-leads id (write ns values) =
       within-leads

@@ -71,7 +71,8 @@ module _ (c : Client) (b : Bay) where
   adds-none w = sym (append-nil w.commands)
 
   select-with-adds : (k : ℕ) (item : List ℕ) (w : Writing) (o : Result asked.Operate ControlFault)
-      → Adds w (entries_of_call c w.controls (select_with_call c k o)) (select_with_asked c b k item w o)
+      → Adds w (entries_of_call c w.controls (select_with_call c k o))
+      (select_with_asked c b k item w o)
   select-with-adds k item w (Ok o) = adds-none w
   select-with-adds k item w (Err fault) = adds-none w
 

@@ -284,15 +284,18 @@ module _ (c : Client) (b : Bay) (s : State) (k : ℕ) (o : asked.Operate) where
   idle-operated : (answer : Result (Unit {0}) AddCause) → outcome.answer ≡ answer
       → AllByRecursion (λ (x : Command). IsIdle c.now s) (commands_for k o answer)
   unfolding outcome
-  idle-operated (Ok done) is =
-      ((saw c.association k (ask_of o) (view_of c k b) (controls_at c.now s) (ap is_ok is)).idle, tt)
+  idle-operated (Ok done) is = (
+    (saw c.association k (ask_of o) (view_of c k b) (controls_at c.now s) (ap is_ok is)).idle,
+    tt,
+  )
   idle-operated (Err why) is = tt
 
   single-operated : (answer : Result (Unit {0}) AddCause) → AreTimed s.controls
       → outcome.answer ≡ answer → Single c.now (commands_for k o answer) outcome.after
   unfolding outcome
   single-operated (Ok done) timed is =
-      let seen = saw c.association k (ask_of o) (view_of c k b) (controls_at c.now s) (ap is_ok is) in
+      let seen =
+      saw c.association k (ask_of o) (view_of c k b) (controls_at c.now s) (ap is_ok is) in
       let e : Execution = record { switch = k; start = c.now; on = o.control.ctl_val } in
       let starts : outcome.after.execution ≡ Some e =
       ap (λ (t : Bool). let x : Option Execution =
@@ -322,7 +325,8 @@ kept-decided c b k item control o w same kept busy = record {
 }
 
 kept-select : (c : Client) (b : Bay) (k : ℕ) (item : List ℕ) (w : Writing)
-    (r : Result asked.Operate ControlFault) → Kept c b w → Kept c b (select_with_asked c b k item w r)
+    (r : Result asked.Operate ControlFault) → Kept c b w
+    → Kept c b (select_with_asked c b k item w r)
 kept-select c b k item w (Err fault) kept =
     record { busy = kept.busy; released = kept.released; sole = kept.sole }
 kept-select c b k item w (Ok o) kept =
@@ -430,7 +434,8 @@ does-served c b id identify = does-within c b id _ _ (does-nothing c b _)
 does-served c b id (names class place after) = does-within c b id _ _ (does-nothing c b _)
 does-served c b id (attributes name) = does-attributes c b id (row_named b name)
 does-served c b id (read ns) =
-    let kept = read-all-selects c b b.controls ns (nothing_read b) (selects-none c.now b.controls) in
+    let kept =
+    read-all-selects c b b.controls ns (nothing_read b) (selects-none c.now b.controls) in
     does-within c b id _ _ (record {
       leaves = leaves-with c.now b _ kept.busy;
       released = tt;

@@ -144,8 +144,10 @@ seen-one k (suc n) rows few low none =
     let rest : ShowNone n rows = λ j less. none j (omega (arith, less)) in
     elim (cases_lt k n) [
       | inl less ↦
-          ap (with_leaf_of name (leaf.Truth (k == n))) (seen-one k n rows (omega (arith, few)) less rest)
-          ∙ ap (λ (b : Bool). with_leaf_of name (leaf.Truth b) on) (other k n (λ e. omega (arith, e, less)))
+          ap (with_leaf_of name (leaf.Truth (k == n)))
+          (seen-one k n rows (omega (arith, few)) less rest)
+          ∙ ap (λ (b : Bool). with_leaf_of name (leaf.Truth b) on)
+          (other k n (λ e. omega (arith, e, less)))
           ∙ swapped rows name ((control_names k).selected) (leaf.Truth false) (leaf.Truth true)
           (λ is. absurd (names-differ k n (omega (arith, few, less)) (omega (arith, few))
           (λ e. omega (arith, e, less)) is))
@@ -190,7 +192,8 @@ shown-own o k (suc n) rows low few there =
           let same : n ≡ k = omega (arith, low, more) in
           rw same (leaf-own (rows_shown o k rows) ((control_names k).selected)
           (leaf.Truth (is_selected k o))
-          (λ none. there (sym (unwritten o k k rows (omega arith) (omega (arith, few, same))) ∙ none)))
+          (λ none. there (sym (unwritten o k k rows (omega arith) (omega (arith, few, same)))
+          ∙ none)))
     ]
 
 pub shown-others : (o : Option ℕ) (count : ℕ) (rows : List Row) (name : List ℕ)
@@ -223,7 +226,8 @@ past-if controls k none =
     elim (cases_lt k (length controls)) [
       | inl less ↦
           let some = slice_get-get_or controls k no_rows less in
-          absurd (let no : Some _ ≡ (let o : Option ControlRows = None in o) = sym some ∙ none in cc)
+          absurd (let no : Some _ ≡ (let o : Option ControlRows = None in o) = sym some ∙ none in
+          cc)
       | inr past ↦ past
     ]
 

@@ -291,8 +291,10 @@ operate-is c b k item w (Ok o) =
     (call.Operate c.association k (ask_of o) (view_of c k b)) w _ refl refl
 operate-is c b k item w (Err fault) = nothing-done c (control_code_of fault) w
 
-cancel-is : (c : Client) (b : Bay) (k : ℕ) (item : List ℕ) (w : Writing) (o : Result Control ControlFault)
-    → OneWritten c (cancel_act c.association k o) (cancel_call c k o) w (cancel_asked c b k item w o)
+cancel-is : (c : Client) (b : Bay) (k : ℕ) (item : List ℕ) (w : Writing)
+    (o : Result Control ControlFault)
+    → OneWritten c (cancel_act c.association k o) (cancel_call c k o) w
+    (cancel_asked c b k item w o)
 cancel-is c b k item w (Ok control) =
     decided-is c (act.Cancel c.association k) (call.Cancel c.association k) w _ refl refl
 cancel-is c b k item w (Err fault) = nothing-done c (control_code_of fault) w
@@ -322,7 +324,8 @@ write-row-is c b given w (Some place) =
 
 -- ---- all variables that are written
 
-pub record AllWritten (c : Client) (n b : Bay) (ns : List Naming) (values : List Datum) (w : Writing)
+pub record AllWritten (c : Client) (n b : Bay) (ns : List Naming) (values : List Datum)
+    (w : Writing)
     : Type 0 where
   pub parts : List Part
   pub more : List ℕ

@@ -15,7 +15,8 @@ use Rattle.bay_services.specs.declared.answer.Ending.{Ending}
 use Rattle.bay_services.specs.declared.client.Client.{Client}
 
 -- what a decision puts down
-pub put-down : (c : Client) (b : Bay) (k : ℕ) (item : List ℕ) (control given : Control) (w : Writing)
+pub put-down : (c : Client) (b : Bay) (k : ℕ) (item : List ℕ) (control given : Control)
+    (w : Writing)
     (o : Outcome) (after : State) (answer : Result (Unit {0}) AddCause)
     (results : List ℕ) (reports : List (List ℕ)) (commands : List Command) (ending : Option Ending)
     → after ≡ o.after → answer ≡ o.answer → given ≡ control
@@ -48,7 +49,8 @@ pub accepted : (c : Client) (b : Bay) (k : ℕ) (item : List ℕ) (o : asked.Ope
       commands = commands;
       ending = ending;
     } ≡ after_operate c b k item o outcome w
-accepted c b k item o w outcome after results reports commands ending stands is has told ordered due =
+accepted c b k item o w outcome after results reports commands ending stands is has told ordered
+    due =
     rw (stands, has, told, ordered, due, is, append-nil w.reports) refl
 
 pub refused : (c : Client) (b : Bay) (k : ℕ) (item : List ℕ) (o : asked.Operate) (given : Control)

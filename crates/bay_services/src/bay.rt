@@ -15,8 +15,8 @@ use bay_process::switch::BoundSwitch;
 use bay_tree::tree::Tree;
 
 /// A bay as its clients see it: its name and its nameplate, the tree of its values, its switches
-/// and their controls. The tree itself shows no switch as selected: what clients see of that follows
-/// from the controls.
+/// and their controls. The tree itself shows no switch as selected: what clients see of that
+/// follows from the controls.
 #[derive(Drop)]
 pub struct ServedBay {
     /// The name of the logical device.

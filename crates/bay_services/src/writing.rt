@@ -198,7 +198,8 @@ impl ServedBay {
     ) -> Result<(), AllocError>
         requires { IsHandle self.now.tree part.row }
         ensures { OnOk result (writing self.now changed.new written.new
-            ≡ select_with_asked client (bay_view self.now) part.switch (name_at self.now.tree part.row)
+            ≡ select_with_asked client (bay_view self.now) part.switch
+            (name_at self.now.tree part.row)
             (writing self.now changed.old written.old) (operate_in (datum_of given.now))) }
     {
         let operate = match operate_of(given) {
@@ -355,7 +356,8 @@ impl ServedBay {
         requires { IsFound self.now.tree row }
         ensures { OnOk result
             (writing self.now changed.new written.new
-            ≡ spec.write_row client (bay_view self.now) (datum_of given.now) (writing self.now changed.old written.old) (Some row)) }
+            ≡ spec.write_row client (bay_view self.now) (datum_of given.now)
+            (writing self.now changed.old written.old) (Some row)) }
     {
         let target = match self.target(row) {
             Some(target) => target,

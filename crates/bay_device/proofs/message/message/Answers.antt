@@ -45,7 +45,8 @@ returns-in-Err-clause-err c connections =
     let sent : c.len-sent.result ≡ length made.sent.items = omega (arith, c.len-sent.ensures) in
     let commands : c.len-commands.result ≡ length made.commands.items =
     omega (arith, c.len-commands.ensures) in
-    ap (λ (xs : List Sent). let x : Done = record { state = s; sent = xs; commands = c.truncate-in-Err.new.self.items } in x)
+    ap (λ (xs : List Sent). let x : Done =
+    record { state = s; sent = xs; commands = c.truncate-in-Err.new.self.items } in x)
     (c.truncate.ensures.items ∙ ap (λ n. take n c.answer.new.made.sent.items) sent
     ∙ c.answer.ensures.sent)
     ∙ ap (λ (xs : List Command). let x : Done =

@@ -20,7 +20,8 @@ returns-then-not-has_room-clause-count c texts is =
     c.id_length-head.ensures.value c.requires.within
     (omega (arith, c.min-most.ensures, c.count.ensures)) c.loop-count.invariant.0
     c.loop-count.invariant.1
-    (inr (λ le. let fits = c.has_room-in-loop-count.ensures.1 (rw c.size-in-loop-count.ensures le) in cc))
+    (inr (λ le. let fits = c.has_room-in-loop-count.ensures.1 (rw c.size-in-loop-count.ensures le)
+    in cc))
 
 pub returns-clause-count : goal.returns-clause-count
 returns-clause-count c texts is =

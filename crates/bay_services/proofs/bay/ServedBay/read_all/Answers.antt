@@ -7,9 +7,11 @@ use Rattle.bay_services.proofs.bay.ServedBay.read_all.Goals as goal
 pub returns-in_err-read_one-clause-long : goal.returns-in_err-read_one-clause-long
 returns-in_err-read_one-clause-long c =
     let p = err_from_is_err_and c.from_residual.result c.from_residual.ensures.1 in
-    rw (p.1, p.2) (λ is. long-all c.args.client (bay_view c.args.self.now) c.args.response.now.size c.args.names.now
+    rw (p.1, p.2) (λ is. long-all c.args.client (bay_view c.args.self.now) c.args.response.now.size
+    c.args.names.now
     c.loop-name.name-index _
     (reading c.args.self.now c.args.changed.now c.args.response.now.octets)
-    (reading c.args.self.now c.loop-name.changed c.loop-name.response.octets) c.loop-name.invariant.ok
+    (reading c.args.self.now c.loop-name.changed c.loop-name.response.octets)
+    c.loop-name.invariant.ok
     (omega (arith, c.loop-name-test.true))
     (rw c.loop-name.invariant.size at c.in_err-read_one.ensures.long is))

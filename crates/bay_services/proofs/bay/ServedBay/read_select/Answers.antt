@@ -14,7 +14,8 @@ returns-in_ok-object-in-Ok-clause-ok c =
     let b = bay_view d in
     let r = reading d c.args.changed.now c.args.response.now.octets in
     let same = c.duplicate-controls.ensures ∙ c.left.ensures in
-    let told : c.as_str.result.now ≡ selected_text (object_of b (name_at d.tree c.args.row)) (Ok tt) =
+    let told : c.as_str.result.now
+    ≡ selected_text (object_of b (name_at d.tree c.args.row)) (Ok tt) =
     c.as_str.ensures ∙ c.in_ok-object-in-Ok.ensures in
     added c.text.result c.args.response.now.size c.args.response.now.octets c.text.new.self.octets _
     _ c.text.ensures.added
@@ -29,7 +30,8 @@ returns-in_ok-object-in-Ok-clause-long c =
     let b = bay_view d in
     let r = reading d c.args.changed.now c.args.response.now.octets in
     let same = c.duplicate-controls.ensures ∙ c.left.ensures in
-    let told : c.as_str.result.now ≡ selected_text (object_of b (name_at d.tree c.args.row)) (Ok tt) =
+    let told : c.as_str.result.now
+    ≡ selected_text (object_of b (name_at d.tree c.args.row)) (Ok tt) =
     c.as_str.ensures ∙ c.in_ok-object-in-Ok.ensures in
     too_long c.text.result c.args.response.now.size c.args.response.now.octets
     c.text.new.self.octets _ _ c.text.ensures.added
