@@ -65,10 +65,10 @@ answered-done a terms x s sent made commands obeyed b due after is sends does =
     (record (with_bay x.after s) { due = later_due s.due (due_if a terms x.ending) })
     (sent ++ map (λ pdu. sent_on a (sending terms pdu)) x.sent) y) does
 
-pub all-ok : {T E : Type 0} (r : Result T E) (P Q R : T → Type 0) (S U : Type 0) → IfOk r P
-    → IfOk r Q → OnOk r S → OnOk r U → ((x : T) → P x → Q x → S → U → R x) → IfOk r R
-all-ok (Ok x) P Q R S U p q s u f = f x p q s u
-all-ok (Err e) P Q R S U p q s u f = tt
+pub all-ok : {T E : Type 0} (r : Result T E) (P R : T → Type 0) (S U : Type 0) → IfOk r P
+    → OnOk r S → OnOk r U → ((x : T) → P x → S → U → R x) → IfOk r R
+all-ok (Ok x) P R S U p s u f = f x p s u
+all-ok (Err e) P R S U p s u f = tt
 
 -- the size that is agreed
 pub size-is : (o : Option AssociationTerms) (n : ℕ) → IsSome o

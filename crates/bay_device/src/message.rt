@@ -125,29 +125,19 @@ fn send_all(
     Ok(())
 }
 
-/// What an answered PDU does once nothing can fail any more.
-#[derive(Drop)]
-pub struct Effect {
-    /// What will report the end of what it operates.
-    pub due: Option<Due>,
-    /// The controls after it, where it changed them.
-    pub controls: Option<Controls>,
-}
-
-/// Adds the PDUs of an answer to what is sent, and its commands to those to issue. Returns its
-/// effect. If an allocation fails, more may have been added.
+/// Adds the PDUs of an answer to what is sent, and its commands to those to issue. Returns what
+/// will report the end of what it operates. If an allocation fails, more may have been added.
 fn reply(
     connection: &Connection,
     association: u16,
     answer: Answer,
     made: &mut Made,
-) -> Result<Effect, AllocError>
+) -> Result<Option<Due>, AllocError>
     requires open { IsSome (association_terms connection.now.talk.phase) }
     requires short { All (λ pdu. length pdu ≤ 65_000) answer.sent.items }
     requires ending { IsShort answer.ending }
-    ensures due { IfOk result (λ effect. effect.due
-        ≡ spec.due_if association (terms_of connection.now.talk) answer.ending) }
-    ensures controls { IfOk result (λ effect. effect.controls ≡ answer.controls) }
+    ensures due { IfOk result
+        (λ due. due ≡ spec.due_if association (terms_of connection.now.talk) answer.ending) }
     ensures sent { OnOk result
         (made.new.sent.items ≡ made.old.sent.items
         ++ map (λ pdu. sent_on association (sending (terms_of connection.now.talk) pdu))
@@ -161,27 +151,24 @@ fn reply(
 {
     send_all(connection, association, answer.sent, &mut made.sent)?;
     made.commands.extend_from_slice(answer.commands.as_slice())?;
-    let due = due_if(connection, association, answer.ending)?;
-    Ok(Effect {
-        due,
-        controls: answer.controls,
-    })
+    due_if(connection, association, answer.ending)
 }
 
-/// Answers a PDU. Changes nothing but what is made: if an allocation fails, more may have been
-/// added to it.
+/// Answers a PDU. `changed` becomes the controls after it, if it changes them. Changes nothing else
+/// but what is made: if an allocation fails, more may have been added to it.
 fn answer(
     alloc: Global,
     state: &DeviceState,
     client: Client,
     connection: &Connection,
+    changed: &mut Option<Controls>,
     made: &mut Made,
-) -> Result<Effect, AllocError>
+) -> Result<Option<Due>, AllocError>
     requires open { IsSome (association_terms connection.now.talk.phase) }
     requires least { 256 ≤ client.size }
     requires most { client.size ≤ 65_000 }
-    ensures ok { IfOk result (λ effect. (connections : List (Option Talk))
-        → done_of (with_effect effect (state_view connections state.now)) made.new
+    ensures ok { IfOk result (λ due. (connections : List (Option Talk))
+        → done_of (with_effect changed.new due (state_view connections state.now)) made.new
         ≡ answered_with client.association (terms_of connection.now.talk)
         (pdu_answer client connection.now.pdu (bay_of (state_view connections state.now)))
         (done_of (state_view connections state.now) made.old)) }
@@ -189,28 +176,27 @@ fn answer(
     ensures commands { take (length made.old.commands.items) made.new.commands.items
         ≡ made.old.commands.items }
 {
-    let answer = state.bay.answer(alloc, client, connection.pdu())?;
+    let answer = state.bay.answer(alloc, client, connection.pdu(), changed)?;
     reply(connection, client.association, answer, made)
 }
 
-/// Replaces the controls by those that a request has left, where it has changed them.
-fn replace_controls(controls: &mut Controls, changed: Option<Controls>)
-    ensures { controls.new ≡ left_by changed controls.old }
+/// Replaces the controls by those that a request has left, if it has changed them.
+fn replace_controls(controls: &mut Controls, changed: &Option<Controls>)
+    ensures { controls.new ≡ left_by changed.now controls.old }
 {
-    match changed {
-        Some(after) => *controls = after,
-        None => {}
+    if let Some(after) = changed {
+        *controls = after.duplicate();
     }
 }
 
-/// Puts in what an answered PDU does.
-fn put_in(state: &mut DeviceState, effect: Effect)
+/// Puts in what an answered PDU does: the controls after it, and what is due of a new execution.
+fn put_in(state: &mut DeviceState, changed: &Option<Controls>, due: Option<Due>)
     ensures { (connections : List (Option Talk))
         → state_view connections state.new
-        ≡ with_effect effect (state_view connections state.old) }
+        ≡ with_effect changed.now due (state_view connections state.old) }
 {
-    replace_controls(&mut state.bay.controls, effect.controls);
-    replace_due(&mut state.due, effect.due);
+    replace_controls(&mut state.bay.controls, changed);
+    replace_due(&mut state.due, due);
 }
 
 /// Answers a PDU of an association and does what it asks for. Changes nothing if an allocation
@@ -241,9 +227,10 @@ pub fn message(
     };
     let sent = made.sent.len();
     let commands = made.commands.len();
-    match answer(alloc, state, client, connection, made) {
-        Ok(effect) => {
-            put_in(state, effect);
+    let mut changed = None;
+    match answer(alloc, state, client, connection, &mut changed, made) {
+        Ok(due) => {
+            put_in(state, &changed, due);
             Ok(())
         }
         Err(fault) => {

@@ -1,7 +1,8 @@
 -- What was read of a PDU is what its octets ask.
-use Rattle.std.proofs.Common.{◌≡◌, ◌≢◌, ◌≤◌, ⊎_elim, Result, Ok, Err, IfOk, ap, sym, subst, ◌∙◌}
+use Rattle.std.proofs.Common.{◌≡◌, ◌≢◌, ◌≤◌, ⊎_elim, Option, Result, Ok, Err, IfOk, ap, sym, subst, ◌∙◌}
 use Rattle.std.specs.declared.alloc.AllocError.{AllocError}
 use Rattle.bay_base.specs.Exact.{Gives}
+use Rattle.bay_control.specs.Decisions.{State}
 use Rattle.bay_mms.specs.RequestViews.{message}
 use Rattle.bay_mms.specs.Requests.{Message}
 use Rattle.bay_mms.specs.declared.fault.MmsFault.{MmsFault}
@@ -21,31 +22,31 @@ asked-is (Ok r) held gives known = gives
 asked-is (Err e) held gives known =
     ⊎_elim (λ (is : e ≡ OutOfMemory). absurd (known (ap Err is))) (λ (is : held ≡ Err e). is) gives
 
-pub answered_as : (r : Result Answer AllocError) (c : Client) (b : Bay)
+pub answered_as : (r : Result Answer AllocError) (c : Client) (o : Option State) (b : Bay)
     (request : Result Request MmsFault) (held : Result Message MmsFault)
     → Gives OutOfMemory message request held
     → IfOk r (λ _. request ≢ Err OutOfMemory)
-    → IfOk r (λ a. AnswersAs a b (answer_of c b (read_as request)))
-    → IfOk r (λ a. AnswersAs a b (answer_of c b held))
-answered_as (Err e) c b request held gives known told = tt
-answered_as (Ok a) c b request held gives known told =
-    subst (λ (x : Result Message MmsFault). AnswersAs a b (answer_of c b x))
+    → IfOk r (λ a. AnswersAs a o b (answer_of c b (read_as request)))
+    → IfOk r (λ a. AnswersAs a o b (answer_of c b held))
+answered_as (Err e) c o b request held gives known told = tt
+answered_as (Ok a) c o b request held gives known told =
+    subst (λ (x : Result Message MmsFault). AnswersAs a o b (answer_of c b x))
     (sym (asked-is request held gives known)) told
 
-pub sent_short : (r : Result Answer AllocError) (c : Client) (b : Bay)
+pub sent_short : (r : Result Answer AllocError) (c : Client) (o : Option State) (b : Bay)
     (request : Result Request MmsFault) → c.size ≤ 65000
-    → IfOk r (λ a. AnswersAs a b (answer_of c b (read_as request)))
+    → IfOk r (λ a. AnswersAs a o b (answer_of c b (read_as request)))
     → IfOk r (λ a. AreShort a.sent.items)
-sent_short (Err e) c b request most told = tt
-sent_short (Ok a) c b request most told =
+sent_short (Err e) c o b request most told = tt
+sent_short (Ok a) c o b request most told =
     subst AreShort (sym told.sent) (answer-short c b (read_as request) most)
 
-pub end_short : (r : Result Answer AllocError) (c : Client) (b : Bay)
+pub end_short : (r : Result Answer AllocError) (c : Client) (o : Option State) (b : Bay)
     (request : Result Request MmsFault) → c.size ≤ 65000
-    → IfOk r (λ a. AnswersAs a b (answer_of c b (read_as request)))
+    → IfOk r (λ a. AnswersAs a o b (answer_of c b (read_as request)))
     → IfOk r (λ a. IsShort a.ending)
-end_short (Err e) c b request most told = tt
-end_short (Ok a) c b request most told =
+end_short (Err e) c o b request most told = tt
+end_short (Ok a) c o b request most told =
     subst IsShort (sym told.ending) (answer-end c b (read_as request) most)
 
 pub not-memory : (r : Result Answer AllocError) (request : Result Request MmsFault)

@@ -10,16 +10,18 @@ use Rattle.bay_ber.specs.declared.tag.Tag.{Tag}
 use Rattle.bay_ber.proofs.SizeLemmas.{length-element-is}
 use Rattle.bay_mms.proofs.PageLemmas.{more-than}
 use Rattle.bay_mms.specs.Tags.{constructed, int_tag}
-use Rattle.bay_mms.specs.Responses.{error_text, read_text}
+use Rattle.bay_mms.specs.Responses.{error_text, read_text, write_text}
 use Rattle.bay_mms.specs.declared.fault.EncodeFault.{EncodeFault}
 use Rattle.bay_mms.specs.declared.fault.EncodeFault.TheVariants.{TooLong, OutOfMemory}
 use Rattle.bay_mms.specs.declared.response.ErrorClass.TheVariants.{Resource}
 use Rattle.bay_mms.specs.Writing.{Adds, text_within}
-use Rattle.bay_services.specs.Answers.{Answered, read_done, response_answer, plain_answer, within}
-use Rattle.bay_services.specs.Bay.{Bay, with_controls}
+use Rattle.bay_services.specs.Answers.{Answered, read_done, response_answer, plain_answer, within, write_done}
+use Rattle.bay_control.specs.Decisions.{State}
+use Rattle.bay_services.specs.Bay.{Bay, left_by, with_controls}
 use Rattle.bay_services.specs.Reads.{Reading}
 use Rattle.bay_services.specs.Replies.{fitting}
 use Rattle.bay_services.specs.Views.{AnswersAs}
+use Rattle.bay_services.specs.Writes.{Writing}
 use Rattle.bay_services.specs.declared.answer.Answer.{Answer}
 use Rattle.bay_services.specs.declared.client.Client.{Client}
 
@@ -53,19 +55,43 @@ pub within-over : (c : Client) (id : ℕ) (b : Bay) (response : List ℕ) (answe
 within-over c id b response answer is =
     ap (λ t. cond t answer (plain_answer (error_text id Resource) b)) (over c.size response is)
 
+pub read-over : (c : Client) (id : ℕ) (b : Bay) (r : Reading) (was : Option (List ℕ))
+    → was ≡ fitting c.size (read_text id r.results) → was ≡ None
+    → read_done c id b r ≡ plain_answer (error_text id Resource) b
+read-over c id b r was is none = within-over c id b (read_text id r.results) _ (sym is ∙ none)
+
+pub write-over : (c : Client) (id : ℕ) (b : Bay) (w : Writing) (was : Option (List ℕ))
+    → was ≡ fitting c.size (write_text id w.results) → was ≡ None
+    → write_done c id b w ≡ plain_answer (error_text id Resource) b
+write-over c id b w was is none = within-over c id b (write_text id w.results) _ (sym is ∙ none)
+
 -- ---- answers
 
 pub said_as : (r : Result Answer AllocError) (p : List ℕ) (b : Bay) (x : Answered)
-    → IfOk r (λ a. (d : Bay) → AnswersAs a d (plain_answer p d)) → x ≡ plain_answer p b
-    → IfOk r (λ a. AnswersAs a b x)
-said_as (Ok a) p b x told is = subst (AnswersAs a b) (sym is) (told b)
+    → IfOk r (λ a. (d : Bay) → AnswersAs a None d (plain_answer p d)) → x ≡ plain_answer p b
+    → IfOk r (λ a. AnswersAs a None b x)
+said_as (Ok a) p b x told is = subst (AnswersAs a None b) (sym is) (told b)
 said_as (Err e) p b x told is = tt
 
+pub said-with : (r : Result Answer AllocError) (p : List ℕ) (o : Option State) (b : Bay)
+    (x : Answered) → IfOk r (λ a. (d : Bay) → AnswersAs a None d (plain_answer p d))
+    → x ≡ record (plain_answer p b) { after = with_controls (left_by o b.controls) b }
+    → IfOk r (λ a. AnswersAs a o b x)
+said-with (Ok a) p o b x told is =
+    let plain = told b in
+    subst (AnswersAs a o b) (sym is) (record {
+      sent = plain.sent;
+      commands = plain.commands;
+      ending = plain.ending;
+      left = refl;
+    })
+said-with (Err e) p o b x told is = tt
+
 pub said_alike : (r : Result Answer AllocError) (p q : List ℕ) → p ≡ q
-    → IfOk r (λ a. (d : Bay) → AnswersAs a d (plain_answer p d))
-    → IfOk r (λ a. (d : Bay) → AnswersAs a d (plain_answer q d))
+    → IfOk r (λ a. (d : Bay) → AnswersAs a None d (plain_answer p d))
+    → IfOk r (λ a. (d : Bay) → AnswersAs a None d (plain_answer q d))
 said_alike r p q is told =
-    subst (λ (s : List ℕ). IfOk r (λ a. (d : Bay) → AnswersAs a d (plain_answer s d))) is told
+    subst (λ (s : List ℕ). IfOk r (λ a. (d : Bay) → AnswersAs a None d (plain_answer s d))) is told
 
 pub responded-fits : (c : Client) (id : ℕ) (b : Bay) (pdu found : List ℕ) (was : Option (List ℕ))
     → was ≡ fitting c.size pdu → was ≡ Some found
@@ -192,6 +218,7 @@ all_three (Ok done) P Q S R p q s f = f p q s
 all_three (Err e) P Q S R p q s f = tt
 
 pub answered_from : (r : Result Answer AllocError) (x : Bay → Answered) (b : Bay) (y : Answered)
-    → IfOk r (λ a. (d : Bay) → AnswersAs a d (x d)) → y ≡ x b → IfOk r (λ a. AnswersAs a b y)
-answered_from (Ok a) x b y told is = subst (AnswersAs a b) (sym is) (told b)
+    → IfOk r (λ a. (d : Bay) → AnswersAs a None d (x d)) → y ≡ x b
+    → IfOk r (λ a. AnswersAs a None b y)
+answered_from (Ok a) x b y told is = subst (AnswersAs a None b) (sym is) (told b)
 answered_from (Err e) x b y told is = tt

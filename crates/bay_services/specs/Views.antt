@@ -40,12 +40,13 @@ writing b changed w =
       ending = w.ending;
     }
 
--- The answer is this, and so is the bay once its controls are put in.
-pub record AnswersAs (answer : Answer) (before : Bay) (answered : Answered) : Type 0 where
+-- The answer is this, and so is the bay once the changed controls are put in.
+pub record AnswersAs (answer : Answer) (changed : Option State) (before : Bay) (answered : Answered)
+    : Type 0 where
   pub sent : answer.sent.items ≡ answered.sent
   pub commands : answer.commands.items ≡ answered.commands
   pub ending : answer.ending ≡ answered.ending
-  pub left : with_controls (left_by answer.controls before.controls) before ≡ answered.after
+  pub left : with_controls (left_by changed before.controls) before ≡ answered.after
 
 -- what was read of a PDU
 abbrev pub read_as : Result Request MmsFault → Result Message MmsFault

@@ -1,6 +1,5 @@
 // What a PDU comes to.
 use bay_ber::outgoing::Outgoing;
-use bay_control::controls::Controls;
 
 /// A command to operate a switch.
 #[derive(Clone, Copy, Debug, PartialEq, Eq)]
@@ -21,7 +20,7 @@ pub struct Ending {
     pub negative: Option<Outgoing>,
 }
 
-/// What a PDU of a client is answered, and what it does once that is sent.
+/// What a PDU of a client is answered, and what it asks of others than the bay.
 #[derive(Drop)]
 pub struct Answer {
     /// The PDUs of MMS to send, in order: reports that controls are refused, and then the response.
@@ -30,6 +29,4 @@ pub struct Answer {
     pub commands: Vec<Command>,
     /// The reports of the end, for an operate of a switch with enhanced security.
     pub ending: Option<Ending>,
-    /// The controls after it, where it changed them.
-    pub controls: Option<Controls>,
 }

@@ -33,20 +33,19 @@ use std::alloc::{AllocError, Global};
 
 // An answer that does nothing.
 fn said(alloc: Global, pdu: Outgoing) -> Result<Answer, AllocError>
-    ensures { IfOk result (λ answer. (b : Bay) → AnswersAs answer b (spec.plain_answer pdu b)) }
+    ensures { IfOk result (λ answer. (b : Bay) → AnswersAs answer None b (spec.plain_answer pdu b)) }
 {
     Ok(Answer {
         sent: vec![in alloc; pdu]?,
         commands: Vec::new(alloc),
         ending: None,
-        controls: None,
     })
 }
 
 // An error, which does nothing.
 fn failed(alloc: Global, id: u32, class: ErrorClass) -> Result<Answer, AllocError>
     ensures { IfOk result (λ answer. (b : Bay)
-        → AnswersAs answer b (spec.plain_answer (error_text id class) b)) }
+        → AnswersAs answer None b (spec.plain_answer (error_text id class) b)) }
 {
     let error = write_error(alloc, id, class)?;
     said(alloc, error)
@@ -55,7 +54,7 @@ fn failed(alloc: Global, id: u32, class: ErrorClass) -> Result<Answer, AllocErro
 // A reject, which does nothing.
 fn rejected(alloc: Global, id: Option<u32>, reason: RejectReason) -> Result<Answer, AllocError>
     ensures { IfOk result (λ answer. (b : Bay)
-        → AnswersAs answer b (spec.reject_answer id reason b)) }
+        → AnswersAs answer None b (spec.reject_answer id reason b)) }
 {
     let reject = write_reject(alloc, id, reason)?;
     said(alloc, reject)
@@ -64,7 +63,7 @@ fn rejected(alloc: Global, id: Option<u32>, reason: RejectReason) -> Result<Answ
 // The answer to a conclude, which does nothing.
 fn concluded(alloc: Global) -> Result<Answer, AllocError>
     ensures { IfOk result (λ answer. (b : Bay)
-        → AnswersAs answer b (spec.plain_answer concluded_text b)) }
+        → AnswersAs answer None b (spec.plain_answer concluded_text b)) }
 {
     let conclude = write_conclude(alloc)?;
     said(alloc, conclude)
@@ -73,7 +72,7 @@ fn concluded(alloc: Global) -> Result<Answer, AllocError>
 // What answers octets that ask for nothing that is served.
 fn refused(alloc: Global, fault: MmsFault) -> Result<Answer, AllocError>
     ensures told { IfOk result
-        (λ answer. (b : Bay) → AnswersAs answer b (spec.refusal_answer fault b)) }
+        (λ answer. (b : Bay) → AnswersAs answer None b (spec.refusal_answer fault b)) }
     ensures memory { IfOk result (λ _. fault ≢ MmsFault.OutOfMemory) }
 {
     match fault {
@@ -96,7 +95,7 @@ fn responded(
     ensures { (pdu : List ℕ) (b : Bay)
         → Gives EncodeFault.OutOfMemory (λ octets. octets) response
         (text_within client.size pdu)
-        → IfOk result (λ answer. AnswersAs answer b (spec.response_answer client id b pdu)) }
+        → IfOk result (λ answer. AnswersAs answer None b (spec.response_answer client id b pdu)) }
 {
     match fitting(response)? {
         Some(pdu) => said(alloc, pdu),
@@ -107,7 +106,7 @@ fn responded(
 impl ServedBay {
     // Who made the device, its model and its revision.
     fn identify(&self, alloc: Global, client: Client, id: u32) -> Result<Answer, AllocError>
-        ensures { IfOk result (λ answer. AnswersAs answer (bay_view self.now)
+        ensures { IfOk result (λ answer. AnswersAs answer None (bay_view self.now)
             (identify_answer client id (bay_view self.now))) }
     {
         let service = Service::Identify {
@@ -127,7 +126,7 @@ impl ServedBay {
         id: u32,
         name: &ObjectName<'_>,
     ) -> Result<Answer, AllocError>
-        ensures { IfOk result (λ answer. AnswersAs answer (bay_view self.now)
+        ensures { IfOk result (λ answer. AnswersAs answer None (bay_view self.now)
             (attributes_at client id (bay_view self.now)
             (row_named (bay_view self.now) (naming name.now)))) }
     {
@@ -177,19 +176,19 @@ impl ServedBay {
         client: Client,
         id: u32,
         names: &[ObjectName<'_>],
+        changed: &mut Option<Controls>,
     ) -> Result<Answer, AllocError>
-        ensures { IfOk result (λ answer. AnswersAs answer (bay_view self.now)
+        requires { changed.old ≡ None }
+        ensures { IfOk result (λ answer. AnswersAs answer changed.new (bay_view self.now)
             (read_asked client id (bay_view self.now) (map naming names.now))) }
     {
-        let mut controls = None;
-        let response = self.read_response(alloc, client, id, names, &mut controls);
+        let response = self.read_response(alloc, client, id, names, changed);
         match fitting(response)? {
-            Some(pdu) => {
-                let mut answer = said(alloc, pdu)?;
-                answer.controls = controls;
-                Ok(answer)
+            Some(pdu) => said(alloc, pdu),
+            None => {
+                *changed = None;
+                failed(alloc, id, ErrorClass::Resource)
             }
-            None => failed(alloc, id, ErrorClass::Resource),
         }
     }
 
@@ -202,18 +201,19 @@ impl ServedBay {
         id: u32,
         names: &[ObjectName<'_>],
         values: &[Data<'_>],
+        changed: &mut Option<Controls>,
     ) -> Result<Answer, AllocError>
-        ensures { IfOk result (λ answer. AnswersAs answer (bay_view self.now)
+        requires { changed.old ≡ None }
+        ensures { IfOk result (λ answer. AnswersAs answer changed.new (bay_view self.now)
             (write_asked client id (bay_view self.now) (map naming names.now) (data_in values.now))) }
     {
-        let mut controls = None;
         let mut done = Written {
             response: WriteResponse::new(alloc),
             reports: Vec::new(alloc),
             commands: Vec::new(alloc),
             ending: None,
         };
-        self.write_all(alloc, client, names, values, &mut controls, &mut done)?;
+        self.write_all(alloc, client, names, values, changed, &mut done)?;
         let Written {
             response,
             mut reports,
@@ -227,10 +227,12 @@ impl ServedBay {
                     sent: reports,
                     commands,
                     ending,
-                    controls,
                 })
             }
-            None => failed(alloc, id, ErrorClass::Resource),
+            None => {
+                *changed = None;
+                failed(alloc, id, ErrorClass::Resource)
+            }
         }
     }
 
@@ -241,10 +243,12 @@ impl ServedBay {
         client: Client,
         id: u32,
         call: &Call<'_>,
+        changed: &mut Option<Controls>,
     ) -> Result<Answer, AllocError>
         requires least { 256 ≤ client.size }
         requires most { client.size ≤ 65_000 }
-        ensures { IfOk result (λ answer. AnswersAs answer (bay_view self.now)
+        requires first { changed.old ≡ None }
+        ensures { IfOk result (λ answer. AnswersAs answer changed.new (bay_view self.now)
             (service_answer client id (bay_view self.now) (asking call.now))) }
     {
         match call {
@@ -258,8 +262,10 @@ impl ServedBay {
                 responded(alloc, client, id, response)
             }
             Call::Attributes(name) => self.attributes(alloc, client, id, name),
-            Call::Read(names) => self.read(alloc, client, id, names),
-            Call::Write { names, values } => self.write(alloc, client, id, names, values),
+            Call::Read(names) => self.read(alloc, client, id, names, changed),
+            Call::Write { names, values } => {
+                self.write(alloc, client, id, names, values, changed)
+            }
         }
     }
 
@@ -269,38 +275,49 @@ impl ServedBay {
         alloc: Global,
         client: Client,
         request: Result<Request<'_>, MmsFault>,
+        changed: &mut Option<Controls>,
     ) -> Result<Answer, AllocError>
         requires least { 256 ≤ client.size }
         requires most { client.size ≤ 65_000 }
+        requires first { changed.old ≡ None }
         ensures ok { IfOk result
-            (λ answer. AnswersAs answer (bay_view self.now)
+            (λ answer. AnswersAs answer changed.new (bay_view self.now)
             (answer_of client (bay_view self.now) (read_as request.entry))) }
         ensures memory { IfOk result (λ _. request.entry ≢ Err MmsFault.OutOfMemory) }
     {
         match request {
             Ok(Request::Initiate(_)) => rejected(alloc, None, RejectReason::InvalidPdu),
             Ok(Request::Conclude) => concluded(alloc),
-            Ok(Request::Confirmed { id, call }) => self.serve(alloc, client, id, &call),
+            Ok(Request::Confirmed { id, call }) => self.serve(alloc, client, id, &call, changed),
             Err(fault) => refused(alloc, fault),
         }
     }
 
-    /// Answers the octets that a client sent as a PDU of MMS. Changes nothing: what the PDU does to
-    /// the controls is part of the answer, and is put in once the answer can be sent.
+    /// Answers the octets that a client sent as a PDU of MMS. Changes nothing: `changed` becomes
+    /// the controls after it if it changes them, to be put in once the answer can be sent, and
+    /// otherwise
+    /// `None`.
     ///
     /// Each PDU of the answer has at most 65,000 octets, and so have the reports of an end. A
     /// response longer than the agreed size is replaced by an error of the class resource, and then
     /// the answer does nothing. An error means that an allocation failed.
-    pub fn answer(&self, alloc: Global, client: Client, pdu: &[u8]) -> Result<Answer, AllocError>
+    pub fn answer(
+        &self,
+        alloc: Global,
+        client: Client,
+        pdu: &[u8],
+        changed: &mut Option<Controls>,
+    ) -> Result<Answer, AllocError>
         requires least { 256 ≤ client.size }
         requires most { client.size ≤ 65_000 }
         ensures ok { IfOk result
-            (λ answer. AnswersAs answer (bay_view self.now)
+            (λ answer. AnswersAs answer changed.new (bay_view self.now)
             (pdu_answer client pdu.now (bay_view self.now))) }
         ensures short { IfOk result (λ answer. All (λ pdu. length pdu ≤ 65_000) answer.sent.items) }
         ensures ending { IfOk result (λ answer. IsShort answer.ending) }
     {
+        *changed = None;
         let request = read_request(alloc, pdu);
-        self.respond(alloc, client, request)
+        self.respond(alloc, client, request, changed)
     }
 }

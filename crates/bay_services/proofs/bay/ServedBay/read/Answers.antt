@@ -1,28 +1,34 @@
-use Rattle.std.proofs.Common.{◌≡◌, true, is_ok, map, ap, sym, subst}
+use Rattle.std.proofs.Common.{◌≡◌, true, is_ok, map, ap, sym, ◌∙◌}
 use Rattle.bay_control.specs.Decisions.{State}
 use Rattle.bay_mms.specs.RequestViews.{naming}
-use Rattle.bay_services.specs.Bay.{with_controls}
+use Rattle.bay_services.specs.Answers.{Answered, plain_answer}
+use Rattle.bay_services.specs.Bay.{left_by, with_controls}
 use Rattle.bay_services.specs.Reads.{nothing_read, read_all}
-use Rattle.bay_services.specs.Views.{AnswersAs, bay_view}
-use Rattle.bay_services.proofs.ReplyLemmas.{done, read-fits}
+use Rattle.bay_services.specs.Views.{bay_view}
+use Rattle.bay_services.proofs.ReplyLemmas.{done, read-fits, read-over, said-with, said_as}
 use Rattle.bay_services.proofs.bay.ServedBay.read.Goals as goal
 
-pub returns-in_ok-answer-in-Some : goal.returns-in_ok-answer-in-Some
-returns-in_ok-answer-in-Some c =
+pub returns-in-Some : goal.returns-in-Some
+returns-in-Some c =
     let b = bay_view c.args.self.now in
     let r = read_all c.args.client b (map naming c.args.names.now) (nothing_read b) in
     let made : is_ok c.read_response-response.result ≡ true =
     rw c.in-Some.is at c.in_ok-pdu.ensures.made in
-    let after =
-    done c.read_response-response.result _ made c.read_response-response.ensures.after in
-    let told = c.in_ok-answer-in-Some.ensures b in
-    subst (AnswersAs _ b)
-    (sym (read-fits c.args.client c.args.id b r c.in-Some.pdu c.in_ok-pdu.field-0
-    (c.in_ok-pdu.ensures.pdu c.args.client.size _ c.read_response-response.ensures.response)
-    c.in-Some.is))
-    (record {
-      sent = told.sent;
-      commands = told.commands;
-      ending = told.ending;
-      left = ap (λ (s : State). with_controls s b) after;
-    })
+    let after : left_by c.read_response-response.new.changed b.controls ≡ r.controls =
+    rw c.requires at
+    (done c.read_response-response.result _ made c.read_response-response.ensures.after) in
+    said-with c.said.result c.in-Some.pdu _ b _ c.said.ensures
+    (read-fits c.args.client c.args.id b r c.in-Some.pdu c.in_ok-pdu.field-0
+    (c.in_ok-pdu.ensures.pdu c.args.client.size _
+    (rw c.requires at c.read_response-response.ensures.response)) c.in-Some.is
+    ∙ ap (λ (s : State). let x : Answered =
+    record (plain_answer c.in-Some.pdu b) { after = with_controls s b } in x) (sym after))
+
+pub returns-in-None : goal.returns-in-None
+returns-in-None c =
+    let b = bay_view c.args.self.now in
+    let r = read_all c.args.client b (map naming c.args.names.now) (nothing_read b) in
+    said_as c.failed.result _ b _ c.failed.ensures
+    (read-over c.args.client c.args.id b r c.in_ok-pdu.field-0
+    (c.in_ok-pdu.ensures.pdu c.args.client.size _
+    (rw c.requires at c.read_response-response.ensures.response)) c.in-None.is)

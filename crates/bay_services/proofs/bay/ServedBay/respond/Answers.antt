@@ -13,25 +13,28 @@ use Rattle.bay_services.proofs.bay.ServedBay.respond.Goals as goal
 pub returns-in-Ok-Initiate-clause-ok : goal.returns-in-Ok-Initiate-clause-ok
 returns-in-Ok-Initiate-clause-ok c =
     let b = bay_view c.args.self.now in
-    answered_from c.rejected.result (λ (d : Bay). reject_answer None InvalidPdu d) b _
+    rw c.requires.first (answered_from c.rejected.result
+    (λ (d : Bay). reject_answer None InvalidPdu d) b _
     c.rejected.ensures
     (ap (λ (q : Result Request MmsFault). answer_of c.args.client b (read_as q))
-    (c.in-Ok-Initiate.is ∙ ap Ok c.in-Ok-Initiate.field-0-is))
+    (c.in-Ok-Initiate.is ∙ ap Ok c.in-Ok-Initiate.field-0-is)))
 
 pub returns-in-Ok-Conclude-clause-ok : goal.returns-in-Ok-Conclude-clause-ok
 returns-in-Ok-Conclude-clause-ok c =
     let b = bay_view c.args.self.now in
-    answered_from c.concluded.result (λ (d : Bay). plain_answer concluded_text d) b _
+    rw c.requires.first (answered_from c.concluded.result
+    (λ (d : Bay). plain_answer concluded_text d) b _
     c.concluded.ensures
     (ap (λ (q : Result Request MmsFault). answer_of c.args.client b (read_as q))
-    (c.in-Ok-Conclude.is ∙ ap Ok c.in-Ok-Conclude.field-0-is))
+    (c.in-Ok-Conclude.is ∙ ap Ok c.in-Ok-Conclude.field-0-is)))
 
 pub returns-in-Err-clause-ok : goal.returns-in-Err-clause-ok
 returns-in-Err-clause-ok c =
     let b = bay_view c.args.self.now in
-    answered_from c.refused.result (λ (d : Bay). refusal_answer c.in-Err.fault d) b _
+    rw c.requires.first (answered_from c.refused.result
+    (λ (d : Bay). refusal_answer c.in-Err.fault d) b _
     c.refused.ensures.told (ap
-    (λ (q : Result Request MmsFault). answer_of c.args.client b (read_as q)) c.in-Err.is)
+    (λ (q : Result Request MmsFault). answer_of c.args.client b (read_as q)) c.in-Err.is))
 
 pub returns-in-Err-clause-memory : goal.returns-in-Err-clause-memory
 returns-in-Err-clause-memory c =
