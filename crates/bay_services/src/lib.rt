@@ -2,11 +2,11 @@
 // controls (ISO 9506-2; IEC 61850-8-1). Nothing here knows of connections.
 //
 // `bay` (what clients see of a bay and do to it), `client` (who asks, and when), `answer` (what a
-// PDU comes to, with the controls after it), `services` (which answers, and changes nothing),
-// `decisions` (what clients see of a selection, and decisions of a switch), `laws` (what holds of
-// it). Within: `target` tells which control a row is, `reading` and `writing` do the variables of a
-// read and of a write on a copy of the controls, `listing` answers with names, and `reply` keeps
-// answers within the size of a PDU.
+// PDU comes to), `services` (which answers, and lends out the controls after it), `decisions` (what
+// clients see of a selection, and decisions of a switch), `laws` (what holds of it). Within:
+// `target` tells which control a row is, `reading` and `writing` do the variables of a read and of
+// a write on a copy of the controls, `listing` answers with names, and `reply` keeps answers within
+// the size of a PDU.
 #![tactic(auto)]
 
 pub mod answer;
