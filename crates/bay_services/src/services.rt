@@ -295,8 +295,7 @@ impl ServedBay {
 
     /// Answers the octets that a client sent as a PDU of MMS. Changes nothing: `changed` becomes
     /// the controls after it if it changes them, to be put in once the answer can be sent, and
-    /// otherwise
-    /// `None`.
+    /// otherwise `None`.
     ///
     /// Each PDU of the answer has at most 65,000 octets, and so have the reports of an end. A
     /// response longer than the agreed size is replaced by an error of the class resource, and then
