@@ -258,7 +258,12 @@ impl Tree {
 
     /// Returns the first `count` names that follow the row with a name, or the first of all if no
     /// name is given, and whether there are more. A failed allocation changes nothing.
-    pub fn names_after(&self, after: Option<&str>, count: usize) -> Result<Names, NamesFault>
+    pub fn names_after(
+        &self,
+        alloc: Global,
+        after: Option<&str>,
+        count: usize,
+    ) -> Result<Names, NamesFault>
         ensures page { IfOk result
             (λ page. page ≡ page_after self.now (option_copied after.entry) count) }
         ensures unknown { (result ≡ Err NamesFault.NoSuchName)
@@ -269,7 +274,7 @@ impl Tree {
             None => return Err(NamesFault::NoSuchName),
         };
         let rest = &self.nodes.as_slice()[start..];
-        let names = first_names(*self.nodes.allocator(), rest, count)?;
+        let names = first_names(alloc, rest, count)?;
         Ok(Names {
             names: Listing::new(names),
             more: count < rest.len(),
@@ -280,6 +285,7 @@ impl Tree {
     /// row.
     pub fn names_after_octets(
         &self,
+        alloc: Global,
         after: Option<&[u8]>,
         count: usize,
     ) -> Result<Names, NamesFault>
@@ -289,11 +295,11 @@ impl Tree {
             ↔ IsUnknown self.now (option_copied after.entry) }
     {
         let name = match after {
-            None => return self.names_after(None, count),
+            None => return self.names_after(alloc, None, count),
             Some(name) => name,
         };
         match self.find_octets(name) {
-            Ok(row) => self.names_after(Some(self.name(row)), count),
+            Ok(row) => self.names_after(alloc, Some(self.name(row)), count),
             Err(_) => Err(NamesFault::NoSuchName),
         }
     }

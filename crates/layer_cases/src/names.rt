@@ -51,13 +51,13 @@ fn check_page(page: &Names, words: &[&str], start: usize, count: usize) -> Resul
 
 /// Checks the names of a tree in pages of `count`, each page after a name given as text and as
 /// octets.
-fn check_pages(tree: &Tree, words: &[&str], count: usize) -> Result<()> {
+fn check_pages(alloc: Global, tree: &Tree, words: &[&str], count: usize) -> Result<()> {
     let mut at = 0usize;
     for _ in 0..=words.len() {
         let before = name_at(words, at.wrapping_sub(1));
-        let next = check_page(&tree.names_after(before, count)?, words, at, count)?;
+        let next = check_page(&tree.names_after(alloc, before, count)?, words, at, count)?;
         let octets = before.map(|name| name.as_bytes());
-        let same = check_page(&tree.names_after_octets(octets, count)?, words, at, count)?;
+        let same = check_page(&tree.names_after_octets(alloc, octets, count)?, words, at, count)?;
         check(same == next)?;
         at = next;
     }
@@ -65,21 +65,21 @@ fn check_pages(tree: &Tree, words: &[&str], count: usize) -> Result<()> {
 }
 
 /// Checks that each name is found as octets, and that octets that are not text name nothing.
-fn check_found(tree: &Tree, words: &[&str]) -> Result<()> {
+fn check_found(alloc: Global, tree: &Tree, words: &[&str]) -> Result<()> {
     for at in 0..words.len() {
         let name = name_at(words, at).unwrap_or("");
         check_text(tree.name(tree.find_octets(name.as_bytes())?), name)?;
     }
     let no_text: &[u8] = &[255];
     check(tree.find_octets(no_text).is_err())?;
-    check(tree.names_after_octets(Some(no_text), 1).is_err())
+    check(tree.names_after_octets(alloc, Some(no_text), 1).is_err())
 }
 
 /// Checks that a tree has the names of these words, and lists them in pages of several sizes.
-fn check_tree(tree: &Tree, words: &[&str]) -> Result<()> {
-    check_found(tree, words)?;
+fn check_tree(alloc: Global, tree: &Tree, words: &[&str]) -> Result<()> {
+    check_found(alloc, tree, words)?;
     for count in [1usize, 53, 54, 100, 154, 200] {
-        check_pages(tree, words, count)?;
+        check_pages(alloc, tree, words, count)?;
     }
     Ok(())
 }
@@ -91,7 +91,7 @@ pub fn check_names(alloc: Global, wanted: &str) -> Result<()> {
     if !is_tree(alloc, rows.as_slice())? {
         bail!("the names are no tree's");
     }
-    check_tree(&Tree::build(alloc, rows)?, words.as_slice())
+    check_tree(alloc, &Tree::build(alloc, rows)?, words.as_slice())
 }
 
 /// Checks whether the rows of words make a tree: `true` or `false`, and the words.
