@@ -182,8 +182,9 @@ pub fn write_whole<F: FileSystem>(
         (λ fault. WritesWhole F.writes 100 0 name.now octets.now files.old files.new (Some fault)) }
 {
     for number in 0..TRIES {
-        let Ok(beside) = beside_name(alloc, name, number) else {
-            return Err(FileFault::OutOfMemory);
+        let beside = match beside_name(alloc, name, number) {
+            Ok(beside) => beside,
+            Err(AllocError) => return Err(FileFault::OutOfMemory),
         };
         match files.write(name, beside.as_str(), octets) {
             Ok(true) => return Ok(()),

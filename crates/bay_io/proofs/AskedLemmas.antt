@@ -1,7 +1,7 @@
 -- Lemmas on the calls that a source or a sink was asked.
-use Rattle.std.proofs.Common.{◌≡◌, ℕ, ◌+◌, ◌≤◌, Bool, true, false, ◌||◌, List, [], ◌∷◌, ◌++◌, length, length-append, Result, Ok, Err, is_err, refl, ap, sym, subst, ◌∙◌, arith}
+use Rattle.std.proofs.Common.{◌≡◌, ℕ, ◌+◌, ◌≤◌, Bool, true, false, ◌||◌, List, [], ◌∷◌, ◌++◌, length-append, Result, Ok, Err, is_err, refl, ap, sym, subst, ◌∙◌, arith}
 use Rattle.std.proofs.Math.Bool.{or_assoc}
-use Rattle.bay_io.specs.Calls.{Asked, AskedFew, ReadCall, Talks, WriteCall, flushes, read_failed, reads, some_call, write_failed, writes}
+use Rattle.bay_io.specs.Calls.{Asked, AskedFew, Talks, flushes, read_failed, reads, some_call, write_failed, writes}
 use Rattle.bay_io.specs.Watched.{write_fails}
 
 pub or-false : (b : Bool) → b ≡ (b || false)

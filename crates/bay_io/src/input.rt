@@ -1,11 +1,11 @@
 // All octets of a reader, up to a limit.
-ghost use Rattle.std.specs.Prelude.{◌≡◌, ◌+◌, ◌-◌, ◌^◌, ◌<◌, ◌≤◌, ◌++◌, true, length, vec_len, IfOk, IfSome};
+ghost use Rattle.std.specs.Prelude.{◌≡◌, ◌+◌, ◌-◌, ◌^◌, ◌<◌, ◌≤◌, ◌++◌, true, is_ok, length, vec_len, IfOk, IfSome};
 ghost use Rattle.bay_io.specs.Calls.{AskedFew, read_failed};
 ghost use Rattle.bay_io.specs.Input.{failed_of};
 
 use crate::calls::Source;
 use crate::reader::WatchedReader;
-use std::alloc::Global;
+use std::alloc::{AllocError, Global};
 use thiserror::Error;
 
 /// How many octets a single read asks for.
@@ -24,13 +24,13 @@ pub enum ReadFault {
     OutOfMemory,
 }
 
-/// Adds octets to those kept, if all octets before them were kept. Returns false if they were not,
-/// or if an allocation failed.
-fn keep(all: &mut Vec<u8>, is_whole: bool, octets: &[u8]) -> bool
-    ensures { result ≡ true
-        → (is_whole ≡ true) × (all.new.items ≡ all.old.items ++ octets.now) }
+/// Adds octets to those kept, if all octets before them were kept.
+fn keep(all: &mut Vec<u8>, kept: Result<(), AllocError>, octets: &[u8]) -> Result<(), AllocError>
+    ensures { is_ok result ≡ true
+        → (is_ok kept ≡ true) × (all.new.items ≡ all.old.items ++ octets.now) }
 {
-    is_whole && all.extend_from_slice(octets).is_ok()
+    kept?;
+    all.extend_from_slice(octets)
 }
 
 /// Reads all octets that the reader has left, if there are at most `limit`. Makes at most `limit` +
@@ -58,22 +58,22 @@ pub fn read_all<R: Source>(
     }
     let mut all = Vec::new(alloc);
     let mut count = 0;
-    let mut is_whole = true;
+    let mut kept = Ok(());
     let mut piece = [0u8; PIECE];
     for turn in 0..limit + 1 {
         match reader.read(&mut piece) {
             Ok(0) => {
-                if is_whole {
-                    return Ok(all);
-                }
-                return Err(ReadFault::OutOfMemory);
+                return match kept {
+                    Ok(()) => Ok(all),
+                    Err(AllocError) => Err(ReadFault::OutOfMemory),
+                };
             }
             Ok(n) => {
                 if limit - count < n {
                     return Err(ReadFault::TooLong);
                 }
                 count += n;
-                is_whole = keep(&mut all, is_whole, &piece[..n]);
+                kept = keep(&mut all, kept, &piece[..n]);
             }
             Err(_) => return Err(ReadFault::Failed),
         }

@@ -1,16 +1,16 @@
-use Rattle.std.proofs.Common.{rules, ◌+◌, ◌||◌, ap, refl, ◌∙◌, arith}
+use Rattle.std.proofs.Common.{rules, is_ok, ◌+◌, ◌||◌, ap, refl, ◌∙◌, arith}
 use Rattle.bay_io.proofs.AskedLemmas.{AskedFew-more, AskedFew-none, AskedFew-step, read-failed}
 use Rattle.bay_io.proofs.ReadLemmas.{HasRead-start, HasRead-end, HasRead-few, HasRead-over, HasRead-step}
 use Rattle.bay_io.proofs.input.read_all.Goals as goal
 
-pub returns-then-is_whole-clause-ok : goal.returns-then-is_whole-clause-ok
-returns-then-is_whole-clause-ok g c =
+pub returns-in-Ok-kept-clause-ok : goal.returns-in-Ok-kept-clause-ok
+returns-in-Ok-kept-clause-ok g c =
     let e = c.in-Ok-eq0.ensures in
     HasRead-end _ _ _ _ _ _ _ _ c.loop-turn.invariant.read e.bytes.0 c.in-Ok-eq0.field-0-test
-    (e.bytes.1 c.in-Ok-eq0.field-0-test (omega arith)) c.if-is_whole.true
+    (e.bytes.1 c.in-Ok-eq0.field-0-test (omega arith)) (ap is_ok c.in-Ok-kept.is)
 
-pub returns-in-Ok-eq0-clause-memory : goal.returns-in-Ok-eq0-clause-memory
-returns-in-Ok-eq0-clause-memory g c =
+pub returns-in-Err-kept-clause-memory : goal.returns-in-Err-kept-clause-memory
+returns-in-Err-kept-clause-memory g c =
     let e = c.in-Ok-eq0.ensures in
     λ _. HasRead-few _ _ _ _ _ _ _ _ c.loop-turn.invariant.read e.bytes.0 c.args.limit
     c.in-Ok-eq0.field-0-test (e.bytes.1 c.in-Ok-eq0.field-0-test (omega arith))
@@ -30,7 +30,7 @@ loop-turn-preserved g c =
       at_least = omega arith;
       read =
           HasRead-step _ _ _ _ _ _ _ _ c.loop-turn.invariant.read e.bytes.0
-          c.keep-is_whole.result _ (omega arith) c.keep-is_whole.ensures;
+          (is_ok c.keep-kept.result) _ (omega arith) c.keep-kept.ensures;
       counted = omega arith;
       quiet = rw c.loop-turn.invariant.quiet at e.failed;
       sized = omega arith;
@@ -54,15 +54,15 @@ loop-turn-init g c = record {
   sized = refl;
 }
 
-pub returns-then-is_whole-clause-asked : goal.returns-then-is_whole-clause-asked
-returns-then-is_whole-clause-asked g c =
+pub returns-in-Ok-kept-clause-asked : goal.returns-in-Ok-kept-clause-asked
+returns-in-Ok-kept-clause-asked g c =
     AskedFew-more _ _ _ _ (c.loop-turn.turn + 1) _ (omega arith)
     (AskedFew-step _ _ _ _ _ _ _ _ c.loop-turn.invariant.asked c.read.ensures.call
     (c.read.ensures.failed
     ∙ ap (λ b. c.loop-turn.reader.has_failed || b) (read-failed 0 c.read.result _)))
 
-pub returns-in-Ok-eq0-clause-asked : goal.returns-in-Ok-eq0-clause-asked
-returns-in-Ok-eq0-clause-asked g c =
+pub returns-in-Err-kept-clause-asked : goal.returns-in-Err-kept-clause-asked
+returns-in-Err-kept-clause-asked g c =
     AskedFew-more _ _ _ _ (c.loop-turn.turn + 1) _ (omega arith)
     (AskedFew-step _ _ _ _ _ _ _ _ c.loop-turn.invariant.asked c.read.ensures.call
     (c.read.ensures.failed
