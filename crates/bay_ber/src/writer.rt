@@ -1,5 +1,5 @@
 // A writer of the canonical spelling into room that is taken once.
-ghost use Rattle.std.specs.Prelude.{◌≡◌, ◌+◌, ◌<◌, ◌≤◌, ◌++◌, ◌∷◌, [], length, take, drop, false, Some, is_none, vec_len, vec_capacity, pos, IfOk, IfSome};
+ghost use Rattle.std.specs.Prelude.{◌≡◌, ◌+◌, ◌<◌, ◌≤◌, ◌++◌, ◌∷◌, [], length, take, drop, false, Some, is_none, vec_len, vec_capacity, pos, IfOk, IfSome, OnOk};
 ghost use Rattle.std.specs.Option.{option_map};
 ghost use Rattle.bay_ber.specs.Spelling.{octet_of};
 ghost use Rattle.bay_ber.specs.Writing.{length_octets, element, truth_octets, integer_octets};
@@ -15,7 +15,7 @@ use std::marker::Model;
 pub const HEADROOM: usize = 64;
 
 // How many octets a length needs behind the first.
-fn octets_needed(length: u32) -> usize
+fn octets_needed(length: usize) -> usize
     ensures needed { result ≡ spec.octets_needed length }
     ensures some { 1 ≤ result }
     ensures few { result ≤ 4 }
@@ -24,7 +24,7 @@ fn octets_needed(length: u32) -> usize
         0..=0xFF => 1,
         0x100..=0xFFFF => 2,
         0x1_0000..=0xFF_FFFF => 3,
-        0x100_0000..=0xFFFF_FFFF => 4,
+        _ => 4,
     }
 }
 
@@ -72,7 +72,7 @@ fn octets_more(count: u32) -> usize
 {
     match count {
         0..=0x7F => 0,
-        _ => octets_needed(count),
+        _ => octets_needed(count as usize),
     }
 }
 
@@ -91,7 +91,7 @@ fn write_length(octets: &mut Vec<u8>, place: usize, size: u32)
         octets[place] = size as u8;
         return;
     }
-    let needed = octets_needed(size);
+    let needed = octets_needed(size as usize);
     octets[place] = 0x80 + needed as u8;
     insert(octets, place + 1, &size.to_be_bytes()[4 - needed..]);
 }
@@ -148,9 +148,34 @@ pub fn element_length(count: u32) -> u64
     let header = if count < 0x80 {
         2
     } else {
-        2 + octets_needed(count) as u64
+        2 + octets_needed(count as usize) as u64
     };
     u64::from(count) + header
+}
+
+// Appends the shortest length.
+#[tactic(auto, unfolding(crate::specs::Writing::length_octets))]
+fn push_length(octets: &mut Vec<u8>, count: usize) -> Result<(), AllocError>
+    ensures { OnOk result (octets.new.items ≡ octets.old.items ++ length_octets count) }
+{
+    if count < 0x80 {
+        octets.push(count as u8)?;
+        return Ok(());
+    }
+    let needed = octets_needed(count);
+    octets.push(0x80 + needed as u8)?;
+    octets.extend_from_slice(&count.to_be_bytes()[8 - needed..])
+}
+
+/// Appends a value with this content to octets that grow, as an octet string is written.
+#[tactic(auto, unfolding(crate::specs::Writing::element))]
+pub fn push_value(octets: &mut Vec<u8>, tag: Tag, content: &[u8]) -> Result<(), AllocError>
+    requires { tag.number < 31 }
+    ensures { OnOk result (octets.new.items ≡ octets.old.items ++ element tag content.now) }
+{
+    octets.push(tag.octet())?;
+    push_length(octets, content.len())?;
+    octets.extend_from_slice(content)
 }
 
 /// A writer of a text, which contracts see as a `Sheet`. Allocates its room once, when it is
@@ -307,7 +332,7 @@ impl Writer {
             self.front(&[tag.octet(), count as u8]);
             return;
         }
-        let needed = octets_needed(count);
+        let needed = octets_needed(count as usize);
         self.front(&count.to_be_bytes()[4 - needed..]);
         self.front(&[tag.octet(), 0x80 + needed as u8]);
     }

@@ -1,15 +1,11 @@
 // The names of a tree as responses list them (ISO 9506-2, GetNameList).
-ghost use Rattle.std.specs.Prelude.{◌≡◌, ◌+◌, ◌-◌, ◌≤◌, IfOk, IfSome, List, ℕ, drop, length, take};
-ghost use Rattle.bay_ber.specs.Sheets.{empty, sheet_with};
+ghost use Rattle.std.specs.Prelude.{◌≡◌, ◌+◌, ◌-◌, ◌≤◌, IfOk, List, ℕ, drop, length, take};
 ghost use Rattle.bay_tree.specs.Rows.{names_of};
-ghost use Rattle.bay_mms.specs.Pages.{begin_at, ends_from, text_of_names};
-ghost use Rattle.bay_ber.specs.Writing.{element};
+ghost use Rattle.bay_mms.specs.Pages.{begin_at, text_of_names};
 ghost use Rattle.bay_mms.specs.Responses.{names_text};
-ghost use Rattle.bay_mms.specs.Tags.{visible_tag};
 
-use bay_ber::outgoing::Outgoing;
 use bay_ber::tag::Tag;
-use bay_ber::writer::{Writer, element_length};
+use bay_ber::writer::push_value;
 use bay_tree::tree::Tree;
 use std::alloc::{AllocError, Global};
 use std::marker::Model;
@@ -18,7 +14,7 @@ use std::marker::Model;
 /// written once, and a page copies a part of them.
 #[derive(Drop)]
 pub struct NameTexts {
-    octets: Outgoing,
+    octets: Vec<u8>,
     ends: Vec<usize>,
 }
 
@@ -28,68 +24,9 @@ impl Model for NameTexts {
 
     ghost Value = { NamesText };
 
-    ghost view = { λ n. record { octets = n.octets; ends = n.ends.items } };
+    ghost view = { λ n. record { octets = n.octets.items; ends = n.ends.items } };
 
-    ghost invariant = { λ n. AreEnds n.ends.items (length n.octets) };
-}
-
-// How many octets a text has with a name more; None where that is no number of 64 bits.
-fn longer(end: usize, name: &str) -> Option<usize>
-    ensures { IfSome result (λ next. next ≡ end + length (element visible_tag name.now)) }
-{
-    if name.len() > u32::MAX as usize {
-        return None;
-    }
-    let size = element_length(name.len() as u32) as usize;
-    if size > usize::MAX - end {
-        return None;
-    }
-    Some(end + size)
-}
-
-// Where the text of each name ends.
-fn ends_of(alloc: Global, tree: &Tree) -> Result<Vec<usize>, AllocError>
-    ensures { IfOk result (λ ends. ends.items ≡ ends_from 0 (names_of tree.now)) }
-{
-    let mut ends = Vec::new(alloc);
-    let mut end = 0;
-    let mut next = tree.first();
-    while let Some(row) = next {
-        end = match longer(end, tree.name(row)) {
-            Some(longer) => longer,
-            None => return Err(AllocError),
-        };
-        ends.push(end)?;
-        next = tree.next(row);
-    }
-    Ok(ends)
-}
-
-// Writes the text of each name.
-fn put_names(writer: &mut Writer, tree: &Tree)
-    ensures { writer.new ≡ sheet_with writer.old (names_text (names_of tree.now)) }
-{
-    let mut next = tree.first();
-    while let Some(row) = next {
-        writer.octets(Tag::universal(26), tree.name(row).as_bytes());
-        next = tree.next(row);
-    }
-}
-
-// The texts of all names, which have so many octets.
-fn texts_of(alloc: Global, tree: &Tree, count: usize) -> Result<Outgoing, AllocError>
-    ensures { IfOk result (λ octets. octets ≡ names_text (names_of tree.now)) }
-{
-    let limit = match u32::try_from(count) {
-        Ok(limit) => limit,
-        Err(_) => return Err(AllocError),
-    };
-    let mut writer = Writer::new(alloc, limit)?;
-    put_names(&mut writer, tree);
-    match writer.finish() {
-        Some(octets) => Ok(octets),
-        None => Err(AllocError),
-    }
+    ghost invariant = { λ n. AreEnds n.ends.items (length n.octets.items) };
 }
 
 // Where the names from a place on begin, by where each ends.
@@ -105,12 +42,14 @@ impl NameTexts {
     pub fn of_tree(alloc: Global, tree: &Tree) -> Result<Self, AllocError>
         ensures { IfOk result (λ names. names ≡ text_of_names (names_of tree.now)) }
     {
-        let ends = ends_of(alloc, tree)?;
-        let count = match ends.last() {
-            Some(end) => *end,
-            None => 0,
-        };
-        let octets = texts_of(alloc, tree, count)?;
+        let mut octets = Vec::new(alloc);
+        let mut ends = Vec::new(alloc);
+        let mut next = tree.first();
+        while let Some(row) = next {
+            push_value(&mut octets, Tag::universal(26), tree.name(row).as_bytes())?;
+            ends.push(octets.len())?;
+            next = tree.next(row);
+        }
         Ok(NameTexts { octets, ends })
     }
 
@@ -135,6 +74,6 @@ impl NameTexts {
         ensures { (names : List (List ℕ)) → self.now ≡ text_of_names names
             → result.now ≡ names_text (take count (drop start names)) }
     {
-        &self.octets.as_slice()[begin(&self.ends, start)..begin(&self.ends, start + count)]
+        &self.octets[begin(&self.ends, start)..begin(&self.ends, start + count)]
     }
 }
