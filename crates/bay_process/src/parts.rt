@@ -34,10 +34,8 @@ pub struct WiredMachine {
 fn machine_of(alloc: Global, verified: Verified) -> Result<Machine, AllocError>
     ensures { IfOk result (λ machine. machine ≡ held_first verified) }
 {
-    match Machine::new(alloc, verified) {
-        Ok(machine) => Ok(machine),
-        Err(_) => Err(AllocError),
-    }
+    let machine = Machine::new(alloc, verified)?;
+    Ok(machine)
 }
 
 /// Creates a machine with a verified image, before its first scan, on the points of a bay.

@@ -11,7 +11,7 @@ use crate::queue::Queue;
 use bay_device::device::Device;
 use bay_device::event::{ASSOCIATIONS, Event, Step};
 use bay_device::fault::StepFault;
-use std::alloc::{AllocError, Global};
+use std::alloc::{AllocError, AllocFailed, Global};
 use std::marker::Model;
 
 /// The parts of a server.
@@ -59,22 +59,24 @@ fn make_queues(alloc: Global) -> Result<Vec<Queue>, AllocError>
 
 impl Server {
     /// Creates a server of a device with no open association, in which each switch that can be
-    /// operated takes some time, as loading makes it. Allocates the room of eight queues, and
-    /// returns the device if that fails.
-    pub fn new(alloc: Global, device: Device) -> Result<Self, Device>
+    /// operated takes some time, as loading makes it. Allocates the room of eight queues; if that
+    /// fails, gives the device back.
+    pub fn new(alloc: Global, device: Device) -> Result<Self, AllocFailed<Device>>
         requires closed { device.connections ≡ replicate 8 None }
         requires timed { AreTimed device.controls.controls }
         ensures ok { IfOk result
             (λ server. server ≡ record { device = device; queues = replicate 8 [] }) }
-        ensures err { IfErr result (λ back. back ≡ device) }
+        ensures err { IfErr result (λ refused. refused.value ≡ device) }
     {
         let queues = match make_queues(alloc) {
             Ok(queues) => queues,
-            Err(_) => return Err(device),
+            Err(AllocError) => return Err(AllocFailed { value: device }),
         };
         match Box::new(alloc, Parts { device, queues }) {
             Ok(parts) => Ok(Server { parts }),
-            Err(refused) => Err(refused.value.device),
+            Err(AllocFailed { value: parts }) => Err(AllocFailed {
+                value: parts.device,
+            }),
         }
     }
 

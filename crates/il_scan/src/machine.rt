@@ -19,7 +19,7 @@ use il_image::image::Image;
 use il_image::timer::TimerState;
 use il_image::value::Value;
 use il_verify::verify::Verified;
-use std::alloc::{AllocError, Global};
+use std::alloc::{AllocError, AllocFailed, Global};
 use std::marker::Model;
 
 /// A machine with a verified image, its slots and its timers. Contracts see the slots as typed
@@ -137,12 +137,12 @@ impl Machine {
     ghost use Rattle.il_scan.specs.Loan.{LendsOutputs};
 
     /// Creates a machine whose variables have their initial values, whose points are FALSE or 0,
-    /// and whose timers were never called. Returns the verified image if an allocation failed,
-    /// which is possible only if the image has a slot or a timer.
-    pub fn new(alloc: Global, verified: Verified) -> Result<Machine, Verified>
+    /// and whose timers were never called. A failed allocation gives the verified image back, and
+    /// is possible only if the image has a slot or a timer.
+    pub fn new(alloc: Global, verified: Verified) -> Result<Machine, AllocFailed<Verified>>
         ensures ok { IfOk result (λ m. m ≡ held_first verified) }
-        ensures back { IfErr result (λ v. v ≡ verified) }
-        ensures memory { IfErr result (λ v. TakesMemory verified) }
+        ensures back { IfErr result (λ refused. refused.value ≡ verified) }
+        ensures memory { IfErr result (λ _. TakesMemory verified) }
     {
         match memory_of(alloc, verified.image()) {
             Ok(
@@ -159,7 +159,7 @@ impl Machine {
                 places,
                 outputs,
             }),
-            Err(_) => Err(verified),
+            Err(AllocError) => Err(AllocFailed { value: verified }),
         }
     }
 
