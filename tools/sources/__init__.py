@@ -1,0 +1,1 @@
+"""What tools read in the sources of the crates."""
