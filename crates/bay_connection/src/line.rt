@@ -139,8 +139,11 @@ impl Line {
                 self.close();
                 Ok(LineEvent::Ended)
             }
+            Err(AssocFault::OutOfMemory) => Err(AllocError),
             Err(fault) => {
-                let code = fault.code().ok_or(AllocError)?;
+                let Some(code) = fault.code() else {
+                    unreachable!();
+                };
                 self.close();
                 Ok(LineEvent::Fault(code))
             }
@@ -207,8 +210,11 @@ impl Line {
                     heard,
                 })
             }
+            Err(TransportFault::OutOfMemory) => Err(AllocError),
             Err(fault) => {
-                let code = fault.code().ok_or(AllocError)?;
+                let Some(code) = fault.code() else {
+                    unreachable!();
+                };
                 self.close();
                 Ok(Fed {
                     used: piece.len(),

@@ -23,7 +23,7 @@ use bay_serving::host::Host;
 use bay_serving::serve::{Named, Numbers, serve};
 use bay_words::task::{Program, Task};
 use bay_words::words::{WordsFault, task_of};
-use std::alloc::Global;
+use std::alloc::{AllocError, Global};
 
 /// Checks a bay file and a program or an image, by their names.
 fn check<F: FileSystem, W: Sink>(
@@ -62,8 +62,9 @@ fn write_image<F: FileSystem, W: Sink>(
         writer.old
         writer.new result }
 {
-    let Ok(image) = device.image() else {
-        return write_text(writer, NO_MEMORY, FAULT);
+    let image = match device.image() {
+        Ok(image) => image,
+        Err(AllocError) => return write_text(writer, NO_MEMORY, FAULT),
     };
     match write_whole(alloc, files, out, image.as_slice()) {
         Ok(()) => Ok(CLEAN),

@@ -9,7 +9,7 @@ use crate::ending::Ended;
 use bay_files::files::SystemFiles;
 use bay_io::reader::WatchedReader;
 use bay_io::writer::WatchedWriter;
-use bay_report::output::{FAULT, write_text};
+use bay_report::output::{FAULT, NO_MEMORY, write_text};
 use bay_serving::host::SystemHost;
 use std::alloc::{AllocError, Global};
 use std::io::ErrorKind;
@@ -53,12 +53,7 @@ fn obey_words<R: Runtime<A = Global> + Net<Listener = TcpListener, Stream = TcpS
     rt: &R,
     words: &[String],
 ) -> Result<Ended, Unheard> {
-    let mut texts = Vec::new(rt.alloc());
-    for word in words {
-        if texts.push(word.as_str()).is_err() {
-            return Err(Unheard::OutOfMemory);
-        }
-    }
+    let texts: Vec<&str> = words.iter().map(|word| word.as_str()).collect(rt.alloc())?;
     let mut reader = WatchedReader::new(rt.reader());
     let mut writer = WatchedWriter::new(io::writer(rt));
     let mut files = SystemFiles::new(rt);
@@ -83,16 +78,19 @@ fn obey_program<R: Runtime<A = Global> + Net<Listener = TcpListener, Stream = Tc
 
 /// Returns how the program ends if reading its words failed.
 fn end_unheard<R: Runtime<A = Global>>(rt: &R, why: Unheard) -> Ended {
-    if let Unheard::NoText = why
-        && let Ok(text) = String::from_str(
-            rt.alloc(),
-            "error: a word of the command line is no text\n",
-        )
-    {
-        return Ended::Refused(text);
+    let text = match why {
+        Unheard::NoText => {
+            String::from_str(rt.alloc(), "error: a word of the command line is no text\n")
+        }
+        Unheard::OutOfMemory => Err(AllocError),
+    };
+    match text {
+        Ok(text) => Ended::Refused(text),
+        Err(AllocError) => {
+            let mut writer = WatchedWriter::new(io::writer(rt));
+            Ended::of(write_text(&mut writer, NO_MEMORY, FAULT))
+        }
     }
-    let mut writer = WatchedWriter::new(io::writer(rt));
-    Ended::of(write_text(&mut writer, b"fault memory\n", FAULT))
 }
 
 /// Writes complaints to standard error, and returns the exit status.

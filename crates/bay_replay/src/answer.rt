@@ -10,9 +10,11 @@ use bay_device::event::Event;
 use bay_io::calls::Sink;
 use bay_io::writer::WatchedWriter;
 use bay_report::lines::{put_step, put_unreadable};
+use bay_report::output::NO_MEMORY;
 use bay_trace::octets::LineOctets;
 use bay_trace::placing::{placed_event, take_octets};
 use bay_trace::trace::{NamedEvent, TraceLine, read_trace_line};
+use std::alloc::AllocError;
 
 /// Does an event, and writes what is printed for it.
 fn answer_event<W: Sink>(
@@ -42,13 +44,17 @@ fn answer_named<W: Sink>(
         (record { device = device.old; room = octets.old.room })) writer.new
         (record { device = device.new; room = octets.new.room }) result }
 {
-    if take_octets(octets, &event).is_err() {
-        writer.put(b"fault memory\n");
-        return true;
+    match take_octets(octets, &event) {
+        Ok(()) => {
+            let event = placed_event(device, octets.as_slice(), event);
+            answer_event(writer, device, moment, event);
+            false
+        }
+        Err(AllocError) => {
+            writer.put(NO_MEMORY);
+            true
+        }
     }
-    let event = placed_event(device, octets.as_slice(), event);
-    answer_event(writer, device, moment, event);
-    false
 }
 
 /// Does the event of the line with this number, and writes what is printed for it. Returns true if

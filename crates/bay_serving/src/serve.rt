@@ -21,7 +21,7 @@ use bay_report::load::{Form, load_program};
 use bay_report::output::{FAULT, NO_MEMORY, write_refusal, write_report, write_text, write_unread};
 use bay_serve::link::Link;
 use bay_serve::server::Server;
-use std::alloc::Global;
+use std::alloc::{AllocError, AllocFailed, Global};
 
 /// The port for clients, the number of turns, and the port for the process, if there is one.
 #[derive(Clone, Copy)]
@@ -69,7 +69,7 @@ fn serve_with<L: Link + Drop, H: Host<L>, W: Sink>(
             numbers.turns,
             writer,
         ),
-        Err(_) => write_text(writer, NO_MEMORY, FAULT),
+        Err(AllocFailed { value: _ }) => write_text(writer, NO_MEMORY, FAULT),
     }
 }
 
@@ -104,7 +104,7 @@ fn serve_heard<L: Link + Drop, H: Host<L>, W: Sink>(
             numbers,
             writer,
         ),
-        Err(_) => write_text(writer, NO_MEMORY, FAULT),
+        Err(AllocError) => write_text(writer, NO_MEMORY, FAULT),
     }
 }
 

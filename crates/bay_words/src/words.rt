@@ -294,7 +294,7 @@ fn refused_options(alloc: Global, matches: &ArgMatches<'_>) -> WordsFault {
         "error: {wrong}\n\nUsage: {usage}\n\nFor more information, try '--help'.\n"
     ) {
         Ok(text) => WordsFault::Refused(text),
-        Err(_) => WordsFault::OutOfMemory,
+        Err(AllocError) => WordsFault::OutOfMemory,
     }
 }
 
@@ -307,7 +307,7 @@ fn refused_by(alloc: Global, error: &Error) -> WordsFault
     }
     match format!(in alloc; "{error}") {
         Ok(text) => WordsFault::Refused(text),
-        Err(_) => WordsFault::OutOfMemory,
+        Err(AllocError) => WordsFault::OutOfMemory,
     }
 }
 
@@ -321,7 +321,7 @@ fn matches_of<'a>(alloc: Global, words: &'a [&'a str]) -> Result<ArgMatches<'a>,
 {
     let command = match job_command(alloc) {
         Ok(command) => command,
-        Err(_) => return Err(WordsFault::OutOfMemory),
+        Err(AllocError) => return Err(WordsFault::OutOfMemory),
     };
     match command.try_get_matches_from(words) {
         Ok(matches) => Ok(matches),
@@ -356,6 +356,6 @@ pub fn job_of<'a>(alloc: Global, words: &'a [&'a str]) -> Result<Job, WordsFault
     match job_from(alloc, &matches) {
         Ok(Some(job)) => Ok(job),
         Ok(None) => Err(refused_options(alloc, &matches)),
-        Err(_) => Err(WordsFault::OutOfMemory),
+        Err(AllocError) => Err(WordsFault::OutOfMemory),
     }
 }

@@ -11,7 +11,7 @@ use crate::plan::plan_of;
 use crate::points::fits;
 use bay_config::bay::Point;
 use il_image::image::Image;
-use std::alloc::Global;
+use std::alloc::{AllocError, Global};
 use std::marker::Model;
 
 /// An image whose code cannot go wrong: a table of kinds agrees with it, and it writes no read-only
@@ -96,7 +96,7 @@ fn check(alloc: Global, image: &Image, points: &[Point]) -> Result<Measures, Sto
     }
     let plan = match plan_of(alloc, image) {
         Ok(plan) => plan,
-        Err(_) => {
+        Err(AllocError) => {
             return Err(Stop {
                 fault: VerifyFault::OutOfMemory,
                 place: 0,
@@ -106,7 +106,7 @@ fn check(alloc: Global, image: &Image, points: &[Point]) -> Result<Measures, Sto
     let mut pending = Vec::new(alloc);
     match grow(&mut pending, image.code().len()) {
         Ok(()) => {}
-        Err(_) => {
+        Err(AllocError) => {
             return Err(Stop {
                 fault: VerifyFault::OutOfMemory,
                 place: 0,
