@@ -1,11 +1,10 @@
 -- How far the tries of a write have come.
-use Rattle.std.proofs.Common.{◌≡◌, ℕ, suc, ◌+◌, Bool, true, false, List, Option, None, Some, Result, Ok, Err, inl, inr, refl}
-use Rattle.bay_files.specs.Files.{WritesWhole, beside_name}
+use Rattle.std.proofs.Common.{◌≡◌, ℕ, suc, ◌+◌, Bool, true, false, List, Option, None, Some, Ok, Err, refl}
+use Rattle.bay_files.specs.Files.{FileWrites, WritesWhole}
 use Rattle.bay_files.specs.declared.files.FileFault.{FileFault}
-use Rattle.bay_files.specs.declared.files.FileFault.TheVariants.{Failed, OutOfMemory}
+use Rattle.bay_files.specs.declared.files.FileFault.TheVariants.{Failed}
 
-module _ {F : Type 0} (writes : F → List ℕ → List ℕ → List ℕ → Result Bool FileFault → F → Type 0)
-    (name octets : List ℕ) (old : F) where
+module _ {F : Type 0} (writes : FileWrites F) (name octets : List ℕ) (old : F) where
   -- what is left to be tried goes on to all of it
   pub record Tried (left number : ℕ) (mid : F) : Type 0 where
     pub goes : (new : F) (fault : Option FileFault)
@@ -19,35 +18,30 @@ module _ {F : Type 0} (writes : F → List ℕ → List ℕ → List ℕ → Res
     where
       -- something has the name
       pub Tried-taken : (new : F) (b : Bool) → b ≡ false
-          → writes mid name (beside_name name number) octets (Ok b) new
+          → writes mid name number octets (Ok b) new
           → Tried more (number + 1) new
       unfolding WritesWhole
       Tried-taken new true is wrote = absurd cc
       Tried-taken new false is wrote = record {
-        goes = λ last fault all. tried.goes last fault (rw e (inl (Ok false, new, wrote, all)));
+        goes = λ last fault all. tried.goes last fault (rw e (Ok false, new, wrote, all));
       }
 
       -- it was written
       pub Tried-done : (new : F) (b : Bool) → b ≡ true
-          → writes mid name (beside_name name number) octets (Ok b) new
+          → writes mid name number octets (Ok b) new
           → WritesWhole writes 100 0 name octets old new None
       unfolding WritesWhole
       Tried-done new true is wrote =
-          tried.goes new None (rw e (inl (Ok true, new, wrote, (refl, refl))))
+          tried.goes new None (rw e (Ok true, new, wrote, (refl, refl)))
       Tried-done new false is wrote = absurd cc
 
       -- it could not be written
       pub Tried-fails : (new : F) (fault : FileFault)
-          → writes mid name (beside_name name number) octets (Err fault) new
+          → writes mid name number octets (Err fault) new
           → WritesWhole writes 100 0 name octets old new (Some fault)
       unfolding WritesWhole
       Tried-fails new fault wrote =
-          tried.goes new (Some fault) (rw e (inl (Err fault, new, wrote, (refl, refl))))
-
-      -- there is no memory for the name
-      pub Tried-stops : WritesWhole writes 100 0 name octets old mid (Some OutOfMemory)
-      unfolding WritesWhole
-      Tried-stops = tried.goes mid (Some OutOfMemory) (rw e (inr (refl, refl)))
+          tried.goes new (Some fault) (rw e (Err fault, new, wrote, (refl, refl)))
 
   -- all names are taken
   pub Tried-end : (left number : ℕ) (mid : F) → Tried left number mid → left ≡ 0

@@ -1,16 +1,15 @@
 -- Files as a command sees them: what a read of a name gave, and what a write to a name did.
-use Rattle.std.specs.Prelude.{◌≡◌, ℕ, zero, suc, ◌+◌, Bool, true, false, List, [], ◌++◌, codes, Option, None, Some, Result, Ok, Err, ◌⊎◌}
-use Rattle.std.specs.Fmt.{decimal}
+use Rattle.std.specs.Prelude.{◌≡◌, ℕ, zero, suc, ◌+◌, Bool, true, false, List, [], Option, None, Some, Result, Ok, Err, ◌⊎◌}
 use Rattle.bay_files.specs.declared.files.FileFault.{FileFault}
-use Rattle.bay_files.specs.declared.files.FileFault.TheVariants.{Failed, OutOfMemory}
+use Rattle.bay_files.specs.declared.files.FileFault.TheVariants.{Failed}
 use Rattle.bay_io.specs.declared.input.ReadFault.{ReadFault}
 
--- what a read of a name gave, and what a write of octets to a name, by way of a second, led to
+-- what a read of a name gave, and what a try, with its number, to write octets to a name led to
 abbrev pub FileReads : Type 0 → Type 1
 FileReads F = F → List ℕ → Result (List ℕ) ReadFault → Type 0
 
 abbrev pub FileWrites : Type 0 → Type 1
-FileWrites F = F → List ℕ → List ℕ → List ℕ → Result Bool FileFault → F → Type 0
+FileWrites F = F → List ℕ → ℕ → List ℕ → Result Bool FileFault → F → Type 0
 
 -- what the two files of a command hold: the bay, and a program or an image
 pub record FilesData : Type 0 where
@@ -33,11 +32,7 @@ abbrev pub ReadsNamed : {F : Type 0} → FileReads F → F
 ReadsNamed reads files None read = read ≡ Ok []
 ReadsNamed reads files (Some name) read = reads files name read
 
--- the name beside a file's at a try
-abbrev pub beside_name : List ℕ → ℕ → List ℕ
-beside_name name number = name ++ (codes ".part" ++ decimal number)
-
--- what follows a try: the file was written; something has the name beside, and the next is tried;
+-- what follows a try: the file was written; the name beside is taken, and the next is tried;
 -- or it could not be written
 abbrev pub FollowsTry : {F : Type 0} → Result Bool FileFault → Type 0 → F → F → Option FileFault
     → Type 0
@@ -45,14 +40,14 @@ FollowsTry (Ok true) next mid new fault = (new ≡ mid) × (fault ≡ None)
 FollowsTry (Ok false) next mid new fault = next
 FollowsTry (Err e) next mid new fault = (new ≡ mid) × (fault ≡ Some e)
 
--- A file is written by way of one beside it, under the first of so many names, from this try on,
--- that nothing has. Where all are taken, or there is no memory for a name, nothing more is done.
+-- A file is written in so many tries at most, from the one with this number on, until one finds a
+-- free name beside it. Where none does, nothing more is done.
 unfoldable pub WritesWhole : {F : Type 0}
     → FileWrites F → ℕ → ℕ → List ℕ
     → List ℕ → F → F → Option FileFault → Type 0
 WritesWhole writes zero number name octets old new fault = (new ≡ old) × (fault ≡ Some Failed)
 WritesWhole {F} writes (suc left) number name octets old new fault =
-    ((outcome : Result Bool FileFault) × (mid : F)
-    × writes old name (beside_name name number) octets outcome mid
+    (outcome : Result Bool FileFault) × (mid : F)
+    × writes old name number octets outcome mid
     × FollowsTry outcome (WritesWhole writes left (number + 1) name octets mid new fault) mid new
-    fault) ⊎ ((new ≡ old) × (fault ≡ Some OutOfMemory))
+    fault

@@ -1,15 +1,15 @@
 // The files that a command reads and writes, by their names.
-ghost use Rattle.std.specs.Prelude.{◌≡◌, ℕ, List, Bool, Option, None, Some, Result, Ok, Err, IfOk, IfErr, OnOk, string_bytes};
+ghost use Rattle.std.specs.Prelude.{◌≡◌, ℕ, List, Bool, Option, None, Some, Result, Ok, Err, IfOk, IfErr, OnOk};
 ghost use Rattle.bay_io.specs.declared.input.ReadFault.{ReadFault};
 ghost use Rattle.bay_files.specs.Files.{ReadsBoth, WritesWhole};
-ghost use Rattle.bay_files.specs.Files as spec;
 ghost use Rattle.bay_files.specs.declared.files.FileFault.{FileFault};
 
 use bay_io::input::{ReadFault, read_all};
 use bay_io::reader::WatchedReader;
 use std::alloc::{AllocError, Global};
-use std::fs::File;
+use std::fs::{File, OpenFile, Permissions};
 use std::io::{ErrorKind, Write};
+use std::path::PathBuf;
 use std::rt::Files;
 use std::{fs, io};
 use thiserror::Error;
@@ -20,27 +20,36 @@ const FILE_LIMIT: usize = 16_777_216;
 /// How many temporary names are tried next to the file being written.
 const TRIES: u32 = 100;
 
+/// How many links are followed to a file that is written, as the system does.
+const LINKS: u32 = 40;
+
 /// Why writing a file failed.
 #[derive(Clone, Copy, Debug, PartialEq, Eq, Error)]
 pub enum FileFault {
-    /// The file can't be created, or a write failed.
+    /// What has the name is no regular file, no file can be created, or a write failed.
     #[error("the file can't be written")]
     Failed,
     #[error("out of memory")]
     OutOfMemory,
 }
 
+impl From<AllocError> for FileFault {
+    fn from(_: AllocError) -> FileFault {
+        FileFault::OutOfMemory
+    }
+}
+
 /// Files by their names.
 ///
 /// Its meaning is three relations. `reads files name gave`: reading this name gave these octets or
-/// this fault. `writes old name beside octets outcome new`: writing these octets to this name, by
-/// way of a new file named `beside`, led from the files before to those after with this outcome.
-/// `same files one other is_same`: whether both names are of one file. Files in memory give their
-/// own meaning. Nothing is known of the files of a system, and they keep the defaults.
+/// this fault. `writes old name number octets outcome new`: the try with this number to write these
+/// octets to this name led from the files before to those after with this outcome. `same files one
+/// other is_same`: whether both names are of one file. Files in memory give their own meaning.
+/// Nothing is known of the files of a system, and they keep the defaults.
 pub trait FileSystem {
     ghost reads: { Self → List ℕ → Result (List ℕ) ReadFault → Type 0 } = { λ _ _ _. Unit {0} };
 
-    ghost writes: { Self → List ℕ → List ℕ → List ℕ → Result Bool FileFault → Self → Type 0 } = { λ _ _ _ _ _ _. Unit {0} };
+    ghost writes: { Self → List ℕ → ℕ → List ℕ → Result Bool FileFault → Self → Type 0 } = { λ _ _ _ _ _ _. Unit {0} };
 
     ghost same: { Self → List ℕ → List ℕ → Bool → Type 0 } = { λ _ _ _ _. Unit {0} };
 
@@ -49,11 +58,19 @@ pub trait FileSystem {
         ensures ok { IfOk result (λ octets. reads self.now name.now (Ok octets.items)) }
         ensures err { IfErr result (λ fault. reads self.now name.now (Err fault)) };
 
-    /// Creates a file named `beside` with these octets, then renames it to `name`, replacing any
-    /// file of that name. Nothing else is touched. Returns `Ok(false)` and does nothing if the name
-    /// `beside` is taken. Leaves nothing behind if a call fails.
-    fn write(&mut self, name: &str, beside: &str, octets: &[u8]) -> Result<bool, FileFault>
-        ensures { writes self.old name.now beside.now octets.now result self.new };
+    /// Writes octets to the file that a name leads to: fills a new file beside it, whose name has
+    /// `.part` and the number of the try behind, and gives it the name. Follows links. Replaces a
+    /// regular file, whose mode stays, or nothing; whatever else stands there is a fault, and is
+    /// not touched. Returns `Ok(false)` and does nothing if the name beside is taken. Leaves
+    /// nothing behind if a call fails.
+    fn write(
+        &mut self,
+        alloc: Global,
+        name: &str,
+        number: u32,
+        octets: &[u8],
+    ) -> Result<bool, FileFault>
+        ensures { writes self.old name.now number octets.now result self.new };
 
     /// Returns whether two names are known to be of one file.
     fn is_same(&self, alloc: Global, name: &str, other: &str) -> bool
@@ -115,6 +132,66 @@ fn file_fault(error: &io::Error) -> FileFault {
     }
 }
 
+/// Where a name leads.
+#[derive(Drop)]
+struct Target {
+    /// The name behind all links.
+    name: PathBuf,
+    /// The mode of the regular file that stands there; `None` if nothing does.
+    mode: Option<Permissions>,
+}
+
+impl<R: Files> SystemFiles<'_, R> {
+    /// Returns where a link leads, from the folder that it is in.
+    fn led_by(&self, alloc: Global, link: &PathBuf) -> Result<PathBuf, FileFault> {
+        let to = self
+            .rt
+            .read_link(alloc, link.as_str())
+            .map_err(|error| file_fault(&error))?;
+        match link.parent() {
+            Some(folder) => Ok(folder.join(alloc, to.as_str())?),
+            None => Ok(to),
+        }
+    }
+
+    /// Returns where a name leads, by at most 40 links, if a regular file or nothing is there.
+    fn target_of(&self, alloc: Global, name: &str) -> Result<Target, FileFault> {
+        let mut name = PathBuf::from_str(alloc, name)?;
+        for _ in 0..LINKS {
+            match self.rt.symlink_metadata(name.as_str()) {
+                Ok(found) if found.is_symlink() => name = self.led_by(alloc, &name)?,
+                Ok(found) if found.is_file() => {
+                    let mode = Some(found.permissions());
+                    return Ok(Target { name, mode });
+                }
+                Ok(_) => return Err(FileFault::Failed),
+                Err(error) if error.kind() == ErrorKind::NotFound => {
+                    return Ok(Target { name, mode: None });
+                }
+                Err(error) => return Err(file_fault(&error)),
+            }
+        }
+        Err(FileFault::Failed)
+    }
+
+    /// Fills the new file named `beside`, waits until the system has stored it, and gives it the
+    /// name of the target.
+    fn fill(
+        &self,
+        mut file: R::File,
+        beside: &str,
+        octets: &[u8],
+        target: Target,
+    ) -> io::Result<()> {
+        if let Some(mode) = target.mode {
+            file.set_permissions(mode)?;
+        }
+        file.write_all(octets)?;
+        file.sync_all()?;
+        fs::rename(self.rt, beside, target.name.as_str())
+    }
+}
+
 impl<R: Files> FileSystem for SystemFiles<'_, R> {
     fn read(&self, alloc: Global, name: &str) -> Result<Vec<u8>, ReadFault> {
         match fs::open(self.rt, name) {
@@ -123,17 +200,25 @@ impl<R: Files> FileSystem for SystemFiles<'_, R> {
         }
     }
 
-    fn write(&mut self, name: &str, beside: &str, octets: &[u8]) -> Result<bool, FileFault> {
-        let file = match File::create_new(self.rt, beside) {
+    fn write(
+        &mut self,
+        alloc: Global,
+        name: &str,
+        number: u32,
+        octets: &[u8],
+    ) -> Result<bool, FileFault> {
+        let target = self.target_of(alloc, name)?;
+        let beside = format!(in alloc; "{}.part{number}", target.name.as_str())?;
+        let file = match File::create_new(self.rt, beside.as_str()) {
             Ok(file) => file,
             Err(error) if error.kind() == ErrorKind::AlreadyExists => return Ok(false),
             Err(error) => return Err(file_fault(&error)),
         };
-        match fill(self.rt, file, octets, beside, name) {
+        match self.fill(file, beside.as_str(), octets, target) {
             Ok(()) => Ok(true),
-            Err(fault) => {
-                let _ = fs::remove_file(self.rt, beside);
-                Err(fault)
+            Err(error) => {
+                let _ = fs::remove_file(self.rt, beside.as_str());
+                Err(file_fault(&error))
             }
         }
     }
@@ -149,27 +234,8 @@ impl<R: Files> FileSystem for SystemFiles<'_, R> {
     }
 }
 
-/// Writes the octets to the new file named `beside` and renames it to `name`.
-fn fill<R: Files>(
-    rt: &R,
-    mut file: R::File,
-    octets: &[u8],
-    beside: &str,
-    name: &str,
-) -> Result<(), FileFault> {
-    file.write_all(octets).map_err(|error| file_fault(&error))?;
-    fs::rename(rt, beside, name).map_err(|error| file_fault(&error))
-}
-
-/// Returns the temporary name of the try with this number, counted from 0.
-fn beside_name(alloc: Global, name: &str, number: u32) -> Result<String, AllocError>
-    ensures { IfOk result (λ text. string_bytes text ≡ spec.beside_name name.now number) }
-{
-    format!(in alloc; "{name}.part{number}")
-}
-
-/// Writes octets to a file of this name: all of them or none. Writes them to a new file next to it,
-/// under the first of a hundred names that is free, and then renames that file.
+/// Writes octets to a file of this name: all of them or none. Tries a hundred names beside it, one
+/// after the other, until one is free.
 pub fn write_whole<F: FileSystem>(
     alloc: Global,
     files: &mut F,
@@ -182,11 +248,7 @@ pub fn write_whole<F: FileSystem>(
         (λ fault. WritesWhole F.writes 100 0 name.now octets.now files.old files.new (Some fault)) }
 {
     for number in 0..TRIES {
-        let beside = match beside_name(alloc, name, number) {
-            Ok(beside) => beside,
-            Err(AllocError) => return Err(FileFault::OutOfMemory),
-        };
-        match files.write(name, beside.as_str(), octets) {
+        match files.write(alloc, name, number, octets) {
             Ok(true) => return Ok(()),
             Ok(false) => {}
             Err(fault) => return Err(fault),

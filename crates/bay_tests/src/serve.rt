@@ -40,7 +40,13 @@ impl FileSystem for Texts<'_> {
         }
     }
 
-    fn write(&mut self, _name: &str, _beside: &str, _octets: &[u8]) -> Result<bool, FileFault> {
+    fn write(
+        &mut self,
+        _alloc: Global,
+        _name: &str,
+        _number: u32,
+        _octets: &[u8],
+    ) -> Result<bool, FileFault> {
         Err(FileFault::Failed)
     }
 

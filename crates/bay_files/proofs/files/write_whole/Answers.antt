@@ -1,14 +1,7 @@
-use Rattle.std.proofs.Common.{◌≡◌, ◌+◌, ◌-◌, ◌∙◌, suc, arith}
+use Rattle.std.proofs.Common.{◌≡◌, ◌+◌, ◌-◌, suc, arith}
 use Rattle.std.proofs.lemmas.Bool.Decides.{nat_tests}
-use Rattle.bay_files.proofs.WriteLemmas.{Tried-done, Tried-end, Tried-fails, Tried-stops, Tried-taken}
+use Rattle.bay_files.proofs.WriteLemmas.{Tried-done, Tried-end, Tried-fails, Tried-taken}
 use Rattle.bay_files.proofs.files.write_whole.Goals as goal
-
-pub returns-in-Err-clause-err : goal.returns-in-Err-clause-err
-returns-in-Err-clause-err g c =
-    let more : 100 - c.loop-number.number ≡ suc (100 - (c.loop-number.number + 1)) =
-    grind (arith, nat_tests) in
-    Tried-stops g.F.FileSystem.writes c.args.name.now c.args.octets.now c.args.files.now _ _ _ _
-    c.loop-number.invariant more
 
 pub returns-in-Ok-true-clause-ok : goal.returns-in-Ok-true-clause-ok
 returns-in-Ok-true-clause-ok g c =
@@ -16,15 +9,15 @@ returns-in-Ok-true-clause-ok g c =
     grind (arith, nat_tests) in
     Tried-done g.F.FileSystem.writes c.args.name.now c.args.octets.now c.args.files.now _ _ _ _
     c.loop-number.invariant more c.write.new.self c.in-Ok-true.field-0 c.in-Ok-true.field-0-test
-    (rw (c.as_str.ensures.value ∙ c.in-Ok.ensures) at c.in-Ok-true.ensures)
+    c.in-Ok-true.ensures
 
-pub returns-in-Err-write-clause-err : goal.returns-in-Err-write-clause-err
-returns-in-Err-write-clause-err g c =
+pub returns-in-Err-clause-err : goal.returns-in-Err-clause-err
+returns-in-Err-clause-err g c =
     let more : 100 - c.loop-number.number ≡ suc (100 - (c.loop-number.number + 1)) =
     grind (arith, nat_tests) in
     Tried-fails g.F.FileSystem.writes c.args.name.now c.args.octets.now c.args.files.now _ _ _ _
-    c.loop-number.invariant more c.write.new.self c.in-Err-write.fault
-    (rw (c.as_str.ensures.value ∙ c.in-Ok.ensures) at c.in-Err-write.ensures)
+    c.loop-number.invariant more c.write.new.self c.in-Err.fault
+    c.in-Err.ensures
 
 pub loop-number-preserved : goal.loop-number-preserved
 loop-number-preserved g c =
@@ -32,7 +25,7 @@ loop-number-preserved g c =
     grind (arith, nat_tests) in
     Tried-taken g.F.FileSystem.writes c.args.name.now c.args.octets.now c.args.files.now _ _ _ _
     c.loop-number.invariant more c.write.new.self c.in-Ok-false.field-0 c.in-Ok-false.field-0-test
-    (rw (c.as_str.ensures.value ∙ c.in-Ok.ensures) at c.in-Ok-false.ensures)
+    c.in-Ok-false.ensures
 
 pub returns-clause-err : goal.returns-clause-err
 returns-clause-err g c =
