@@ -46,11 +46,11 @@ module _ {S C : Type 0} {does : S → C → S → Type 0} {fails : C → Bool} w
         ∙ ap (λ v. x || v) (sym (some-append fails p.calls q.calls));
   }
 
-  pub AskedFew-none : (s : S) (b : Bool) (most : ℕ) → AskedFew does fails most s b s b
+  abbrev pub AskedFew-none : (s : S) (b : Bool) (most : ℕ) → AskedFew does fails most s b s b
   AskedFew-none s b most = record { asked = Asked-none s b; few = omega arith }
 
   -- one call more
-  pub AskedFew-step : (a b c : S) (x y z : Bool) (most : ℕ) (call : C)
+  abbrev pub AskedFew-step : (a b c : S) (x y z : Bool) (most : ℕ) (call : C)
       → AskedFew does fails most a x b y → does b call c → z ≡ (y || fails call)
       → AskedFew does fails (most + 1) a x c z
   AskedFew-step a b c x y z most call p d e = record {
@@ -58,7 +58,7 @@ module _ {S C : Type 0} {does : S → C → S → Type 0} {fails : C → Bool} w
     few = omega (arith, p.few, length-append p.asked.calls (call ∷ []));
   }
 
-  pub AskedFew-more : (a b : S) (x y : Bool) (few most : ℕ) → few ≤ most
+  abbrev pub AskedFew-more : (a b : S) (x y : Bool) (few most : ℕ) → few ≤ most
       → AskedFew does fails few a x b y → AskedFew does fails most a x b y
   AskedFew-more a b x y few most h p = record { asked = p.asked; few = omega (arith, p.few, h) }
 

@@ -1,5 +1,6 @@
--- How reading ends.
-use Rattle.std.specs.Prelude.{Bool, true, false, Result, Ok, Err}
+-- What reads gave, and how reading ends.
+use Rattle.std.specs.Prelude.{◌≡◌, ℕ, ◌+◌, ◌<◌, ◌≤◌, Bool, true, false, List, [], ◌∷◌, ◌++◌, length, Some, unwrap_or, Result, Ok, Err, MatchResult}
+use Rattle.bay_io.specs.Calls.{AskedFew, ReadCall, read_failed}
 use Rattle.bay_io.specs.declared.input.ReadFault.{ReadFault}
 use Rattle.bay_io.specs.declared.input.ReadFault.TheVariants.{TooLong, Failed, OutOfMemory}
 
@@ -9,3 +10,32 @@ failed_of (Ok octets) = false
 failed_of (Err TooLong) = false
 failed_of (Err Failed) = true
 failed_of (Err OutOfMemory) = false
+
+-- the octets that reads gave, in their order
+abbrev pub octets_of : List ReadCall → List ℕ
+octets_of [] = []
+octets_of (call ∷ calls) = unwrap_or call.came [] ++ octets_of calls
+
+-- The last of these reads had room, and gave nothing: that is the end.
+pub record IsEnded (calls : List ReadCall) : Type 0 where
+  pub before : List ReadCall
+  pub room : ℕ
+  pub some : 0 < room
+  pub split : calls ≡ before ++ record { room = room; came = Some [] } ∷ []
+
+-- Where reads up to a limit come to a fault: they gave more than that; or they gave no more, up to
+-- the end.
+abbrev pub FailsAs : ℕ → List ReadCall → ReadFault → Type 0
+FailsAs limit calls TooLong = limit < length (octets_of calls)
+FailsAs limit calls Failed = Unit {0}
+FailsAs limit calls OutOfMemory = IsEnded calls × (length (octets_of calls) ≤ limit)
+
+-- What was asked of a source up to a limit, and what came of it: all that its reads gave, in their
+-- order, up to the end; or a fault.
+pub record ReadsAll {S A : Type 0} (does : S → ReadCall → S → Type 0) (octets : A → List ℕ)
+    (limit : ℕ) (old : S) (was : Bool) (new : S) (is : Bool) (result : Result A ReadFault)
+    : Type 0 where
+  pub asked : AskedFew does read_failed (limit + 1) old was new is
+  pub gave : MatchResult result
+      (λ all. (octets all ≡ octets_of asked.asked.calls) × IsEnded asked.asked.calls)
+      (FailsAs limit asked.asked.calls)

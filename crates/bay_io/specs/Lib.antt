@@ -5,7 +5,8 @@
 -- what reached a writer of the bytes it was given, and what a buffer in front of it still holds.
 -- `Watched`: what is known of a reader (how often it was read, whether a read has failed) and of a
 -- writer (whether a write or a flush has failed, whether it was flushed since its last write).
--- `Input`: which ways to stop reading are a failed read.
+-- `Input`: what reads gave up to the end or a limit, and which ways to stop reading are a failed
+-- read.
 
 pub mod Calls
 pub mod Input

@@ -1,7 +1,6 @@
 // All octets of a reader, up to a limit.
 ghost use Rattle.std.specs.Prelude.{◌≡◌, ◌+◌, ◌-◌, ◌^◌, ◌<◌, ◌≤◌, ◌++◌, true, is_ok, length, vec_len, IfOk, IfSome};
-ghost use Rattle.bay_io.specs.Calls.{AskedFew, read_failed};
-ghost use Rattle.bay_io.specs.Input.{failed_of};
+ghost use Rattle.bay_io.specs.Input.{ReadsAll, failed_of};
 
 use crate::calls::Source;
 use crate::reader::WatchedReader;
@@ -50,8 +49,9 @@ pub fn read_all<R: Source>(
         → IfSome (R.remaining reader.old.inner) (λ xs. length xs ≤ limit) }
     ensures failed { reader.new.has_failed ≡ failed_of result }
     ensures reads { reader.new.reads ≤ reader.old.reads + limit + 1 }
-    ensures asked { AskedFew R.does read_failed (limit + 1) reader.old.inner reader.old.has_failed
-        reader.new.inner reader.new.has_failed }
+    // What the source was asked, and that the result is all that it gave.
+    ensures asked { ReadsAll R.does (λ v. v.items) limit reader.old.inner reader.old.has_failed
+        reader.new.inner reader.new.has_failed result }
 {
     if reader.has_failed() {
         return Err(ReadFault::Failed);

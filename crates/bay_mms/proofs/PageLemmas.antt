@@ -1,19 +1,17 @@
 -- How many names a page has.
-use Rattle.std.proofs.Common.{get_or, take-append-drop, take-add, ◌≡◌, ℕ, zero, suc, pos, ◌+◌, ◌-◌, ◌<◌, ◌≤◌, ◌⊎◌, min, Bool, true, false, cond, ltb, Option, Some, None, List, [], ◌∷◌, ◌++◌, length, take, drop, refl, sym, ap, subst, ◌∙◌, arith, inl, inr}
-use Rattle.std.proofs.lemmas.Bool.{cases_lt, lt-ltb, le-ltb, le-leb, lt-leb, leb-true}
+use Rattle.std.proofs.Common.{get_or, take-append-drop, take-add, ◌≡◌, ℕ, zero, suc, pos, ◌+◌, ◌-◌, ◌<◌, ◌≤◌, ◌⊎◌, min, Bool, true, false, cond, ltb, List, [], ◌∷◌, ◌++◌, length, take, drop, refl, sym, ap, subst, ◌∙◌, arith, inl, inr}
+use Rattle.std.proofs.lemmas.Bool.{cases_lt, le-leb, lt-leb, leb-true}
 use Rattle.std.proofs.lemmas.Bool.Decides.{nat_tests}
-use Rattle.std.proofs.lemmas.List.{append_assoc, length-append, length-drop, length-map, drop-map, drop_more, drop_all}
+use Rattle.std.proofs.lemmas.List.{append_assoc, length-append, length-drop, length-map, drop-map}
 use Rattle.std.proofs.Math.Seq.{drop-append_seam, take-append_seam}
 use Rattle.bay_ber.specs.Writing.{element, element_length, integer_octets}
-use Rattle.bay_ber.specs.Sheets.{Sheet, behind, empty, message, sheet_with, within}
-use Rattle.bay_ber.proofs.SheetLemmas.{put-put}
+use Rattle.bay_ber.specs.Sheets.{within}
 use Rattle.bay_ber.proofs.SizeLemmas.{length-integer_octets}
 use Rattle.bay_tree.specs.declared.row.Row.{Row}
-use Rattle.bay_tree.specs.Rows.{name_at, names_of}
-use Rattle.bay_tree.specs.Order.{place_if}
+use Rattle.bay_tree.specs.Rows.{names_of}
 use Rattle.bay_mms.specs.Tags.{visible_tag}
 use Rattle.bay_mms.specs.Responses.{names_text, page_text}
-use Rattle.bay_mms.specs.Pages.{AreEnds, NamesText, begin_at, ends_from, names_from, text_of_names, greatest, fits, page_count, first_page, length_of_page, page_length, response_of_texts}
+use Rattle.bay_mms.specs.Pages.{AreEnds, NamesText, begin_at, ends_from, text_of_names, greatest, fits, page_count, first_page, length_of_page, page_length, response_of_texts}
 use Rattle.bay_mms.proofs.ResponseLemmas.{page-is}
 
 -- ---- the greatest that passes
@@ -88,52 +86,6 @@ taken-le (suc j) (suc k) (name ∷ names) le =
 abbrev pub Fits : List ℕ → ℕ → ℕ → ℕ → ℕ → Type 0
 Fits ends id size start count =
     (count ≡ 0) ⊎ (length_of_page id (begin_at ends (start + count) - begin_at ends start) ≤ size)
-
--- ---- the names from a row on
-
-from-row : (rows : List Row) (place : ℕ) → place < length rows
-    → names_from rows (Some place) ≡ name_at rows place ∷ names_of (drop (place + 1) rows)
-from-row rows place here =
-    ap names_of (drop_more rows place (record { name = []; leaf = None }) here)
-
-from-place : (rows : List Row) (place : ℕ)
-    → names_from rows (place_if rows place) ≡ names_of (drop place rows)
-from-place rows place =
-    elim (cases_lt place (length rows)) [
-      | inl here ↦ rw (lt-ltb place (length rows) here) refl
-      | inr past ↦ rw (le-ltb place (length rows) past)
-          (sym (ap names_of (drop_all place rows past)))
-    ]
-
-names-next : (rows : List Row) (row : ℕ) (next : Option ℕ) → row < length rows
-    → next ≡ place_if rows (row + 1)
-    → names_from rows (Some row) ≡ name_at rows row ∷ names_from rows next
-names-next rows row next here is =
-    from-row rows row here ∙ ap (λ (ns : List (List ℕ)). name_at rows row ∷ ns)
-    (sym (from-place rows (row + 1)) ∙ ap (names_from rows) (sym is))
-
-pub put-next : (rows : List Row) (row : ℕ) (next : Option ℕ) (now new : Sheet) → row < length rows
-    → next ≡ place_if rows (row + 1)
-    → new ≡ sheet_with now (element visible_tag (name_at rows row))
-    → sheet_with new (names_text (names_from rows next))
-    ≡ sheet_with now (names_text (names_from rows (Some row)))
-put-next rows row next now new here at is =
-    ap (λ (s : Sheet). sheet_with s (names_text (names_from rows next))) is
-    ∙ put-put now (element visible_tag (name_at rows row)) (names_text (names_from rows next))
-    ∙ ap (λ (ns : List (List ℕ)). sheet_with now (names_text ns))
-    (sym (names-next rows row next here at))
-
--- what an empty writer holds behind a text is the text
-held-if : (b : Bool) (text octets : List ℕ) → behind [] (cond b None (Some text)) ≡ Some octets
-    → octets ≡ text
-held-if true text octets e = absurd cc
-held-if false text octets e = cc
-
-pub message-held : (limit : ℕ) (text octets : List ℕ) (start now : Sheet) → start ≡ empty limit
-    → now ≡ sheet_with start text → message now ≡ Some octets → octets ≡ text
-unfolding sheet_with message
-message-held limit text octets start now first last is =
-    held-if (ltb (limit - 0) (length text)) text octets (rw (last, first) at is)
 
 -- ---- where names begin
 

@@ -1,17 +1,15 @@
 use Rattle.std.proofs.Common.{◌≡◌, ◌≤◌, ◌+◌, false, is_ok, length}
-use Rattle.bay_io.specs.Calls.{AskedFew, read_failed}
-use Rattle.bay_io.proofs.ReadLemmas.{HasRead}
+use Rattle.bay_io.proofs.ReadLemmas.{HasAsked}
 use Rattle.bay_io.proofs.input.read_all.Given as goal
 
 abbrev pub invariant-loop-turn : goal.invariant-loop-turn
 invariant-loop-turn g l = record {
   within : l.count ≤ l.limit;
   at_least : l.turn ≤ l.count;
-  read : HasRead (g.R.Source.remaining l.initial.reader.inner)
-      (g.R.Source.remaining l.reader.inner) l.count (is_ok l.kept) l.all.items;
+  asked : HasAsked g.R.Source.does l.initial.reader.inner l.initial.reader.has_failed
+      l.reader.inner l.reader.has_failed (g.R.Source.remaining l.initial.reader.inner)
+      (g.R.Source.remaining l.reader.inner) l.turn l.count (is_ok l.kept) l.all.items;
   counted : l.reader.reads ≤ l.initial.reader.reads + l.turn;
   quiet : l.reader.has_failed ≡ false;
-  asked : AskedFew g.R.Source.does read_failed l.turn l.initial.reader.inner
-      l.initial.reader.has_failed l.reader.inner l.reader.has_failed;
   sized : length l.piece ≡ 65536;
 }

@@ -13,12 +13,12 @@ pub returns : goal.returns
 returns c names is =
     let ends : c.self.inside.ends.items ≡ c.args.self.now.ends =
     ap (λ (n : NamesText). n.ends) c.self.view_is in
-    let octets : c.as_slice.result.now ≡ c.args.self.now.octets =
-    c.as_slice.ensures ∙ ap (λ (n : NamesText). n.octets) c.self.view_is in
+    let octets : c.deref.result.now ≡ c.args.self.now.octets =
+    c.deref.ensures.value ∙ ap (λ (n : NamesText). n.octets) c.self.view_is in
     rw octets (sliced names c.args.self.now c.args.start c.args.count c.begin.result
     c.begin-2.result is c.requires
     (c.begin.ensures
-    ∙ ap (λ (xs : List ℕ). begin_at xs c.args.start) (c.deref.ensures.value ∙ ends))
+    ∙ ap (λ (xs : List ℕ). begin_at xs c.args.start) (c.deref-2.ensures.value ∙ ends))
     (c.begin-2.ensures
     ∙ ap (λ (xs : List ℕ). begin_at xs (c.args.start + c.args.count))
-    (c.deref-2.ensures.value ∙ ends)))
+    (c.deref-3.ensures.value ∙ ends)))
