@@ -16,13 +16,13 @@ class Gate(unittest.TestCase):
         some lines."""
         with tempfile.TemporaryDirectory() as folder:
             top = pathlib.Path(folder)
-            for name, (status, lines) in printed.items():
+            for name, (status, lines) in {'tools/memory_check': (0, ''), **printed}.items():
                 path = top / name
                 path.parent.mkdir(parents=True, exist_ok=True)
                 path.write_text(f'#!/bin/sh\nprintf "{lines}"\nexit {status}\n')
                 path.chmod(0o755)
             shutil.copy(GATE, top / 'run')
-            (top / 'tools' / 'tests').mkdir(parents=True)
+            (top / 'tools' / 'tests').mkdir()
             (top / 'tools' / 'tests' / '__init__.py').touch()
             (top / 'tools' / 'tests' / 'test_one.py').write_text(
                 'import unittest\nclass One(unittest.TestCase):\n    def test(self): pass\n')
@@ -38,6 +38,10 @@ class Gate(unittest.TestCase):
     def test_a_proof_fails(self) -> None:
         status, lines = self.run_with({'rt': (1, r'FAILED: x\n39 passed, 1 failed\n')})
         self.assertEqual((status, lines[-1]), (1, '39 passed, 1 failed'))
+
+    def test_want_of_memory_is_made(self) -> None:
+        status, lines = self.run_with({'tools/memory_check': (1, r'x:1: makes\n')})
+        self.assertEqual((status, lines[-1]), (1, '0 passed, 1 failed'))
 
     def test_a_check_fails(self) -> None:
         parts = {part: (0, r'one: 2 checks, 0 failed\n') for part in PARTS}
