@@ -10,9 +10,11 @@ ghost use Rattle.bay_connection.specs.Line.{talk_of, pdu_of, client_of, IsKept, 
 
 use crate::heard::{Fed, LineEvent};
 use bay_assoc::assoc::Assoc;
+use bay_assoc::fault::AssocFault;
 use bay_assoc::hearing;
 use bay_assoc::hearing::Phase;
 use bay_ber::outgoing::Outgoing;
+use bay_transport::fault::TransportFault;
 use bay_transport::fed::Got;
 use bay_transport::transport::Transport;
 use std::alloc::{AllocError, Global};
