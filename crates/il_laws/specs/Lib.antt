@@ -1,13 +1,28 @@
--- Two laws over the whole language, from a text to a verified image. `Verified`: the image of a
--- program fits the points that the program was checked with, and verifies. `ByNames`: the meaning
--- of a program goes by names: reading and writing an external, a variable or a timer is reading and
+-- Laws over the whole language, from a text to a verified image. `Verified`: the image of a program
+-- fits the points that the program was checked with, and verifies. `ByNames`: the meaning of a
+-- program goes by names: reading and writing an external, a variable or a timer is reading and
 -- changing a map from names, at its own name.
+--
+-- No code cites the rest, which says the language once more, in its own words (IEC 61131-3:2003,
+-- tables 10, 24, 26, 28, 38 and 52). `Table`: on which types an operator works, and what type it
+-- gives. `Instructions`: which instructions are right. `Integers`: what operators make of integers,
+-- and of values. `TypedText`: the types of a checked program beside its text.
 
 -- What public clauses cite of the crates below.
 pub use Rattle.il_check.specs.Checking
 pub use Rattle.il_check.specs.Declaring
+pub use Rattle.il_check.specs.Given
+pub use Rattle.il_check.specs.Labelling
 pub use Rattle.il_check.specs.Program
+pub use Rattle.il_check.specs.Rules
+pub use Rattle.il_compile.specs.Meaning
+pub use Rattle.il_compile.specs.Senses
+pub use Rattle.il_image.specs.Arithmetic
 pub use Rattle.il_text.specs.Listing
 -- Its own definitions.
 pub mod ByNames
+pub mod Instructions
+pub mod Integers
+pub mod Table
+pub mod TypedText
 pub mod Verified

@@ -1,13 +1,35 @@
 // Laws of the definitions. Each function does nothing, and its contract is the law.
-ghost use Rattle.std.specs.Prelude.{◌≡◌, ℕ, List, Ok};
+ghost use Rattle.std.specs.Prelude.{◌≡◌, ◌↔◌, ℕ, ℤ, Bool, true, IsSome, List, Ok, Option, Some, option_map};
+ghost use Rattle.std.specs.List.{list_all};
+ghost use Rattle.bay_base.specs.declared.types.ElementaryType.{ElementaryType};
 ghost use Rattle.bay_config.specs.declared.bay.Point.{Point};
+ghost use Rattle.il_text.specs.Grammar.{is_outer};
 ghost use Rattle.il_text.specs.Listing as text;
+ghost use Rattle.il_text.specs.declared.program.Conversion.{Conversion};
+ghost use Rattle.il_text.specs.declared.program.Literal.{Literal};
+ghost use Rattle.il_text.specs.declared.program.Operator.{Operator};
+ghost use Rattle.il_image.specs.Arithmetic.{DividesBy, comparison_holds, computation_of, logic_of, type_of_width, wider_value};
+ghost use Rattle.il_image.specs.Values.{number_of};
+ghost use Rattle.il_image.specs.declared.arithmetic.Comparison.{Comparison};
+ghost use Rattle.il_image.specs.declared.arithmetic.Operation.{Operation};
+ghost use Rattle.il_image.specs.declared.arithmetic.Width.{Width};
+ghost use Rattle.il_image.specs.declared.opcode.Connective.{Connective};
 ghost use Rattle.il_image.specs.declared.timer.TimerState.{TimerState};
 ghost use Rattle.il_image.specs.declared.value.Value.{Value};
+ghost use Rattle.il_image.specs.declared.value.Value.TheVariants.{Truth};
 ghost use Rattle.il_check.specs.Checking.{checked_of};
-ghost use Rattle.il_check.specs.Declaring.{names_in};
+ghost use Rattle.il_check.specs.Declaring.{literal_value, names_in};
+ghost use Rattle.il_check.specs.Given.{Names, resolution_of};
+ghost use Rattle.il_check.specs.Labelling.{IsCombined, IsRight};
 ghost use Rattle.il_check.specs.Program.{Checked};
+ghost use Rattle.il_check.specs.Rules.{gives, takes, type_after};
+ghost use Rattle.il_compile.specs.Meaning.{combination_of, inverse};
+ghost use Rattle.il_compile.specs.Senses.{compares, computes, connects, sense_of, widening_of};
 ghost use Rattle.il_laws.specs.ByNames.{GoesByNames};
+ghost use Rattle.il_laws.specs.Instructions.{IsLiteralOf, IsRightAction, IsRightBlock};
+ghost use Rattle.il_laws.specs.Integers.{IsConverted, IsInverted, IsMadeOf, IsOutcome};
+ghost use Rattle.il_laws.specs.Table.{result_type};
+ghost use Rattle.il_laws.specs.TypedText.{HasTypes};
 ghost use Rattle.il_laws.specs.Verified.{Verifies};
 
 /// Compiled code verifies: the image of a program that was checked against points fits these
@@ -24,4 +46,63 @@ pub fn meaning_goes_by_names()
     ensures { (points : List Point) (program : text.PlainProgram) (c : Checked)
         (values : List ℕ → Value) (timers : List ℕ → TimerState) →
         checked_of points program ≡ Ok c → GoesByNames (names_in points program) c values timers }
+{}
+
+/// The rules by which the checks judge are the language's tables. An operator takes a type on both
+/// sides and gives a type exactly where its table has such a row. An instruction of the text is
+/// right on a result, and leaves a type, exactly where the tables say so of what its names mean; so
+/// is the operator of a parenthesis. A literal fits a variable of each type that it has.
+pub fn rules_are_the_tables()
+    ensures operators { (operator : Operator) (first second new : ElementaryType) →
+        (result_type operator first second ≡ Some new)
+        ↔ ((takes operator first ≡ true) × (second ≡ first) × (new ≡ gives operator first)) }
+    ensures instructions { (names : Names) (passed : ℕ) (a : text.Action)
+        (t u : Option ElementaryType) →
+        (IsRight passed (resolution_of names a) t × (type_after (resolution_of names a) t ≡ u))
+        ↔ IsRightAction names passed a t u }
+    ensures parentheses { (operator : Operator) (negated : Bool)
+        (inner t u : Option ElementaryType) →
+        (IsCombined operator negated inner t × (option_map (gives operator) t ≡ u))
+        ↔ IsRightBlock operator negated inner t u }
+    ensures initial_values { (kind : ElementaryType) (l : Literal)
+        → IsSome (literal_value kind l) ↔ IsLiteralOf l kind }
+{}
+
+/// The machine computes as the integers do: the sum, difference or product, the quotient rounded
+/// toward zero, or what it leaves of the dividend; and of that the one number of the width that
+/// differs from it by a multiple of 2 to the number of bits. Its comparisons are the integers'
+/// order, and its connectives are those of FALSE and TRUE.
+pub fn arithmetic_is_that_of_the_integers()
+    ensures computed { (operator : Operator) (o : Operation) (width : Width) (a b z : ℤ)
+        → sense_of operator ≡ computes o → DividesBy o b →
+        (computation_of o width a b ≡ z) ↔ IsOutcome operator (type_of_width width) a b z }
+    ensures compared { (operator : Operator) (c : Comparison) (kind : ElementaryType) (a b : ℤ)
+        → sense_of operator ≡ compares c
+        → IsOutcome operator kind a b (number_of (Truth (comparison_holds c a b))) }
+    ensures connected { (operator : Operator) (c : Connective) (kind : ElementaryType) (a b : Bool)
+        → sense_of operator ≡ connects c →
+        IsOutcome operator kind (number_of (Truth a)) (number_of (Truth b))
+        (number_of (Truth (logic_of c a b))) }
+{}
+
+/// An operator means its arithmetic: it makes a value of two exactly where its table has a row for
+/// their types, which gives the type of the value, and the number of the value is what the operator
+/// makes of their numbers. So nothing comes of a division by 0. Likewise a conversion and NOT.
+pub fn an_operator_means_its_arithmetic()
+    ensures combined { (operator : Operator) (a b v : Value)
+        → (combination_of (sense_of operator) a b ≡ Some v) ↔ IsMadeOf operator a b v }
+    ensures converted { (conversion : Conversion) (v w : Value)
+        → (wider_value (widening_of conversion) v ≡ Some w) ↔ IsConverted conversion v w }
+    ensures inverted { (v w : Value) → (inverse v ≡ Some w) ↔ IsInverted v w }
+{}
+
+/// A right program has the types of the language: with some type of the current result at each
+/// label, or none, each instruction of the text has, by the language's tables, the types that its
+/// checked form has. A literal that names a type has it. A number alone has, in a load, the first
+/// of INT, DINT and LINT that has it; elsewhere the type of the result that it meets, of the other
+/// side's or of the input that it is given to.
+pub fn a_right_program_has_the_languages_types()
+    ensures { (points : List Point) (program : text.PlainProgram) (c : Checked)
+        → checked_of points program ≡ Ok c → list_all is_outer program.items ≡ true
+        → HasTypes program c }
 {}

@@ -1,0 +1,147 @@
+-- Which instructions of the text are right, with what its names mean, by the language's tables (IEC
+-- 61131-3:2003, 2.2, 3.2.2 and table 52).
+use Rattle.std.specs.Prelude.{◌≡◌, ℕ, pos, ◌≤◌, Bool, true, List, [], ◌∷◌, Option, Some, None}
+use Rattle.bay_base.specs.declared.types.ElementaryType.{ElementaryType}
+use Rattle.bay_base.specs.declared.types.ElementaryType.TheVariants as elementary
+use Rattle.il_text.specs.Listing as text
+use Rattle.il_text.specs.declared.program.Input.{Input}
+use Rattle.il_text.specs.declared.program.Literal.{Literal}
+use Rattle.il_text.specs.declared.program.Literal.TheVariants as literal
+use Rattle.il_text.specs.declared.program.Operator.{Operator}
+use Rattle.il_text.specs.declared.program.Operator.TheVariants.{Div, Mod}
+use Rattle.il_text.specs.declared.program.Output.{Output}
+use Rattle.il_check.specs.Given.{Names}
+use Rattle.il_check.specs.declared.given.Meaning.{Meaning}
+use Rattle.il_check.specs.declared.given.Meaning.TheVariants as meaning
+use Rattle.il_laws.specs.Table.{IsFirstWith, IsNumberOf, MayNegate, Stores, Tests, input_kind, output_kind, result_type, wider_type}
+
+-- ---- operands
+
+-- The literal has the type: a number alone may have any but TIME.
+abbrev pub IsLiteralOf : Literal → ElementaryType → Type 0
+IsLiteralOf (literal.Truth b) kind = kind ≡ elementary.Bool
+IsLiteralOf (literal.Number z) kind = IsNumberOf kind z × (kind ≡ elementary.Time → ⊥)
+IsLiteralOf (literal.Int z) kind = (kind ≡ elementary.Int) × IsNumberOf elementary.Int z
+IsLiteralOf (literal.Dint z) kind = (kind ≡ elementary.Dint) × IsNumberOf elementary.Dint z
+IsLiteralOf (literal.Lint z) kind = (kind ≡ elementary.Lint) × IsNumberOf elementary.Lint z
+IsLiteralOf (literal.Time n) kind = (kind ≡ elementary.Time) × IsNumberOf elementary.Time (pos n)
+
+-- the type of what is declared as a variable
+abbrev pub variable_kind : Option Meaning → Option ElementaryType
+variable_kind (Some (meaning.Variable slot kind writable)) = Some kind
+variable_kind other = None
+
+-- the type of an output of what is declared as a timer
+abbrev pub timer_output : Output → Option Meaning → Option ElementaryType
+timer_output what (Some (meaning.Timer timer)) = Some (output_kind what)
+timer_output what other = None
+
+-- the type of a variable or of an output
+abbrev pub place_kind : Names → text.Place → Option ElementaryType
+place_kind names (text.named name) = variable_kind (names.meaning name)
+place_kind names (text.output timer what) = timer_output what (names.meaning timer)
+
+-- The operand can have the type.
+abbrev pub CanHave : Names → text.Source → ElementaryType → Type 0
+CanHave names (text.constant l) kind = IsLiteralOf l kind
+CanHave names (text.variable place) kind = place_kind names place ≡ Some kind
+
+-- A number alone that is loaded has the first of INT, DINT and LINT that has it.
+abbrev pub IsLoaded : Names → text.Source → ElementaryType → Type 0
+IsLoaded names (text.constant (literal.Number z)) kind = IsFirstWith z kind
+IsLoaded names source kind = CanHave names source kind
+
+-- ---- what else an instruction needs
+
+-- The name is a variable that may be written.
+abbrev pub IsWritable : Option Meaning → Type 0
+IsWritable (Some (meaning.Variable slot kind writable)) = writable ≡ true
+IsWritable other = ⊥
+
+-- Only variables are written.
+abbrev pub MayWrite : Names → text.Place → Type 0
+MayWrite names (text.named name) = IsWritable (names.meaning name)
+MayWrite names (text.output timer what) = ⊥
+
+-- The literal is not 0.
+abbrev pub IsNotZero : Literal → Type 0
+IsNotZero (literal.Truth b) = b ≡ true
+IsNotZero (literal.Number z) = z ≡ pos 0 → ⊥
+IsNotZero (literal.Int z) = z ≡ pos 0 → ⊥
+IsNotZero (literal.Dint z) = z ≡ pos 0 → ⊥
+IsNotZero (literal.Lint z) = z ≡ pos 0 → ⊥
+IsNotZero (literal.Time n) = n ≡ 0 → ⊥
+
+-- The operand is a literal other than 0.
+abbrev pub IsDivisor : text.Source → Type 0
+IsDivisor (text.constant l) = IsNotZero l
+IsDivisor (text.variable place) = ⊥
+
+-- DIV and MOD divide by a literal other than 0.
+abbrev pub MayDivide : Operator → text.Source → Type 0
+MayDivide Div source = IsDivisor source
+MayDivide Mod source = IsDivisor source
+MayDivide operator source = Unit {0}
+
+-- The operator is not DIV or MOD.
+abbrev pub DoesNotDivide : Operator → Type 0
+DoesNotDivide Div = ⊥
+DoesNotDivide Mod = ⊥
+DoesNotDivide operator = Unit {0}
+
+-- The name is a timer's.
+abbrev pub IsTimer : Option Meaning → Type 0
+IsTimer (Some (meaning.Timer timer)) = Unit {0}
+IsTimer other = ⊥
+
+-- Each argument, of which a call has two at most, can have the type of its input.
+abbrev pub AreGiven : Names → List (Input × text.Source) → Type 0
+AreGiven names [] = Unit {0}
+AreGiven names (a ∷ []) = CanHave names a.1 (input_kind a.0)
+AreGiven names (a ∷ b ∷ more) =
+    CanHave names a.1 (input_kind a.0) × CanHave names b.1 (input_kind b.0)
+
+-- ---- instructions and parentheses, on a result of the first type, which leave one of the second;
+-- none is a result that is not set
+
+-- An operator on a result with an operand of the second type leaves a result of the new type.
+pub record Combines (operator : Operator) (negated : Bool) (t u : Option ElementaryType)
+    (second : ElementaryType) : Type 0 where
+  pub first : ElementaryType
+  pub new : ElementaryType
+  pub on : t ≡ Some first
+  pub row : result_type operator first second ≡ Some new
+  pub negation : MayNegate negated second
+  pub leaves : u ≡ Some new
+
+-- The instruction is right behind so many labels: a jump goes to a label below.
+abbrev pub IsRightAction : Names → ℕ → text.Action → Option ElementaryType → Option ElementaryType
+    → Type 0
+IsRightAction names passed (text.load negated source) t u =
+    (kind : ElementaryType) × IsLoaded names source kind × MayNegate negated kind
+    × (u ≡ Some kind)
+IsRightAction names passed (text.store how place) t u =
+    (kind : ElementaryType) × (target : ElementaryType) × (t ≡ Some kind)
+    × (place_kind names place ≡ Some target) × Stores how kind target × MayWrite names place
+    × (u ≡ t)
+IsRightAction names passed (text.combine operator negated source) t u =
+    (second : ElementaryType) × CanHave names source second × Combines operator negated t u second
+    × MayDivide operator source
+IsRightAction names passed text.invert t u = (t ≡ Some elementary.Bool) × (u ≡ t)
+IsRightAction names passed (text.convert conversion) t u =
+    (kind : ElementaryType) × (new : ElementaryType) × (t ≡ Some kind)
+    × (wider_type conversion kind ≡ Some new) × (u ≡ Some new)
+IsRightAction names passed (text.jump condition name) t u =
+    (number : ℕ) × (names.label name ≡ Some number) × (passed ≤ number) × Tests condition t
+    × (u ≡ t)
+IsRightAction names passed (text.leave condition) t u = Tests condition t × (u ≡ t)
+IsRightAction names passed (text.call timer args) t u =
+    IsTimer (names.meaning timer) × AreGiven names args × (u ≡ None)
+
+-- The operator of a parenthesis is right, in which a result of the inner type comes about; it
+-- divides by no parenthesis.
+abbrev pub IsRightBlock : Operator → Bool → Option ElementaryType → Option ElementaryType
+    → Option ElementaryType → Type 0
+IsRightBlock operator negated inner t u =
+    (second : ElementaryType) × (inner ≡ Some second) × Combines operator negated t u second
+    × DoesNotDivide operator
