@@ -5,14 +5,13 @@
 --
 -- No code cites the rest, which says the language once more, in its own words (IEC 61131-3:2003,
 -- tables 10, 24, 26, 28, 38 and 52). `Table`: on which types an operator works, and what type it
--- gives. `Instructions`: which instructions are right. `Integers`: what operators make of integers,
--- and of values. `TypedText`: the types of a checked program beside its text.
+-- gives. `Instructions`: which instructions are right, each by itself; `RightText`: one behind the
+-- other. `Integers`: what operators make of integers, and of values. `TypedText`: the types of a
+-- checked program beside its text.
 
 -- What public clauses cite of the crates below.
 pub use Rattle.il_check.specs.Checking
 pub use Rattle.il_check.specs.Declaring
-pub use Rattle.il_check.specs.Given
-pub use Rattle.il_check.specs.Labelling
 pub use Rattle.il_check.specs.Program
 pub use Rattle.il_check.specs.Rules
 pub use Rattle.il_compile.specs.Meaning
@@ -23,6 +22,7 @@ pub use Rattle.il_text.specs.Listing
 pub mod ByNames
 pub mod Instructions
 pub mod Integers
+pub mod RightText
 pub mod Table
 pub mod TypedText
 pub mod Verified

@@ -1,5 +1,5 @@
 // Laws of the definitions. Each function does nothing, and its contract is the law.
-ghost use Rattle.std.specs.Prelude.{◌≡◌, ◌↔◌, ℕ, ℤ, Bool, true, IsSome, List, Ok, Option, Some, option_map};
+ghost use Rattle.std.specs.Prelude.{◌≡◌, ◌↔◌, ℕ, ℤ, Bool, true, IsSome, List, Ok, Some};
 ghost use Rattle.std.specs.List.{list_all};
 ghost use Rattle.bay_base.specs.declared.types.ElementaryType.{ElementaryType};
 ghost use Rattle.bay_config.specs.declared.bay.Point.{Point};
@@ -19,15 +19,14 @@ ghost use Rattle.il_image.specs.declared.value.Value.{Value};
 ghost use Rattle.il_image.specs.declared.value.Value.TheVariants.{Truth};
 ghost use Rattle.il_check.specs.Checking.{checked_of};
 ghost use Rattle.il_check.specs.Declaring.{literal_value, names_in};
-ghost use Rattle.il_check.specs.Given.{Names, resolution_of};
-ghost use Rattle.il_check.specs.Labelling.{IsCombined, IsRight};
 ghost use Rattle.il_check.specs.Program.{Checked};
-ghost use Rattle.il_check.specs.Rules.{gives, takes, type_after};
+ghost use Rattle.il_check.specs.Rules.{gives, takes};
 ghost use Rattle.il_compile.specs.Meaning.{combination_of, inverse};
 ghost use Rattle.il_compile.specs.Senses.{compares, computes, connects, sense_of, widening_of};
 ghost use Rattle.il_laws.specs.ByNames.{GoesByNames};
-ghost use Rattle.il_laws.specs.Instructions.{IsLiteralOf, IsRightAction, IsRightBlock};
+ghost use Rattle.il_laws.specs.Instructions.{IsLiteralOf};
 ghost use Rattle.il_laws.specs.Integers.{IsConverted, IsInverted, IsMadeOf, IsOutcome};
+ghost use Rattle.il_laws.specs.RightText.{IsRightText};
 ghost use Rattle.il_laws.specs.Table.{result_type};
 ghost use Rattle.il_laws.specs.TypedText.{HasTypes};
 ghost use Rattle.il_laws.specs.Verified.{Verifies};
@@ -49,23 +48,17 @@ pub fn meaning_goes_by_names()
 {}
 
 /// The rules by which the checks judge are the language's tables. An operator takes a type on both
-/// sides and gives a type exactly where its table has such a row. An instruction of the text is
-/// right on a result, and leaves a type, exactly where the tables say so of what its names mean; so
-/// is the operator of a parenthesis. A literal fits a variable of each type that it has.
+/// sides and gives a type exactly where its table has such a row. A literal fits a variable of each
+/// type that it has. A program passes the checks exactly where its declarations are right and, with
+/// some type of the current result at each label, or none, each instruction is right by the tables.
 pub fn rules_are_the_tables()
     ensures operators { (operator : Operator) (first second new : ElementaryType) →
         (result_type operator first second ≡ Some new)
         ↔ ((takes operator first ≡ true) × (second ≡ first) × (new ≡ gives operator first)) }
-    ensures instructions { (names : Names) (passed : ℕ) (a : text.Action)
-        (t u : Option ElementaryType) →
-        (IsRight passed (resolution_of names a) t × (type_after (resolution_of names a) t ≡ u))
-        ↔ IsRightAction names passed a t u }
-    ensures parentheses { (operator : Operator) (negated : Bool)
-        (inner t u : Option ElementaryType) →
-        (IsCombined operator negated inner t × (option_map (gives operator) t ≡ u))
-        ↔ IsRightBlock operator negated inner t u }
     ensures initial_values { (kind : ElementaryType) (l : Literal)
         → IsSome (literal_value kind l) ↔ IsLiteralOf l kind }
+    ensures programs { (points : List Point) (program : text.PlainProgram)
+        → ((c : Checked) × (checked_of points program ≡ Ok c)) ↔ IsRightText points program }
 {}
 
 /// The machine computes as the integers do: the sum, difference or product, the quotient rounded
