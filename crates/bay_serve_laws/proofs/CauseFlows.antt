@@ -1,5 +1,5 @@
 -- What a turn tells of one association has its cause, part by part.
-use Rattle.std.proofs.Common.{◌≡◌, ◌≢◌, ℕ, zero, suc, ◌+◌, ◌<◌, ◌≤◌, ◌==◌, ◌&&◌, ◌||◌, Bool, true, false, cond, List, [], ◌∷◌, ◌++◌, length, drop, Option, Some, None, Result, Ok, Err, refl, ap, sym, subst, ◌∙◌, arith, inl, inr}
+use Rattle.std.proofs.Common.{◌≡◌, ◌≢◌, ℕ, zero, suc, ◌+◌, ◌<◌, ◌≤◌, ◌==◌, ◌&&◌, ◌||◌, Bool, true, false, cond, List, [], ◌∷◌, ◌++◌, length, drop, Option, Some, None, Result, Ok, Err, refl, ap, sym, subst, ◌∙◌, arith, append_assoc, append-nil, inl, inr}
 use Rattle.std.proofs.Math.Bool.{or_assoc}
 use Rattle.std.proofs.lemmas.Bool.{cases_eq}
 use Rattle.bay_device.specs.Device.{State}
@@ -16,7 +16,7 @@ use Rattle.bay_serve.specs.Offers.{Offer, offering_of}
 use Rattle.bay_serve.specs.Standings.{is_leaving, is_told}
 use Rattle.bay_serve.specs.Turns.{Held, Reading, Script, Turning, turn_calls, accept_calls, accept_calls_at, after_accept, after_each, after_line, after_offer, after_reads, after_scan, turn_begin, calls_of_each, cut_off, first_full, free_place, heard_calls, hung_up, is_up, leaves, left_by, line_calls, offer_calls, offer_end, offer_of, offer_one, on_heard, after_opening, after_parting, put_answer, queue_at, queue_of, read_calls, read_one, scan_calls, after_settling, settling, settling_in, settling_next, standing_of, after_event, taken_in, told_of, after_turn, with_device, with_noted, with_queue}
 use Rattle.bay_serve.specs.declared.told.Closing.TheVariants as closing
-use Rattle.bay_serve_laws.specs.Causes.{HasItsCause, closes_for, ends_for, fails_for, has_some, is_named}
+use Rattle.bay_serve_laws.specs.Causes.{HasItsCause, ends_for, fails_for, has_some, reason_in, reasons_of}
 use Rattle.bay_serve_laws.specs.Events.{ChosenEvent, HasNoOctets, turn_events, accept_events, done_at, events_of_each, failed_events, heard_events, line_events, offer_events, read_events, scan_events, settled_events}
 use Rattle.bay_serve_laws.specs.Flows.{IsInTime, IsOfProcess, IsTidy}
 use Rattle.bay_serve_laws.specs.Telling.{closed_in}
@@ -101,7 +101,7 @@ plain-end a now place true s =
 plain-end a now place false s = plain-nil a
 
 -- an offer to it fails where it says so
-offer-fails : (p : ℕ) (q takes : List ℕ) (fails : Bool)
+pub offer-fails : (p : ℕ) (q takes : List ℕ) (fails : Bool)
     → has_some (fails_for (p + 1)) (offering_of (p + 1) q takes fails).calls
     ≡ (offering_of (p + 1) q takes fails).failed
 offer-fails p [] takes fails = refl
@@ -136,34 +136,44 @@ offer-far p place (x ∷ xs) (suc n ∷ takes) fails ne =
 
 -- ---- answers that say nothing of it
 
+reasons-append : (a : ℕ) (xs ys : List (Result Step StepFault))
+    → reasons_of a (xs ++ ys) ≡ reasons_of a xs ++ reasons_of a ys
+reasons-append a [] ys = refl
+reasons-append a (x ∷ xs) ys =
+    ap (λ l. reason_in a (closed_in x) ++ l) (reasons-append a xs ys)
+    ∙ sym (append_assoc (reason_in a (closed_in x)) (reasons_of a xs) (reasons_of a ys))
+
+-- nothing more
+plus-none : (z l : List Why) → l ≡ [] → z ≡ z ++ l
+plus-none z l e = sym (append-nil z) ∙ ap (λ r. z ++ r) (sym e)
+
 quiet-closes : (a : ℕ) (answer : Result Step StepFault) → IsQuiet answer
-    → closes_for a answer ≡ false
+    → reason_in a (closed_in answer) ≡ []
 quiet-closes a (Err fault) q = refl
-quiet-closes a (Ok step) q = ap (is_named a) q.closed
+quiet-closes a (Ok step) q = ap (reason_in a) q.closed
 
 none-closes : (a now : ℕ) (events : List ChosenEvent) (d : State) → AllQuiet events
-    → has_some (closes_for a) (done_at now events d).answers ≡ false
+    → reasons_of a (done_at now events d).answers ≡ []
 none-closes a now [] d q = refl
 none-closes a now (e ∷ es) d q =
     let o = outcome e.0 now e.1 d in
-    ap (λ b. b || has_some (closes_for a) (done_at now es o.after).answers)
+    ap (λ l. l ++ reasons_of a (done_at now es o.after).answers)
     (quiet-closes a o.answer (outcome-quiet e.0 now e.1 d q.0))
     ∙ none-closes a now es o.after q.1
 
 other-named : (p place : ℕ) (o : Option (ℕ × Why)) → place ≢ p → IsOwn (place + 1) o
-    → is_named (p + 1) o ≡ false
+    → reason_in (p + 1) o ≡ []
 other-named p place None ne own = refl
 other-named p place (Some c) ne own =
-    ap (λ a. a == p + 1) own ∙ other-number place p ne
+    ap (λ b. cond b (c.1 ∷ []) []) (ap (λ a. a == p + 1) own ∙ other-number place p ne)
 
 other-closes : (p now place : ℕ) (choice : Option ℕ) (heard : ReadOutcome) (s : Turning) → place ≢ p
-    → has_some (closes_for (p + 1))
-    (done_at now (heard_events now place choice heard s) s.server.device).answers ≡ false
+    → reasons_of (p + 1)
+    (done_at now (heard_events now place choice heard s) s.server.device).answers ≡ []
 other-closes p now place choice (Octets octets) s ne =
     let o = outcome choice now (Recv (place + 1) (lying octets)) s.server.device in
     let t : Turning = taken_in now place choice octets s in
-    ap (λ b. b || has_some (closes_for (p + 1))
-    (done_at now (settled_events now t) o.after).answers)
+    ap (λ l. l ++ reasons_of (p + 1) (done_at now (settled_events now t) o.after).answers)
     (other-named p place (closed_in o.answer) ne
     (outcome-own choice now (place + 1) octets s.server.device))
     ∙ none-closes (p + 1) now (settled_events now t) o.after (settled-quiet now t)
@@ -181,10 +191,10 @@ module _ (now p : ℕ) (low : p < 8) where
   record Learns (s : Turning) (calls : List Call) (events : List ChosenEvent) (t : Turning)
       : Type 0 where
     device : t.server.device ≡ (done_at now events s.server.device).after
-    learns : (x y z : Bool) → Knows p x y z s.noted
+    learns : (x y : Bool) (z : List Why) → Knows p x y z s.noted
         → Knows p (x || has_some (fails_for (p + 1)) calls)
         (y || has_some (ends_for (p + 1)) calls)
-        (z || has_some (closes_for (p + 1)) (done_at now events s.server.device).answers) t.noted
+        (z ++ reasons_of (p + 1) (done_at now events s.server.device).answers) t.noted
 
   more : {A : Type 0} (f : A → Bool) (x : Bool) (c d : List A)
       → ((x || has_some f c) || has_some f d) ≡ (x || has_some f (c ++ d))
@@ -196,31 +206,32 @@ module _ (now p : ℕ) (low : p < 8) where
   Learns-trans s t u c d xs ys a b =
       let both : IsBoth now xs ys s.server.device = done-append now xs ys s.server.device in
       let first = (done_at now xs s.server.device).answers in
+      let second = (done_at now ys (done_at now xs s.server.device).after).answers in
       record {
         device = b.device ∙ ap (λ v. (done_at now ys v).after) a.device ∙ sym both.after;
         learns = λ x y z k.
             knows-as p _ _ _ (x || has_some (fails_for (p + 1)) (c ++ d))
             (y || has_some (ends_for (p + 1)) (c ++ d))
-            (z || has_some (closes_for (p + 1)) (done_at now (xs ++ ys) s.server.device).answers)
+            (z ++ reasons_of (p + 1) (done_at now (xs ++ ys) s.server.device).answers)
             u.noted (more (fails_for (p + 1)) x c d) (more (ends_for (p + 1)) y c d)
-            (ap (λ v. (z || has_some (closes_for (p + 1)) first)
-            || has_some (closes_for (p + 1)) (done_at now ys v).answers) a.device
-            ∙ more (closes_for (p + 1)) z first
-            (done_at now ys (done_at now xs s.server.device).after).answers
-            ∙ ap (λ l. z || has_some (closes_for (p + 1)) l) (sym both.answers))
+            (ap (λ v. (z ++ reasons_of (p + 1) first)
+            ++ reasons_of (p + 1) (done_at now ys v).answers) a.device
+            ∙ append_assoc z (reasons_of (p + 1) first) (reasons_of (p + 1) second)
+            ∙ ap (λ l. z ++ l) (sym (reasons-append (p + 1) first second)
+            ∙ ap (reasons_of (p + 1)) (sym both.answers)))
             (b.learns _ _ _ (a.learns x y z k));
       }
 
   -- nothing of it happens
   Learns-still : (s t : Turning) (calls : List Call) (events : List ChosenEvent)
       → t.server.device ≡ (done_at now events s.server.device).after → IsPlain (p + 1) calls
-      → has_some (closes_for (p + 1)) (done_at now events s.server.device).answers ≡ false
+      → reasons_of (p + 1) (done_at now events s.server.device).answers ≡ []
       → (length s.noted.standings ≡ 8 → Still p s.noted t.noted) → Learns s calls events t
   Learns-still s t calls events device plain closes still = record {
     device = device;
     learns = λ x y z k.
         knows-as p x y z _ _ _ t.noted (or-none x _ plain.fails) (or-none y _ plain.ends)
-        (or-none z _ closes) (still-knows p x y z s.noted t.noted (still k.sized) k);
+        (plus-none z _ closes) (still-knows p x y z s.noted t.noted (still k.sized) k);
   }
 
   abbrev Others : ℕ → Type 0
@@ -233,27 +244,27 @@ module _ (now p : ℕ) (low : p < 8) where
       keep-settled Others (Still p t.noted) (still-kept p low t.noted) now t
       (Still-refl p t.noted sized)
 
-  settled-knows : (x y z : Bool) (t : Turning) → Knows p x y z t.noted
+  settled-knows : (x y : Bool) (z : List Why) (t : Turning) → Knows p x y z t.noted
       → Knows p x y z (after_settling now t).noted
   settled-knows x y z t k =
       still-knows p x y z t.noted (after_settling now t).noted (settled-still t k.sized) k
 
   -- ---- what is heard
 
-  answer-knows : (x y z : Bool) (answer : Result Step StepFault) (s : Turning)
+  answer-knows : (x y : Bool) (z : List Why) (answer : Result Step StepFault) (s : Turning)
       → IsOwn (p + 1) (closed_in answer) → Ready p low x y z s.noted
-      → Knows p x y (z || closes_for (p + 1) answer) (put_answer p answer s).noted
+      → Knows p x y (z ++ reason_in (p + 1) (closed_in answer)) (put_answer p answer s).noted
   answer-knows x y z (Err fault) s own r =
-      knows-as p x y z x y (z || false) s.noted refl refl (or-none z false refl) r.knows
+      knows-as p x y z x y (z ++ []) s.noted refl refl (plus-none z [] refl) r.knows
   answer-knows x y z (Ok step) s own r =
       let left : Turning = left_by p step.closed s in
       let k = left-knows p low x y z step.closed s.noted r.untold own r.knows in
-      still-knows p x y (z || is_named (p + 1) step.closed) left.noted
+      still-knows p x y (z ++ reason_in (p + 1) step.closed) left.noted
       (put_answer p (Ok step) s).noted
       (keep-rest Others (Still p left.noted) (still-kept p low left.noted) now p step s
       (Still-refl p left.noted k.sized)) k
 
-  cut-knows : (x y z : Bool) (s : Turning) → Ready p low x y z s.noted
+  cut-knows : (x y : Bool) (z : List Why) (s : Turning) → Ready p low x y z s.noted
       → Knows p (x || true) y z (cut_off now closing.LinkFailed p s).noted
   unfolding cut_off
   cut-knows x y z s r =
@@ -262,7 +273,7 @@ module _ (now p : ℕ) (low : p < 8) where
       in
       failed-knows p low x y z t.noted then.untold then.knows
 
-  hung-knows : (x y z : Bool) (s : Turning) → Ready p low x y z s.noted
+  hung-knows : (x y : Bool) (z : List Why) (s : Turning) → Ready p low x y z s.noted
       → Knows p x (y || true) z (hung_up now p s).noted
   hung-knows x y z s r =
       let left : Turning = with_noted (leaves p Ended s.noted) s in
@@ -275,11 +286,11 @@ module _ (now p : ℕ) (low : p < 8) where
   calls_heard place choice heard s =
       Reads (place + 1) 4096 heard ∷ heard_calls now place choice heard s
 
-  heard-knows : (x y z : Bool) (choice : Option ℕ) (heard : ReadOutcome) (s : Turning)
+  heard-knows : (x y : Bool) (z : List Why) (choice : Option ℕ) (heard : ReadOutcome) (s : Turning)
       → Ready p low x y z s.noted
       → Knows p (x || has_some (fails_for (p + 1)) (calls_heard p choice heard s))
       (y || has_some (ends_for (p + 1)) (calls_heard p choice heard s))
-      (z || has_some (closes_for (p + 1))
+      (z ++ reasons_of (p + 1)
       (done_at now (heard_events now p choice heard s) s.server.device).answers)
       (on_heard now p choice heard s).noted
   heard-knows x y z choice (Octets octets) s r =
@@ -287,19 +298,19 @@ module _ (now p : ℕ) (low : p < 8) where
       let t : Turning = taken_in now p choice octets s in
       let plain = plain-call (p + 1) (Reads (p + 1) 4096 (Octets octets)) (settling now t)
       (and-no (p + 1 == p + 1)) (and-no (p + 1 == p + 1)) (plain-settling (p + 1) now t) in
-      let b = closes_for (p + 1) o.answer in
+      let b = reason_in (p + 1) (closed_in o.answer) in
       let k = answer-knows x y z o.answer (with_device o.after s)
       (outcome-own choice now (p + 1) octets s.server.device)
       (record { untold = r.untold; knows = r.knows }) in
-      knows-as p x y (z || b) _ _ _ (after_settling now t).noted (or-none x _ plain.fails)
+      knows-as p x y (z ++ b) _ _ _ (after_settling now t).noted (or-none x _ plain.fails)
       (or-none y _ plain.ends)
-      (ap (λ v. z || v) (or-none b _
+      (ap (λ v. z ++ v) (plus-none b _
       (none-closes (p + 1) now (settled_events now t) o.after (settled-quiet now t))))
-      (settled-knows x y (z || b) t k)
+      (settled-knows x y (z ++ b) t k)
   heard-knows x y z choice Silence s r =
       let none = and-no (p + 1 == p + 1) in
       knows-as p x y z _ _ _ s.noted (or-none x _ (ap (λ b. b || false) none))
-      (or-none y _ (ap (λ b. b || false) none)) (or-none z false refl) r.knows
+      (or-none y _ (ap (λ b. b || false) none)) (plus-none z [] refl) r.knows
   heard-knows x y z choice Over s r =
       let t : Turning = hung_up now p s in
       let plain = plain-settling (p + 1) now t in
@@ -309,7 +320,7 @@ module _ (now p : ℕ) (low : p < 8) where
       ∙ plain.fails))
       (ap (λ b. y || ((b && true) || has_some (ends_for (p + 1)) (settling now t)))
       (sym (same-number p)))
-      (or-none z _ (none-closes (p + 1) now (heard_events now p choice Over s) s.server.device
+      (plus-none z _ (none-closes (p + 1) now (heard_events now p choice Over s) s.server.device
       (tt, settled-quiet now t)))
       (settled-knows x (y || true) z t (hung-knows x y z s r))
   heard-knows x y z choice Broken s r =
@@ -322,23 +333,23 @@ module _ (now p : ℕ) (low : p < 8) where
       (or-none y _
       (ap (λ b. b || has_some (ends_for (p + 1)) (Closes (p + 1) ∷ settling now t))
       (and-no (p + 1 == p + 1)) ∙ plain.ends))
-      (or-none z _ (none-closes (p + 1) now (heard_events now p choice Broken s) s.server.device
+      (plus-none z _ (none-closes (p + 1) now (heard_events now p choice Broken s) s.server.device
       (tt, settled-quiet now t)))
       (settled-knows (x || true) y z t (cut-knows x y z s r))
 
-  read-own : (up : Bool) (x y z : Bool) (r : Reading) (s : Turning)
+  read-own : (up : Bool) (x y : Bool) (z : List Why) (r : Reading) (s : Turning)
       → (up ≡ true → is_told (standing_of p s) ≡ false) → Knows p x y z s.noted
       → Knows p
       (x || has_some (fails_for (p + 1)) (cond up (calls_heard p r.choice r.heard s) []))
       (y || has_some (ends_for (p + 1)) (cond up (calls_heard p r.choice r.heard s) []))
-      (z || has_some (closes_for (p + 1))
+      (z ++ reasons_of (p + 1)
       (done_at now (cond up (heard_events now p r.choice r.heard s) []) s.server.device).answers)
       (cond up (on_heard now p r.choice r.heard s) s).noted
   read-own true x y z r s untold k =
       heard-knows x y z r.choice r.heard s (record { untold = untold refl; knows = k })
   read-own false x y z r s untold k =
       knows-as p x y z _ _ _ s.noted (or-none x false refl) (or-none y false refl)
-      (or-none z false refl) k
+      (plus-none z [] refl) k
 
   plain-read : (place : ℕ) (r : Reading) (s : Turning) → place ≢ p
       → IsPlain (p + 1) (read_calls now place r s)
@@ -357,12 +368,11 @@ module _ (now p : ℕ) (low : p < 8) where
   read_by up place r s = cond up (heard_events now place r.choice r.heard s) []
 
   read-closes : (place : ℕ) (r : Reading) (s : Turning) → place ≢ p
-      → has_some (closes_for (p + 1))
-      (done_at now (read_events now place r s) s.server.device).answers ≡ false
+      → reasons_of (p + 1) (done_at now (read_events now place r s) s.server.device).answers ≡ []
   read-closes place r s ne = by-up (is_up place s)
     where
-      by-up : (up : Bool) → has_some (closes_for (p + 1))
-          (done_at now (read_by up place r s) s.server.device).answers ≡ false
+      by-up : (up : Bool)
+          → reasons_of (p + 1) (done_at now (read_by up place r s) s.server.device).answers ≡ []
       by-up true = other-closes p now place r.choice r.heard s ne
       by-up false = refl
 
@@ -407,12 +417,12 @@ module _ (now p : ℕ) (low : p < 8) where
       (offer-ends (p + 1) (p + 1) (queue_of p s) o.takes o.fails)
       ∙ plain.ends
 
-  failed-own : (failed : Bool) (x y z : Bool) (o : Offer) (s : Turning)
+  failed-own : (failed : Bool) (x y : Bool) (z : List Why) (o : Offer) (s : Turning)
       → (offer_of p o s).failed ≡ failed → Ready p low x y z s.noted
       → Knows p
       (x || has_some (fails_for (p + 1)) ((offer_of p o s).calls ++ offer_end now p failed s))
       (y || has_some (ends_for (p + 1)) ((offer_of p o s).calls ++ offer_end now p failed s))
-      (z || has_some (closes_for (p + 1))
+      (z ++ reasons_of (p + 1)
       (done_at now (failed_events now p failed s) s.server.device).answers)
       (cond failed (after_settling now (cut_off now closing.LinkFailed p s))
       (with_queue p (offer_of p o s).left s)).noted
@@ -422,36 +432,36 @@ module _ (now p : ℕ) (low : p < 8) where
       knows-as p (x || true) y z _ _ _ (after_settling now t).noted
       (ap (λ b. x || b) (sym is ∙ behind-fails o s (offer_end now p true s) plain))
       (or-none y _ (behind-ends o s (offer_end now p true s) plain))
-      (or-none z _ (none-closes (p + 1) now (failed_events now p true s) s.server.device
+      (plus-none z _ (none-closes (p + 1) now (failed_events now p true s) s.server.device
       (tt, settled-quiet now t)))
       (settled-knows (x || true) y z t (cut-knows x y z s r))
   failed-own false x y z o s is r =
       let plain = plain-end (p + 1) now p false s in
       knows-as p x y z _ _ _ s.noted
       (or-none x _ (sym (behind-fails o s (offer_end now p false s) plain) ∙ is))
-      (or-none y _ (behind-ends o s (offer_end now p false s) plain)) (or-none z false refl)
+      (or-none y _ (behind-ends o s (offer_end now p false s) plain)) (plus-none z [] refl)
       r.knows
 
-  offer-own : (leaving up : Bool) (x y z : Bool) (o : Offer) (s : Turning)
+  offer-own : (leaving up : Bool) (x y : Bool) (z : List Why) (o : Offer) (s : Turning)
       → is_leaving (standing_of p s) ≡ leaving
       → (up ≡ true → is_told (standing_of p s) ≡ false) → Knows p x y z s.noted
       → Knows p (x || has_some (fails_for (p + 1)) (calls_offered p leaving up o s))
       (y || has_some (ends_for (p + 1)) (calls_offered p leaving up o s))
-      (z || has_some (closes_for (p + 1)) (done_at now (cond leaving []
+      (z ++ reasons_of (p + 1) (done_at now (cond leaving []
       (cond up (failed_events now p (offer_of p o s).failed s) [])) s.server.device).answers)
       (cond leaving (after_parting p s) (cond up (after_offer now p (offer_of p o s) s) s)).noted
   offer-own true up x y z o s is untold k =
       let calls = (offer_of p o s).calls ++ Closes (p + 1) ∷ [] in
       knows-as p _ y z _ _ _ (after_parting p s).noted refl
       (or-none y _ (behind-ends o s (Closes (p + 1) ∷ []) (record { fails = refl; ends = refl })))
-      (or-none z false refl)
+      (plus-none z [] refl)
       (parted-knows p low x y z (has_some (fails_for (p + 1)) calls) s.noted is k)
   offer-own false true x y z o s is untold k =
       failed-own (offer_of p o s).failed x y z o s refl
       (record { untold = untold refl; knows = k })
   offer-own false false x y z o s is untold k =
       knows-as p x y z _ _ _ s.noted (or-none x false refl) (or-none y false refl)
-      (or-none z false refl) k
+      (plus-none z [] refl) k
 
   plain-offer : (place : ℕ) (o : Offer) (s : Turning) → place ≢ p
       → IsPlain (p + 1) (offer_calls now place o s)
@@ -546,7 +556,7 @@ abbrev pub KnowsTurn : ℕ → Option NamedData → Script → Held → ℕ → 
 KnowsTurn now line script h p =
     Knows p (has_some (fails_for (p + 1)) (turn_calls now line script h))
     (has_some (ends_for (p + 1)) (turn_calls now line script h))
-    (has_some (closes_for (p + 1)) (done_at now (turn_events now line script h) h.device).answers)
+    (reasons_of (p + 1) (done_at now (turn_events now line script h) h.device).answers)
     (after_turn now line script h).noted
 
 pub knows-turn : (now : ℕ) (line : Option NamedData) (script : Script) (h : Held) → IsTidy h
@@ -613,7 +623,7 @@ knows-turn now line script h tidy time process readings offers p low =
     let to03 = Learns-trans now p low s0 s2 s3 _ _ _ _ to02 to3 in
     let to04 = Learns-trans now p low s0 s3 s4 _ _ _ _ to03 to4 in
     let whole = Learns-trans now p low s0 s4 s5 _ _ _ _ to04 to5.learns in
-    whole.learns false false false (nothing-known p low)
+    whole.learns false false [] (nothing-known p low)
 
 pub has-its-cause : (now : ℕ) (line : Option NamedData) (script : Script) (h : Held) → IsTidy h
     → IsInTime now h → IsOfProcess line → length script.readings ≡ 8 → length script.offers ≡ 8

@@ -1,5 +1,5 @@
 -- What a turn tells of one association has its cause.
-use Rattle.std.proofs.Common.{◌≡◌, ◌≢◌, ℕ, ◌+◌, ◌<◌, ◌==◌, ◌&&◌, ◌||◌, Bool, true, false, not, cond, List, [], ◌∷◌, ◌++◌, length, get_or, set, Option, Some, None, refl, ap, sym, subst, ◌∙◌, ◌⊎◌, inl, inr}
+use Rattle.std.proofs.Common.{◌≡◌, ◌≢◌, ℕ, ◌+◌, ◌<◌, ◌==◌, ◌&&◌, ◌||◌, Bool, true, false, not, cond, List, [], ◌∷◌, ◌++◌, length, get_or, set, Option, Some, None, refl, ap, sym, subst, ◌∙◌, append-nil, ◌⊎◌, inl, inr}
 use Rattle.std.proofs.lemmas.Bool.{cases_eq}
 use Rattle.std.proofs.lemmas.List.{get_or-set_other, get_or-set_same}
 use Rattle.std.proofs.lemmas.List.Quantifiers.{position-Some}
@@ -11,13 +11,13 @@ use Rattle.bay_serve.specs.declared.standing.Standing.{Standing}
 use Rattle.bay_serve.specs.declared.standing.Standing.TheVariants.{Steady, Full, Leaving, LeavingFull, Gone}
 use Rattle.bay_serve.specs.declared.told.Closing.{Closing}
 use Rattle.bay_serve.specs.declared.told.Closing.TheVariants as closing
-use Rattle.bay_serve_laws.specs.Causes.{IsCaused, is_ended, is_named, is_queue_full, tells}
+use Rattle.bay_serve_laws.specs.Causes.{IsCaused, has_reason, has_some, is_end, is_ended, is_fault, is_memory, is_queue_full, is_refusal, names, reason_in, tells}
 use Rattle.bay_serve_laws.specs.Faults.{is_link_failed}
 use Rattle.bay_serve_laws.proofs.ClosingLemmas.{IsOwn}
 use Rattle.bay_serve_laws.proofs.KeepLemmas.{IsFilled, IsNoted}
 use Rattle.bay_serve_laws.proofs.StandingLemmas.{all-steady}
-use Rattle.bay_serve_laws.proofs.TellingLemmas.{filled-told, leaving-told, same-number, set-length}
-use Rattle.bay_serve_laws.proofs.TellsLemmas.{or-none, or-true, tells-not, tells-now, tells-other}
+use Rattle.bay_serve_laws.proofs.TellingLemmas.{filled-told, leaving-told, other-number, same-number, set-length}
+use Rattle.bay_serve_laws.proofs.TellsLemmas.{or-none, or-true, some-append, tells-not, tells-now, tells-other, tells-own}
 
 -- ---- tests
 
@@ -38,24 +38,24 @@ rises b false h e = absurd (let f : true ≡ false = sym e ∙ h refl in cc)
 -- ---- how an association stands, and what is known of it
 
 -- It was not told of, and nothing closed it.
-record IsOpen (x y z : Bool) (a : ℕ) (n : Noted) : Type 0 where
+record IsOpen (x y : Bool) (z : List Why) (a : ℕ) (n : Noted) : Type 0 where
   failed : x ≡ false
   over : y ≡ false
-  closed : z ≡ false
+  closed : z ≡ []
   full : tells is_queue_full a n.closed ≡ false
 
--- that a call of it failed, that its client ended, and that the device closed it
-pub record Knows (p : ℕ) (failed over closed : Bool) (n : Noted) : Type 0 where
+-- that a call of it failed, that its client ended, and for which reasons the device closed it
+pub record Knows (p : ℕ) (failed over : Bool) (reasons : List Why) (n : Noted) : Type 0 where
   pub sized : length n.standings ≡ 8
-  pub caused : IsCaused failed over closed (p + 1) n.closed
-  untold : is_told (standing_in p n) ≡ false → IsOpen failed over closed (p + 1) n
-  leaving : is_leaving (standing_in p n) ≡ true → (over || closed) ≡ true
+  pub caused : IsCaused failed over reasons (p + 1) n.closed n.memory
+  untold : is_told (standing_in p n) ≡ false → IsOpen failed over reasons (p + 1) n
+  leaving : is_leaving (standing_in p n) ≡ true → (over || has_reason reasons) ≡ true
   -- what was told of and nothing else closed had no room
-  pub told : is_told (standing_in p n) ≡ true → failed ≡ false → over ≡ false → closed ≡ false
+  pub told : is_told (standing_in p n) ≡ true → failed ≡ false → over ≡ false → reasons ≡ []
       → tells is_queue_full (p + 1) n.closed ≡ true
 
-pub knows-as : (p : ℕ) (a b c d e f : Bool) (n : Noted) → a ≡ d → b ≡ e → c ≡ f → Knows p a b c n
-    → Knows p d e f n
+pub knows-as : (p : ℕ) (a b : Bool) (c : List Why) (d e : Bool) (f : List Why) (n : Noted) → a ≡ d
+    → b ≡ e → c ≡ f → Knows p a b c n → Knows p d e f n
 knows-as p a b c d e f n x y z k =
     subst (λ v. Knows p v e f n) x (subst (λ v. Knows p a v f n) y
     (subst (λ v. Knows p a b v n) z k))
@@ -68,6 +68,7 @@ pub record Still (p : ℕ) (n m : Noted) : Type 0 where
   leaving : is_leaving (standing_in p m) ≡ true → is_leaving (standing_in p n) ≡ true
   same : (is : Closing → Bool) → is closing.QueueFull ≡ false
       → tells is (p + 1) m.closed ≡ tells is (p + 1) n.closed
+  memory : names (p + 1) m.memory ≡ names (p + 1) n.memory
   full : tells is_queue_full (p + 1) m.closed ≡ true
       → (tells is_queue_full (p + 1) n.closed ≡ true)
       ⊎ ((is_told (standing_in p n) ≡ false) × (is_told (standing_in p m) ≡ true))
@@ -81,12 +82,13 @@ Still-refl p n sized = record {
   told = λ e. e;
   leaving = λ e. e;
   same = λ is e. refl;
+  memory = refl;
   full = λ e. inl e;
   closes = λ e. inl e;
   more = λ e. e;
 }
 
-still-open : (p : ℕ) (a b c : Bool) (n m : Noted) → Still p n m
+still-open : (p : ℕ) (a b : Bool) (c : List Why) (n m : Noted) → Still p n m
     → (is_told (standing_in p m) ≡ false) → IsOpen a b c (p + 1) n → IsOpen a b c (p + 1) m
 still-open p a b c n m s e o = record {
   failed = o.failed;
@@ -102,13 +104,15 @@ still-open p a b c n m s e o = record {
       | inr u ↦ let f : true ≡ false = sym u.1 ∙ e in cc
     ])
 
-pub still-knows : (p : ℕ) (a b c : Bool) (n m : Noted) → Still p n m → Knows p a b c n
+pub still-knows : (p : ℕ) (a b : Bool) (c : List Why) (n m : Noted) → Still p n m → Knows p a b c n
     → Knows p a b c m
 still-knows p a b c n m s k = record {
   sized = s.sized;
   caused = record {
+    ended = s.same is_ended refl ∙ k.caused.ended;
+    fault = λ code. s.same (is_fault code) refl ∙ k.caused.fault code;
+    lacked = s.memory ∙ k.caused.lacked;
     link = s.same is_link_failed refl ∙ k.caused.link;
-    client = λ e. s.same is_ended refl ∙ k.caused.client e;
     queue = λ e. elim (s.full e) [
       | inl t ↦ k.caused.queue t
       | inr u ↦ let o = k.untold u.0 in (o.failed, o.over, o.closed)
@@ -144,6 +148,7 @@ module _ (p : ℕ) (low : p < 8) where
           told = λ e. s.told (back e);
           leaving = λ e. s.leaving (leaving (sym (ap is_leaving here) ∙ e));
           same = s.same;
+          memory = s.memory;
           full = λ e. elim (s.full e) [
             | inl t ↦ inl t
             | inr u ↦ inr (u.0, rises _ _ back u.1)
@@ -155,15 +160,17 @@ module _ (p : ℕ) (low : p < 8) where
     -- another stands otherwise, and what is told of it
     stands-other : (x : Standing) (place : ℕ) (l : List (ℕ × Closing)) (memory : List ℕ) (m : Noted)
         → place ≢ p
-        → ((is : Closing → Bool) → tells is (p + 1) l ≡ tells is (p + 1) m.closed) → Still p n m
+        → ((is : Closing → Bool) → tells is (p + 1) l ≡ tells is (p + 1) m.closed)
+        → names (p + 1) memory ≡ names (p + 1) m.memory → Still p n m
         → Still p n (stands place x (record m { closed = l; memory = memory }))
-    stands-other x place l memory m ne told s =
+    stands-other x place l memory m ne told lacked s =
         let there = at-other m.standings x place ne in
         record {
           sized = set-length m.standings place x ∙ s.sized;
           told = λ e. s.told (sym (ap is_told there) ∙ e);
           leaving = λ e. s.leaving (sym (ap is_leaving there) ∙ e);
           same = λ is e. told is ∙ s.same is e;
+          memory = lacked ∙ s.memory;
           full = λ e. elim (s.full (sym (told is_queue_full) ∙ e)) [
             | inl t ↦ inl t
             | inr u ↦ inr (u.0, ap is_told there ∙ u.1)
@@ -180,17 +187,21 @@ module _ (p : ℕ) (low : p < 8) where
         → Still p n (stands place x
         (cond b m (record m { closed = m.closed ++ (place + 1, why) ∷ [] })))
     told-other true x place why m ne s =
-        stands-other x place m.closed m.memory m ne (λ is. refl) s
+        stands-other x place m.closed m.memory m ne (λ is. refl) refl s
     told-other false x place why m ne s =
         stands-other x place (m.closed ++ (place + 1, why) ∷ []) m.memory m ne
-        (λ is. tells-other is p place why m.closed ne) s
+        (λ is. tells-other is p place why m.closed ne) refl s
 
     memory-other : (b : Bool) (x : Standing) (place : ℕ) (m : Noted) → place ≢ p → Still p n m
         → Still p n (stands place x
         (cond b m (record m { memory = m.memory ++ (place + 1) ∷ [] })))
-    memory-other true x place m ne s = stands-other x place m.closed m.memory m ne (λ is. refl) s
+    memory-other true x place m ne s =
+        stands-other x place m.closed m.memory m ne (λ is. refl) refl s
     memory-other false x place m ne s =
-        stands-other x place m.closed (m.memory ++ (place + 1) ∷ []) m ne (λ is. refl) s
+        stands-other x place m.closed (m.memory ++ (place + 1) ∷ []) m ne (λ is. refl)
+        (some-append _ m.memory ((place + 1) ∷ [])
+        ∙ sym (or-none (names (p + 1) m.memory) _
+        (ap (λ b. b || false) (other-number place p ne)))) s
 
     leaves-other : (place : ℕ) (why : Why) (m : Noted) → place ≢ p → Still p n m
         → Still p n (leaves place why m)
@@ -214,6 +225,7 @@ module _ (p : ℕ) (low : p < 8) where
           told = λ f. absurd (let g : true ≡ false = sym (ap is_told here) ∙ f in cc);
           leaving = λ f. absurd (let g : false ≡ true = sym (ap is_leaving here) ∙ f in cc);
           same = λ is f. tells-not is p closing.QueueFull m.closed f ∙ s.same is f;
+          memory = s.memory;
           full = λ f. inr (s.told e, ap is_told here);
           closes = λ f. inr (tells-now is_queue_full p closing.QueueFull m.closed refl);
           more = λ f. tells-now is_queue_full p closing.QueueFull m.closed refl;
@@ -236,7 +248,7 @@ module _ (p : ℕ) (low : p < 8) where
           (λ f. sym (filled-leaving (standing_in p m)) ∙ f)
           (λ f. sym (filled-told (standing_in p m)) ∙ f) s)
       | inr ne ↦ stands-other (after_full (standing_in place m)) place m.closed m.memory m ne
-          (λ is. refl) s
+          (λ is. refl) refl s
     ]
       where
         filled-leaving : (x : Standing) → is_leaving (after_full x) ≡ is_leaving x
@@ -253,7 +265,7 @@ module _ (p : ℕ) (low : p < 8) where
           (stands-own Gone m (λ f. absurd (cc)) (λ f. absurd (cc))
           (λ f. leaving-told (standing_in p m)
           (ap (λ q. is_leaving (standing_in q m)) (sym e) ∙ is)) s)
-      | inr ne ↦ stands-other Gone place m.closed m.memory m ne (λ is. refl) s
+      | inr ne ↦ stands-other Gone place m.closed m.memory m ne (λ is. refl) refl s
     ]
 
     -- no other's closing concerns it
@@ -273,6 +285,7 @@ module _ (p : ℕ) (low : p < 8) where
         told = s.told;
         leaving = s.leaving;
         same = s.same;
+        memory = s.memory;
         full = s.full;
         closes = s.closes;
         more = s.more;
@@ -282,6 +295,7 @@ module _ (p : ℕ) (low : p < 8) where
         told = s.told;
         leaving = s.leaving;
         same = s.same;
+        memory = s.memory;
         full = s.full;
         closes = s.closes;
         more = s.more;
@@ -296,86 +310,123 @@ module _ (p : ℕ) (low : p < 8) where
   is_gone n x l memory sized = at-own n.standings x sized
 
   -- a reason that the device or the client gives
-  left-as : (x y z over closed : Bool) (n : Noted) (l : List (ℕ × Closing)) (memory : List ℕ)
+  left-as : (x y : Bool) (z : List Why) (over : Bool) (reasons : List Why) (n : Noted)
+      (l : List (ℕ × Closing)) (memory : List ℕ)
       → is_told (standing_in p n) ≡ false → Knows p x y z n
       → tells is_link_failed (p + 1) l ≡ tells is_link_failed (p + 1) n.closed
       → tells is_queue_full (p + 1) l ≡ tells is_queue_full (p + 1) n.closed
-      → (over ≡ true → tells is_ended (p + 1) l ≡ true) → (over || closed) ≡ true
-      → Knows p x over closed (stands p Leaving (record n { closed = l; memory = memory }))
-  left-as x y z over closed n l memory e k link queue client some =
+      → tells is_ended (p + 1) l ≡ (over || has_some is_end reasons)
+      → ((code : ℕ) → tells (is_fault code) (p + 1) l ≡ has_some (is_refusal code) reasons)
+      → names (p + 1) memory ≡ has_some is_memory reasons → (over || has_reason reasons) ≡ true
+      → Knows p x over reasons (stands p Leaving (record n { closed = l; memory = memory }))
+  left-as x y z over reasons n l memory e k link queue ended fault lacked some =
       let o = k.untold e in
       let now-told = ap is_told (is_gone n Leaving l memory k.sized) in
       record {
         sized = set-length n.standings p Leaving ∙ k.sized;
         caused = record {
-          link = link ∙ k.caused.link ∙ ap (λ b. b && not (y || z)) o.failed
-              ∙ sym (ap (λ b. b && not (over || closed)) o.failed);
-          client = client;
+          ended = ended;
+          fault = fault;
+          lacked = lacked;
+          link = link ∙ k.caused.link ∙ ap (λ b. b && not (y || has_reason z)) o.failed
+              ∙ sym (ap (λ b. b && not (over || has_reason reasons)) o.failed);
           queue = λ f. absurd (let g : true ≡ false = sym f ∙ queue ∙ o.full in cc);
         };
         untold = λ f. absurd (let g : true ≡ false = sym now-told ∙ f in cc);
         leaving = λ f. some;
-        told = λ f g i j. absurd (neither over closed i j some);
+        told = λ f g i j. absurd (neither over (has_reason reasons) i (ap has_reason j) some);
       }
 
-  told-as : (b x y z over closed : Bool) (why : Closing) (n : Noted)
-      → is_told (standing_in p n) ≡ false → b ≡ false → Knows p x y z n
+  told-as : (b : Bool) (x y : Bool) (z : List Why) (over : Bool) (reasons : List Why) (why : Closing)
+      (n : Noted) → is_told (standing_in p n) ≡ false → b ≡ false → Knows p x y z n
       → is_link_failed why ≡ false → is_queue_full why ≡ false
-      → (over ≡ true → is_ended why ≡ true) → (over || closed) ≡ true
-      → Knows p x over closed (stands p Leaving
+      → (tells is_ended (p + 1) n.closed || is_ended why) ≡ (over || has_some is_end reasons)
+      → ((code : ℕ) → (tells (is_fault code) (p + 1) n.closed || is_fault code why)
+      ≡ has_some (is_refusal code) reasons)
+      → names (p + 1) n.memory ≡ has_some is_memory reasons → (over || has_reason reasons) ≡ true
+      → Knows p x over reasons (stands p Leaving
       (cond b n (record n { closed = n.closed ++ (p + 1, why) ∷ [] })))
-  told-as true x y z over closed why n e is k link queue client some = absurd (cc)
-  told-as false x y z over closed why n e is k link queue client some =
-      left-as x y z over closed n (n.closed ++ (p + 1, why) ∷ []) n.memory e k
+  told-as true x y z over reasons why n e is k link queue ended fault lacked some = absurd (cc)
+  told-as false x y z over reasons why n e is k link queue ended fault lacked some =
+      left-as x y z over reasons n (n.closed ++ (p + 1, why) ∷ []) n.memory e k
       (tells-not is_link_failed p why n.closed link)
       (tells-not is_queue_full p why n.closed queue)
-      (λ f. tells-now is_ended p why n.closed (client f)) some
+      (tells-own is_ended p why n.closed ∙ ended)
+      (λ code. tells-own (is_fault code) p why n.closed ∙ fault code) lacked some
 
-  memory-as : (b x y z closed : Bool) (n : Noted)
-      → is_told (standing_in p n) ≡ false → Knows p x y z n → (y || closed) ≡ true
-      → Knows p x y closed (stands p Leaving
+  memory-as : (b : Bool) (x y : Bool) (z reasons : List Why) (n : Noted)
+      → is_told (standing_in p n) ≡ false → b ≡ false → Knows p x y z n
+      → has_some is_end z ≡ has_some is_end reasons
+      → ((code : ℕ) → has_some (is_refusal code) z ≡ has_some (is_refusal code) reasons)
+      → has_some is_memory reasons ≡ true → (y || has_reason reasons) ≡ true
+      → Knows p x y reasons (stands p Leaving
       (cond b n (record n { memory = n.memory ++ (p + 1) ∷ [] })))
-  memory-as true x y z closed n e k some =
-      left-as x y z y closed n n.closed n.memory e k refl refl k.caused.client some
-  memory-as false x y z closed n e k some =
-      left-as x y z y closed n n.closed (n.memory ++ (p + 1) ∷ []) e k refl refl
-      k.caused.client some
+  memory-as true x y z reasons n e is k ended fault lacked some = absurd (cc)
+  memory-as false x y z reasons n e is k ended fault lacked some =
+      left-as x y z y reasons n n.closed (n.memory ++ (p + 1) ∷ []) e k refl refl
+      (k.caused.ended ∙ ap (λ b. y || b) ended) (λ code. k.caused.fault code ∙ fault code)
+      (some-append _ n.memory ((p + 1) ∷ [])
+      ∙ ap (λ b. names (p + 1) n.memory || (b || false)) (same-number p)
+      ∙ or-true (names (p + 1) n.memory) ∙ sym lacked) some
 
   -- its client ended
-  pub ended-knows : (x y z : Bool) (n : Noted)
+  pub ended-knows : (x y : Bool) (z : List Why) (n : Noted)
       → is_told (standing_in p n) ≡ false → Knows p x y z n
       → Knows p x (y || true) z (leaves p Ended n)
   ended-knows x y z n e k =
       told-as (is_told (standing_in p n)) x y z (y || true) z closing.Ended n e e k refl refl
-      (λ f. refl) (ap (λ b. b || z) (or-true y))
+      (or-true _ ∙ sym (ap (λ b. b || has_some is_end z) (or-true y)))
+      (λ code. sym (or-none _ false refl) ∙ k.caused.fault code) k.caused.lacked
+      (ap (λ b. b || has_reason z) (or-true y))
+
+  -- one reason more
+  one-more : (is : Why → Bool) (z : List Why) (why : Why)
+      → has_some is (z ++ why ∷ []) ≡ (has_some is z || is why)
+  one-more is z why =
+      some-append is z (why ∷ []) ∙ ap (λ b. has_some is z || b) (sym (or-none (is why) false refl))
+
+  none-more : (is : Why → Bool) (z : List Why) (why : Why) → is why ≡ false
+      → has_some is z ≡ has_some is (z ++ why ∷ [])
+  none-more is z why e = or-none (has_some is z) (is why) e ∙ sym (one-more is z why)
+
+  has-more : (y : Bool) (z : List Why) (why : Why) → (y || has_reason (z ++ why ∷ [])) ≡ true
+  has-more y [] why = or-true y
+  has-more y (v ∷ z) why = or-true y
 
   -- the device closed it
-  closed-knows : (x y z : Bool) (why : Why) (n : Noted)
+  closed-knows : (x y : Bool) (z : List Why) (why : Why) (n : Noted)
       → is_told (standing_in p n) ≡ false → Knows p x y z n
-      → Knows p x y (z || true) (leaves p why n)
+      → Knows p x y (z ++ why ∷ []) (leaves p why n)
   closed-knows x y z Ended n e k =
-      told-as (is_told (standing_in p n)) x y z y (z || true) closing.Ended n e e k refl refl
-      (λ f. refl) (ap (λ b. y || b) (or-true z) ∙ or-true y)
-  closed-knows x y z (Fault code) n e k =
-      told-as (is_told (standing_in p n)) x y z y (z || true) (closing.Fault code) n e e k
-      refl refl (λ f. absurd (let g : true ≡ false = sym f ∙ (k.untold e).over in cc))
-      (ap (λ b. y || b) (or-true z) ∙ or-true y)
+      told-as (is_told (standing_in p n)) x y z y (z ++ Ended ∷ []) closing.Ended n e e k refl refl
+      (or-true _ ∙ sym (ap (λ b. y || b) (one-more is_end z Ended ∙ or-true _) ∙ or-true y))
+      (λ code. ap (λ b. b || false) (k.caused.fault code) ∙ sym (one-more (is_refusal code) z Ended))
+      (k.caused.lacked ∙ none-more is_memory z Ended refl) (has-more y z Ended)
+  closed-knows x y z (Fault number) n e k =
+      told-as (is_told (standing_in p n)) x y z y (z ++ Fault number ∷ []) (closing.Fault number) n
+      e e k refl refl
+      (sym (or-none _ false refl) ∙ k.caused.ended
+      ∙ ap (λ b. y || b) (none-more is_end z (Fault number) refl))
+      (λ code. ap (λ b. b || (number == code)) (k.caused.fault code)
+      ∙ sym (one-more (is_refusal code) z (Fault number)))
+      (k.caused.lacked ∙ none-more is_memory z (Fault number) refl) (has-more y z (Fault number))
   closed-knows x y z Memory n e k =
-      memory-as (is_told (standing_in p n)) x y z (z || true) n e k
-      (ap (λ b. y || b) (or-true z) ∙ or-true y)
+      memory-as (is_told (standing_in p n)) x y z (z ++ Memory ∷ []) n e e k
+      (none-more is_end z Memory refl) (λ code. none-more (is_refusal code) z Memory refl)
+      (one-more is_memory z Memory ∙ or-true _) (has-more y z Memory)
 
-  pub left-knows : (x y z : Bool) (o : Option (ℕ × Why)) (n : Noted)
+  pub left-knows : (x y : Bool) (z : List Why) (o : Option (ℕ × Why)) (n : Noted)
       → is_told (standing_in p n) ≡ false → IsOwn (p + 1) o → Knows p x y z n
-      → Knows p x y (z || is_named (p + 1) o) (left_noted p o n)
+      → Knows p x y (z ++ reason_in (p + 1) o) (left_noted p o n)
   left-knows x y z None n e own k =
-      knows-as p x y z x y (z || false) n refl refl (or-none z false refl) k
+      knows-as p x y z x y (z ++ []) n refl refl (sym (append-nil z)) k
   left-knows x y z (Some c) n e own k =
-      knows-as p x y (z || true) x y (z || (c.0 == p + 1)) (leaves p c.1 n) refl refl
-      (ap (λ b. z || b) (sym (ap (λ a. a == p + 1) own ∙ same-number p)))
-      (closed-knows x y z c.1 n e k)
+      knows-as p x y (z ++ c.1 ∷ []) x y (z ++ reason_in (p + 1) (Some c)) (leaves p c.1 n) refl
+      refl (ap (λ b. z ++ cond b (c.1 ∷ []) [])
+      (sym (ap (λ a. a == p + 1) own ∙ same-number p))) (closed-knows x y z c.1 n e k)
 
   -- a call of it failed
-  failed-as : (b x y z : Bool) (n : Noted)
+  failed-as : (b x y : Bool) (z : List Why) (n : Noted)
       → is_told (standing_in p n) ≡ false → b ≡ false → Knows p x y z n
       → Knows p (x || true) y z (stands p Gone
       (cond b n (record n { closed = n.closed ++ (p + 1, closing.LinkFailed) ∷ [] })))
@@ -387,10 +438,14 @@ module _ (p : ℕ) (low : p < 8) where
       record {
         sized = set-length n.standings p Gone ∙ k.sized;
         caused = record {
+          ended = tells-not is_ended p closing.LinkFailed n.closed refl ∙ k.caused.ended;
+          fault = λ code. tells-not (is_fault code) p closing.LinkFailed n.closed refl
+              ∙ k.caused.fault code;
+          lacked = k.caused.lacked;
           link = tells-now is_link_failed p closing.LinkFailed n.closed refl
-              ∙ sym (ap (λ b. b && not (y || z)) (or-true x)
-              ∙ ap (λ b. true && not (b || z)) o.over ∙ ap (λ b. true && not b) o.closed);
-          client = λ f. absurd (let g : true ≡ false = sym f ∙ o.over in cc);
+              ∙ sym (ap (λ b. b && not (y || has_reason z)) (or-true x)
+              ∙ ap (λ b. true && not (b || has_reason z)) o.over
+              ∙ ap (λ r. true && not (false || has_reason r)) o.closed);
           queue = λ f. absurd (let g : true ≡ false =
               sym f ∙ tells-not is_queue_full p closing.LinkFailed n.closed refl ∙ o.full in cc);
         };
@@ -399,13 +454,13 @@ module _ (p : ℕ) (low : p < 8) where
         told = λ f g i j. absurd (let no : true ≡ false = sym (or-true x) ∙ g in cc);
       }
 
-  pub failed-knows : (x y z : Bool) (n : Noted)
+  pub failed-knows : (x y : Bool) (z : List Why) (n : Noted)
       → is_told (standing_in p n) ≡ false → Knows p x y z n
       → Knows p (x || true) y z (goes p closing.LinkFailed n)
   failed-knows x y z n e k = failed-as (is_told (standing_in p n)) x y z n e e k
 
   -- what is left for it is offered once more, and it is gone
-  pub parted-knows : (x y z more : Bool) (n : Noted)
+  pub parted-knows : (x y : Bool) (z : List Why) (more : Bool) (n : Noted)
       → is_leaving (standing_in p n) ≡ true → Knows p x y z n
       → Knows p (x || more) y z (stands p Gone n)
   parted-knows x y z more n e k =
@@ -416,22 +471,25 @@ module _ (p : ℕ) (low : p < 8) where
         caused = record {
           link = k.caused.link ∙ ap (λ b. x && not b) some ∙ and-no x
               ∙ sym (ap (λ b. (x || more) && not b) some ∙ and-no (x || more));
-          client = k.caused.client;
+          ended = k.caused.ended;
+          fault = k.caused.fault;
+          lacked = k.caused.lacked;
           queue = λ f. absurd (let q = k.caused.queue f in
               let g : true ≡ false =
-              sym some ∙ ap (λ b. b || z) q.1 ∙ ap (λ b. false || b) q.2 in cc);
+              sym some ∙ ap (λ b. b || has_reason z) q.1 ∙ ap (λ r. false || has_reason r) q.2 in
+              cc);
         };
         untold = λ f. absurd (let g : true ≡ false = sym (ap is_told here) ∙ f in cc);
         leaving = λ f. absurd (let g : false ≡ true = sym (ap is_leaving here) ∙ f in cc);
-        told = λ f g i j. absurd (neither y z i j some);
+        told = λ f g i j. absurd (neither y (has_reason z) i (ap has_reason j) some);
       }
 
   -- it was not told of, and this is known of it
-  pub record Ready (x y z : Bool) (n : Noted) : Type 0 where
+  pub record Ready (x y : Bool) (z : List Why) (n : Noted) : Type 0 where
     pub untold : is_told (standing_in p n) ≡ false
     pub knows : Knows p x y z n
 
-  pub ready-filled : (x y z : Bool) → IsFilled (Ready x y z)
+  pub ready-filled : (x y : Bool) (z : List Why) → IsFilled (Ready x y z)
   ready-filled x y z place n r = record {
     untold = elim (cases_eq place p) [
       | inl e ↦ subst
@@ -446,10 +504,16 @@ module _ (p : ℕ) (low : p < 8) where
   }
 
 -- nothing is known of it as a turn begins
-pub nothing-known : (p : ℕ) → p < 8 → Knows p false false false nothing_noted
+pub nothing-known : (p : ℕ) → p < 8 → Knows p false false [] nothing_noted
 nothing-known p low = record {
   sized = refl;
-  caused = record { link = refl; client = λ e. absurd (cc); queue = λ e. absurd (cc) };
+  caused = record {
+    ended = refl;
+    fault = λ code. refl;
+    lacked = refl;
+    link = refl;
+    queue = λ e. absurd (cc);
+  };
   untold = λ e. record { failed = refl; over = refl; closed = refl; full = refl };
   leaving = λ e. absurd (let f : false ≡ true = sym (ap is_leaving (all-steady p)) ∙ e in cc);
   told = λ e f g i. absurd (let no : false ≡ true = sym (ap is_told (all-steady p)) ∙ e in cc);

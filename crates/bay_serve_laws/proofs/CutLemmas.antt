@@ -35,7 +35,7 @@ unfolding cut_off
 gone-standings now place why s = let t : Turning = after_event now (Close (place + 1)) s in
     ap (λ l. set l place Gone) (told-standings place why t.noted)
 
-closing-puts : (now place : ℕ) (s : Turning) → Puts s (after_event now (Close (place + 1)) s)
+pub closing-puts : (now place : ℕ) (s : Turning) → Puts s (after_event now (Close (place + 1)) s)
 closing-puts now place s =
     let o = outcome None now (Close (place + 1)) s.server.device in
     let puts : Puts (with_device o.after s) (after_event now (Close (place + 1)) s) =

@@ -112,7 +112,7 @@ module _ (Ends : ℕ → Type 0) (P : Noted → Type 0) (k : IsNoted Ends P) (no
       (keep-cut closing.QueueFull place s
       (λ n. k.overflows place n (k.found s.noted place p is)) p)
 
-  keep-settled-in : (count : ℕ) (s : Turning) → Holds P s → Holds P (settled_in now count s)
+  pub keep-settled-in : (count : ℕ) (s : Turning) → Holds P s → Holds P (settled_in now count s)
   keep-settled-in zero s p = p
   keep-settled-in (suc count) s p =
       keep-next (first_full s.noted) s (settled_in now count) refl (keep-settled-in count) p

@@ -22,3 +22,5 @@ pub mod CauseLemmas
 pub mod CauseFlows
 pub mod OpenFlows
 pub mod FullFlows
+pub mod GivenLemmas
+pub mod OrderLemmas

@@ -178,7 +178,7 @@ module _ (Q : Type 0) (now : ℕ) where
 
   -- ---- the parts
 
-  Part-on_accept : (place : Option ℕ) (taken : Option Bool) (s : Turning)
+  pub Part-on_accept : (place : Option ℕ) (taken : Option Bool) (s : Turning)
       → Part Q now s (accept_calls_at now place taken s) (accept_events_at now place taken s)
       (on_accept now place taken s)
   Part-on_accept None taken s = Part-still s []
@@ -194,7 +194,7 @@ module _ (Q : Type 0) (now : ℕ) where
       (with_accept now taken s)
   Part-accept taken s = Part-on_accept (free_place s.server) taken s
 
-  Part-heard : (place : ℕ) (choice : Option ℕ) (heard : ReadOutcome) (s : Turning)
+  pub Part-heard : (place : ℕ) (choice : Option ℕ) (heard : ReadOutcome) (s : Turning)
       → Part Q now s (Reads (place + 1) 4096 heard ∷ heard_calls now place choice heard s)
       (heard_events now place choice heard s) (on_heard now place choice heard s)
   Part-heard place choice (Octets octets) s =

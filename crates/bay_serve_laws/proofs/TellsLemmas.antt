@@ -40,7 +40,7 @@ module _ (is : Closing → Bool) (p : ℕ) where
       ∙ sym (or-none (tells is (p + 1) l) _
       (ap (λ b. (b && is why) || false) (other-number place p ne)))
 
-  tells-own : (why : Closing) (l : List (ℕ × Closing))
+  pub tells-own : (why : Closing) (l : List (ℕ × Closing))
       → tells is (p + 1) (l ++ (p + 1, why) ∷ []) ≡ (tells is (p + 1) l || is why)
   tells-own why l =
       some-append _ l ((p + 1, why) ∷ [])

@@ -1,7 +1,8 @@
 -- Why an association is closed in a turn, by the calls on the link and by what the device answered.
-use Rattle.std.specs.Prelude.{◌≡◌, ℕ, ◌==◌, ◌&&◌, ◌||◌, Bool, true, false, not, is_none, List, [], ◌∷◌, Option, Some, None, Result}
+use Rattle.std.specs.Prelude.{◌≡◌, ℕ, ◌==◌, ◌&&◌, ◌||◌, Bool, true, false, not, is_none, List, [], ◌∷◌, ◌++◌, if◌then◌else◌, Option, Some, None, Result}
 use Rattle.bay_device.specs.declared.event.Step.{Step}
 use Rattle.bay_device.specs.declared.event.Why.{Why}
+use Rattle.bay_device.specs.declared.event.Why.TheVariants as why
 use Rattle.bay_device.specs.declared.fault.StepFault.{StepFault}
 use Rattle.bay_trace.specs.Trace.{NamedData}
 use Rattle.bay_serve.specs.Calls.{Call, Accepts, Reads, Writes, Closes, ReadOutcome, Octets, Silence, Over, Broken, is_broken}
@@ -40,14 +41,34 @@ ends_for a (Reads b room what) = b == a && is_over what
 ends_for a (Writes b octets taken) = false
 ends_for a (Closes b) = false
 
--- it is the association that was closed
-abbrev pub is_named : ℕ → Option (ℕ × Why) → Bool
-is_named a None = false
-is_named a (Some closed) = closed.0 == a
+-- why the device closed it, if it is the association that was closed
+abbrev pub reason_in : ℕ → Option (ℕ × Why) → List Why
+reason_in a None = []
+reason_in a (Some closed) = if closed.0 == a then closed.1 ∷ [] else []
 
--- the device closed it
-abbrev pub closes_for : ℕ → Result Step StepFault → Bool
-closes_for a answer = is_named a (closed_in answer)
+-- the reasons for which the device closed it, by its answers
+abbrev pub reasons_of : ℕ → List (Result Step StepFault) → List Why
+reasons_of a [] = []
+reasons_of a (answer ∷ answers) = reason_in a (closed_in answer) ++ reasons_of a answers
+
+abbrev pub has_reason : List Why → Bool
+has_reason [] = false
+has_reason (reason ∷ reasons) = true
+
+abbrev pub is_end : Why → Bool
+is_end why.Ended = true
+is_end (why.Fault code) = false
+is_end why.Memory = false
+
+abbrev pub is_refusal : ℕ → Why → Bool
+is_refusal code why.Ended = false
+is_refusal code (why.Fault number) = number == code
+is_refusal code why.Memory = false
+
+abbrev pub is_memory : Why → Bool
+is_memory why.Ended = false
+is_memory (why.Fault code) = false
+is_memory why.Memory = true
 
 -- ---- what is told of it
 
@@ -56,6 +77,12 @@ is_ended Ended = true
 is_ended (Fault code) = false
 is_ended QueueFull = false
 is_ended LinkFailed = false
+
+abbrev pub is_fault : ℕ → Closing → Bool
+is_fault code Ended = false
+is_fault code (Fault number) = number == code
+is_fault code QueueFull = false
+is_fault code LinkFailed = false
 
 abbrev pub is_queue_full : Closing → Bool
 is_queue_full Ended = false
@@ -67,21 +94,29 @@ is_queue_full LinkFailed = false
 abbrev pub tells : (Closing → Bool) → ℕ → List (ℕ × Closing) → Bool
 tells is a closed = has_some (λ (entry : ℕ × Closing). entry.0 == a && is entry.1) closed
 
+-- the number of the association is one of the numbers
+abbrev pub names : ℕ → List ℕ → Bool
+names a numbers = has_some (λ number. number == a) numbers
+
 -- ---- the law
 
--- That the link failed is told exactly where a call failed, and the association was closed neither
--- by its client nor by the device; that the client ended is told where it did; and that its queue
--- was full is told only where nothing else closed it.
-pub record IsCaused (failed over closed : Bool) (a : ℕ) (told : List (ℕ × Closing)) : Type 0 where
-  pub link : tells is_link_failed a told ≡ (failed && not (over || closed))
-  pub client : over ≡ true → tells is_ended a told ≡ true
+-- An end is told exactly where the client sends no more, or the device says so; a fault, exactly
+-- where the device closed the association with its number; and a lack of memory, exactly where it
+-- closed it for that. A failed link is told exactly where a call failed, and neither the client nor
+-- the device had closed the association; and a full queue only where nothing else closed it.
+pub record IsCaused (failed over : Bool) (reasons : List Why) (a : ℕ) (told : List (ℕ × Closing))
+    (memory : List ℕ) : Type 0 where
+  pub ended : tells is_ended a told ≡ (over || has_some is_end reasons)
+  pub fault : (code : ℕ) → tells (is_fault code) a told ≡ has_some (is_refusal code) reasons
+  pub lacked : names a memory ≡ has_some is_memory reasons
+  pub link : tells is_link_failed a told ≡ (failed && not (over || has_reason reasons))
   pub queue : tells is_queue_full a told ≡ true
-      → (failed ≡ false) × (over ≡ false) × (closed ≡ false)
+      → (failed ≡ false) × (over ≡ false) × (reasons ≡ [])
 
 -- So it is of one of the associations in a turn.
 abbrev pub HasItsCause : ℕ → Option NamedData → Script → Held → ℕ → Type 0
 HasItsCause now line script h a =
     IsCaused (has_some (fails_for a) (turn_calls now line script h))
     (has_some (ends_for a) (turn_calls now line script h))
-    (has_some (closes_for a) (done_at now (turn_events now line script h) h.device).answers)
-    a (after_turn now line script h).noted.closed
+    (reasons_of a (done_at now (turn_events now line script h) h.device).answers) a
+    (after_turn now line script h).noted.closed (after_turn now line script h).noted.memory

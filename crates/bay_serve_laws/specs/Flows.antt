@@ -1,14 +1,16 @@
 -- The octets of one association through a turn.
 use Rattle.std.specs.Prelude.{◌≡◌, ℕ, ◌+◌, ◌<◌, ◌≤◌, ◌==◌, Bool, true, false, if◌then◌else◌, List, [], ◌∷◌, ◌++◌, length, take, Option, Some, None, IfSome, Result, Ok, Err, ◌⊎◌}
 use Rattle.bay_device.specs.Outcomes.{last_moment}
+use Rattle.bay_device.specs.declared.event.Event.{Event}
+use Rattle.bay_device.specs.declared.event.Event.TheVariants.{Open, Recv, Close, Contact, Input, Measure, Scan}
 use Rattle.bay_device.specs.declared.event.Sent.{Sent}
 use Rattle.bay_device.specs.declared.event.Step.{Step}
 use Rattle.bay_device.specs.declared.fault.StepFault.{StepFault}
 use Rattle.bay_trace.specs.Trace.{NamedData, process_event}
-use Rattle.bay_serve.specs.Calls.{Call, Accepts, Reads, Writes, Closes}
+use Rattle.bay_serve.specs.Calls.{Call, Accepts, Reads, Writes, Closes, ReadOutcome, Octets, Silence, Over, Broken}
 use Rattle.bay_serve.specs.Turns.{Held, Script, is_up_in, queue_at, turn_calls, after_turn}
 use Rattle.bay_serve_laws.specs.Causes.{is_queue_full, tells}
-use Rattle.bay_serve_laws.specs.Events.{done_at, turn_events}
+use Rattle.bay_serve_laws.specs.Events.{ChosenEvent, done_at, turn_events}
 
 -- ---- what the link takes
 
@@ -24,6 +26,41 @@ taken_by a (Closes b) = []
 abbrev pub taken_of : ℕ → List Call → List ℕ
 taken_of a [] = []
 taken_of a (call ∷ calls) = taken_by a call ++ taken_of a calls
+
+-- ---- what the link gives
+
+abbrev pub octets_in : ReadOutcome → List ℕ
+octets_in (Octets octets) = octets
+octets_in Silence = []
+octets_in Over = []
+octets_in Broken = []
+
+-- the octets that a call gave of an association
+abbrev pub given_by : ℕ → Call → List ℕ
+given_by a (Accepts b taken) = []
+given_by a (Reads b room what) = if b == a then octets_in what else []
+given_by a (Writes b octets taken) = []
+given_by a (Closes b) = []
+
+-- the octets that the link gave of an association
+abbrev pub given_of : ℕ → List Call → List ℕ
+given_of a [] = []
+given_of a (call ∷ calls) = given_by a call ++ given_of a calls
+
+-- the octets of an association that an event brings
+abbrev pub brought_by : ℕ → Event → List ℕ
+brought_by a (Recv b octets) = if b == a then octets.now else []
+brought_by a (Open b) = []
+brought_by a (Close b) = []
+brought_by a (Contact k position) = []
+brought_by a (Input k value) = []
+brought_by a (Measure k field value) = []
+brought_by a Scan = []
+
+-- the octets of an association that events bring, in their order
+abbrev pub received_of : ℕ → List ChosenEvent → List ℕ
+received_of a [] = []
+received_of a (e ∷ es) = brought_by a e.1 ++ received_of a es
 
 -- ---- what the device sends
 

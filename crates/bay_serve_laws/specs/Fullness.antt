@@ -1,18 +1,20 @@
 -- Where a turn tells that the queue of an association was full, by octets alone.
-use Rattle.std.specs.Prelude.{◌≡◌, ℕ, ◌+◌, ◌<◌, ◌↔◌, ◌⊎◌, Bool, true, false, List, length, Option, Some}
+use Rattle.std.specs.Prelude.{◌≡◌, ℕ, ◌+◌, ◌<◌, ◌↔◌, ◌⊎◌, Bool, true, false, List, [], length, Option, Some}
+use Rattle.bay_device.specs.declared.event.Why.{Why}
 use Rattle.bay_trace.specs.Trace.{NamedData}
 use Rattle.bay_serve.specs.Turns.{Held, Script, free_place, is_up_in, queue_at, turn_calls, after_turn}
-use Rattle.bay_serve_laws.specs.Causes.{closes_for, ends_for, fails_for, has_some, is_queue_full, tells}
+use Rattle.bay_serve_laws.specs.Causes.{ends_for, fails_for, has_some, is_queue_full, reasons_of, tells}
 use Rattle.bay_serve_laws.specs.Events.{done_at, turn_events}
 use Rattle.bay_serve_laws.specs.Flows.{sent_to, taken_of}
 
 -- Of what the queue held and what was sent, the link left more than a queue has room for; and no
 -- call failed, no end came, and the device did not close it.
-pub record HasNoRoom (taken held sent : List ℕ) (failed over closed : Bool) : Type 0 where
+pub record HasNoRoom (taken held sent : List ℕ) (failed over : Bool) (reasons : List Why)
+    : Type 0 where
   pub over_full : 262144 + length taken < length held + length sent
   pub failed_not : failed ≡ false
   pub over_not : over ≡ false
-  pub closed_not : closed ≡ false
+  pub closed_not : reasons ≡ []
 
 -- an association is open as the turn begins, or the turn opens it
 abbrev pub IsOpenIn : ℕ → Script → Held → Type 0
@@ -27,5 +29,4 @@ IsToldWhereFull now line script h place =
     (sent_to (place + 1) (done_at now (turn_events now line script h) h.device).answers)
     (has_some (fails_for (place + 1)) (turn_calls now line script h))
     (has_some (ends_for (place + 1)) (turn_calls now line script h))
-    (has_some (closes_for (place + 1))
-    (done_at now (turn_events now line script h) h.device).answers)
+    (reasons_of (place + 1) (done_at now (turn_events now line script h) h.device).answers)

@@ -4,15 +4,16 @@ ghost use Rattle.bay_device.specs.Device.{State};
 ghost use Rattle.bay_trace.specs.Trace.{NamedData};
 ghost use Rattle.bay_serve.specs.Calls.{Called};
 ghost use Rattle.bay_serve.specs.Served.{Serves, line_in};
-ghost use Rattle.bay_serve.specs.Turns.{Held, Script, after_turn};
+ghost use Rattle.bay_serve.specs.Turns.{Held, Script, after_turn, turn_calls};
 ghost use Rattle.bay_serve.specs.declared.told.Turn.{Turn};
 ghost use Rattle.bay_serve_laws.specs.Causes.{HasItsCause};
-ghost use Rattle.bay_serve_laws.specs.Events.{HasNoOctets, IsItsEvents};
+ghost use Rattle.bay_serve_laws.specs.Events.{HasNoOctets, IsItsEvents, turn_events};
 ghost use Rattle.bay_serve_laws.specs.Faults.{tells_failure};
-ghost use Rattle.bay_serve_laws.specs.Flows.{IsInTime, IsOfProcess, IsTidy, LosesNothing};
+ghost use Rattle.bay_serve_laws.specs.Flows.{IsInTime, IsOfProcess, IsTidy, LosesNothing, given_of, received_of};
 ghost use Rattle.bay_serve_laws.specs.Fullness.{IsOpenIn, IsToldWhereFull};
+ghost use Rattle.bay_serve_laws.specs.Order.{IsInOrder};
 ghost use Rattle.bay_serve_laws.specs.Room.{AreInRoom};
-ghost use Rattle.bay_serve_laws.specs.Telling.{TellsClosings, times_told};
+ghost use Rattle.bay_serve_laws.specs.Telling.{times_told};
 
 use bay_serve::link::Link;
 
@@ -35,19 +36,12 @@ pub fn an_association_is_told_once<L: Link>(_link: &L)
         → times_told (place + 1) turn.closed turn.memory ≤ 1 }
 {}
 
-/// Each association that the device closes in a turn is reported, with the device's number or as
-/// out of memory, for a server in which nothing waits for a closed association and at a time that
-/// is not refused.
-pub fn what_the_device_closes_is_told()
-    ensures { (now : ℕ) (line : Option NamedData) (script : Script) (h : Held) → IsTidy h
-        → IsInTime now h → HasNoOctets line → length script.readings ≡ 8
-        → length script.offers ≡ 8 → TellsClosings now line script h }
-{}
-
 /// The reason for which an association was closed in a turn follows from the calls on its link and
-/// the device's answers. A failed link is reported exactly if a read or a write of it failed and
-/// neither its client nor the device had closed it. An end is reported if a read brought the end of
-/// its client. A full queue is reported only if nothing else closed it.
+/// the device's answers. An end is reported exactly if a read brought the end of its client or the
+/// device closed it as ended; a fault, exactly if the device closed it with that number; a lack of
+/// memory, exactly if the device closed it for that; and a failed link, exactly if a read or a write
+/// of it failed and neither its client nor the device had closed it. A full queue is reported only
+/// if nothing else closed it.
 pub fn each_closing_has_its_cause()
     ensures { (now : ℕ) (line : Option NamedData) (script : Script) (h : Held) → IsTidy h
         → IsInTime now h → IsOfProcess line → length script.readings ≡ 8
@@ -57,12 +51,16 @@ pub fn each_closing_has_its_cause()
 
 /// The device after a turn is the device before it with the turn's events applied, each at the
 /// turn's time, and the commands that the turn reports are those of the events' answers, in order.
-/// The events are: at most one association is opened; each association's octets arrive, or it is
-/// closed; the event of the line is done; the program runs; and an association to which a reply did
-/// not fit, or whose connection failed, is closed when that happens.
+/// The events are, in this order: if a connection was accepted, the lowest free association is
+/// opened; for each association that is open when it comes, what its one read brought (its octets
+/// arrive, or it is closed, or nothing); the event of the line, if there is one; and exactly one
+/// scan. Behind each of these, the associations to which a reply did not fit are closed; behind the
+/// scan also those for which a call failed. There is no other event.
 pub fn a_turn_is_its_events()
     ensures events { (now : ℕ) (line : Option NamedData) (script : Script) (h : Held)
         → IsItsEvents now line script h }
+    ensures order { (now : ℕ) (line : Option NamedData) (script : Script) (h : Held)
+        → length script.readings ≡ 8 → length script.offers ≡ 8 → IsInOrder now line script h }
     // The line of a turn that is done has no octets.
     ensures lines { (text : Option (List ℕ)) → HasNoOctets (line_in text) }
 {}
@@ -70,11 +68,15 @@ pub fn a_turn_is_its_events()
 /// What the link takes for an association in a turn, followed by what its queue then holds, is what
 /// the queue held before, followed by what the device sent to it in the turn. For an association
 /// that is closed after the turn, the link took a first part of that, and its queue is empty. If a
-/// full queue is reported, more than 262,144 octets were left.
+/// full queue is reported, more than 262,144 octets were left. What the link gives of an association
+/// in a turn is what the device receives from it in the turn.
 pub fn octets_are_neither_lost_nor_repeated()
     ensures octets { (now : ℕ) (line : Option NamedData) (script : Script) (h : Held) → IsTidy h
         → IsInTime now h → IsOfProcess line →
         length script.offers ≡ 8 → LosesNothing now line script h }
+    ensures received { (now : ℕ) (line : Option NamedData) (script : Script) (h : Held)
+        → HasNoOctets line → (a : ℕ) → given_of a (turn_calls now line script h)
+        ≡ received_of a (turn_events now line script h) }
     // The line of a turn that is done is such a line.
     ensures lines { (text : Option (List ℕ)) → IsOfProcess (line_in text) }
     // A server is tidy as it is made, and so after each turn.

@@ -1,0 +1,89 @@
+-- The order of a turn's events, by what the link brought, by the line, and by the device as each
+-- event comes.
+use Rattle.std.specs.Prelude.{◌≡◌, ℕ, ◌+◌, ◌||◌, Bool, true, false, if◌then◌else◌, All, List, [], ◌∷◌, ◌++◌, position, is_none, is_some, Option, Some, None}
+use Rattle.bay_device.specs.Device.{State}
+use Rattle.bay_device.specs.Outcomes.{connection_at}
+use Rattle.bay_device.specs.declared.event.Event.TheVariants.{Open, Recv, Close, Scan}
+use Rattle.bay_trace.specs.Placing.{lying, placed_event}
+use Rattle.bay_trace.specs.Trace.{NamedData}
+use Rattle.bay_serve.specs.Calls.{ReadOutcome, Octets, Silence, Over, Broken}
+use Rattle.bay_serve.specs.Turns.{Held, Reading, Script, after_turn, turn_calls}
+use Rattle.bay_serve.specs.declared.told.Closing.{Closing}
+use Rattle.bay_serve_laws.specs.Causes.{fails_for, has_some, is_queue_full, tells}
+use Rattle.bay_serve_laws.specs.Events.{ChosenEvent, done_at, surely, turn_events}
+
+-- ---- what each part of a turn does
+
+abbrev pub opened_at : Option ℕ → Option Bool → List ChosenEvent
+opened_at (Some place) (Some true) = surely (Open (place + 1)) ∷ []
+opened_at (Some place) (Some false) = []
+opened_at (Some place) None = []
+opened_at None accepted = []
+
+-- A connection that was taken opens the lowest association that is free.
+abbrev pub opened : Option Bool → State → List ChosenEvent
+opened accepted d = opened_at (position is_none d.connections) accepted
+
+-- Octets that came are received, in one event; an end and a failure close the association.
+abbrev pub brought : ℕ → Option ℕ → ReadOutcome → List ChosenEvent
+brought a choice (Octets octets) = (choice, Recv a (lying octets)) ∷ []
+brought a choice Silence = []
+brought a choice Over = surely (Close a) ∷ []
+brought a choice Broken = surely (Close a) ∷ []
+
+-- An association is read exactly where it is open.
+abbrev pub read_at : ℕ → Reading → State → List ChosenEvent
+read_at place r d =
+    if is_some (connection_at (Some place) d) then brought (place + 1) r.choice r.heard else []
+
+-- What the line tells of happens, if there is a line.
+abbrev pub told_at : Option NamedData → State → List ChosenEvent
+told_at None d = []
+told_at (Some named) d = surely (placed_event d named) ∷ []
+
+-- ---- the order
+
+-- An event closes an association for which there is a reason.
+abbrev pub IsClosing : (ℕ → Bool) → ChosenEvent → Type 0
+IsClosing has_reason e = (a : ℕ) × (e ≡ surely (Close a)) × (has_reason a ≡ true)
+
+-- Each of them does.
+abbrev pub AreClosings : (ℕ → Bool) → List ChosenEvent → Type 0
+AreClosings has_reason events = All (IsClosing has_reason) events
+
+module _ (now : ℕ) (told : List (ℕ × Closing)) where
+  -- First come these events; then associations are closed whose queues were full; and then comes
+  -- the rest, from the device as they leave it.
+  pub record Then (first : List ChosenEvent) (Rest : State → List ChosenEvent → Type 0) (d : State)
+      (events : List ChosenEvent) : Type 0 where
+    pub cut : List ChosenEvent
+    pub rest : List ChosenEvent
+    pub is : events ≡ first ++ cut ++ rest
+    pub closings : AreClosings (λ a. tells is_queue_full a told) cut
+    pub goes_on : Rest (done_at now (first ++ cut) d).after rest
+
+  -- Each association is read, one after the other.
+  abbrev pub ThenReads : ℕ → List Reading → (State → List ChosenEvent → Type 0) → State
+      → List ChosenEvent → Type 0
+  ThenReads place [] Rest d events = Rest d events
+  ThenReads place (r ∷ rs) Rest d events =
+      Then (read_at place r d) (ThenReads (place + 1) rs Rest) d events
+
+  -- A connection is opened, each association is read, the line is told, the program runs once, and
+  -- then associations are closed at most, for a reason.
+  abbrev pub AreInOrder : (ℕ → Bool) → Option NamedData → Script → State → List ChosenEvent
+      → Type 0
+  AreInOrder has_reason line script d events =
+      Then (opened script.accepted d) (ThenReads 0 script.readings
+      (λ e. Then (told_at line e) (Then (surely Scan ∷ []) (λ f rest. AreClosings has_reason rest)) e))
+      d
+      events
+
+-- So are the events of a turn. At its end an association is closed whose queue was full, or for
+-- which a call on the link failed.
+abbrev pub IsInOrder : ℕ → Option NamedData → Script → Held → Type 0
+IsInOrder now line script h =
+    let told = (after_turn now line script h).noted.closed in
+    AreInOrder now told
+    (λ a. tells is_queue_full a told || has_some (fails_for a) (turn_calls now line script h)) line
+    script h.device (turn_events now line script h)
