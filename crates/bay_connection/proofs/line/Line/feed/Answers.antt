@@ -3,7 +3,6 @@ use Rattle.bay_connection.specs.Talk.{talk_over}
 use Rattle.bay_connection.specs.Feeding.{indication_of}
 use Rattle.bay_connection.specs.Line.{talk_of, client_of}
 use Rattle.bay_connection.proofs.FeedingLemmas.{is-ready, fed-got, fed-fault}
-use Rattle.bay_connection.proofs.HearingLemmas.{number-is}
 use Rattle.bay_connection.proofs.line.Line.feed.Goals as goal
 
 pub heard-requires-clause-ready : goal.heard-requires-clause-ready
@@ -27,18 +26,18 @@ returns-in_ok-heard-in-Ok-clause-left c =
     c.in_ok-heard-in-Ok.ensures.told in
     f.left
 
-pub returns-in_ok-code-in-Err-clause-fed : goal.returns-in_ok-code-in-Err-clause-fed
-returns-in_ok-code-in-Err-clause-fed c =
-    let code = c.in_ok-code-in-Err.code in
+pub returns-in-Some-clause-fed : goal.returns-in-Some-clause-fed
+returns-in-Some-clause-fed c =
+    let code = c.in-Some.code in
     let f = fed-fault (talk_of c.args.self.now) c.args.piece.now c.in-Err.fault code
     c.requires.joined c.in-Err.ensures.refused
-    (sym c.code.ensures ∙ number-is c.code.result code _ c.in_ok-code-in-Err.ensures.value) in
+    (sym c.code.ensures ∙ c.in-Some.is) in
     f.fed
 
-pub returns-in_ok-code-in-Err-clause-left : goal.returns-in_ok-code-in-Err-clause-left
-returns-in_ok-code-in-Err-clause-left c =
-    let code = c.in_ok-code-in-Err.code in
+pub returns-in-Some-clause-left : goal.returns-in-Some-clause-left
+returns-in-Some-clause-left c =
+    let code = c.in-Some.code in
     let f = fed-fault (talk_of c.args.self.now) c.args.piece.now c.in-Err.fault code
     c.requires.joined c.in-Err.ensures.refused
-    (sym c.code.ensures ∙ number-is c.code.result code _ c.in_ok-code-in-Err.ensures.value) in
+    (sym c.code.ensures ∙ c.in-Some.is) in
     c.close.ensures.closed ∙ ap talk_over c.in-Err.ensures.broken ∙ f.left
