@@ -1,5 +1,5 @@
 -- What the association hears.
-use Rattle.std.proofs.Common.{◌≡◌, ℕ, ◌-◌, List, [], ◌∷◌, ◌++◌, length, drop, Option, Some, None, Ok, ok_or, refl, sym, ap, ◌∙◌, arith}
+use Rattle.std.proofs.Common.{◌≡◌, ℕ, ◌-◌, List, [], ◌∷◌, ◌++◌, length, drop, Option, Ok, refl, sym, ap, ◌∙◌, arith}
 use Rattle.std.proofs.lemmas.List.{length-append, drop_at}
 use Rattle.bay_transport.specs.Doings.{Delivers, Stream}
 use Rattle.bay_assoc.specs.declared.hearing.Phase.{Phase}
@@ -27,7 +27,3 @@ last-part octets front part is =
     ∙ drop_at front part (length octets - length part) (sym n)
 
 -- ---- a fault's number
-
-pub number-is : {E : Type 0} (o : Option ℕ) (code : ℕ) (e : E) → Ok code ≡ ok_or o e → o ≡ Some code
-number-is (Some n) code e is = cc
-number-is None code e is = absurd (cc)
