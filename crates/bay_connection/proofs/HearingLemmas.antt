@@ -25,5 +25,3 @@ last-part octets front part is =
     omega (arith, ap length is, length-append front part) in
     ap (drop (length octets - length part)) is
     ∙ drop_at front part (length octets - length part) (sym n)
-
--- ---- a fault's number
