@@ -24,7 +24,7 @@ use Rattle.il_image.proofs.KindLemmas.{same-is, same-self}
 use Rattle.il_check.specs.Declaring.{literal_value, of_type}
 use Rattle.il_check.specs.Given.{Names, arguments_given, called_of, given_of, is_nonzero, is_nonzero_literal, is_zero, output_given, place_given, resolution_of, source_given, variable_given}
 use Rattle.il_check.specs.Labelling.{IsCombined, IsRight}
-use Rattle.il_check.specs.Rules.{allows, arguments_fit, converted_from, converted_to, divides, fits, gives, input_type, is_fixed, is_missing, is_plain, is_timer, is_unset, is_wrong, load_type, may_load, may_negate, misses_argument, misses_timer, number_in, own_type, takes, type_after, works}
+use Rattle.il_check.specs.Rules.{allows, arguments_fit, converted_from, converted_to, divides, fits, gives, input_type, is_fixed, is_missing, is_plain, is_timer, is_unset, is_wrong, jumps_back, load_type, may_divide_by_zero, may_load, may_negate, misses_argument, misses_label, misses_name, misses_timer, number_in, own_type, takes, type_after, works, writes_fixed}
 use Rattle.il_check.specs.declared.given.Given.{Given}
 use Rattle.il_check.specs.declared.given.Given.TheVariants.{Missing, Misused, Known, Number}
 use Rattle.il_check.specs.declared.given.Meaning.{Meaning}
@@ -36,7 +36,7 @@ use Rattle.il_check.proofs.GivenLemmas.{allows-any}
 use Rattle.il_laws.specs.Instructions.{AreGiven, CanHave, Combines, DoesNotDivide, IsDivisor, IsLiteralOf, IsLoaded, IsNotZero, IsRightAction, IsRightBlock, IsTimer, IsWritable, MayDivide, MayWrite, place_kind, timer_output, variable_kind}
 use Rattle.il_laws.specs.Table.{IsFirstWith, MayNegate, Stores, Tests, input_kind, output_kind, wider_type}
 use Rattle.il_laws.proofs.NumberLemmas.{first-in-lint, first-own, has-value, in-lint, is-between, not-same, own-first}
-use Rattle.il_laws.proofs.TableLemmas.{input-same, negation, only, output-same, row, widened, widens}
+use Rattle.il_laws.proofs.TableLemmas.{input-same, negation, output-same, row, table, widened, widens}
 
 -- ---- operands
 
@@ -76,15 +76,8 @@ mapped f (Some x) = refl
 -- a number alone can be of each type that has it, but of TIME
 number-is : (kind : ElementaryType) (z : ℤ) → (is_some (number_in kind z) ≡ true)
     ↔ IsLiteralOf (literal.Number z) kind
-number-is elementary.Bool z =
-    let h = has-value elementary.Bool z in (λ e. (h.0 e, λ t. cc), λ p. h.1 p.0)
-number-is elementary.Int z =
-    let h = has-value elementary.Int z in (λ e. (h.0 e, λ t. cc), λ p. h.1 p.0)
-number-is elementary.Dint z =
-    let h = has-value elementary.Dint z in (λ e. (h.0 e, λ t. cc), λ p. h.1 p.0)
-number-is elementary.Lint z =
-    let h = has-value elementary.Lint z in (λ e. (h.0 e, λ t. cc), λ p. h.1 p.0)
 number-is elementary.Time z = (λ e. absurd (cc), λ p. absurd (p.1 refl))
+number-is kind z = let h = has-value kind z in (λ e. (h.0 e, λ t. cc), λ p. h.1 p.0)
 
 number-fits : (kind : ElementaryType) (z : ℤ) (b : Truth)
     → is_some (value_of elementary.Lint z) ≡ b
@@ -321,6 +314,20 @@ right-any r None h =
     || allows r elementary.Lint || allows r elementary.Time)) (h elementary.Bool)
 right-any r (Some kind) h = ap not (h kind)
 
+right-where : (passed : ℕ) (r : Resolved) (t : Option ElementaryType) → misses_name r ≡ false
+    → is_wrong r t ≡ false → is_unset r t ≡ false → jumps_back passed r ≡ false
+    → misses_label r ≡ false → writes_fixed r ≡ false → may_divide_by_zero r ≡ false
+    → IsRight passed r t
+right-where passed r t named allowed set forward labelled writable nonzero = record {
+  named = named;
+  allowed = allowed;
+  set = set;
+  forward = forward;
+  labelled = labelled;
+  writable = writable;
+  nonzero = nonzero;
+}
+
 -- ---- calls
 
 timer-is : (m : Option Meaning) → (is_timer (called_of m) ≡ true) ↔ IsTimer m
@@ -393,7 +400,7 @@ working : (operator : Operator) (negated : Truth) (kind second : ElementaryType)
     (u : Option ElementaryType) → Combines operator negated (Some kind) u second
     → Working operator negated kind second u
 working operator negated kind second u h =
-    let one = only operator h.first second h.new h.row in
+    let one = (table operator h.first second h.new).0 h.row in
     let first : h.first ≡ kind = (let e = h.on in cc) in
     let alike : second ≡ kind = one.1 ∙ first in
     record {
@@ -520,15 +527,7 @@ right-jump passed condition None n t is le h = absurd (cc)
 right-jump passed condition (Some l) n t is le h =
     let same : n ≡ l = cc in
     let both = (tested condition (Some l) t).1 h in
-    record {
-      named = refl;
-      allowed = both.0;
-      set = both.1;
-      forward = above-not l passed (subst (λ (k : ℕ). passed ≤ k) same le);
-      labelled = refl;
-      writable = refl;
-      nonzero = refl;
-    }
+    right-where passed (resolved.Jump condition (Some l)) t refl both.0 both.1 (above-not l passed (subst (λ (k : ℕ). passed ≤ k) same le)) refl refl refl
 
 pub right-by : (names : Names) (passed : ℕ) (a : text.Action) (t u : Option ElementaryType)
     → IsRightAction names passed a t u
@@ -538,15 +537,7 @@ right-by names passed (text.load negated source) t u h =
     let is = (load-is names source h.0).1 h.1 in
     let may : may_load negated (load_type g) ≡ true =
     ap (may_load negated) is ∙ (negation negated h.0).1 h.2 in (
-      record {
-        named = loads-there h.0 g is;
-        allowed = right-any (resolved.Load negated g) t (λ kind. may);
-        set = refl;
-        forward = refl;
-        labelled = refl;
-        writable = refl;
-        nonzero = refl;
-      },
+      right-where passed (resolved.Load negated g) t (loads-there h.0 g is) (right-any (resolved.Load negated g) t (λ kind. may)) refl refl refl refl refl,
       is ∙ sym h.3,
     )
 right-by names passed (text.store how place) None u h = absurd (let k = h.2 in cc)
@@ -559,15 +550,7 @@ right-by names passed (text.store how place) (Some kind) u h =
     let stores : Stores how kind kind =
     subst (λ (x : ElementaryType). Stores how x kind) (sym own)
     (subst (Stores how h.0) alike h.4) in (
-      record {
-        named = fits-there kind g fit;
-        allowed = ap not (both-are _ _ fit ((stored how kind).1 stores));
-        set = refl;
-        forward = refl;
-        labelled = refl;
-        writable = (may-write names place kind is).1 h.5;
-        nonzero = refl;
-      },
+      right-where passed (resolved.Store how g) (Some kind) (fits-there kind g fit) (ap not (both-are _ _ fit ((stored how kind).1 stores))) refl refl refl ((may-write names place kind is).1 h.5) refl,
       sym h.6,
     )
 right-by names passed (text.combine operator negated source) None u h =
@@ -576,60 +559,27 @@ right-by names passed (text.combine operator negated source) (Some kind) u h =
     let g = source_given names source in
     let w = working operator negated kind h.0 u h.2 in
     let fit = (fits-is names source kind).1 (subst (CanHave names source) w.alike h.1) in (
-      record {
-        named = fits-there kind g fit;
-        allowed = ap not (both-are _ _ w.works fit);
-        set = refl;
-        forward = refl;
-        labelled = refl;
-        writable = refl;
-        nonzero = (may-divide operator source).1 h.3;
-      },
+      right-where passed (resolved.Combine operator negated g (is_nonzero source)) (Some kind) (fits-there kind g fit) (ap not (both-are _ _ w.works fit)) refl refl refl refl ((may-divide operator source).1 h.3),
       w.leaves,
     )
 right-by names passed text.invert None u h = absurd (let k = h.0 in cc)
 right-by names passed text.invert (Some kind) u h =
     let is : kind ≡ elementary.Bool = (let e = h.0 in cc) in (
-      record {
-        named = refl;
-        allowed = ap not ((negation true kind).1 is);
-        set = refl;
-        forward = refl;
-        labelled = refl;
-        writable = refl;
-        nonzero = refl;
-      },
+      right-where passed resolved.Not (Some kind) refl (ap not ((negation true kind).1 is)) refl refl refl refl refl,
       sym h.1,
     )
 right-by names passed (text.convert conversion) None u h = absurd (let k = h.2 in cc)
 right-by names passed (text.convert conversion) (Some kind) u h =
     let both = widened conversion h.0 h.1 h.3 in
     let is : kind ≡ converted_from conversion = (let e = h.2 in let f = both.0 in cc) in (
-      record {
-        named = refl;
-        allowed = ap not (subst (λ (x : ElementaryType). same_type kind x ≡ true) is
-            (same-self kind));
-        set = refl;
-        forward = refl;
-        labelled = refl;
-        writable = refl;
-        nonzero = refl;
-      },
+      right-where passed (resolved.Convert conversion) (Some kind) refl (ap not (subst (λ (x : ElementaryType). same_type kind x ≡ true) is (same-self kind))) refl refl refl refl refl,
       ap Some (sym both.1) ∙ sym h.4,
     )
 right-by names passed (text.jump condition name) t u h =
     (right-jump passed condition (names.label name) h.0 t h.1 h.2 h.3, sym h.4)
 right-by names passed (text.leave condition) t u h =
     let both = (left-tested condition t).1 h.0 in (
-      record {
-        named = refl;
-        allowed = both.0;
-        set = both.1;
-        forward = refl;
-        labelled = refl;
-        writable = refl;
-        nonzero = refl;
-      },
+      right-where passed (resolved.Return condition) t refl both.0 both.1 refl refl refl refl,
       sym h.1,
     )
 right-by names passed (text.call timer args) t u h =
@@ -637,14 +587,6 @@ right-by names passed (text.call timer args) t u h =
     let g = arguments_given names args in
     let may : is_timer (called_of m) && arguments_fit g ≡ true =
     both-are _ _ ((timer-is m).1 h.0) ((are-given names args).1 h.1) in (
-      record {
-        named = none-of _ _ (timer-there m h.0) (given-there names args h.1);
-        allowed = right-any (resolved.Call (called_of m) g) t (λ kind. may);
-        set = refl;
-        forward = refl;
-        labelled = refl;
-        writable = refl;
-        nonzero = refl;
-      },
+      right-where passed (resolved.Call (called_of m) (arguments_given names args)) t (none-of _ _ (timer-there m h.0) (given-there names args h.1)) (right-any (resolved.Call (called_of m) g) t (λ kind. may)) refl refl refl refl refl,
       sym h.2,
     )

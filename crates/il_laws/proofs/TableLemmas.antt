@@ -1,5 +1,6 @@
 -- The rules that the checks go by are the language's tables.
-use Rattle.std.proofs.Common.{◌≡◌, Bool as Truth, true, false, not, ◌↔◌, Some, refl, sym, ap, subst, ◌∙◌}
+use Rattle.std.proofs.Common.{◌≡◌, Bool as Truth, true, false, not, cond, ◌&&◌, ◌↔◌, Option, Some, None, refl, sym, ap, subst, ◌∙◌}
+use Rattle.bay_base.specs.Types.{same_type}
 use Rattle.bay_base.specs.declared.types.ElementaryType.{ElementaryType}
 use Rattle.bay_base.specs.declared.types.ElementaryType.TheVariants.{Bool, Int, Dint, Lint, Time}
 use Rattle.il_text.specs.declared.program.Conversion.{Conversion}
@@ -10,94 +11,92 @@ use Rattle.il_text.specs.declared.program.Operator.{Operator}
 use Rattle.il_text.specs.declared.program.Operator.TheVariants.{And, Or, Xor, Add, Sub, Mul, Div, Mod, Gt, Ge, Eq, Ne, Le, Lt}
 use Rattle.il_text.specs.declared.program.Output.{Output}
 use Rattle.il_text.specs.declared.program.Output.TheVariants.{Q, Et}
-use Rattle.il_image.proofs.KindLemmas.{same-is}
+use Rattle.il_image.proofs.KindLemmas.{same-is, same-self}
 use Rattle.il_check.specs.Given.{output_type}
 use Rattle.il_check.specs.Rules.{converted_from, converted_to, gives, input_type, is_boolean, is_number, may_negate, takes}
 use Rattle.il_laws.specs.Table.{MayNegate, arithmetic, equality, input_kind, logic, order, output_kind, result_type, wider_type}
 
 -- ---- operators
 
-logic-row : (t : ElementaryType) → is_boolean t ≡ true → logic t t ≡ Some t
-logic-row Bool e = refl
-logic-row t e = absurd (cc)
+-- each table has rows of one type on both sides alone
+logic-is : (t u : ElementaryType)
+    → logic t u ≡ cond (same_type t u && is_boolean t) (Some t) None
+logic-is Bool Bool = refl
+logic-is Bool u = refl
+logic-is Int Int = refl
+logic-is Dint Dint = refl
+logic-is Lint Lint = refl
+logic-is Time Time = refl
+logic-is t u = refl
 
-arithmetic-row : (t : ElementaryType) → is_number t ≡ true → arithmetic t t ≡ Some t
-arithmetic-row Bool e = absurd (cc)
-arithmetic-row Time e = absurd (cc)
-arithmetic-row t e = refl
+arithmetic-is : (t u : ElementaryType)
+    → arithmetic t u ≡ cond (same_type t u && is_number t) (Some t) None
+arithmetic-is Bool Bool = refl
+arithmetic-is Int Int = refl
+arithmetic-is Dint Dint = refl
+arithmetic-is Lint Lint = refl
+arithmetic-is Time Time = refl
+arithmetic-is t u = refl
 
-order-row : (t : ElementaryType) → not (is_boolean t) ≡ true → order t t ≡ Some Bool
-order-row Bool e = absurd (cc)
-order-row t e = refl
+pub order-is : (t u : ElementaryType)
+    → order t u ≡ cond (same_type t u && not (is_boolean t)) (Some Bool) None
+order-is Bool Bool = refl
+order-is Int Int = refl
+order-is Dint Dint = refl
+order-is Lint Lint = refl
+order-is Time Time = refl
+order-is t u = refl
 
-equality-row : (t : ElementaryType) → equality t t ≡ Some Bool
-equality-row Bool = refl
-equality-row t = refl
+pub equality-is : (t u : ElementaryType)
+    → equality t u ≡ cond (same_type t u && true) (Some Bool) None
+equality-is Bool Bool = refl
+equality-is Int Int = refl
+equality-is Dint Dint = refl
+equality-is Lint Lint = refl
+equality-is Time Time = refl
+equality-is t u = refl
 
--- the row of the types that an operator takes
+rows : (table : ElementaryType → ElementaryType → Option ElementaryType)
+    (takes : ElementaryType → Truth) (gives : ElementaryType → ElementaryType)
+    → ((t u : ElementaryType)
+    → table t u ≡ cond (same_type t u && takes t) (Some (gives t)) None)
+    → (t u v : ElementaryType) → (table t u ≡ Some v)
+    ↔ ((takes t ≡ true) × (u ≡ t) × (v ≡ gives t))
+rows table takes gives is t u v = (
+  λ e. one (same_type t u) (takes t) refl refl (sym (is t u) ∙ e),
+  λ h. ap (table t) h.1 ∙ is t t
+      ∙ ap (λ (b : Truth). cond (b && takes t) (Some (gives t)) None) (same-self t)
+      ∙ ap (λ (b : Truth). cond b (Some (gives t)) None) h.0 ∙ ap Some (sym h.2),
+)
+  where
+    one : (a b : Truth) → same_type t u ≡ a → takes t ≡ b
+        → cond (a && b) (Some (gives t)) None ≡ Some v
+        → (takes t ≡ true) × (u ≡ t) × (v ≡ gives t)
+    one true true e f g = (f, sym (same-is t u e), cc)
+    one true false e f g = absurd (cc)
+    one false b e f g = absurd (cc)
+
+-- the table has a row for the types that an operator takes, and no other
+pub table : (o : Operator) (t u v : ElementaryType) → (result_type o t u ≡ Some v)
+    ↔ ((takes o t ≡ true) × (u ≡ t) × (v ≡ gives o t))
+table And t u v = rows logic is_boolean (λ k. k) logic-is t u v
+table Or t u v = rows logic is_boolean (λ k. k) logic-is t u v
+table Xor t u v = rows logic is_boolean (λ k. k) logic-is t u v
+table Add t u v = rows arithmetic is_number (λ k. k) arithmetic-is t u v
+table Sub t u v = rows arithmetic is_number (λ k. k) arithmetic-is t u v
+table Mul t u v = rows arithmetic is_number (λ k. k) arithmetic-is t u v
+table Div t u v = rows arithmetic is_number (λ k. k) arithmetic-is t u v
+table Mod t u v = rows arithmetic is_number (λ k. k) arithmetic-is t u v
+table Gt t u v = rows order (λ k. not (is_boolean k)) (λ k. Bool) order-is t u v
+table Ge t u v = rows order (λ k. not (is_boolean k)) (λ k. Bool) order-is t u v
+table Eq t u v = rows equality (λ k. true) (λ k. Bool) equality-is t u v
+table Ne t u v = rows equality (λ k. true) (λ k. Bool) equality-is t u v
+table Le t u v = rows order (λ k. not (is_boolean k)) (λ k. Bool) order-is t u v
+table Lt t u v = rows order (λ k. not (is_boolean k)) (λ k. Bool) order-is t u v
+
 pub row : (o : Operator) (t : ElementaryType) → takes o t ≡ true
     → result_type o t t ≡ Some (gives o t)
-row And t e = logic-row t e
-row Or t e = logic-row t e
-row Xor t e = logic-row t e
-row Add t e = arithmetic-row t e
-row Sub t e = arithmetic-row t e
-row Mul t e = arithmetic-row t e
-row Div t e = arithmetic-row t e
-row Mod t e = arithmetic-row t e
-row Gt t e = order-row t e
-row Ge t e = order-row t e
-row Eq t e = equality-row t
-row Ne t e = equality-row t
-row Le t e = order-row t e
-row Lt t e = order-row t e
-
-logic-only : (t u v : ElementaryType) → logic t u ≡ Some v
-    → (is_boolean t ≡ true) × (u ≡ t) × (v ≡ t)
-logic-only Bool Bool v e = (refl, refl, cc)
-logic-only t u v e = absurd (cc)
-
-arithmetic-only : (t u v : ElementaryType) → arithmetic t u ≡ Some v
-    → (is_number t ≡ true) × (u ≡ t) × (v ≡ t)
-arithmetic-only Int Int v e = (refl, refl, cc)
-arithmetic-only Dint Dint v e = (refl, refl, cc)
-arithmetic-only Lint Lint v e = (refl, refl, cc)
-arithmetic-only t u v e = absurd (cc)
-
-order-only : (t u v : ElementaryType) → order t u ≡ Some v
-    → (not (is_boolean t) ≡ true) × (u ≡ t) × (v ≡ Bool)
-order-only Int Int v e = (refl, refl, cc)
-order-only Dint Dint v e = (refl, refl, cc)
-order-only Lint Lint v e = (refl, refl, cc)
-order-only Time Time v e = (refl, refl, cc)
-order-only t u v e = absurd (cc)
-
-equality-only : (t u v : ElementaryType) → equality t u ≡ Some v
-    → (true ≡ true) × (u ≡ t) × (v ≡ Bool)
-equality-only Bool Bool v e = (refl, refl, cc)
-equality-only Int Int v e = (refl, refl, cc)
-equality-only Dint Dint v e = (refl, refl, cc)
-equality-only Lint Lint v e = (refl, refl, cc)
-equality-only Time Time v e = (refl, refl, cc)
-equality-only t u v e = absurd (cc)
-
--- the table has no other rows
-pub only : (o : Operator) (t u v : ElementaryType) → result_type o t u ≡ Some v
-    → (takes o t ≡ true) × (u ≡ t) × (v ≡ gives o t)
-only And t u v e = logic-only t u v e
-only Or t u v e = logic-only t u v e
-only Xor t u v e = logic-only t u v e
-only Add t u v e = arithmetic-only t u v e
-only Sub t u v e = arithmetic-only t u v e
-only Mul t u v e = arithmetic-only t u v e
-only Div t u v e = arithmetic-only t u v e
-only Mod t u v e = arithmetic-only t u v e
-only Gt t u v e = order-only t u v e
-only Ge t u v e = order-only t u v e
-only Eq t u v e = equality-only t u v e
-only Ne t u v e = equality-only t u v e
-only Le t u v e = order-only t u v e
-only Lt t u v e = order-only t u v e
+row o t e = (table o t t (gives o t)).1 (e, refl, refl)
 
 -- ---- conversions
 
@@ -111,15 +110,6 @@ pub widens : (conversion : Conversion)
     → wider_type conversion (converted_from conversion) ≡ Some (converted_to conversion)
 widens IntToDint = refl
 widens DintToLint = refl
-
--- ---- both directions
-
-pub only-and-row : (o : Operator) (t u v : ElementaryType) → (result_type o t u ≡ Some v)
-    ↔ ((takes o t ≡ true) × (u ≡ t) × (v ≡ gives o t))
-only-and-row o t u v = (
-  only o t u v,
-  λ h. ap (λ (x : ElementaryType). result_type o t x) h.1 ∙ row o t h.0 ∙ ap Some (sym h.2),
-)
 
 -- ---- the other rules
 
