@@ -2,6 +2,7 @@
 use Rattle.std.proofs.Common.{◌≡◌, ◌↔◌, ◌⊎◌, ℤ, pos, Bool as Truth, true, false, not, cond, ◌&&◌, ◌||◌, inl, inr, Option, Some, None, refl, sym, ap, subst, ◌∙◌, arith}
 use Rattle.std.specs.Ordering.{int_eq}
 use Rattle.std.proofs.lemmas.Int.{ints}
+use Rattle.bay_base.specs.Options.{◌>>=◌}
 use Rattle.bay_base.specs.Types.{same_type}
 use Rattle.bay_base.specs.declared.types.ElementaryType.{ElementaryType}
 use Rattle.bay_base.specs.declared.types.ElementaryType.TheVariants as type
@@ -22,9 +23,11 @@ use Rattle.il_image.specs.declared.opcode.Connective.{Connective}
 use Rattle.il_image.specs.declared.opcode.Connective.TheVariants.{And, Or, Xor}
 use Rattle.il_image.specs.declared.value.Value.{Value}
 use Rattle.il_image.specs.declared.value.Value.TheVariants.{Truth as Logical, Short, Long, Wide, Span}
-use Rattle.il_compile.specs.Meaning.{combination_of, computed_in, computed_values, connected_values, inverse}
+use Rattle.il_check.specs.declared.typed.SimpleOperation.TheVariants as op
+use Rattle.il_check.specs.declared.typed.TypedOperand.{TypedOperand}
+use Rattle.il_compile.specs.Meaning.{Memory, State, combination_of, computed_in, computed_values, connected_values, inverse, inverse_if, operand_value, state_after, state_after_close}
 use Rattle.il_compile.specs.Senses.{compares, computes, connects, sense_of, widening_of}
-use Rattle.il_laws.specs.Integers.{IsConverted, IsInverted, IsMadeOf, IsOutcome, IsQuotient}
+use Rattle.il_laws.specs.Integers.{IsApplied, IsConverted, IsInverted, IsMadeOf, IsNegatedWhere, IsOutcome, IsQuotient}
 use Rattle.il_laws.specs.Table.{arithmetic, equality, logic, order, result_type}
 use Rattle.il_laws.proofs.IntegerLemmas.{computed, no-quotient}
 use Rattle.il_laws.proofs.NumberLemmas.{is-at-most, is-equal, is-less, not-same}
@@ -285,3 +288,88 @@ inverts (Logical false) (Logical true) = (λ e. (refl, refl, (λ f. refl, λ f. 
 inverts (Logical false) (Logical false) =
     (λ e. absurd (cc), λ h. absurd (let z = h.2.1 refl in omega (arith, ints)))
 inverts v w = (λ e. absurd (cc), λ h. absurd (let t = h.0 in let s = h.1 in cc))
+
+-- ---- an operator with its operand, or with its parenthesis
+
+negates : (negated : Truth) (v w : Value) → (inverse_if negated v ≡ Some w)
+    ↔ IsNegatedWhere negated v w
+negates false v w = (λ e. cc, λ e. ap Some (sym e))
+negates true v w = inverts v w
+
+-- the state after an operator, on this result and this operand
+abbrev state_of : Operator → Truth → Option Value → Option Value → Memory → Option State
+state_of operator negated before operand m = do
+  a ← before
+  v ← operand
+  b ← inverse_if negated v
+  c ← combination_of (sense_of operator) a b
+  Some (record { result = Some c; memory = m })
+
+module _ (operator : Operator) (negated : Truth) (m : Memory) (t : State) where
+  from-made : (a v b : Value) (k : Option Value) → IsNegatedWhere negated v b
+      → combination_of (sense_of operator) a b ≡ k
+      → (k >>= (λ c. Some (record { result = Some c; memory = m }))) ≡ Some t
+      → IsApplied operator negated (Some a) (Some v) t.result × (t.memory ≡ m)
+  from-made a v b None n is e = absurd (cc)
+  from-made a v b (Some c) n is e =
+      let made : State = record { result = Some c; memory = m } in
+      let same : made ≡ t = cc in (
+        record {
+          first = a;
+          given = v;
+          second = b;
+          new = c;
+          result = refl;
+          read = refl;
+          negation = n;
+          made = (means operator a b c).0 is;
+          leaves = sym (ap (λ (s : State). s.result) same);
+        },
+        sym (ap (λ (s : State). s.memory) same),
+      )
+
+  from-negated : (a v : Value) (i : Option Value) → inverse_if negated v ≡ i
+      → (i >>= (λ b. combination_of (sense_of operator) a b
+      >>= (λ c. Some (record { result = Some c; memory = m })))) ≡ Some t
+      → IsApplied operator negated (Some a) (Some v) t.result × (t.memory ≡ m)
+  from-negated a v None is e = absurd (cc)
+  from-negated a v (Some b) is e =
+      from-made a v b (combination_of (sense_of operator) a b) ((negates negated v b).0 is) refl e
+
+  applied : (before operand : Option Value) → state_of operator negated before operand m ≡ Some t
+      → IsApplied operator negated before operand t.result × (t.memory ≡ m)
+  applied None operand e = absurd (cc)
+  applied (Some a) None e = absurd (cc)
+  applied (Some a) (Some v) e = from-negated a v (inverse_if negated v) refl e
+
+  applies : (before operand : Option Value)
+      → IsApplied operator negated before operand t.result × (t.memory ≡ m)
+      → state_of operator negated before operand m ≡ Some t
+  applies before operand h =
+      let i = (negates negated h.0.given h.0.second).1 h.0.negation in
+      let k = (means operator h.0.first h.0.second h.0.new).1 h.0.made in
+      ap (λ (o : Option Value). state_of operator negated o operand m) h.0.result
+      ∙ ap (λ (o : Option Value). state_of operator negated (Some h.0.first) o m) h.0.read
+      ∙ ap (λ (o : Option Value). o >>= (λ b. combination_of (sense_of operator) h.0.first b
+      >>= (λ c. Some (record { result = Some c; memory = m })))) i
+      ∙ ap (λ (o : Option Value). o >>= (λ c. Some (record { result = Some c; memory = m }))) k
+      ∙ ap (λ (r : Option Value). Some (record { result = r; memory = m })) (sym h.0.leaves)
+      ∙ ap (λ (x : Memory). Some (record { result = t.result; memory = x })) (sym h.1)
+
+pub instruction : (operator : Operator) (kind : ElementaryType) (negated : Truth)
+    (x : TypedOperand) (s t : State)
+    → (state_after (op.Combine operator kind negated x) s ≡ Some t)
+    ↔ (IsApplied operator negated s.result (operand_value x s.memory) t.result
+    × (t.memory ≡ s.memory))
+instruction operator kind negated x s t = (
+  applied operator negated s.memory t s.result (operand_value x s.memory),
+  applies operator negated s.memory t s.result (operand_value x s.memory),
+)
+
+pub parenthesis : (operator : Operator) (negated : Truth) (before : Option Value)
+    (inner t : State) → (state_after_close operator negated before inner ≡ Some t)
+    ↔ (IsApplied operator negated before inner.result t.result × (t.memory ≡ inner.memory))
+parenthesis operator negated before inner t = (
+  applied operator negated inner.memory t before inner.result,
+  applies operator negated inner.memory t before inner.result,
+)

@@ -1,5 +1,5 @@
 -- What operators make of integers (IEC 61131-3:2003, tables 10, 24, 26 and 28).
-use Rattle.std.specs.Prelude.{◌≡◌, ℕ, ◌*◌, ◌≤◌, ℤ, pos, negsuc, ◌+ℤ◌, ◌-ℤ◌, ◌*ℤ◌, ◌<ℤ◌, ◌≤ℤ◌, ◌⊎◌, ◌↔◌, unsigned_abs, Some}
+use Rattle.std.specs.Prelude.{◌≡◌, ℕ, ◌*◌, ◌≤◌, ℤ, pos, negsuc, ◌+ℤ◌, ◌-ℤ◌, ◌*ℤ◌, ◌<ℤ◌, ◌≤ℤ◌, ◌⊎◌, ◌↔◌, unsigned_abs, Bool as Truth, true, false, Option, Some}
 use Rattle.bay_base.specs.declared.types.ElementaryType.{ElementaryType}
 use Rattle.bay_base.specs.declared.types.ElementaryType.TheVariants.{Bool, Int, Dint, Lint, Time}
 use Rattle.il_text.specs.declared.program.Conversion.{Conversion}
@@ -70,3 +70,22 @@ IsConverted conversion v w =
 abbrev pub IsInverted : Value → Value → Type 0
 IsInverted v w =
     (type_of v ≡ Bool) × (type_of w ≡ Bool) × ((number_of w ≡ pos 1) ↔ (number_of v ≡ pos 0))
+
+-- A value that may be negated first.
+abbrev pub IsNegatedWhere : Truth → Value → Value → Type 0
+IsNegatedWhere false v w = w ≡ v
+IsNegatedWhere true v w = IsInverted v w
+
+-- An operator, which may negate its operand first, is applied to the current result before it and
+-- to the operand, and leaves the result behind it; none is a result that is not set.
+pub record IsApplied (operator : Operator) (negated : Truth) (before operand after : Option Value)
+    : Type 0 where
+  pub first : Value
+  pub given : Value
+  pub second : Value
+  pub new : Value
+  pub result : before ≡ Some first
+  pub read : operand ≡ Some given
+  pub negation : IsNegatedWhere negated given second
+  pub made : IsMadeOf operator first second new
+  pub leaves : after ≡ Some new

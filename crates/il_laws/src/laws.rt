@@ -1,5 +1,5 @@
 // Laws of the definitions. Each function does nothing, and its contract is the law.
-ghost use Rattle.std.specs.Prelude.{◌≡◌, ◌↔◌, ℕ, ℤ, Bool, true, IsSome, List, Ok, Some};
+ghost use Rattle.std.specs.Prelude.{◌≡◌, ◌↔◌, ℕ, ℤ, Bool, true, IsSome, List, Ok, Option, Some};
 ghost use Rattle.std.specs.List.{list_all};
 ghost use Rattle.bay_base.specs.declared.types.ElementaryType.{ElementaryType};
 ghost use Rattle.bay_config.specs.declared.bay.Point.{Point};
@@ -21,11 +21,13 @@ ghost use Rattle.il_check.specs.Checking.{checked_of};
 ghost use Rattle.il_check.specs.Declaring.{literal_value, names_in};
 ghost use Rattle.il_check.specs.Program.{Checked};
 ghost use Rattle.il_check.specs.Rules.{gives, takes};
-ghost use Rattle.il_compile.specs.Meaning.{combination_of, inverse};
+ghost use Rattle.il_check.specs.declared.typed.SimpleOperation.TheVariants as SimpleOperation;
+ghost use Rattle.il_check.specs.declared.typed.TypedOperand.{TypedOperand};
+ghost use Rattle.il_compile.specs.Meaning.{State, inverse, operand_value, state_after, state_after_close};
 ghost use Rattle.il_compile.specs.Senses.{compares, computes, connects, sense_of, widening_of};
 ghost use Rattle.il_laws.specs.ByNames.{GoesByNames};
 ghost use Rattle.il_laws.specs.Instructions.{IsLiteralOf};
-ghost use Rattle.il_laws.specs.Integers.{IsConverted, IsInverted, IsMadeOf, IsOutcome};
+ghost use Rattle.il_laws.specs.Integers.{IsApplied, IsConverted, IsInverted, IsOutcome};
 ghost use Rattle.il_laws.specs.RightText.{IsRightText};
 ghost use Rattle.il_laws.specs.Table.{result_type};
 ghost use Rattle.il_laws.specs.TypedText.{HasTypes};
@@ -78,15 +80,24 @@ pub fn arithmetic_is_that_of_the_integers()
         (number_of (Truth (logic_of c a b))) }
 {}
 
-/// An operator means its arithmetic: it makes a value of two exactly where its table has a row for
-/// their types, which gives the type of the value, and the number of the value is what the operator
-/// makes of their numbers. So nothing comes of a division by 0. Likewise a conversion and NOT.
+/// An operator means its arithmetic. An instruction with an operator, or the end of a parenthesis,
+/// has a meaning exactly where a value is made of the current result and of the operand, negated
+/// first where it says so: where the operator's table has a row for their types, which gives the
+/// type of the new value, and the number of this value is what the operator makes of their numbers.
+/// So nothing comes of a division by 0. It changes the current result alone. A conversion makes the
+/// wider value with the same number.
 pub fn an_operator_means_its_arithmetic()
-    ensures combined { (operator : Operator) (a b v : Value)
-        → (combination_of (sense_of operator) a b ≡ Some v) ↔ IsMadeOf operator a b v }
-    ensures converted { (conversion : Conversion) (v w : Value)
+    ensures instructions { (operator : Operator) (kind : ElementaryType) (negated : Bool)
+        (x : TypedOperand) (s t : State) →
+        (state_after (SimpleOperation.Combine operator kind negated x) s ≡ Some t)
+        ↔ (IsApplied operator negated s.result (operand_value x s.memory) t.result
+        × (t.memory ≡ s.memory)) }
+    ensures parentheses { (operator : Operator) (negated : Bool) (before : Option Value)
+        (inner t : State) → (state_after_close operator negated before inner ≡ Some t)
+        ↔ (IsApplied operator negated before inner.result t.result × (t.memory ≡ inner.memory)) }
+    ensures conversions { (conversion : Conversion) (v w : Value)
         → (wider_value (widening_of conversion) v ≡ Some w) ↔ IsConverted conversion v w }
-    ensures inverted { (v w : Value) → (inverse v ≡ Some w) ↔ IsInverted v w }
+    ensures negation { (v w : Value) → (inverse v ≡ Some w) ↔ IsInverted v w }
 {}
 
 /// A right program has the types of the language: with some type of the current result at each
