@@ -34,13 +34,13 @@ use Rattle.il_check.specs.declared.given.Resolved.TheVariants as resolved
 use Rattle.il_check.proofs.FaultlessLemmas.{not-false}
 use Rattle.il_check.proofs.GivenLemmas.{allows-any}
 use Rattle.il_laws.specs.Instructions.{AreGiven, CanHave, Combines, DoesNotDivide, IsDivisor, IsLiteralOf, IsLoaded, IsNotZero, IsRightAction, IsRightBlock, IsTimer, IsWritable, MayDivide, MayWrite, place_kind, timer_output, variable_kind}
-use Rattle.il_laws.specs.Table.{IsFirstWith, MayNegate, Stores, Tests, input_kind, output_kind, wider_type}
+use Rattle.il_laws.specs.Table.{IsFirstFit, MayNegate, Stores, Tests, input_kind, output_kind, wider_type}
 use Rattle.il_laws.proofs.NumberLemmas.{first-in-lint, first-own, has-value, in-lint, is-between, not-same, own-first}
 use Rattle.il_laws.proofs.TableLemmas.{input-same, negation, output-same, row, table, widened, widens}
 
 -- ---- operands
 
--- what is of a known type is of this type alone
+-- what has a known type has no other
 known-fits : {A : Type 0} (k kind : ElementaryType) (x : A)
     → (is_some (cond (same_type k kind) (Some x) None) ≡ true) ↔ (kind ≡ k)
 known-fits {A} k kind x = (
@@ -73,7 +73,7 @@ mapped : {A B : Type 0} (f : A → B) (o : Option A) → is_some (option_map f o
 mapped f None = refl
 mapped f (Some x) = refl
 
--- a number alone can be of each type that has it, but of TIME
+-- a number without a type can have each type that it fits, except TIME
 number-is : (kind : ElementaryType) (z : ℤ) → (is_some (number_in kind z) ≡ true)
     ↔ IsLiteralOf (literal.Number z) kind
 number-is elementary.Time z = (λ e. absurd (cc), λ p. absurd (p.1 refl))
@@ -92,10 +92,10 @@ number-fits kind z false is = (
 
 number-loads : (kind : ElementaryType) (z : ℤ) (b : Truth)
     → is_some (value_of elementary.Lint z) ≡ b
-    → (load_type (cond b (Number z) Misused) ≡ Some kind) ↔ IsFirstWith z kind
+    → (load_type (cond b (Number z) Misused) ≡ Some kind) ↔ IsFirstFit z kind
 number-loads kind z true is = (
   λ e. let own : own_type z ≡ kind = cc in
-      subst (IsFirstWith z) own (own-first z ((has-value elementary.Lint z).0 is)),
+      subst (IsFirstFit z) own (own-first z ((has-value elementary.Lint z).0 is)),
   λ h. ap Some (first-own z kind h),
 )
 number-loads kind z false is = (

@@ -9,7 +9,7 @@ use Rattle.bay_base.specs.declared.types.ElementaryType.TheVariants.{Bool, Int, 
 use Rattle.il_image.specs.Values.{is_between, value_of}
 use Rattle.il_image.specs.declared.value.Value.TheVariants as value
 use Rattle.il_check.specs.Rules.{number_in, own_type}
-use Rattle.il_laws.specs.Table.{IsFirstWith, IsNumberOf}
+use Rattle.il_laws.specs.Table.{IsFirstFit, IsNumberOf}
 
 -- ---- tests
 
@@ -103,16 +103,16 @@ in-dint z h = (omega (arith, ints, h), omega (arith, ints, h))
 
 first-case : (z : ℤ) (short long : Truth) → is_some (value_of Int z) ≡ short
     → is_some (value_of Dint z) ≡ long → IsNumberOf Lint z
-    → IsFirstWith z (cond short Int (cond long Dint Lint))
+    → IsFirstFit z (cond short Int (cond long Dint Lint))
 first-case z true long e f h = (has-value Int z).0 e
 first-case z false true e f h =
     ((has-value Dint z).0 f, λ k. absurd (let t = (has-value Int z).1 k in cc))
 first-case z false false e f h = (h, λ k. absurd (let t = (has-value Dint z).1 k in cc))
 
-pub own-first : (z : ℤ) → IsNumberOf Lint z → IsFirstWith z (own_type z)
+pub own-first : (z : ℤ) → IsNumberOf Lint z → IsFirstFit z (own_type z)
 own-first z h = first-case z _ _ refl refl h
 
-pub first-own : (z : ℤ) (kind : ElementaryType) → IsFirstWith z kind → own_type z ≡ kind
+pub first-own : (z : ℤ) (kind : ElementaryType) → IsFirstFit z kind → own_type z ≡ kind
 first-own z Int h =
     ap (λ (b : Truth). cond b Int (cond (is_some (number_in Dint z)) Dint Lint))
     ((has-value Int z).1 h)
@@ -127,7 +127,7 @@ first-own z Lint h =
 first-own z Bool h = absurd h
 first-own z Time h = absurd h
 
-pub first-in-lint : (z : ℤ) (kind : ElementaryType) → IsFirstWith z kind → IsNumberOf Lint z
+pub first-in-lint : (z : ℤ) (kind : ElementaryType) → IsFirstFit z kind → IsNumberOf Lint z
 first-in-lint z Int h = in-lint Int z h
 first-in-lint z Dint h = in-lint Dint z h.0
 first-in-lint z Lint h = h.0

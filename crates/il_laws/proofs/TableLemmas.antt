@@ -18,7 +18,7 @@ use Rattle.il_laws.specs.Table.{MayNegate, arithmetic, equality, input_kind, log
 
 -- ---- operators
 
--- each table has rows of one type on both sides alone
+-- each row of a table has one type on both sides
 logic-is : (t u : ElementaryType)
     → logic t u ≡ cond (same_type t u && is_boolean t) (Some t) None
 logic-is Bool Bool = refl

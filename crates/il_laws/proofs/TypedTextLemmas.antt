@@ -44,12 +44,12 @@ use Rattle.il_check.specs.declared.typed.TypedOperand.{TypedOperand}
 use Rattle.il_check.specs.declared.typed.TypedOperand.TheVariants as operand
 use Rattle.il_check.proofs.KeepingLemmas.{keeps}
 use Rattle.il_check.proofs.TypedLemmas.{typed-of}
-use Rattle.il_laws.specs.Table.{IsFirstWith, MayNegate, Stores, Tests, input_kind, result_type, wider_type}
+use Rattle.il_laws.specs.Table.{IsFirstFit, MayNegate, Stores, Tests, input_kind, result_type, wider_type}
 use Rattle.il_laws.specs.TypedText.{ArgumentHasType, ArgumentsHaveTypes, EntriesHaveTypes, EntryHasTypes, HasTypes, IsLoadedAs, ItemsHaveTypes, MayHave, OperationHasTypes, TransferHasTypes, operand_type}
 use Rattle.il_laws.proofs.NumberLemmas.{has-value, own-first}
 use Rattle.il_laws.proofs.TableLemmas.{input-same, negation, output-same, row, widens}
 
--- ---- the type of a number alone
+-- ---- the type of a number without a type
 
 number-typed : (kind : ElementaryType) (z : ℤ) (v : Value) → number_in kind z ≡ Some v
     → type_of v ≡ kind
@@ -59,11 +59,11 @@ number-typed elementary.Dint z v e = (value_is elementary.Dint z v e).type
 number-typed elementary.Lint z v e = (value_is elementary.Lint z v e).type
 number-typed elementary.Time z v e = absurd (cc)
 
--- ---- loads of numbers alone, with what is left of each entry
+-- ---- loads of numbers without a type, in what is left of each entry
 
--- A number alone has the first type that has it.
+-- A number without a type has the first type that it fits.
 abbrev OwnOperand : text.Source → TypedOperand → Type 0
-OwnOperand (text.constant (literal.Number z)) (operand.Literal v) = IsFirstWith z (type_of v)
+OwnOperand (text.constant (literal.Number z)) (operand.Literal v) = IsFirstFit z (type_of v)
 OwnOperand source x = Unit {0}
 
 abbrev OwnLoad : text.Action → SimpleOperation → Type 0
@@ -95,14 +95,14 @@ ItemsLoad (e ∷ es) [] = Unit {0}
 ItemsLoad (e ∷ es) (x ∷ xs) = (ItemLoads e x × ItemsLoad es xs) ⊎ ItemsLoad es (x ∷ xs)
 
 number-load : (negated : Truth) (z : ℤ) (kind : ElementaryType) (m : Option Value)
-    (o : SimpleOperation) → number_in kind z ≡ m → IsFirstWith z kind
+    (o : SimpleOperation) → number_in kind z ≡ m → IsFirstFit z kind
     → load_operation negated (option_map (λ v. operand.Literal v) m) ≡ Some o
     → OwnLoad (text.load negated (text.constant (literal.Number z))) o
 number-load negated z kind None o is h e = absurd (cc)
 number-load negated z kind (Some v) o is h e =
     let same : op.Load negated (operand.Literal v) ≡ o = cc in
     subst (OwnLoad (text.load negated (text.constant (literal.Number z)))) same
-    (subst (IsFirstWith z) (sym (number-typed kind z v is)) h)
+    (subst (IsFirstFit z) (sym (number-typed kind z v is)) h)
 
 number-case : (negated : Truth) (z : ℤ) (b : Truth) (o : SimpleOperation)
     → is_some (value_of elementary.Lint z) ≡ b
@@ -285,7 +285,7 @@ module _ (c : Checked) where
       → IsOperandOf c source x → operand_type c x ≡ Some kind → OwnOperand source x
       → IsLoadedAs source kind
   loaded-as (text.constant (literal.Number z)) (operand.Literal v) kind h e own =
-      let same : type_of v ≡ kind = cc in subst (IsFirstWith z) same own
+      let same : type_of v ≡ kind = cc in subst (IsFirstFit z) same own
   loaded-as (text.constant (literal.Number z)) (operand.Slot s) kind h e own = absurd h
   loaded-as (text.constant (literal.Number z)) (operand.Output n what) kind h e own = absurd h
   loaded-as (text.constant (literal.Truth b)) x kind h e own =

@@ -13,11 +13,12 @@ use Rattle.il_text.specs.declared.program.Output.{Output}
 use Rattle.il_check.specs.Given.{Names}
 use Rattle.il_check.specs.declared.given.Meaning.{Meaning}
 use Rattle.il_check.specs.declared.given.Meaning.TheVariants as meaning
-use Rattle.il_laws.specs.Table.{IsFirstWith, IsNumberOf, MayNegate, Stores, Tests, input_kind, output_kind, result_type, wider_type}
+use Rattle.il_laws.specs.Table.{IsFirstFit, IsNumberOf, MayNegate, Stores, Tests, input_kind, output_kind, result_type, wider_type}
 
 -- ---- operands
 
--- The literal has the type: a number alone may have any but TIME.
+-- The literal can have the type: a number without a type can have each type in whose range it is,
+-- except TIME.
 abbrev pub IsLiteralOf : Literal → ElementaryType → Type 0
 IsLiteralOf (literal.Truth b) kind = kind ≡ elementary.Bool
 IsLiteralOf (literal.Number z) kind = IsNumberOf kind z × (kind ≡ elementary.Time → ⊥)
@@ -46,9 +47,10 @@ abbrev pub CanHave : Names → text.Source → ElementaryType → Type 0
 CanHave names (text.constant l) kind = IsLiteralOf l kind
 CanHave names (text.variable place) kind = place_kind names place ≡ Some kind
 
--- A number alone that is loaded has the first of INT, DINT and LINT that has it.
+-- A load gives the operand this type: a number without a type gets the first of INT, DINT and LINT
+-- that it fits.
 abbrev pub IsLoaded : Names → text.Source → ElementaryType → Type 0
-IsLoaded names (text.constant (literal.Number z)) kind = IsFirstWith z kind
+IsLoaded names (text.constant (literal.Number z)) kind = IsFirstFit z kind
 IsLoaded names source kind = CanHave names source kind
 
 -- ---- what else an instruction needs
@@ -138,8 +140,8 @@ IsRightAction names passed (text.leave condition) t u = Tests condition t × (u 
 IsRightAction names passed (text.call timer args) t u =
     IsTimer (names.meaning timer) × AreGiven names args × (u ≡ None)
 
--- The operator of a parenthesis is right, in which a result of the inner type comes about; it
--- divides by no parenthesis.
+-- The operator of a parenthesis that ends with a result of the inner type is right. DIV and MOD have
+-- no parenthesis.
 abbrev pub IsRightBlock : Operator → Bool → Option ElementaryType → Option ElementaryType
     → Option ElementaryType → Type 0
 IsRightBlock operator negated inner t u =

@@ -102,7 +102,8 @@ output_kind Et = Time
 
 -- ---- numbers
 
--- The number is one of the type's; that of a TIME is its milliseconds, FALSE is 0 and TRUE is 1.
+-- The number is one of the type's: that of a TIME is its milliseconds, FALSE is 0 and TRUE is 1.
+-- `negsuc n` is -(n + 1).
 abbrev pub IsNumberOf : ElementaryType → ℤ → Type 0
 IsNumberOf Bool z = (pos 0 ≤ℤ z) × (z ≤ℤ pos 1)
 IsNumberOf Int z = (negsuc 32_767 ≤ℤ z) × (z ≤ℤ pos 32_767)
@@ -111,10 +112,10 @@ IsNumberOf Lint z =
     (negsuc 9_223_372_036_854_775_807 ≤ℤ z) × (z ≤ℤ pos 9_223_372_036_854_775_807)
 IsNumberOf Time z = (pos 0 ≤ℤ z) × (z ≤ℤ pos 2_147_483_647)
 
--- The type is the first of INT, DINT and LINT that has the number.
-abbrev pub IsFirstWith : ℤ → ElementaryType → Type 0
-IsFirstWith z Bool = ⊥
-IsFirstWith z Int = IsNumberOf Int z
-IsFirstWith z Dint = IsNumberOf Dint z × (IsNumberOf Int z → ⊥)
-IsFirstWith z Lint = IsNumberOf Lint z × (IsNumberOf Dint z → ⊥)
-IsFirstWith z Time = ⊥
+-- The type is the first of INT, DINT and LINT that the number fits.
+abbrev pub IsFirstFit : ℤ → ElementaryType → Type 0
+IsFirstFit z Bool = ⊥
+IsFirstFit z Int = IsNumberOf Int z
+IsFirstFit z Dint = IsNumberOf Dint z × (IsNumberOf Int z → ⊥)
+IsFirstFit z Lint = IsNumberOf Lint z × (IsNumberOf Dint z → ⊥)
+IsFirstFit z Time = ⊥

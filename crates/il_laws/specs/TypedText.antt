@@ -19,7 +19,7 @@ use Rattle.il_check.specs.declared.typed.TypedArguments.{TypedArguments}
 use Rattle.il_check.specs.declared.typed.TypedArguments.TheVariants as arguments
 use Rattle.il_check.specs.declared.typed.TypedOperand.{TypedOperand}
 use Rattle.il_check.specs.declared.typed.TypedOperand.TheVariants as operand
-use Rattle.il_laws.specs.Table.{IsFirstWith, MayNegate, Stores, Tests, input_kind, output_kind, result_type, wider_type}
+use Rattle.il_laws.specs.Table.{IsFirstFit, MayNegate, Stores, Tests, input_kind, output_kind, result_type, wider_type}
 
 -- ---- operands
 
@@ -29,7 +29,8 @@ operand_type c (operand.Literal v) = Some (type_of v)
 operand_type c (operand.Slot s) = slot_type c s
 operand_type c (operand.Output timer what) = Some (output_kind what)
 
--- A literal that names a type has this type; a number alone may have any, and a variable its own.
+-- A literal that names a type has this type. Nothing is said of a number without a type, nor of a
+-- variable.
 abbrev pub MayHave : text.Source → ElementaryType → Type 0
 MayHave (text.constant (literal.Truth b)) kind = kind ≡ elementary.Bool
 MayHave (text.constant (literal.Number z)) kind = Unit {0}
@@ -39,9 +40,9 @@ MayHave (text.constant (literal.Lint z)) kind = kind ≡ elementary.Lint
 MayHave (text.constant (literal.Time n)) kind = kind ≡ elementary.Time
 MayHave (text.variable place) kind = Unit {0}
 
--- A number alone that is loaded has the first of INT, DINT and LINT that has it.
+-- A number without a type that is loaded has the first of INT, DINT and LINT that it fits.
 abbrev pub IsLoadedAs : text.Source → ElementaryType → Type 0
-IsLoadedAs (text.constant (literal.Number z)) kind = IsFirstWith z kind
+IsLoadedAs (text.constant (literal.Number z)) kind = IsFirstFit z kind
 IsLoadedAs source kind = MayHave source kind
 
 -- The operand of the text is this one of the checked program, and has the type.

@@ -84,8 +84,8 @@ pub fn arithmetic_is_that_of_the_integers()
 /// has a meaning exactly where a value is made of the current result and of the operand, negated
 /// first where it says so: where the operator's table has a row for their types, which gives the
 /// type of the new value, and the number of this value is what the operator makes of their numbers.
-/// So nothing comes of a division by 0. It changes the current result alone. A conversion makes the
-/// wider value with the same number.
+/// So a division by 0 has none. Only the current result changes. A conversion makes the value of the
+/// wider type with the same number, and NOT turns FALSE and TRUE.
 pub fn an_operator_means_its_arithmetic()
     ensures instructions { (operator : Operator) (kind : ElementaryType) (negated : Bool)
         (x : TypedOperand) (s t : State) →
@@ -102,9 +102,9 @@ pub fn an_operator_means_its_arithmetic()
 
 /// A right program has the types of the language: with some type of the current result at each
 /// label, or none, each instruction of the text has, by the language's tables, the types that its
-/// checked form has. A literal that names a type has it. A number alone has, in a load, the first
-/// of INT, DINT and LINT that has it; elsewhere the type of the result that it meets, of the other
-/// side's or of the input that it is given to.
+/// checked form has. A literal that names a type has it. A number without a type has, in a load, the
+/// first of INT, DINT and LINT that it fits; elsewhere the type of the result that it is combined
+/// with, or of the input that it is given to.
 pub fn a_right_program_has_the_languages_types()
     ensures { (points : List Point) (program : text.PlainProgram) (c : Checked)
         → checked_of points program ≡ Ok c → list_all is_outer program.items ≡ true
