@@ -3,3 +3,4 @@ pub mod FitLemmas
 pub mod LawLemmas
 pub mod SoundLemmas
 pub mod TellingLemmas
+pub mod UseLemmas

@@ -9,7 +9,8 @@
 -- `Laws`, turn after turn: after a closing nothing is kept and the link is not asked; the port's
 -- lines then only make switches bad, until each is. No line of the port is refused. While the
 -- connection stands, the link takes what the process is told in order; what it does not take waits,
--- or is lost if the connection is closed. `Code` numbers the reasons for closing.
+-- or is lost if the connection is closed. `Uses`: of what the link gives since a process came no
+-- line is lost, repeated or joined with another. `Code` numbers the reasons for closing.
 
 -- What public clauses cite of the crates below.
 pub use Rattle.bay_lines.specs.Fronts
@@ -23,3 +24,4 @@ pub mod Laws
 pub mod Ports
 pub mod Sound
 pub mod Telling
+pub mod Uses

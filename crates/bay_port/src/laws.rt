@@ -3,7 +3,8 @@ ghost use Rattle.std.specs.Prelude.{◌≡◌, ℕ, List};
 ghost use Rattle.bay_device.specs.Device.{State};
 ghost use Rattle.bay_port.specs.Attending.{Script};
 ghost use Rattle.bay_port.specs.Laws.{IsReadable, IsSilent, TellsInOrder};
-ghost use Rattle.bay_port.specs.Ports.{PortData};
+ghost use Rattle.bay_port.specs.Ports.{PortData, bare};
+ghost use Rattle.bay_port.specs.Uses.{LosesNoLine, StaysHere, Use};
 ghost use Rattle.bay_port.specs.declared.port.Presence.TheVariants.{Here};
 
 /// A process that has gone reports nothing: after a closing, nothing that it sent is kept; the next
@@ -24,4 +25,12 @@ pub fn a_process_ends_no_server()
 pub fn a_process_is_told_in_order()
     ensures { (text : List ℕ) (s : State) (script : Script) (p : PortData)
         → p.standing ≡ Here → TellsInOrder text s script p }
+{}
+
+/// No line of a process is lost, repeated or joined with another. From when it comes, and while it
+/// is there, what the link gives is lines, each with its end, and then what is kept. Turns have
+/// these lines in order, but for those that report nothing, as an empty one: whenever turns take
+/// lines, and in whatever pieces the octets arrive.
+pub fn a_process_loses_no_line()
+    ensures { (uses : List Use) → StaysHere uses (bare Here) → LosesNoLine uses }
 {}

@@ -1,0 +1,214 @@
+-- The lines that turns have of a process are those that its octets are cut into.
+use Rattle.std.proofs.Common.{◌≡◌, ℕ, Bool, true, false, List, [], ◌∷◌, ◌++◌, filter, drop, Option, Some, None, Result, Ok, Err, refl, sym, ap, ◌∙◌, subst, append_assoc, append-nil}
+use Rattle.std.specs.Option.{option_to_list}
+use Rattle.bay_device.specs.Device.{State}
+use Rattle.bay_lines.specs.Cuttings.{Comes, Cutting, LosesNothing, Move, all_of, cutting_of, took}
+use Rattle.bay_lines.specs.Cuttings as cuttings
+use Rattle.bay_lines.specs.Fronts.{Front, Overlong, Waiting, Whole, front}
+use Rattle.bay_lines.proofs.FrontLemmas.{nothing-is-lost}
+use Rattle.bay_serve.specs.Calls.{Call, Accepts, Reads, Writes, Closes, ReadOutcome, Octets, Silence, Over, Broken}
+use Rattle.bay_port.specs.Attending.{Attended, Part, Script, attendance, attended_as, attended_here, behind, closed_or_kept, line_part, offer_part, offered_of, on_heard, read_by, talk_part, told_to}
+use Rattle.bay_port.specs.Fit.{is_told, is_waiting, is_wrong, line_or_none}
+use Rattle.bay_port.specs.Ports.{PortData, Taken, bare, taken_as, taken_front, taken_line}
+use Rattle.bay_port.specs.Telling.{fits_in}
+use Rattle.bay_port.specs.Uses.{LosesNoLine, StaysHere, Use, Takes, Attends, after_uses, all_given, all_had, given_of, octets_given, octets_in, port_after}
+use Rattle.bay_port.specs.declared.news.Parting.{Parting}
+use Rattle.bay_port.specs.declared.news.Parting.TheVariants.{Ended, BadLine, QueueFull, LinkFailed}
+use Rattle.bay_port.specs.declared.port.Presence.TheVariants.{Here}
+
+-- ---- what is read is kept
+
+given-append : (xs ys : List Call) → given_of (xs ++ ys) ≡ given_of xs ++ given_of ys
+given-append [] ys = refl
+given-append (Accepts a taken ∷ xs) ys = given-append xs ys
+given-append (Reads a room heard ∷ xs) ys =
+    ap (λ l. octets_in heard ++ l) (given-append xs ys)
+    ∙ sym (append_assoc (octets_in heard) (given_of xs) (given_of ys))
+given-append (Writes a octets taken ∷ xs) ys = given-append xs ys
+given-append (Closes a ∷ xs) ys = given-append xs ys
+
+-- unless a part led to a closing, what was kept before and then what the link gave is kept
+abbrev Keeps : List ℕ → Result PortData Parting → List Call → Type 0
+Keeps kept after calls = (q : PortData) → after ≡ Ok q → q.kept ≡ kept ++ given_of calls
+
+-- the port is as it was, but for what does not matter here
+keeps-port : (p : PortData) (kept : List ℕ) (calls : List Call) → p.kept ≡ kept
+    → given_of calls ≡ [] → Keeps kept (Ok p) calls
+keeps-port p kept calls same none q e =
+    let is : p ≡ q = cc in
+    ap (λ (d : PortData). d.kept) (sym is) ∙ same ∙ sym (append-nil kept)
+    ∙ ap (λ l. kept ++ l) (sym none)
+
+keeps-closed : (why : Parting) (kept : List ℕ) (calls : List Call) → Keeps kept (Err why) calls
+keeps-closed why kept calls q e = absurd cc
+
+keeps-behind : (kept : List ℕ) (r : Result PortData Parting) (calls : List Call)
+    (f : PortData → Part) → Keeps kept r calls
+    → ((p : PortData) → Keeps p.kept (f p).after (f p).calls)
+    → (let b : Part = behind (record { after = r; calls = calls }) f in Keeps kept b.after b.calls)
+keeps-behind kept (Err why) calls f k next = keeps-closed why kept calls
+keeps-behind kept (Ok p) calls f k next = λ q e.
+    next p q e ∙ ap (λ l. l ++ given_of (f p).calls) (k p refl)
+    ∙ append_assoc kept (given_of calls) (given_of (f p).calls)
+    ∙ ap (λ l. kept ++ l) (sym (given-append calls (f p).calls))
+
+keeps-told : (text : List ℕ) (p : PortData)
+    → Keeps p.kept (told_to text p).after (told_to text p).calls
+keeps-told text p = by-room (fits_in p.queue text) refl
+  where
+    by-room : (v : Bool) → fits_in p.queue text ≡ v
+        → Keeps p.kept (told_to text p).after (told_to text p).calls
+    by-room true e = rw e (keeps-port (record p { queue = p.queue ++ text }) p.kept [] refl refl)
+    by-room false e = rw e (keeps-closed QueueFull p.kept [])
+
+keeps-offered : (queue : List ℕ) (taken : Option ℕ) (p : PortData)
+    → Keeps p.kept (offered_of queue taken p).after (offered_of queue taken p).calls
+keeps-offered [] taken p = keeps-port p p.kept [] refl refl
+keeps-offered (b ∷ bs) None p = keeps-closed LinkFailed p.kept (Writes 1 (b ∷ bs) None ∷ [])
+keeps-offered (b ∷ bs) (Some n) p =
+    keeps-port (record p { queue = drop n p.queue }) p.kept (Writes 1 (b ∷ bs) (Some n) ∷ []) refl
+    refl
+
+keeps-heard : (heard : ReadOutcome) (p : PortData)
+    → Keeps p.kept (on_heard heard p (Reads 1 4096 heard ∷ [])).after
+    (on_heard heard p (Reads 1 4096 heard ∷ [])).calls
+keeps-heard (Octets octets) p = λ q e.
+    let is : record p { kept = p.kept ++ octets } ≡ q = cc in
+    ap (λ (d : PortData). d.kept) (sym is) ∙ ap (λ l. p.kept ++ l) (sym (append-nil octets))
+keeps-heard Silence p = keeps-port p p.kept (Reads 1 4096 Silence ∷ []) refl refl
+keeps-heard Over p = keeps-closed Ended p.kept (Reads 1 4096 Over ∷ [])
+keeps-heard Broken p = keeps-closed LinkFailed p.kept (Reads 1 4096 Broken ∷ [])
+
+keeps-read : (heard : ReadOutcome) (p : PortData)
+    → Keeps p.kept (read_by heard p).after (read_by heard p).calls
+keeps-read heard p = by-front (is_waiting (front p.kept)) refl
+  where
+    by-front : (v : Bool) → is_waiting (front p.kept) ≡ v
+        → Keeps p.kept (read_by heard p).after (read_by heard p).calls
+    by-front true e = rw e (keeps-heard heard p)
+    by-front false e = rw e (keeps-port p p.kept [] refl refl)
+
+keeps-checked : (p : PortData) → Keeps p.kept (line_part p).after (line_part p).calls
+keeps-checked p = by-front (is_wrong (front p.kept)) refl
+  where
+    by-front : (v : Bool) → is_wrong (front p.kept) ≡ v
+        → Keeps p.kept (line_part p).after (line_part p).calls
+    by-front true e = rw e (keeps-closed BadLine p.kept [])
+    by-front false e = rw e (keeps-port p p.kept [] refl refl)
+
+keeps-talked : (text : List ℕ) (answers : Option ℕ × ReadOutcome) (p : PortData)
+    → Keeps p.kept (talk_part text answers p).after (talk_part text answers p).calls
+keeps-talked text answers p =
+    let a = told_to text p in
+    let ka = keeps-behind p.kept a.after a.calls (offer_part answers.0) (keeps-told text p)
+    (λ q. keeps-offered q.queue answers.0 q) in
+    let b = behind a (offer_part answers.0) in
+    let kb = keeps-behind p.kept b.after b.calls (read_by answers.1) ka (keeps-read answers.1) in
+    let c = behind b (read_by answers.1) in
+    keeps-behind p.kept c.after c.calls line_part kb keeps-checked
+
+-- where the process is still there, it was read into what is kept
+kept-here : (r : Result PortData Parting) (calls : List Call) (kept : List ℕ) → Keeps kept r calls
+    → (closed_or_kept r calls).port.standing ≡ Here
+    → (closed_or_kept r calls).port.kept ≡ kept ++ given_of (closed_or_kept r calls).calls
+kept-here (Ok q) calls kept k here = k q refl
+kept-here (Err why) calls kept k here = absurd cc
+
+attends-keep : (text : List ℕ) (s : State) (script : Script) (p : PortData) → p.standing ≡ Here
+    → (attendance text s script p).port.standing ≡ Here
+    → (attendance text s script p).port.kept
+    ≡ p.kept ++ given_of (attendance text s script p).calls
+attends-keep text s script p here still =
+    let part = talk_part text (script.taken, script.heard) p in
+    let is : attendance text s script p ≡ attended_here part =
+    ap (λ standing. attended_as standing text s script p) here in
+    subst (λ (a : Attended). a.port.standing ≡ Here → a.port.kept ≡ p.kept ++ given_of a.calls)
+    (sym is)
+    (kept-here part.after part.calls p.kept (keeps-talked text (script.taken, script.heard) p))
+    still
+
+-- ---- uses are moves
+
+moves_of : List Use → PortData → List Move
+moves_of [] p = []
+moves_of (Takes s ∷ us) p = cuttings.Takes ∷ moves_of us (port_after (Takes s) p)
+moves_of (Attends text s script ∷ us) p =
+    Comes (octets_given (Attends text s script) p)
+    ∷ moves_of us (port_after (Attends text s script) p)
+
+-- What is kept, the lines that turns had, and what came are those of a cutting.
+record Follows (moves : List Move) (c : Cutting) (kept all : List ℕ) (had : List (List ℕ))
+    : Type 0 where
+  keeps : c.kept ≡ kept
+  had_is : had ≡ filter is_told c.lines
+  all_is : all_of moves ≡ all
+
+abbrev UseFollows : List Use → PortData → Type 0
+UseFollows us p =
+    Follows (moves_of us p) (cutting_of (moves_of us p) p.kept) (after_uses us p).kept
+    (all_given us p) (all_had us p)
+
+-- a line is had where it tells something
+had-told : (line : List ℕ) (had lines : List (List ℕ)) → had ≡ filter is_told lines
+    → option_to_list (line_or_none line) ++ had ≡ filter is_told (line ∷ lines)
+had-told line had lines e = by-told (is_told line) refl
+  where
+    by-told : (v : Bool) → is_told line ≡ v
+        → option_to_list (line_or_none line) ++ had ≡ filter is_told (line ∷ lines)
+    by-told true is = rw is (ap (λ l. line ∷ l) e)
+    by-told false is = rw is e
+
+-- the port behind a taken line
+record TakeFollows (f : Front) (us : List Use) (p : PortData) (t : Taken) : Type 0 where
+  keeps : (took f p.kept (cutting_of (moves_of us t.port))).kept ≡ (after_uses us t.port).kept
+  had_is : option_to_list t.line ++ all_had us t.port
+      ≡ filter is_told (took f p.kept (cutting_of (moves_of us t.port))).lines
+  all_is : all_of (moves_of us t.port) ≡ all_given us t.port
+
+takes-follow : (f : Front) (us : List Use) (p : PortData) → UseFollows us (taken_front f p).port
+    → TakeFollows f us p (taken_front f p)
+takes-follow Waiting us p h = record { keeps = h.keeps; had_is = h.had_is; all_is = h.all_is }
+takes-follow Overlong us p h = record { keeps = h.keeps; had_is = h.had_is; all_is = h.all_is }
+takes-follow (Whole line rest) us p h =
+    let q : PortData = record p { kept = rest } in
+    record {
+      keeps = h.keeps;
+      had_is =
+          had-told line (all_had us q) (cutting_of (moves_of us q) rest).lines h.had_is;
+      all_is = h.all_is;
+    }
+
+uses-follow : (us : List Use) (p : PortData) → p.standing ≡ Here → StaysHere us p → UseFollows us p
+unfolding moves_of
+uses-follow [] p here stays = record { keeps = refl; had_is = refl; all_is = refl }
+uses-follow (Takes s ∷ us) p here stays =
+    let f = front p.kept in
+    let is : taken_line s p ≡ taken_front f p = ap (λ standing. taken_as standing s p) here in
+    let later : UseFollows us (taken_line s p).port =
+    uses-follow us (taken_line s p).port stays.0 stays.1 in
+    let t : TakeFollows f us p (taken_line s p) =
+    subst (TakeFollows f us p) (sym is)
+    (takes-follow f us p (subst (λ (t : Taken). UseFollows us t.port) is later)) in
+    record { keeps = t.keeps; had_is = t.had_is; all_is = t.all_is }
+uses-follow (Attends text s script ∷ us) p here stays =
+    let u = Attends text s script in
+    let q = port_after u p in
+    let later : UseFollows us q = uses-follow us q stays.0 stays.1 in
+    let same = attends-keep text s script p here stays.0 in
+    record {
+      keeps = ap (λ k. (cutting_of (moves_of us q) k).kept) (sym same) ∙ later.keeps;
+      had_is = later.had_is ∙ ap (λ k. filter is_told (cutting_of (moves_of us q) k).lines) same;
+      all_is = ap (λ l. octets_given u p ++ l) later.all_is;
+    }
+
+pub loses-no-line : (us : List Use) → StaysHere us (bare Here) → LosesNoLine us
+loses-no-line us stays =
+    let f : UseFollows us (bare Here) = uses-follow us (bare Here) refl stays in
+    let cut : LosesNothing (moves_of us (bare Here)) = nothing-is-lost (moves_of us (bare Here)) in
+    record {
+      lines = (cutting_of (moves_of us (bare Here)) []).lines;
+      text = cut.text;
+      are = cut.lines;
+      given = sym f.all_is ∙ cut.whole ∙ ap (λ l. cut.text ++ l) f.keeps;
+      had = f.had_is;
+    }
