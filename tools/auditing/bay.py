@@ -1,40 +1,52 @@
 """What an audit goes through: the things of a bay that are looked at, with their values."""
 import itertools
 import math
+from collections.abc import Iterator
 from dataclasses import dataclass, field
 
+from common.texts import raised
 from diagnosis.words import FIELDS
-from session.rules import POSITIONS, BadRule
+from session.joined import scenario_of
+from session.rules import INPUT, MEASURE, POSITIONS, SWITCH
 
 from .program import Program
 
 NAMES = [name.lower() for name in POSITIONS]
 WAYS = ('open', 'close')
-RANGES = {'contact': range(4), 'input': range(2), 'measure': range(-2 ** 31, 2 ** 31)}
+VERBS = {SWITCH: 'contact', INPUT: 'input', MEASURE: 'measure'}
+ALL = {SWITCH: [0, 1, 2, 3], INPUT: [0, 1], MEASURE: [0]}  # the values of a thing by itself
 
 
 @dataclass
 class Thing:
-    """A switch, an input or a measure, and the values that it goes through. `verb` is that of its
-    lines in a trace: contact, input or measure."""
+    """A switch, an input or a measure, and the values that it goes through."""
     name: str
-    verb: str
+    kind: str
     values: list
+
+    @property
+    def key(self) -> tuple[str, str]:
+        """What rules know it by: an input may have the name of a switch."""
+        return self.kind, raised(self.name)
 
     def line(self, moment, value):
         """The line of the trace that gives it a value."""
-        subject = self.name if self.verb != 'measure' else ' '.join(self.name.rsplit('_', 1))
-        return f'{moment} {self.verb} {subject} {value}'
+        subject = self.name if self.kind != MEASURE else ' '.join(self.name.rsplit('_', 1))
+        return f'{moment} {VERBS[self.kind]} {subject} {value}'
 
     def told(self, value):
-        return NAMES[value] if self.verb == 'contact' else str(value)
+        return NAMES[value] if self.kind == SWITCH else str(value)
 
     def words(self):
         """Its values in words."""
         return [self.told(value) for value in self.values]
 
     def is_truth(self):
-        return self.verb == 'input' and self.values == [0, 1]
+        return self.kind == INPUT and self.values == [0, 1]
+
+    def is_restricted(self):
+        """Whether it goes through fewer values than it can have. Of a measure nobody tries all."""
+        return self.kind != MEASURE and len(self.values) < len(ALL[self.kind])
 
 
 @dataclass
@@ -56,43 +68,47 @@ class Bay:
         return math.prod(len(thing.values) for thing in self.things)
 
     def state(self, combination):
-        return {thing.name.upper(): value for thing, value in zip(self.things, combination)}
+        return {thing.key: value for thing, value in zip(self.things, combination)}
 
     def switches(self):
         return [switch['id'] for switch in self.file['switch']]
+
+    def restricted(self) -> list[Thing]:
+        return [thing for thing in self.things if thing.is_restricted()]
 
     def told(self, combination):
         return ', '.join(f'{thing.name} {thing.told(value)}'
                          for thing, value in zip(self.things, combination)) or 'anything'
 
-    def scenario(self, trace):
-        ends = ['' if text.endswith('\n') else '\n' for text in (self.bay, self.logic)]
-        return f'{self.bay}{ends[0]}%%\n{self.logic}{ends[1]}%%\n{trace}'
+    def scenario(self, lines) -> bytes:
+        trace = '\n'.join(lines)
+        return scenario_of(self.bay.encode(), self.logic.encode(), trace.encode())
 
 
-def all_things(file: dict) -> list[Thing]:
+def all_things(file: dict) -> Iterator[Thing]:
     """Each switch, input and field of a meter, with all values that it goes through by itself."""
-    things = [Thing(switch['id'], 'contact', [0, 1, 2, 3]) for switch in file['switch']]
-    things += [Thing(one['name'], 'input', [0, 1]) for one in file.get('input', [])]
-    return things + [Thing(f'{meter["id"]}_{field}', 'measure', [0])
-                     for meter in file.get('meter', []) for field in FIELDS]
+    named = [(SWITCH, switch['id']) for switch in file['switch']]
+    named += [(INPUT, one['name']) for one in file.get('input', [])]
+    named += [(MEASURE, f'{meter["id"]}_{field}') for meter in file.get('meter', [])
+              for field in FIELDS]
+    for kind, name in named:
+        yield Thing(name, kind, ALL[kind])
+
+
+def keys_of(file: dict) -> set[tuple[str, str]]:
+    """The things of a bay file, as rules know them."""
+    return {thing.key for thing in all_things(file)}
 
 
 def bay_of(file: dict, texts: tuple, program: Program, looks: dict, named: set) -> Bay:
     """What is looked at: what the program reads, what rules name and what is to be looked at.
     `looks` has the values of things that are not the usual ones."""
-    bay, things = Bay(file, *texts, program), all_things(file)
-    unknown = [name for name in looks if name not in {thing.name.upper() for thing in things}]
-    if unknown:
-        raise BadRule(f'{", ".join(unknown)} is not in the bay')
-    for thing in things:
-        name = thing.name.upper()
-        thing.values = looks.get(name, thing.values)
-        if any(value not in RANGES[thing.verb] for value in thing.values):
-            raise BadRule(f'{thing.name} has no such value')
-        reads = program.reads_switch if thing.verb == 'contact' else program.reads
-        if reads(name) or name in looks or name in named:
+    bay = Bay(file, *texts, program)
+    for thing in all_things(file):
+        thing.values = looks.get(thing.key, thing.values)
+        reads = program.reads_switch if thing.kind == SWITCH else program.reads
+        if reads(thing.name) or thing.key in looks or thing.key in named:
             bay.things.append(thing)
-        elif thing.verb != 'measure':
+        elif thing.kind != MEASURE:
             bay.unread.append(thing.name)
     return bay

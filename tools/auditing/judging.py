@@ -1,28 +1,36 @@
 """What is found of each rule, and what is released in each combination once timers have run out."""
 import itertools
 import sys
+import time
+from collections.abc import Iterator
 from dataclasses import dataclass
 
+from common.ending import DONE, FOUND, PARTLY, CalledWrong, Failed
+from common.texts import counted, raised
 from session.conditions import TooLarge, Variable, condition
 
-from .bay import WAYS
-from .replaying import (LARGEST, LATEST, failed, octets_of, scans_of, timed_scenarios,
-                        timed_trace_of, trace_of, whole_scenario)
+from .bay import SWITCH, WAYS
+from .replaying import (LARGEST, LATEST, scans_of, timed_scenarios, timed_trace_of, trace_of,
+                        whole_scenario)
+
+PAIRS = 200_000  # most pairs of combinations that a rule with a time is tried with
 
 
 @dataclass
 class Finding:
-    """What was found of a rule: in how many combinations it was asked and is broken, the first of
-    these, `after` how many milliseconds, and the lines that lead there."""
+    """What was found of a rule: in how many combinations it applies and is broken, the first of
+    these, `after` how many milliseconds, and the lines that lead there. `note` tells where not
+    all ways were tried."""
     rule: object
     looked: int = 0
     broken: int = 0
     first: tuple = ()
     after: int = 0
     lines: tuple = ()
+    note: str = ''
 
     def verdict(self):
-        return 'BROKEN' if self.broken else 'holds' if self.looked else 'not asked'
+        return 'BROKEN' if self.broken else 'holds' if self.looked else 'never applies'
 
     def breaks(self, combination, after, lines):
         self.broken += 1
@@ -40,8 +48,31 @@ class Audit:
     offsets: list
     scans: int
 
-    def is_passed(self):
-        return bool(self.findings) and all(it.looked and not it.broken for it in self.findings)
+    def status(self) -> int:
+        """The exit status: a rule is broken, or not all was tried or asked, or all holds."""
+        if any(it.broken for it in self.findings):
+            return FOUND
+        is_whole = self.findings and not self.bay.restricted() and not any(
+            it.note or not it.looked for it in self.findings)
+        return DONE if is_whole else PARTLY
+
+    def verdict(self) -> str:
+        """The result in a sentence."""
+        count, idle = len(self.findings), [it for it in self.findings if not it.looked]
+        broken = sum(it.broken > 0 for it in self.findings)
+        never = f'{len(idle)} never {"applies" if len(idle) == 1 else "apply"}' if idle else ''
+        if self.status() == DONE:
+            return f'PASSED: all {count} rules hold.' if count > 1 else 'PASSED: the rule holds.'
+        if broken:
+            more = f', and {never}' if never else ''
+            return f'NOT PASSED: of {counted(count, "rule")} {broken} broken{more}.'
+        if not count:
+            return 'NOTHING AUDITED: there are no rules.'
+        told = f'of {counted(count, "rule")} {never}' if never else (
+            f'all {count} rules hold' if count > 1 else 'the rule holds')
+        rest = [f'{it.name} was tried only {"|".join(it.words())}' for it in self.bay.restricted()]
+        rest += [it.note for it in self.findings if it.note]
+        return f'NOT ALL WAS TRIED: {"; ".join([told, *rest])}.'
 
     def has_times(self):
         return any(it.rule.since for it in self.findings)
@@ -50,34 +81,46 @@ class Audit:
 def offsets_of(program, rules: list, pause: int | None) -> list[int]:
     """The moments after a combination is reached at which it is scanned."""
     times = [rule.since.time for rule in rules if rule.since]
+    longest = max([program.longest(), *times])
+    if pause is not None and pause <= longest:
+        raise CalledWrong(f'--pause {pause}: it must be more than {longest:,} ms, the longest time '
+                          'of the timers and the rules')
     last = pause if pause is not None else max(60_000, 2 * sum([program.longest(), *times]))
     inner = {*program.moments(), *(at for time in times for at in (time - 1, time))}
     return [0, *sorted(at for at in inner if 0 < at < last), last]
 
 
-def bar(done, count):
-    """A progress bar on standard error, where someone sees it."""
-    if sys.stderr.isatty() and (done == count or done % max(count // 100, 1) == 0):
-        end = '\n' if done == count else ''
-        filled = '#' * (40 * done // count)
-        print(f'\r[{filled:40}] {100 * done // count} %', end=end, file=sys.stderr, flush=True)
+class Progress:
+    """A progress bar on standard error, where someone sees it and it takes over a second."""
+
+    def __init__(self, count: int) -> None:
+        self.count, self.done, self.shown = count, 0, 0
+        self.since, self.is_seen = time.monotonic(), sys.stderr.isatty()
+
+    def step(self) -> None:
+        self.done += 1
+        now = time.monotonic()
+        if self.is_seen and (now - max(self.since + 0.9, self.shown) > 0.1 or
+                             self.shown and self.done == self.count):
+            self.shown, end = now, '\n' if self.done == self.count else ''
+            filled = '#' * (40 * self.done // self.count)
+            sys.__stderr__.write(f'\r[{filled:40}] {100 * self.done // self.count} %{end}')
+            sys.__stderr__.flush()
 
 
 def audit(bay, rules: list, bayctl, pause: int | None = None) -> Audit:
     """Goes through all combinations, and through those of rules with a time once more for each."""
     offsets = offsets_of(bay.program, rules, pause)
     findings, table = [Finding(rule) for rule in rules], []
-    octets = whole_scenario(bay, offsets)
+    octets, progress = whole_scenario(bay, offsets), Progress(bay.count())
     tell_size(bay, octets, offsets)
     scans = scans_of(bayctl, octets)
     for place, combination in enumerate(bay.combinations()):
-        seen = list(itertools.islice(scans, len(offsets)))
-        if len(seen) < len(offsets):
-            failed('bayctl printed too few scans')
+        seen = several(scans, len(offsets))
         for finding in findings:
             judge(finding, bay, place, combination, offsets, seen)
         table.append((combination, seen[-1]))
-        bar(place + 1, bay.count())
+        progress.step()
     found = Audit(bay, findings, table, offsets, len(table) * len(offsets))
     for finding in findings:
         if finding.rule.since:
@@ -85,17 +128,26 @@ def audit(bay, rules: list, bayctl, pause: int | None = None) -> Audit:
     return found
 
 
+def several(scans: Iterator, count: int) -> list:
+    """The next scans."""
+    seen = list(itertools.islice(scans, count))
+    if len(seen) < count:
+        raise Failed('bayctl: it printed too few scans')
+    return seen
+
+
 def tell_size(bay, octets, offsets):
     """Tells what it takes, and ends where that is too much."""
-    switches = sum(thing.verb == 'contact' for thing in bay.things)
-    told = f'{switches} switches, {len(bay.things) - switches} others: '
-    told += f'{bay.count():,} combinations'
+    switches = sum(thing.kind == SWITCH for thing in bay.things)
+    told = f'{counted(switches, "switch", "switches")}, '
+    told += f'{counted(len(bay.things) - switches, "other")}: '
+    told += counted(bay.count(), 'combination')
     if bay.count() * offsets[-1] > LATEST:
-        failed(f'{told} of {offsets[-1]:,} ms each, more than a trace has moments for: hold some '
-               'with --switches or --inputs, or give a shorter --pause')
+        raise Failed(f'{told} of {offsets[-1]:,} ms each, more than a trace has times for: hold '
+                     'some with --switches or --inputs, or give a shorter --pause')
     if not octets:
-        failed(f'{told}, more than one scenario of {LARGEST:,} octets has room for: hold some '
-               'with --switches or --inputs')
+        raise Failed(f'{told}, more than one scenario of {LARGEST:,} octets has room for: hold '
+                     'some with --switches or --inputs')
     print(f'{told}, a scenario of {len(octets):,} octets', file=sys.stderr)
 
 
@@ -116,45 +168,62 @@ def judge(finding, bay, place, combination, offsets, seen):
         finding.breaks(combination, after, lines)
 
 
-def pairs_of(bay, rule) -> list[tuple]:
-    """Each combination in which a rule's condition begins to hold, behind the one in which it does
-    not that differs in the fewest things."""
-    places = [at for at, it in enumerate(bay.things) if it.name.upper() in rule.since.names]
-    values = itertools.product(*(bay.things[at].values for at in places))
-    names = [bay.things[at].name.upper() for at in places]
-    unheld = [it for it in values if not rule.since.condition(dict(zip(names, it)))]
-    nearest, found = {}, []
+def befores_of(bay, rule, combination) -> Iterator[tuple]:
+    """The combinations in which a rule's condition does not hold, and that differ from this one
+    only in what the rule names."""
+    named = rule.names | rule.since.names
+    values = [thing.values if thing.key in named else [value]
+              for thing, value in zip(bay.things, combination)]
+    for before in itertools.product(*values):
+        if not rule.since.condition(bay.state(before)):
+            yield before
+
+
+def pairs_of(bay, finding: Finding) -> list[tuple]:
+    """Each combination in which a rule applies and its condition holds, behind each of those from
+    which that can begin; where these are too many, behind those that differ least."""
+    rule, found = finding.rule, []
     for combination in bay.combinations():
         state = bay.state(combination)
-        if not unheld or not rule.condition(state) or not rule.since.condition(state):
-            continue
-        held = tuple(combination[at] for at in places)
-        if held not in nearest:
-            nearest[held] = min(unheld, key=lambda it: sum(a != b for a, b in zip(it, held)))
-        before = list(combination)
-        for at, value in zip(places, nearest[held]):
-            before[at] = value
-        found.append((tuple(before), combination))
-    return found
+        if rule.condition(state) and rule.since.condition(state):
+            found.append((combination, list(befores_of(bay, rule, combination))))
+    total = sum(len(befores) for _, befores in found)
+    if total > PAIRS:
+        most = max(PAIRS // len(found), 1)
+        finding.note = (f'the rule of line {rule.line} was tried from {most} of the up to '
+                        f'{max(len(befores) for _, befores in found):,} states before')
+        found = [(combination, sorted(befores, key=lambda it: differs(it, combination))[:most])
+                 for combination, befores in found]
+    return [(before, combination) for combination, befores in found for before in befores]
 
 
-def judge_times(finding, bay, bayctl, offsets):
+def differs(one: tuple, other: tuple) -> int:
+    """In how many things two combinations differ."""
+    return sum(a != b for a, b in zip(one, other))
+
+
+def judge_times(finding, bay, bayctl, offsets) -> int:
     """Counts the combinations in which a rule's condition begins to hold; how many scans that
     took."""
-    rule, count = finding.rule, 0
-    for pairs, octets in timed_scenarios(bay, pairs_of(bay, rule), offsets):
+    rule, count, last, worst = finding.rule, 0, None, None
+    pairs = pairs_of(bay, finding)
+    progress = Progress(len(pairs))
+    for part, octets in timed_scenarios(bay, pairs, offsets):
         scans = scans_of(bayctl, octets)
-        for before, combination in pairs:
-            seen = list(itertools.islice(scans, len(offsets) + 2))[2:]
+        for before, combination in part:
+            seen = several(scans, len(offsets) + 2)[2:]
             count += len(offsets) + 2
-            finding.looked += 1
+            finding.looked += combination != last
             asked = [(at, releases) for at, releases in zip(offsets, seen)
                      if (at >= rule.since.time) == rule.wanted]
             after = next((at for at, releases in asked if rule.breaks(releases)), None)
-            if after is not None:
+            if after is not None and worst != combination:
+                worst = combination
                 lines = [] if finding.broken else timed_trace_of(
                     bay, [(before, combination)], offsets)
                 finding.breaks(combination, after, lines)
+            last = combination
+            progress.step()
     return count
 
 
@@ -164,7 +233,7 @@ def shortest(audit: Audit, finding: Finding, bayctl):
     bay, rule = audit.bay, finding.rule
     alone = list(trace_of(bay, [finding.first], audit.offsets))
     again = Finding(rule)
-    seen = list(scans_of(bayctl, octets_of(bay, alone)))
+    seen = list(scans_of(bayctl, bay.scenario(alone)))
     judge(again, bay, 0, finding.first, audit.offsets, seen)
     return alone if again.broken else finding.lines
 
@@ -181,7 +250,7 @@ def conditions(bay, table: list, holds) -> dict:
               for combination, _ in table]
     for name in bay.switches():
         for way in range(len(WAYS)):
-            truths = {tuple(at): holds(name.upper(), way, combination, releases)
+            truths = {tuple(at): holds(raised(name), way, combination, releases)
                       for at, (combination, releases) in zip(places, table)}
             try:
                 found[name, way] = condition(variables_of(bay), truths)
@@ -209,5 +278,5 @@ def uncovered(audit: Audit) -> dict:
         return is_so
 
     found = conditions(audit.bay, audit.table, is_bare)
-    return {key: (counts[key[0].upper(), key[1]], it) for key, it in found.items()
-            if counts[key[0].upper(), key[1]]}
+    return {key: (counts[raised(key[0]), key[1]], it) for key, it in found.items()
+            if counts[raised(key[0]), key[1]]}

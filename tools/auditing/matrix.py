@@ -4,9 +4,10 @@ import csv
 import math
 from dataclasses import dataclass
 
+from common.texts import raised
 from session.picture import FAINT, FREE, GRID, INK, Picture, room
 
-from .bay import WAYS
+from .bay import SWITCH, WAYS
 
 SOME, NONE = '#cfe6d0', '#ffffff'
 LEFT, CELL, ROW, APART = 130, 46, 24, 14
@@ -17,10 +18,12 @@ def write_table(bay, table: list, path) -> None:
     with open(path, 'w', newline='', encoding='utf-8') as file:
         writer = csv.writer(file, lineterminator='\n')
         heads = [f'{name} {way}' for name in bay.switches() for way in WAYS]
-        writer.writerow([thing.name for thing in bay.things] + heads)
+        names = [raised(thing.name) for thing in bay.things]
+        writer.writerow([thing.name if names.count(raised(thing.name)) == 1 else
+                         f'{thing.name} ({thing.kind})' for thing in bay.things] + heads)
         for combination, releases in table:
             values = [thing.told(value) for thing, value in zip(bay.things, combination)]
-            free = [int(free) for name in bay.switches() for free in releases[name.upper()]]
+            free = [int(free) for name in bay.switches() for free in releases[raised(name)]]
             writer.writerow(values + free)
 
 
@@ -44,7 +47,7 @@ class Block:
 
 def masks_of(bay, table):
     """What is released in each combination, as bits: to open and to close each switch in turn."""
-    order = [(name.upper(), way) for name in bay.switches() for way in range(len(WAYS))]
+    order = [(raised(name), way) for name in bay.switches() for way in range(len(WAYS))]
     return [sum(releases[name][way] << at for at, (name, way) in enumerate(order))
             for _, releases in table]
 
@@ -74,7 +77,7 @@ def block_of(thing, place, table, masks, count):
 
 def group_told(thing, values):
     others = [thing.told(value) for value in thing.values if value not in values]
-    if thing.verb == 'contact' and others and len(others) < len(values):
+    if thing.kind == SWITCH and others and len(others) < len(values):
         return 'not ' + '|'.join(others)
     return '|'.join(thing.told(value) for value in values)
 
@@ -133,7 +136,7 @@ def draw_band(picture, bay, table, blocks, band, is_first):
             for way, at in enumerate(ats):
                 draw_row(picture, name, way, at, band)
                 if is_first and not any(at in block.depends for block in blocks):
-                    is_free = bool(table) and table[0][1][name.upper()][way]
+                    is_free = bool(table) and table[0][1][raised(name)][way]
                     told = 'always' if is_free else 'never'
                     picture.text(LEFT + 4, picture.y - ROW + 16, told, 11)
             picture.y += 8

@@ -2,10 +2,11 @@
 at each scan."""
 import itertools
 import subprocess
-import sys
 import tempfile
 
-from session.replay import not_loaded, not_run
+from common.ending import Failed
+from common.texts import raised
+from session.replay import NotLoaded, not_run
 
 LARGEST, SHORTEST = 16_777_216, 30  # octets of a scenario, and of the lines of a combination
 LATEST = 4_294_967_295_999  # the last moment that a trace can have
@@ -43,15 +44,11 @@ def timed_trace_of(bay, pairs, offsets):
         last, moment = combination, moment + offsets[-1]
 
 
-def octets_of(bay, lines):
-    return bay.scenario('\n'.join(lines) + '\n').encode()
-
-
 def whole_scenario(bay, offsets: list[int]) -> bytes:
     """The octets that go through all combinations, or none where there is no room for them."""
     if bay.count() * SHORTEST > LARGEST or bay.count() * offsets[-1] > LATEST:
         return b''
-    octets = octets_of(bay, trace_of(bay, bay.combinations(), offsets))
+    octets = bay.scenario(trace_of(bay, bay.combinations(), offsets))
     return octets if len(octets) <= LARGEST else b''
 
 
@@ -61,7 +58,7 @@ def timed_scenarios(bay, pairs, offsets):
     size = max(min(size, LATEST // (2 * offsets[-1])), 1)
     for at in range(0, len(pairs), size):
         part = pairs[at:at + size]
-        yield part, octets_of(bay, timed_trace_of(bay, part, offsets))
+        yield part, bay.scenario(timed_trace_of(bay, part, offsets))
 
 
 def scans_of(bayctl, octets):
@@ -74,19 +71,14 @@ def scans_of(bayctl, octets):
             run = subprocess.Popen([bayctl, 'replay'], stdin=file, stdout=subprocess.PIPE,
                                    text=True)
     except OSError as error:
-        failed(not_run(error))
+        raise not_run(error) from None
     report = run.stdout.readline()
     if not report.startswith('instructions='):
-        failed(not_loaded(report, run.wait()))
+        raise Failed(str(NotLoaded(report, run.wait())))
     for line in run.stdout:
         words = line.split()
-        if words[1] != 'scan':
-            failed(f'bayctl printed: {line.rstrip()}')
-        yield {name.upper(): (digits[0] == '1', digits[1] == '1')
+        if words[1:2] != ['scan']:
+            raise Failed(f'bayctl printed: {line.rstrip()}')
+        yield {raised(name): (digits[0] == '1', digits[1] == '1')
                for name, _, digits in (word.partition('=') for word in words[3:])}
     run.wait()
-
-
-def failed(told: str):
-    print(told)
-    sys.exit(3)

@@ -1,9 +1,12 @@
 """The report of an audit: one page of HTML that needs no other file, to be printed and signed."""
-import datetime
 import hashlib
 import html
 import pathlib
 import re
+
+from common.ending import DONE
+from common.texts import counted, in_line
+from session import moments
 
 from .bay import WAYS
 from .judging import released, uncovered
@@ -39,7 +42,7 @@ code { font-family: "DejaVu Sans Mono", Consolas, monospace; font-size: 0.88em;
 
 
 def escaped(text):
-    return html.escape(str(text))
+    return html.escape(in_line(str(text)))
 
 
 def code(text):
@@ -53,7 +56,7 @@ def sum_of(octets):
 def version() -> str:
     """The tool's version: the newest day of CHANGELOG.md, and a sum of its files."""
     day = re.search(r'^## (\S+)', CHANGES.read_text(encoding='utf-8'), re.M)
-    paths = [TOOLS / 'audit', *sorted(path for name in ('auditing', 'session', 'diagnosis')
+    paths = [TOOLS / 'audit', *sorted(path for name in ('auditing', 'common', 'session', 'diagnosis')
                                       for path in (TOOLS / name).glob('*.py'))]
     found = sum_of(b''.join(path.read_bytes() for path in paths))
     return f'{day[1] if day else "of no day"}, SHA-256 of its files {found[:16]}'
@@ -79,36 +82,30 @@ def product_list(condition):
 
 
 class Report:
-    """An audit as a page. `files` are what was read, by what it is: name and octets."""
+    """An audit as a page. `files` are what was read, by what it is: name and octets; `moment` is in
+    seconds since 1970."""
 
     def __init__(self, audit, files, bayctl, moment):
         self.audit, self.bay, self.files, self.bayctl = audit, audit.bay, files, bayctl
-        self.moment = datetime.datetime.fromtimestamp(moment, datetime.UTC)
+        told = int(moment) * 1000
+        self.day = f'{moments.date_of(told):%Y-%m-%d %H:%M:%S} {moments.zone_told(told)}'
         self.bare = uncovered(audit)
 
     def page(self) -> str:
         bay = self.bay.file['bay']
         title = f'Audit of the interlocking of bay {bay["domain"]}'
-        style = STYLE % f'Bay {bay["domain"]}, {self.moment:%Y-%m-%d %H:%M} UTC'
+        style = STYLE % f'Bay {bay["domain"]}, {self.day}'
         parts = [f'<h1>{escaped(title)}</h1>', self.verdict(), self.what_was_read(),
-                 self.what_was_looked_at(), self.rules(), self.conditions(), self.uncovered(),
-                 self.matrix(), self.signatures()]
+                 self.signatures(), self.what_was_looked_at(), self.rules(), self.conditions(),
+                 self.uncovered(), self.matrix()]
         return ('<!DOCTYPE html>\n<html lang="en"><head><meta charset="utf-8">'
                 '<meta name="viewport" content="width=device-width">'
                 f'<title>{escaped(title)}</title><style>{style}</style></head>\n<body>\n'
                 + '\n'.join(parts) + '\n</body></html>\n')
 
     def verdict(self):
-        findings = self.audit.findings
-        broken = sum(it.broken > 0 for it in findings)
-        idle = sum(not it.looked for it in findings)
-        if self.audit.is_passed():
-            told, kind = f'PASSED: all {len(findings)} rules hold.', 'good'
-        else:
-            why = [f'of {len(findings)} rules {broken} broken'] if broken else []
-            why += [f'of {len(findings)} rules {idle} asked of no combination'] if idle else []
-            told, kind = f'NOT PASSED: {", ".join(why) or "there are no rules"}.', 'bad'
-        return f'<p class="verdict {kind}">{told}</p>'
+        kind = 'good' if self.audit.status() == DONE else 'bad'
+        return f'<p class="verdict {kind}">{escaped(self.audit.verdict())}</p>'
 
     def what_was_read(self):
         bay = self.bay.file['bay']
@@ -119,29 +116,28 @@ class Report:
                      code(sum_of(program))))
         about = [('Bay', escaped(bay['domain'])),
                  ('Device', escaped(f'{bay["vendor"]} {bay["model"]}, {bay["revision"]}')),
-                 ('Date', f'{self.moment:%Y-%m-%d %H:%M:%S} UTC'),
+                 ('Date', self.day),
                  ('Tool', f'tools/audit of {escaped(version())}')]
         return ('<h2>What was audited</h2>' + table(['', ''], about) + '<p></p>'
                 + table(['', 'File', '#Octets', 'SHA-256'], rows))
 
     def what_was_looked_at(self):
         audit, program = self.audit, self.bay.program
-        rows = [(escaped(it.name), {'contact': 'switch'}.get(it.verb, it.verb),
-                 escaped(', '.join(it.words())) + (' (held)' if len(it.values) == 1 else ''))
-                for it in self.bay.things]
-        told = (f'{len(audit.table):,} combinations, {audit.scans:,} scans. Each combination is '
-                'scanned at once and '
+        rows = [(escaped(it.name), it.kind, escaped(', '.join(it.words()))
+                 + (' (not all)' if it.is_restricted() else '')) for it in self.bay.things]
+        told = (f'{counted(len(audit.table), "combination")}, {counted(audit.scans, "scan")}. Each '
+                'combination is scanned at once and '
                 + ', '.join(f'{at:,} ms' for at in audit.offsets[1:]) + ' after it is reached.')
-        notes = [f'Not read by the program, and so not combined: {", ".join(self.bay.unread)}.'
-                 ] if self.bay.unread else []
+        notes = [f'Not read by the program, and so not combined: '
+                 f'{escaped(", ".join(self.bay.unread))}.'] if self.bay.unread else []
         if program.points is None:
             notes.append('This tool can\'t follow the program, so all points are combined.')
         if program.timers and not audit.has_times():
-            notes.append(f'The program has {program.timers} timers, and no rule has a time: '
-                         '<b>timers are not audited.</b>')
+            notes.append(f'The program has {counted(program.timers, "timer")}, and no rule has a '
+                         'time: <b>timers are not audited.</b>')
         if program.untold:
-            notes.append('The times of these timers are not in the text, and their moments are not '
-                         f'looked at: {escaped(", ".join(program.untold))}.')
+            notes.append('The times of these timers are not in the text, so no scan is made at '
+                         f'their ends: {escaped(", ".join(program.untold))}.')
         return ('<h2>What was looked at</h2>' + f'<p>{told}</p>'
                 + ''.join(f'<p>{note}</p>' for note in notes)
                 + table(['Point', 'Kind', 'Values'], rows))
@@ -156,7 +152,7 @@ class Report:
                          f'{it.after:,} ms after</span>')
             rows.append((it.rule.line, told, f'{it.looked:,}', f'{it.broken:,}',
                          f'<span class="mark {kind}">{it.verdict()}</span>'))
-        heads = ['#Line', 'Rule', '#Asked', '#Broken', 'Verdict']
+        heads = ['#Line', 'Rule', '#Applies', '#Broken', 'Verdict']
         return '<h2>Rules</h2>' + (table(heads, rows) if rows else '<p>There are none.</p>')
 
     def conditions(self):

@@ -2,6 +2,10 @@
 with the line of the entry."""
 import re
 import tomllib
+from collections.abc import Iterator
+
+from common.texts import raised
+from session.files import WIDE, encoding_told
 
 from .place import Place, near
 from .words import FIELDS, RESERVED
@@ -26,7 +30,7 @@ POINTS = {'switch': {'_POS': 'INT', '_OPEN': 'BOOL', '_CLOSED': 'BOOL', '_ENA_OP
 
 
 class Refused(Exception):
-    """The first refusal of a bay file: its number and its place."""
+    """A refusal of a bay file: its number and its place."""
 
     def __init__(self, code, place):
         super().__init__(code)
@@ -41,8 +45,9 @@ def text_of(octets):
         return octets.decode('utf-8').removeprefix('\ufeff')
     except UnicodeDecodeError as error:
         line = octets.count(b'\n', 0, error.start) + 1
-        told = f'octet {octets[error.start]:02X} is no UTF-8'
-        raise Refused(50, Place(told, line=line)) from None
+        wide = octets[:2] in WIDE
+        raise Refused(50, Place(encoding_told(octets, error.start), line=None if wide else line,
+                                mend='save the file as UTF-8' if wide else '')) from None
 
 
 def table_of(text):
@@ -55,7 +60,45 @@ def table_of(text):
         place = Place(told, line=text.rstrip('\n').count('\n') + 1)
         if line:
             place = Place(told, line=int(line[1]), start=int(line[2]) - 1)
-        raise Refused(50, place) from None
+        raise Refused(50, toml_place(place, text)) from None
+    except (ValueError, RecursionError):
+        raise Refused(50, Place('a number or a list is past what Python reads')) from None
+
+
+def toml_place(place: Place, text: str) -> Place:
+    """The place at which TOML can't be read, with the mistake that is mostly made there."""
+    line = text.split('\n')[place.line - 1]
+    if '\r' in text.replace('\r\n', '\n'):
+        place.told, place.mend = 'a carriage return stands without a line feed behind it', (
+            'save the file with lines that end with LF or CR LF')
+    elif '//' in line and place.start == line.find('//'):
+        place.told, place.mend = 'no key begins with //', 'begin a comment with #'
+    elif (opened := open_quote(line)) is not None and '"""' not in line and "'''" not in line:
+        place.told, place.start = 'this quote is not closed on its line', opened
+        place.end, place.mend = opened + 1, 'put a quote at the end of the text'
+    else:
+        twice_told(place, line, text)
+    return place
+
+
+def open_quote(line: str) -> int | None:
+    """The column at which a text opens that no quote of the line closes."""
+    closed = re.sub(r'"(?:[^"\\]|\\.)*"|\'[^\']*\'|#.*', lambda it: ' ' * len(it[0]), line)
+    found = re.search(r'["\']', closed)
+    return found.start() if found else None
+
+
+def twice_told(place: Place, line: str, text: str) -> None:
+    """Of a section that stands twice, where it stood first."""
+    head = re.match(r'\s*\[\s*([\w-]+)\s*\]', line)
+    before = text.split('\n')[:place.line - 1]
+    first = next((at for at, other in enumerate(before, 1)
+                  if head and re.match(rf'\s*\[\[?\s*{re.escape(head[1])}\s*\]', other)), None)
+    if first:
+        place.told = f'the section [{head[1]}] stands twice'
+        place.others = [(first, 'the first time here')]
+        place.mend = 'leave one of them out' if head[1] == 'bay' else (
+            f'write [[{head[1]}]] for each {head[1]}')
 
 
 class Lines:
@@ -101,21 +144,37 @@ class Lines:
 
 
 class Judge:
-    """Goes through a bay file as the profile says, and raises its first refusal."""
+    """Goes through a bay file as the profile says, and tells its refusals in the order in which
+    bayctl looks for them."""
 
     def __init__(self, file, lines):
         self.file, self.lines = file, lines
 
-    def all(self):
+    def all(self) -> Iterator[Refused]:
+        """All refusals; those of names where nothing else is wrong."""
+        found = False
+        for refused in self.of_entries():
+            found = True
+            yield refused
+        if not found:
+            try:
+                self.names()
+            except Refused as refused:
+                yield refused
+
+    def of_entries(self) -> Iterator[Refused]:
         for name in self.file:
             if name not in SECTIONS:
                 told = f'there is no section {name}{near(name, SECTIONS)}'
-                raise Refused(52, Place(told, f'section {name}', self.lines.top.get(name)))
+                yield Refused(52, Place(told, f'section {name}', self.lines.top.get(name)))
         for section in SECTIONS:
-            entries = self.entries(section)
+            try:
+                entries = self.entries(section)
+            except Refused as refused:
+                yield refused
+                continue
             for index, entry in enumerate(entries):
-                self.entry(section, index, len(entries), entry)
-        self.names()
+                yield from self.entry(section, index, len(entries), entry)
 
     def entries(self, section):
         """The tables of a section."""
@@ -129,11 +188,12 @@ class Judge:
         if section == 'bay':
             if not isinstance(held, dict):
                 told = '[bay] is wanted, one table' + told_as(held)
-                raise Refused(53, Place(told, 'section bay', line))
+                raise Refused(53, Place(told, 'section bay', line, mend='write [bay]'))
             return [held]
         if not isinstance(held, list) or not all(isinstance(entry, dict) for entry in held):
             told = f'[[{section}]] is wanted, a list of tables{told_as(held)}'
-            raise Refused(53, Place(told, f'section {section}', line))
+            raise Refused(53, Place(told, f'section {section}', line,
+                                    mend=f'write [[{section}]] for each {section}'))
         if len(held) > most:
             place = Place(f'there are {len(held)} {ENTRIES[section][1]}, and {most} are the most',
                           f'section {section}')
@@ -154,17 +214,18 @@ class Judge:
             if key not in wanted:
                 told = self.unknown(section, entry, key, wanted)
                 where = self.where(section, index, entry, key)
-                raise Refused(52, self.lines.place(told, where, section, index, count, key))
+                yield Refused(52, self.lines.place(told, where, section, index, count, key))
         for key in wanted:
             where = self.where(section, index, entry, key)
-            if key not in entry:
+            if key in entry:
+                told = value_fault(key, entry[key])
+                if told:
+                    yield Refused(53, self.lines.place(told, where, section, index, count, key))
+            elif key not in TIMES or entry.get('control') in list(CONTROLS):
                 told = f'the key {key} is missing'
                 if key in TIMES:
                     told += f', which control = "{entry["control"]}" wants'
-                raise Refused(51, self.lines.place(told, where, section, index, count))
-            told = value_fault(key, entry[key])
-            if told:
-                raise Refused(53, self.lines.place(told, where, section, index, count, key))
+                yield Refused(51, self.lines.place(told, where, section, index, count))
 
     def unknown(self, section, entry, key, wanted):
         if section == 'switch' and key in TIMES:
@@ -177,10 +238,12 @@ class Judge:
         for name, _, section, index, count, entry in points:
             if name in first:
                 _, _, section_1, index_1, count_1, entry_1 = first[name]
-                told, where = f'two points are called {name}', self.where(section, index, entry)
+                where, other = (self.where(*it) for it in (
+                    (section, index, entry), (section_1, index_1, entry_1)))
+                told = f'two points are called {name}: of {other} and of {where}'
                 place = self.lines.place(told, where, section, index, count, key_of(section))
                 before = self.lines.place('', '', section_1, index_1, count_1, key_of(section_1))
-                place.others = [(before.line, f'and of {self.where(section_1, index_1, entry_1)}')]
+                place.others = [(before.line, f'{other} is here')]
                 raise Refused(54, place)
             first[name] = (name, _, section, index, count, entry)
         for name, _, section, index, count, entry in points:
@@ -196,7 +259,7 @@ class Judge:
             entries = self.file.get(section, [])
             for index, entry in enumerate(entries):
                 for ending, kind in endings.items():
-                    name = entry[key_of(section)].upper() + ending
+                    name = raised(entry[key_of(section)]) + ending
                     yield name, kind, section, index, len(entries), entry
 
 
@@ -232,8 +295,7 @@ def value_fault(key, value):
     if not isinstance(value, str):
         return f'a text in quotes is wanted{told_as(value)}'
     if key in ('kind', 'control'):
-        words = KINDS if key == 'kind' else list(CONTROLS)
-        return None if value in words else f'"{value}" is none of {", ".join(words)}'
+        return word_fault(value, KINDS if key == 'kind' else list(CONTROLS))
     if key in LENGTHS:
         return identifier_fault(value, LENGTHS[key])
     if not 1 <= len(value) <= 64:
@@ -247,10 +309,19 @@ def identifier_fault(value, most):
         return f'"{value}" has {len(value)} characters, and {most} are the most'
     if re.fullmatch(IDENTIFIER, value):
         return None
-    return f'"{value}" is no letter with letters, digits and _ behind it'
+    return f'"{value}" must begin with a letter, and have only letters, digits and _'
 
 
-def bay_points(octets):
+def word_fault(value: str, words: list[str]) -> str | None:
+    """What is wrong with one of a few words: that it is in upper case, or is none of them."""
+    if value in words:
+        return None
+    if value.lower() in words:
+        return f'"{value}" is to be in lower case: "{value.lower()}"'
+    return f'"{value}" is none of {", ".join(words)}{near(value, words)}'
+
+
+def bay_points(octets) -> dict | None:
     """The points of a bay file that is accepted, by name: type, and whether it may be written. None
     where Python can't read the file."""
     try:
@@ -262,20 +333,27 @@ def bay_points(octets):
         return None
 
 
-def placed(octets, code):
-    """The place of the refusal with this number, or a reason why it can't be told."""
+def refusals(octets) -> list[Refused]:
+    """Why a bay file is refused, first what bayctl tells."""
     try:
         text = text_of(octets)
-        Judge(table_of(text), Lines(text)).all()
+        return list(Judge(table_of(text), Lines(text)).all())
     except Refused as refused:
-        if refused.code == code:
-            return refused.place
-        if refused.code == 50:
-            return ('Python\'s reader, which knows TOML 1.0, stops at line '
-                    f'{refused.place.line}: {refused.place.told}')
-        if code != 50:
-            return f'this tool would refuse it with {refused.code}: {refused.place.told}'
+        return [refused]
+
+
+def placed(found: list[Refused], code: int):
+    """The place of the refusal with this number, or a reason why it can't be told."""
+    first = found[0] if found else None
+    if first and first.code == code:
+        return first.place
+    if first and first.code == 50:
+        return ('Python\'s reader, which knows TOML 1.0, stops'
+                + (f' at line {first.place.line}' if first.place.line else '')
+                + f': {first.place.told}')
     if code == 50:
         return ('Python reads this TOML, so it is past a limit of bayctl\'s reader, on depth or on '
                 'numbers')
+    if first:
+        return f'this tool would refuse it with {first.code}: {first.place.told}'
     return 'this tool finds no fault in it'

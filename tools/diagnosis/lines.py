@@ -6,6 +6,9 @@ from .tokens import Token, is_operator, lines_of
 from .words import ALONE, COMBINES, JUMPS, LOADS, OPERATORS, RETURNS, STORES, TIMERS, TYPES
 
 DEEPEST, LONGEST = 16, 4000
+BLOCKS = {'VAR_INPUT', 'VAR_OUTPUT', 'VAR_IN_OUT', 'VAR_GLOBAL', 'VAR_TEMP', 'VAR_ACCESS',
+          'VAR_CONFIG'}  # of IEC 61131-3, and not of this profile
+NEGATED = {'AND', 'OR', 'XOR', 'LD', 'ST', '&', 'JMPC', 'RETC'}
 
 
 @dataclass
@@ -29,11 +32,12 @@ class Item:
 
 
 class Misplaced(Exception):
-    """Why a line can't stand where it does, with the token at which that shows."""
+    """Why a line can't stand where it does, with the token at which that shows, and the remedy
+    where it is known."""
 
-    def __init__(self, told, token=None, others=()):
+    def __init__(self, told, token=None, others=(), mend=''):
         super().__init__(told)
-        self.told, self.token, self.others = told, token, list(others)
+        self.told, self.token, self.others, self.mend = told, token, list(others), mend
 
 
 class Reader:
@@ -69,6 +73,9 @@ class Reader:
             raise Misplaced('a text has one program, which begins at its first line', first)
         if first.means('VAR', 'VAR_EXTERNAL', 'END_VAR'):
             return self.frame(number, tokens)
+        if first.upper in BLOCKS and len(tokens) == 1:
+            raise Misplaced(f'{first.text} is no block of this language', first, (),
+                            'declare points of the bay in VAR_EXTERNAL, and variables in VAR')
         if self.state == 'block':
             return self.declare(number, tokens)
         self.body(number, tokens)
@@ -263,12 +270,19 @@ class Reader:
             if may_miss:
                 return []
             raise Misplaced(f'{before.text} wants an operand', before)
+        if tokens[0].means('NOT') and before.upper in NEGATED:
+            raise Misplaced('NOT is an operator of its own, and no operand', tokens[0], (),
+                            f'write {before.text}N in the place of {before.text} NOT')
         if tokens[0].kind not in ('literal', 'name'):
             raise Misplaced(f'{tokens[0].text} is no operand' + reserved_told(tokens[0]), tokens[0])
         size = 1
         if len(tokens) > 1 and tokens[1].text == '.':
             if tokens[0].kind == 'literal':
                 raise Misplaced('numbers have no fractions here', tokens[1])
+            if len(tokens) > 2 and tokens[2].upper in ('IN', 'PT'):
+                name = tokens[0].text
+                raise Misplaced(f'{name}.{tokens[2].text} is an input of a timer', tokens[2], (),
+                                f'give it by CAL {name}(IN := a, PT := T#5s)')
             if len(tokens) < 3 or tokens[2].upper not in ('Q', 'ET'):
                 raise Misplaced('.Q or .ET is wanted, the outputs of a timer',
                                 tokens[min(2, len(tokens) - 1)])
@@ -320,7 +334,8 @@ def placed(text, line):
                      line=line,
                      start=token and token.start,
                      end=token and token.end,
-                     others=found.others)
+                     others=found.others,
+                     mend=found.mend)
     if line >= len(reader.lines) and reader.state != 'done':
         return Place(*ending_told(reader), line=line)
     return None

@@ -2,17 +2,21 @@
 import difflib
 from dataclasses import dataclass, field
 
+from common.texts import raised
+
 
 @dataclass
 class Place:
     """What is wrong, in words, and where: a line from 1 with the columns of the offending text from
-    0, where they are known. `others` are further lines to look at, each with what it is."""
+    0, where they are known. `others` are further lines to look at, each with what it is; `mend` is
+    the remedy for this very fault, where one is known."""
     told: str
     where: str = ''
     line: int | None = None
     start: int | None = None
     end: int | None = None
     others: list = field(default_factory=list)
+    mend: str = ''
 
 
 def shown(text_line, number, start=None, end=None, width=88):
@@ -31,6 +35,6 @@ def shown(text_line, number, start=None, end=None, width=88):
 def near(name, names):
     """A name that is like another, to ask whether it was meant: as it is written there, since the
     keys of a bay file are in lower case."""
-    written = {other.upper(): other for other in names}
-    found = difflib.get_close_matches(name.upper(), written, 1, 0.6)
+    written = {raised(other): other for other in names}
+    found = difflib.get_close_matches(raised(name), written, 1, 0.6)
     return f'; is {written[found[0]]} meant?' if found else ''

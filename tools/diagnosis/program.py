@@ -4,6 +4,7 @@ from dataclasses import dataclass, field
 
 from .lines import read
 from .place import Place, near
+from .points import meant
 from .tokens import Literal, Token
 from .words import COMBINES, CONVERTS, JUMPS, LOADS, NUMBERS, RETURNS, STORES, TIMERS, TYPES
 
@@ -37,6 +38,11 @@ class Fault:
     told: str
     token: Token | None = None
     others: list = field(default_factory=list)
+    mend: str = ''
+
+    def place(self) -> Place:
+        return Place(self.told, line=self.line, start=self.token and self.token.start,
+                     end=self.token and self.token.end, others=self.others, mend=self.mend)
 
 
 class Checker:
@@ -47,8 +53,19 @@ class Checker:
         self.names, self.labels, self.arrivals = {}, {}, {}
         self.result, self.outer = Result(None, 'nothing is loaded at the start of a program'), []
 
-    def note(self, code, line, told, token=None, others=()):
-        self.faults.append(Fault(code, line, told, token, list(others)))
+    def note(self, code, line, told, token=None, others=(), mend=''):
+        self.faults.append(Fault(code, line, told, token, list(others), mend))
+
+    def undeclared(self, line, token):
+        """Notes a name that is not declared. A point of the bay is to be added to VAR_EXTERNAL,
+        and no other name is meant."""
+        kind, _ = (self.points or {}).get(token.upper, (None, False))
+        if kind:
+            self.note(70, line, f'{token.text} is a point of the bay, and not declared', token, (),
+                      f'add it to VAR_EXTERNAL: {token.text} : {kind};')
+        else:
+            told = f'{token.text} is not declared{meant(token.upper, self.names, self.points)}'
+            self.note(70, line, told, token)
 
     def all(self):
         for declaration in self.program.declarations:
@@ -78,7 +95,7 @@ class Checker:
         kind, writable = self.points.get(it.name.upper, (None, False))
         if kind is None:
             self.note(70, it.line,
-                      f'the bay has no point {it.name.text}{near(it.name.upper, self.points)}',
+                      f'the bay has no point {it.name.text}{meant(it.name.upper, (), self.points)}',
                       it.name)
         elif kind != it.kind:
             self.note(72, it.line,
@@ -112,7 +129,7 @@ class Checker:
             return self.at_label(item)
         if not self.result.reached:
             self.note(76, item.line, 'no way leads here', item.token,
-                      [(self.result.gone, 'which goes elsewhere always')])
+                      [(self.result.gone, 'because this line always jumps away')])
         if item.verb == '(':
             return self.open(item)
         if item.verb == ')':
@@ -144,8 +161,7 @@ class Checker:
             return first.literal.kind or first.literal
         named = self.names.get(first.upper)
         if named is None:
-            self.note(70, item.line, f'{first.text} is not declared{near(first.upper, self.names)}',
-                      first)
+            self.undeclared(item.line, first)
             return None
         timer = named.kind in TIMERS
         if timer and len(tokens) == 1:
@@ -253,8 +269,7 @@ class Checker:
         name = item.operand[0]
         named = self.names.get(name.upper)
         if named is None:
-            self.note(70, item.line, f'{name.text} is not declared{near(name.upper, self.names)}',
-                      name)
+            self.undeclared(item.line, name)
         elif named.kind not in TIMERS:
             self.wrong(item, f'{name.text} is {named.kind} and no timer (declared at line '
                        f'{named.line})', name)
@@ -340,14 +355,16 @@ def text_of(tokens):
     return ''.join(token.text for token in tokens)
 
 
-def placed(text, code, line, points):
-    """The place of a fault of the checks, or None where it is not found."""
-    for fault in Checker(read(text), points).all():
-        if (fault.code, fault.line) == (code, line):
-            token = fault.token
-            return Place(fault.told, line=line, start=token and token.start,
-                         end=token and token.end, others=fault.others)
-    return None
+def faults_of(text, points) -> list[Fault]:
+    """The faults of the checks, in the order in which bayctl tells the first of them."""
+    found = Checker(read(text), points).all()
+    return sorted(found, key=lambda fault: (fault.line, fault.code))
+
+
+def placed(faults, code, line) -> Place | None:
+    """The place of a fault among those that were found, or None."""
+    return next((fault.place() for fault in faults if (fault.code, fault.line) == (code, line)),
+                None)
 
 
 def size_told(text):

@@ -2,6 +2,8 @@
 import re
 from dataclasses import dataclass
 
+from common.texts import raised
+
 from .words import NUMBERS, OPERATORS, RESERVED
 
 TOKEN = re.compile(
@@ -11,6 +13,7 @@ TOKEN = re.compile(
 DIGITS = {2: '01', 8: '01234567', 10: '0123456789', 16: '0123456789ABCDEF'}
 UNITS = [('D', 86_400_000), ('H', 3_600_000), ('M', 60_000), ('S', 1000), ('MS', 1)]
 LONGEST = 2_147_483_647
+LONG = 100  # digits that are read: a number of so many is past all ranges
 
 
 @dataclass
@@ -36,7 +39,7 @@ class Token:
 
     @property
     def upper(self):
-        return self.text.upper()
+        return raised(self.text)
 
     def means(self, *words):
         return self.kind in ('word', 'mark') and self.upper in words
@@ -52,6 +55,17 @@ def without_comments(text):
         out += text[at:begin], blank(text[begin:end + 2])
         at = end + 2
     return ''.join(out) + text[at:], None
+
+
+def nested_comments(text: str) -> list[int]:
+    """The places at which a comment seems to begin within another: comments do not nest."""
+    found, at = [], 0
+    while (begin := text.find('(*', at)) >= 0:
+        end = text.find('*)', begin + 2)
+        inner = text.find('(*', begin + 2, end if end >= 0 else len(text))
+        found += [inner] if inner >= 0 else []
+        at = end + 2 if end >= 0 else len(text)
+    return found
 
 
 def blank(text):
@@ -82,9 +96,13 @@ def tokens_of(line):
 
 def odd_told(character):
     if character == '\ufeff':
-        return 'a byte order mark stands here, which a program may not have'
+        return ('a byte order mark stands here, which a program may not have: save it as UTF-8 '
+                'without one')
     if character == '\r':
-        return 'a carriage return stands here without a line feed behind it'
+        return ('a carriage return stands here without a line feed behind it: save the file with '
+                'LF or CR LF')
+    if character == '/':
+        return 'no token begins with \'/\': a comment stands between (* and *)'
     if ord(character) > 126 or ord(character) < 32:
         return (f'the character {character!r} (U+{ord(character):04X}) is not of ASCII, and no '
                 'comment is round it')
@@ -94,7 +112,7 @@ def odd_told(character):
 
 
 def word_token(text, start):
-    upper = text.upper()
+    upper = raised(text)
     if '#' not in text and re.match('[A-Z_]', upper):
         if upper in ('TRUE', 'FALSE'):
             return Token('literal', text, start, literal=Literal('BOOL', int(upper == 'TRUE')))
@@ -130,7 +148,8 @@ def in_range(kind, value):
     bits = NUMBERS.get(kind or 'LINT')
     least, most = (0, 1) if kind == 'BOOL' else (-2 ** (bits - 1), 2 ** (bits - 1) - 1)
     if not least <= value <= most:
-        told = f'{value:,} is not from {least:,} to {most:,}'
+        shown = f'{value:,}' if abs(value) < 10 ** 30 else 'a number of so many digits'
+        told = f'{shown} is not from {least:,} to {most:,}'
         return 'far', told + (f', the values of {kind}' if kind else '')
     return 'literal', Literal(kind, value)
 
@@ -139,8 +158,8 @@ def number_of(text):
     """The value of a number with a base or a sign, or what is wrong with it."""
     before, hash_mark, digits = text.partition('#')
     if hash_mark and before not in ('2', '8', '16'):
-        return (f'{before or "nothing"} is no base and no type: 2, 8, 16, BOOL, INT, DINT, LINT, T '
-                'and TIME may stand before #')
+        lead = f'{before} can\'t stand before #' if before else 'nothing stands before #'
+        return f'{lead}: 2, 8, 16, BOOL, INT, DINT, LINT, T and TIME can'
     base = int(before) if hash_mark else 10
     sign = '' if hash_mark else text[:1] if text[:1] in '+-' else ''
     digits = digits if hash_mark else text.removeprefix(sign) if sign else text
@@ -152,7 +171,8 @@ def number_of(text):
     if not digits or digits[0] == '_' or digits[-1] == '_' or '__' in digits:
         told = 'a single _ may stand between two digits, and nowhere else'
         return told if digits else 'there is no digit'
-    return int(digits.replace('_', ''), base) * (-1 if sign == '-' else 1)
+    value = digits.replace('_', '').lstrip('0') or '0'
+    return int(value[:LONG], base) * (-1 if sign == '-' else 1)
 
 
 def duration_of(text):
@@ -166,7 +186,7 @@ def duration_of(text):
         if part[1] and not parts or place <= last:
             told = 'the units of a duration fall, and none comes twice: d, h, m, s, ms'
             return 'bad', told if parts else 'a duration begins with a digit'
-        total += int(part[2].replace('_', '')) * UNITS[place][1]
+        total += int(part[2].replace('_', '').lstrip('0')[:LONG] or '0') * UNITS[place][1]
         last, rest, parts = place, rest[part.end():], parts + 1
     if not parts:
         return 'bad', 'a duration has a number with a unit, as T#500ms'

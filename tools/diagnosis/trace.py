@@ -1,23 +1,31 @@
-"""Which lines of a trace a server won't take: its turns have lines of contacts, inputs and measures
-alone, of things that are in the bay file."""
+"""Which lines of a trace are not taken: by a server, whose turns have lines of contacts, inputs and
+measures alone; or by a replay, which has lines of clients and scans too, in the order of their
+times."""
 import re
+from collections.abc import Iterator
 from dataclasses import dataclass
+
+from common.texts import raised
+from session.files import MARKED
 
 from .place import near
 from .words import FIELDS
 
+LATEST, PLACES = 4_294_967_295_999, 8
 VALUES = {'contact': r'[0-3]', 'input': r'[01]', 'measure': r'-?[0-9]+'}
 WHAT = {'contact': 'a position from 0 to 3', 'input': '0 or 1', 'measure': 'a whole number'}
 FORMS = {'contact': 'MS contact ID 0..3', 'input': 'MS input NAME 0|1',
          'measure': 'MS measure ID FIELD VALUE'}
-REPLAYED = {'scan': 'a server scans by itself in each turn', 'open': 'clients come over the port',
-            'recv': 'what clients send comes over the port', 'close': 'clients go by themselves'}
+REPLAYED = {'scan': 'MS scan', 'open': 'MS open A', 'recv': 'MS recv A HEX', 'close': 'MS close A'}
+ALONE = {'scan': 'a server scans by itself in each turn', 'open': 'clients come over the port',
+         'recv': 'what clients send comes over the port', 'close': 'clients go by themselves'}
+KINDS = {'contact': 'switch', 'input': 'input', 'measure': 'meter'}
 
 
 @dataclass
 class Trouble:
-    """A line from 1 with what is wrong in it. A line with 120 ends the server when its turn comes;
-    one with 113 is refused, and changes nothing."""
+    """A line from 1 with what is wrong in it. A line with 120 ends the server or the replay when
+    its turn comes; one with another number is refused, and changes nothing."""
     line: int
     text: str
     code: int
@@ -25,60 +33,116 @@ class Trouble:
 
 
 class Known:
-    """The names of a bay file, in upper case, by the verb that tells of them."""
+    """The names of a bay file, in upper case, by the verb that tells of them; and whether lines of
+    a replay are taken."""
 
-    def __init__(self, bay):
-        self.names = {'contact': {one['id'].upper() for one in bay['switch']},
-                      'input': {one['name'].upper() for one in bay.get('input', [])},
-                      'measure': {one['id'].upper() for one in bay.get('meter', [])}}
+    def __init__(self, bay: dict, is_replay: bool = False) -> None:
+        self.names = {'contact': {raised(one['id']) for one in bay['switch']},
+                      'input': {raised(one['name']) for one in bay.get('input', [])},
+                      'measure': {raised(one['id']) for one in bay.get('meter', [])}}
+        self.is_replay, self.last, self.open = is_replay, 0, set()
 
-    def trouble(self, octets):
+    def trouble(self, octets: bytes) -> tuple[int, str] | None:
         """What is wrong with a line: the number and the words, or None."""
         try:
             words = octets.decode('utf-8').split(' ')
         except UnicodeDecodeError as error:
             return 120, f'octet {octets[error.start]:02X} is no UTF-8'
-        if not re.fullmatch(r'[0-9]+', words[0]) or int(words[0]) >= 2 ** 64:
-            return 120, f'a moment in milliseconds is wanted first, and not {shown(words[0])}'
+        if words[0].startswith('\ufeff'):
+            return 120, f'the trace {MARKED}'
+        if not re.fullmatch(r'0*[0-9]{1,20}', words[0], re.ASCII) or number(words[0]) >= 2 ** 64:
+            return 120, f'a time in milliseconds is wanted first, and not {shown(words[0])}'
         verb = words[1] if len(words) > 1 else ''
-        if verb in REPLAYED:
-            return 120, f'{verb} is a line of a replay: {REPLAYED[verb]}'
+        found = self.form(verb, words[2:])
+        if found or not self.is_replay:
+            return found or self.refused(verb, words[2:])
+        return self.replayed(number(words[0]), verb, words[2:])
+
+    def form(self, verb: str, rest: list[str]) -> tuple[int, str] | None:
+        """Why a line can't be read."""
+        if verb in ALONE and not self.is_replay:
+            return 120, f'{verb} is a line of a replay: {ALONE[verb]}'
+        if verb in REPLAYED and self.is_replay:
+            return self.form_of_replay(verb, rest)
         if verb not in FORMS:
             told = near(verb, [*FORMS, *REPLAYED]) if verb else ''
             return 120, f'contact, input or measure is wanted, and not {shown(verb)}{told}'
-        return self.told(verb, words[2:])
-
-    def told(self, verb, rest):
         value = rest[-1] if rest else ''
         if len(rest) != len(FORMS[verb].split(' ')) - 2 or '' in rest:
             return 120, f'it is not of the form {FORMS[verb]}, with single spaces'
         if verb == 'measure' and rest[1] not in FIELDS:
-            return 120, f'{rest[1]} is no field: {", ".join(FIELDS)} are'
+            return 120, field_told(rest[1])
         if not re.fullmatch(VALUES[verb], value, re.ASCII):
             return 120, f'{WHAT[verb]} is wanted, and not {shown(value)}'
-        if verb == 'measure' and not -2 ** 31 <= int(value) < 2 ** 31:
-            return 120, f'{value} has no room in 32 bits with sign'
-        return self.refused(verb, rest[0])
+        if verb == 'measure' and not -2 ** 31 <= number(value) < 2 ** 31:
+            return 120, f'{shown(value)} has no room in 32 bits with sign'
+        return None
 
-    def refused(self, verb, name):
-        """What is wrong with a line that reads well."""
-        if name.upper() in self.names[verb]:
+    def form_of_replay(self, verb: str, rest: list[str]) -> tuple[int, str] | None:
+        if len(rest) != len(REPLAYED[verb].split(' ')) - 2 or '' in rest:
+            return 120, f'it is not of the form {REPLAYED[verb]}, with single spaces'
+        if rest and not re.fullmatch('[0-9]+', rest[0], re.ASCII):
+            return 120, f'a number of an association is wanted, and not {shown(rest[0])}'
+        if verb == 'recv' and not re.fullmatch('(?:[0-9a-fA-F]{2})+', rest[1]):
+            return 120, 'two hexadecimal digits for each octet are wanted, and one octet at least'
+        return None
+
+    def refused(self, verb: str, rest: list[str]) -> tuple[int, str] | None:
+        """Why a line that reads well names nothing of the bay."""
+        name = raised(rest[0])
+        if name in self.names[verb]:
             return None
-        kind = {'contact': 'switch', 'input': 'input', 'measure': 'meter'}[verb]
-        other = next((what for what, names in self.names.items() if name.upper() in names), None)
-        more = f'; {other} tells of it' if other else near(name.upper(), self.names[verb])
-        return 113, f'the bay has no {kind} {name}{more}'
+        other = next((what for what, names in self.names.items() if name in names), None)
+        more = f'; {other} tells of it' if other else near(name, self.names[verb])
+        return 113, f'the bay has no {KINDS[verb]} {rest[0]}{more}'
+
+    def replayed(self, moment: int, verb: str, rest: list[str]) -> tuple[int, str] | None:
+        """Why a replay refuses a line that reads well; else what it changes."""
+        if moment > LATEST:
+            return 114, f'the time is past {LATEST:,}: are these microseconds?'
+        if moment < self.last:
+            return 110, f'the time goes back: {self.last} was before it'
+        place = number(rest[0]) if verb in ('open', 'recv', 'close') else 0
+        if verb in FORMS and (found := self.refused(verb, rest)):
+            return found
+        if verb in ('open', 'recv', 'close') and not 1 <= place <= PLACES:
+            return 111, f'there is no association {place}: 1 to {PLACES} are'
+        if verb in ('recv', 'close') and place not in self.open:
+            return 111, f'association {place} is not open'
+        if verb == 'open' and place in self.open:
+            return 112, f'association {place} is open already'
+        self.last = moment
+        self.open = self.open | {place} if verb == 'open' else self.open
+        self.open = self.open - {place} if verb == 'close' else self.open
+        return None
 
 
-def shown(word):
+def number(digits: str) -> int:
+    """A number of any length; one past 30 digits counts as one of 30."""
+    sign, digits = ('-', digits[1:]) if digits.startswith('-') else ('', digits)
+    return int(sign + (digits.lstrip('0')[:30] or '0'))
+
+
+def field_told(word: str) -> str:
+    if raised(word) in FIELDS:
+        return f'fields are written in upper case: {raised(word)}'
+    return f'{shown(word)} is no field: {", ".join(FIELDS)} are'
+
+
+def shown(word: str) -> str:
     return f'{word[:20]!r}' if word else 'nothing'
 
 
-def troubles(octets: bytes, bay: dict):
-    """Each line of a trace that a server won't take."""
-    known, lines = Known(bay), octets.split(b'\n')
-    for number, line in enumerate(lines, 1):
-        it = line if number == len(lines) else line.removesuffix(b'\r')
+def troubles(octets: bytes, bay: dict, is_replay: bool = False) -> Iterator[Trouble]:
+    """Each line of a trace that is not taken."""
+    known, lines = Known(bay, is_replay), octets.split(b'\n')
+    for place, line in enumerate(lines, 1):
+        it = line if place == len(lines) else line.removesuffix(b'\r')
         found = known.trouble(it) if it else None
         if found:
-            yield Trouble(number, it.decode('utf-8', 'backslashreplace'), *found)
+            yield Trouble(place, it.decode('utf-8', 'backslashreplace'), *found)
+
+
+def has_replayed(octets: bytes) -> bool:
+    """Whether a trace has lines that only a replay takes."""
+    return re.search(rb'(?m)^\d+ (?:scan|open|recv|close)\b', octets) is not None

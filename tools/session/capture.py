@@ -3,6 +3,8 @@ once."""
 import struct
 from dataclasses import dataclass, field
 
+from common.ending import Failed
+
 SYN, FIN, RST = 0x02, 0x01, 0x04
 HALF, WHOLE = 1 << 31, 1 << 32
 # Link types, of the files of tcpdump and tshark.
@@ -11,7 +13,7 @@ VLANS = 0x8100, 0x88A8, 0x9100
 TPKT_PORT = 102
 
 
-class BadCapture(Exception):
+class BadCapture(Failed):
     """The file is no capture that can be read."""
 
 

@@ -1,21 +1,42 @@
 """Bay files and other texts that the tools read, and what is said where one can't be read."""
+import os
 import pathlib
 import tomllib
 
+from common.ending import Failed, told_of
 
-class BadFile(Exception):
+MARK, WIDE = '\ufeff', (b'\xff\xfe', b'\xfe\xff')
+MARKED = 'begins with a byte order mark: save it as UTF-8 without one'
+OTHER = 'this is no bay file; tools/diagnose tells what is wrong'
+
+
+class BadFile(Failed):
     """A file that can't be read, or that is no bay file."""
+
+
+def octets_of(path) -> bytes:
+    """The octets of a file."""
+    try:
+        return pathlib.Path(path).read_bytes()
+    except OSError as error:
+        raise BadFile(told_of(error)) from None
 
 
 def text_of(path, kind='text', keeps_mark=False) -> str:
     """The text of a file, by itself without a byte order mark at its start."""
+    octets = octets_of(path)
     try:
-        octets = pathlib.Path(path).read_bytes()
         return octets.decode('utf-8' if keeps_mark else 'utf-8-sig')
-    except OSError as error:
-        raise BadFile(f'{path}: {error.strerror}') from None
-    except UnicodeDecodeError:
-        raise BadFile(f'{path} is no {kind}: it is not UTF-8') from None
+    except UnicodeDecodeError as error:
+        raise BadFile(f'{path}: it is no {kind}: {encoding_told(octets, error.start)}') from None
+
+
+def encoding_told(octets: bytes, at: int) -> str:
+    """Why octets are no UTF-8."""
+    if octets[:2] in WIDE:
+        return 'it is UTF-16: save it as UTF-8'
+    line = octets.count(b'\n', 0, at) + 1
+    return f'octet {octets[at]:02X} of line {line} is no UTF-8'
 
 
 def tables_of(text) -> dict:
@@ -28,10 +49,12 @@ def tables_of(text) -> dict:
                  *(one['id'] for one in found.get('meter', []))]
     except tomllib.TOMLDecodeError as error:
         raise BadFile(f'the bay file has TOML that Python can\'t read: {error}') from None
+    except (ValueError, RecursionError):
+        raise BadFile('the bay file has a number or a list past what Python reads') from None
     except (KeyError, TypeError, AttributeError):
-        raise BadFile('this is no bay file; tools/diagnose tells what is wrong') from None
+        raise BadFile(OTHER) from None
     if not all(isinstance(name, str) for name in named):
-        raise BadFile('this is no bay file; tools/diagnose tells what is wrong')
+        raise BadFile(OTHER)
     return found
 
 
@@ -42,3 +65,14 @@ def bay_at(path) -> tuple[str, dict]:
         return text, tables_of(text)
     except BadFile as error:
         raise BadFile(f'{path}: {error}') from None
+
+
+def may_be_written(path) -> None:
+    """Ends the tool where a file can't be written, before it has worked for it."""
+    path = pathlib.Path(path)
+    if not path.parent.is_dir():
+        raise BadFile(f'{path}: there is no folder {path.parent}')
+    if path.is_dir():
+        raise BadFile(f'{path}: it is a folder')
+    if not os.access(path if path.exists() else path.parent, os.W_OK):
+        raise BadFile(f'{path}: it can\'t be written')

@@ -8,7 +8,7 @@ from .replay import CODES, REASONS
 from .stream import Stream
 from .words import cause_told
 
-POSITIONS = ['on its way', 'open', 'closed', 'bad']
+POSITIONS = ['intermediate', 'open', 'closed', 'bad']
 
 
 class Track:
@@ -73,7 +73,7 @@ class History:
         history = cls(replay.file, replay.report)
         for step in replay.steps():
             history.step(step, replay.bay)
-        history.ending = replay.ending
+        history.ending = replay.ending_told()
         return history
 
     @classmethod

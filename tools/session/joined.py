@@ -2,15 +2,18 @@
 says otherwise."""
 import re
 
+from common.ending import Failed
+
 from .moments import is_clock
 from .stream import Stream
 
 PLACES = 8  # associations
 TALK = ('open', 'recv', 'close')
+SPLIT = re.compile(rb'(?m)^%%(?=\r?(?:\n|\Z))')  # what parts a scenario
 ENDS = ('finish', 'release', 'abort', 'end', 'fault')  # what ends an association
 
 
-class BadTrace(Exception):
+class BadTrace(Failed):
     """Lines that are none of a trace, or too many associations."""
 
 
@@ -50,10 +53,10 @@ def read_lines(text: str) -> list[tuple[int, str]]:
     found = []
     for number, line in enumerate(text.splitlines(), 1):
         moment, _, rest = line.partition(' ')
-        if line and not (moment.isascii() and moment.isdigit() and rest):
+        if line and not (re.fullmatch('0*[0-9]{1,20}', moment, re.ASCII) and rest):
             raise BadTrace(f'line {number} is no line of a trace: {line[:40]}')
         if line:
-            found.append((int(moment), rest))
+            found.append((int(moment.lstrip('0') or '0'), rest))
     return found
 
 
@@ -89,7 +92,11 @@ def renumbered(parts: list) -> list:
 
 
 def scenario_of(bay: bytes, logic: bytes, trace: bytes) -> bytes:
-    """The octets of a scenario, of the octets of its parts."""
+    """The octets of a scenario, of the octets of its parts. A line %% in a comment of the program,
+    at which a scenario would be parted, has a blank before it."""
+    if SPLIT.search(bay):
+        raise BadTrace('the bay file: a line %% in it would part a scenario')
+    logic = SPLIT.sub(b' %%', logic)
     return b''.join(part if part.endswith(b'\n') else part + b'\n'
                     for part in (bay, b'%%', logic, b'%%', trace))
 

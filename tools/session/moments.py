@@ -2,25 +2,36 @@
 that are written by hand mostly from 0."""
 import datetime
 
+from common.texts import counted
+
 EPOCH = 100_000_000_000  # a moment from here on, in 1973, is one of our days
+LAST = 253_402_300_800_000  # 10000-01-01, from which on no calendar of Python counts
 
 
 def is_clock(moment: int) -> bool:
     """Whether a moment is one of our days."""
-    return moment >= EPOCH
+    return EPOCH <= moment < LAST - 86_400_000
 
 
 def date_of(moment: int) -> datetime.datetime:
-    return datetime.datetime.fromtimestamp(moment / 1000, datetime.UTC)
+    """The date and the time of day here."""
+    return datetime.datetime.fromtimestamp(moment // 1000, datetime.UTC).astimezone()
 
 
 def day_told(moment: int) -> str:
-    return f'{date_of(moment):%Y-%m-%d} UTC'
+    """The date with what the clock here is ahead of UTC."""
+    return f'{date_of(moment):%Y-%m-%d} {zone_told(moment)}'
+
+
+def zone_told(moment: int) -> str:
+    """UTC, or how far the clock here is ahead of it or behind it."""
+    ahead = f'{date_of(moment):%z}'
+    return 'UTC' if ahead == '+0000' else f'UTC{ahead[:3]}:{ahead[3:]}'
 
 
 def clock_told(moment: int) -> str:
-    """The time of day (UTC), to the millisecond."""
-    return f'{date_of(moment // 1000 * 1000):%H:%M:%S}.{moment % 1000:03}'
+    """The time of day here, to the millisecond."""
+    return f'{date_of(moment):%H:%M:%S}.{moment % 1000:03}'
 
 
 def told(moment: int) -> str:
@@ -30,17 +41,15 @@ def told(moment: int) -> str:
 
 def warnings(moments: list, refused: int) -> list[str]:
     """What is to be said of the moments of a trace, of whose lines so many were refused since
-    their moments fall."""
+    their moments go back."""
     found = []
     clocks = sum(map(is_clock, moments))
     if clocks and clocks < len(moments):
-        found.append(f'{lines(len(moments) - clocks)} moments that do not count from 1970, as '
-                     'those of the session do: what is read of them has other times than the '
-                     'server told')
+        has = 'has a time that does' if len(moments) - clocks == 1 else 'have times that do'
+        found.append(f'{counted(len(moments) - clocks, "line")} {has} not count from 1970, as '
+                     'those of the session do, so values read back have other times than those '
+                     'that the server sent')
     if refused:
-        found.append(f'{lines(refused, "is", "are")} refused (110), since their moments fall')
-    return [f'{told}; tools/join puts the lines of traces in their order' for told in found]
-
-
-def lines(count, one='has', several='have'):
-    return f'{count} line {one}' if count == 1 else f'{count} lines {several}'
+        was = 'was' if refused == 1 else 'were'
+        found.append(f'{counted(refused, "line")} {was} refused (110) because times go back')
+    return [f'{told}; tools/join sorts the lines of traces by time' for told in found]

@@ -5,16 +5,19 @@ import subprocess
 import sys
 from dataclasses import dataclass, field
 
+from common.ending import FOUND, UNREACHED, Failed
+from common.texts import raised
+
 from .conversation import Conversation, replies_to, report_in
-from .files import BadFile, tables_of
+from .files import octets_of, tables_of
 from .words import Bay
 
 TOP = pathlib.Path(__file__).resolve().parent.parent.parent
 BAYCTL = TOP / 'crates' / 'bayctl' / 'out' / 'bayctl'
 LATEST = 4_294_967_295_999
-REASONS = {110: 'before the last event', 111: 'no such association', 112: 'already open',
-           113: 'no such switch, input or meter',
-           114: 'the moment is too large'}
+REASONS = {110: 'earlier than the last event', 111: 'no such association, or it is not open',
+           112: 'the association is open already', 113: 'no such switch, input or meter',
+           114: 'the time is too large'}
 CODES = {0: 'ended', 10: 'no TPKT', 11: 'no TPDU that may come now', 12: 'another transport class',
          13: 'a TSDU that is too long',
          20: 'no SPDU', 21: 'no value of the presentation', 22: 'a context that is not served',
@@ -22,6 +25,9 @@ CODES = {0: 'ended', 10: 'no TPKT', 11: 'no TPDU that may come now', 12: 'anothe
          25: 'too small a PDU size', 130: 'it did not read, and its queue is full',
          131: 'its connection failed'}
 
+ENDED = {'fault memory': 'memory ran out', 'fault 121': 'standard input can\'t be read (121)',
+         'fault 122': 'a write failed (122)',
+         'fault 120 line 0': 'a part of the scenario is missing (120)'}
 ENDINGS = ('end', 'abort', 'fault', 'finish', 'release')
 
 
@@ -47,15 +53,26 @@ class Replay:
 
     def __init__(self, octets, printed):
         bay, _, trace = parts_of(octets)
-        self.file = bay_file(bay)
+        self.file = tables_of(bay)
         self.bay = Bay(bay)
         self.report, *lines = printed.splitlines()
         self.lines = [line.split(' ') for line in reversed(lines)]
         self.trace, self.last, self.ending = trace, 0, ''
         self.conversations = {}
-        self.known = {'contact': {s['id'].upper() for s in self.file['switch']},
-                      'input': {i['name'].upper() for i in self.file.get('input', [])},
-                      'measure': {m['id'].upper() for m in self.file.get('meter', [])}}
+        self.known = {'contact': {raised(s['id']) for s in self.file['switch']},
+                      'input': {raised(i['name']) for i in self.file.get('input', [])},
+                      'measure': {raised(m['id']) for m in self.file.get('meter', [])}}
+
+    def ending_told(self) -> str:
+        """How the replay ended where that was early: what happened, and where."""
+        if not self.ending:
+            return ''
+        at = re.fullmatch(r'fault 120 line (\d+)', self.ending)
+        if at and 0 < int(at[1]) <= len(self.trace):
+            line = self.trace[int(at[1]) - 1]
+            shown = line if len(line) < 60 else line[:57] + '...'
+            return f'the replay ends at line {at[1]} of the trace, which can\'t be read (120): {shown}'
+        return f'the replay ends early: {ENDED.get(self.ending, self.ending)}'
 
     def steps(self):
         """Each line of the trace in turn, up to that at which the replay ended."""
@@ -77,8 +94,8 @@ class Replay:
         try:
             return self.step(number, line)
         except (ValueError, LookupError):
-            sys.exit(f'line {number} of the trace can\'t be read, or the report is not that of '
-                     'this scenario')
+            raise Failed(f'line {number} of the trace: it can\'t be read, or the report is not that '
+                         'of this scenario') from None
 
     def step(self, number, line):
         first, *words = line.split(' ')
@@ -86,7 +103,8 @@ class Replay:
         code = self.refusal(step)
         if code is not None:
             if not self.lines or self.lines.pop()[1:] != ['refused', str(code)]:
-                sys.exit(f'line {number} of the trace: bayctl answers otherwise than {code}')
+                raise Failed(f'line {number} of the trace: {code} is due, and bayctl answers '
+                             'something else')
             step.refused = code
             return step
         self.last = step.moment
@@ -105,7 +123,7 @@ class Replay:
             if not 1 <= place <= 8 or (verb != 'open' and place not in self.conversations):
                 return 111
             return 112 if verb == 'open' and place in self.conversations else None
-        return 113 if verb in self.known and rest[0].upper() not in self.known[verb] else None
+        return 113 if verb in self.known and raised(rest[0]) not in self.known[verb] else None
 
     def take(self, step):
         """What was printed for an accepted event."""
@@ -157,39 +175,34 @@ def parts_of(octets):
     text = octets.decode('utf-8', 'backslashreplace')
     parts = re.split(r'(?m)^%%\r?(?:\n|\Z)', text, maxsplit=2)
     if len(parts) < 3:
-        sys.exit('a part of the scenario is missing')
+        raise Failed('the scenario: a part is missing; two lines %% stand between its parts')
     lines = [line.removesuffix('\r') for line in parts[2].split('\n')]
     return parts[0].removeprefix('\ufeff'), parts[1], lines
 
 
-def bay_file(text):
-    """The tables of a bay file; a tool ends where it can't be read."""
-    try:
-        return tables_of(text)
-    except BadFile as error:
-        sys.exit(str(error))
-
-
-def not_run(error):
+def not_run(error: OSError) -> Failed:
     """Why a program was not run, and where bayctl comes from."""
-    return (f'{error.filename}: {error.strerror}; `rt run` in crates/bayctl builds bayctl, and '
-            '--bayctl names another')
+    return Failed(f'{error.filename}: {error.strerror}; `rt run` in crates/bayctl builds bayctl, '
+                  'and --bayctl names another')
 
 
-def not_loaded(printed, status=0):
-    """What is said where bayctl printed no line of a load."""
-    said = printed.rstrip('\n') or f'bayctl printed nothing, and ended with status {status}'
-    return said + (' (tools/diagnose tells why)' if said.startswith('load refused ') else '')
+class NotLoaded(Failed):
+    """bayctl printed no line of a load: it refuses the load, or something else went wrong."""
+
+    def __init__(self, printed: str, status: int = 0) -> None:
+        said = printed.rstrip('\n') or f'bayctl printed nothing, and ended with status {status}'
+        is_refusal = said.startswith('load refused ')
+        super().__init__(said + (' (tools/diagnose tells why)' if is_refusal else ''))
+        self.status = FOUND if is_refusal else UNREACHED
 
 
-def replayed(octets, bayctl, report=None):
+def replayed(octets: bytes | None, bayctl, report=None) -> tuple[str, int]:
     """What bayctl prints for a scenario: the report in a file, or a run of the program."""
+    if report:
+        found = sys.stdin.buffer.read() if str(report) == '-' else octets_of(report)
+        return found.decode('utf-8', 'backslashreplace'), 0
     try:
-        if report:
-            if str(report) == '-':
-                return sys.stdin.read(), 0
-            return pathlib.Path(report).read_text(encoding='utf-8'), 0
         run = subprocess.run([bayctl, 'replay'], input=octets, stdout=subprocess.PIPE)
     except OSError as error:
-        sys.exit(str(error) if report else not_run(error))
-    return run.stdout.decode(), run.returncode
+        raise not_run(error) from None
+    return run.stdout.decode('utf-8', 'backslashreplace'), run.returncode

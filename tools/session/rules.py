@@ -11,27 +11,50 @@ state of the bay.
 
 A condition is made with and, or, not and parentheses of: a switch and its positions (intermediate,
 off, on, bad; several with |; `not` before them), an input alone, or an input or a measure and its
-values (`M1_AA 0|5`). `is` may stand before positions and values. Names are compared as upper case,
-and # begins a comment. `look` says which values a switch, an input or a measure goes through: all
-positions, 0 and 1, and of a measure 0 alone, where nothing is said.
+values (`M1_AA 0|5`). `is` may stand before positions and values. Case does not matter in names, and
+# begins a comment. Where a switch and an input have one name, positions mean the switch. `look` says
+which values a switch, an input or a measure goes through: all positions, 0 and 1, and of a measure
+0 alone, where nothing is said.
 
 `never .. until C for T` forbids a release until C has held without a break for the time T, and
 `always .. after C for T` demands it from then on; `when` says in which combinations that is asked.
 A time is a number with a unit (d, h, m, s, ms), or several of them: 10s, 1m30s, 500ms."""
 import re
+from collections.abc import Callable, Iterator
 from dataclasses import dataclass, field
-from typing import Callable
+
+from common.ending import CalledWrong, Failed
+from common.texts import raised
 
 POSITIONS = {'INTERMEDIATE': 0, 'OFF': 1, 'ON': 2, 'BAD': 3}
 TRUTHS = {'FALSE': 0, 'TRUE': 1}
 WAYS = {'OPEN': 0, 'CLOSE': 1}
-KNOWN = {**POSITIONS, **TRUTHS}
+SWITCH, INPUT, MEASURE = 'switch', 'input', 'measure'
+WANTED = {SWITCH: 'intermediate, off, on or bad', INPUT: '0, 1, FALSE or TRUE',
+          MEASURE: 'a whole number of 32 bits'}
 WORDS = {'WHEN', 'AND', 'OR', 'NOT', 'IS', 'FOR', '(', ')', '|'}
+DEEPEST = 50
 UNITS = {'D': 86_400_000, 'H': 3_600_000, 'M': 60_000, 'S': 1000, 'MS': 1}
 
 
-class BadRule(Exception):
+class BadRule(Failed):
     """A rule that can't be read."""
+
+
+class BadOption(CalledWrong):
+    """A value of the command line that can't be read."""
+
+
+def value_of(kind: str, word: str) -> int | None:
+    """The value that a word is of a switch, an input or a measure, or None."""
+    word = raised(word)
+    if kind == SWITCH:
+        return POSITIONS.get(word)
+    if kind == INPUT:
+        return TRUTHS.get(word, {'0': 0, '1': 1}.get(word))
+    number = re.fullmatch(r'(-?)0*([0-9]{1,10})', word, re.ASCII)
+    value = int(number[1] + number[2]) if number else None
+    return value if value is not None and -2 ** 31 <= value < 2 ** 31 else None
 
 
 @dataclass
@@ -63,21 +86,22 @@ class Rule:
 
 
 class Reader:
-    """Reads one rule, word by word. `names` are those that its conditions name."""
+    """Reads one rule, word by word. `names` are those that its conditions name, each with its kind:
+    (switch, QA1). `known` are those of the bay."""
 
-    def __init__(self, text, switches, others):
-        self.switches, self.others, self.names = switches, others, set()
+    def __init__(self, text: str, known: set) -> None:
+        self.known, self.names, self.depth = known, set(), 0
         self.words = re.findall(r'[A-Za-z0-9_\-]+|\S', text)
 
     def peek(self):
-        return self.words[0].upper() if self.words else ''
+        return raised(self.words[0]) if self.words else ''
 
     def take(self, *wanted):
         """The next word, where it is one of these, or any if none are given."""
         if not self.words or (wanted and self.peek() not in wanted):
             told = ' or '.join(wanted).lower() or 'a word'
             raise BadRule(f'{told} is wanted, not {self.words[0] if self.words else "the end"}')
-        return self.words.pop(0).upper()
+        return raised(self.words.pop(0))
 
     def may_take(self, word):
         return bool(self.words) and self.peek() == word and bool(self.words.pop(0))
@@ -85,7 +109,7 @@ class Reader:
     def rule(self, line, text):
         wanted = self.take('NEVER', 'ALWAYS') == 'ALWAYS'
         switch = self.take()
-        if switch not in self.switches:
+        if (SWITCH, switch) not in self.known:
             raise BadRule(f'{switch} is no switch of the bay')
         ways = self.several(lambda: WAYS[self.take(*WAYS)])
         since = self.since('AFTER' if wanted else 'UNTIL')
@@ -123,59 +147,66 @@ class Reader:
         return lambda state: all(part(state) for part in parts)
 
     def one(self):
+        self.depth += 1
+        if self.depth > DEEPEST:
+            raise BadRule(f'more than {DEEPEST} `not` and parentheses stand within each other')
         if self.may_take('NOT'):
-            part = self.one()
-            return lambda state: not part(state)
-        if self.may_take('('):
+            part = negated(self.one())
+        elif self.may_take('('):
             part = self.any_of()
             self.take(')')
-            return part
-        return self.fact()
+        else:
+            part = self.fact()
+        self.depth -= 1
+        return part
 
     def fact(self):
         """A name and its values."""
         name = self.take()
-        if name not in self.switches and name not in self.others:
+        kinds = [kind for kind in WANTED if (kind, name) in self.known]
+        if not kinds:
             raise BadRule(f'{name} is no switch, input or measure of the bay')
-        self.names.add(name)
         told = self.may_take('IS')
         negated = self.may_take('NOT')
         is_alone = not told and not negated and (not self.words or self.peek() in WORDS)
-        if name not in self.switches and is_alone:
-            return lambda state: state[name] != 0
-        values = self.several(lambda: self.value(name))
-        return lambda state: (state[name] in values) != negated
+        alone = next((kind for kind in kinds if kind != SWITCH), None) if is_alone else None
+        if alone:
+            return self.named((alone, name), lambda value: value != 0)
+        key = next(((kind, name) for kind in kinds if value_of(kind, self.peek()) is not None),
+                   (kinds[0], name))
+        values = self.several(lambda: self.value(key))
+        return self.named(key, lambda value: (value in values) != negated)
 
-    def value(self, name):
-        if name in self.switches:
-            return POSITIONS[self.take(*POSITIONS)]
-        word = self.take()
-        if word in TRUTHS:
-            return TRUTHS[word]
-        if not re.fullmatch(r'-?\d+', word):
-            raise BadRule(f'{word} is no value')
-        return int(word)
+    def named(self, key, holds):
+        """A condition on the value of one thing."""
+        self.names.add(key)
+        return lambda state: holds(state[key])
+
+    def value(self, key):
+        word = self.words[0] if self.words else 'the end'
+        value = value_of(key[0], self.peek())
+        if value is None:
+            raise BadRule(f'{word} is no value of the {key[0]} {key[1]}: {WANTED[key[0]]} is '
+                          'wanted')
+        self.take()
+        return value
+
+
+def negated(condition: Callable) -> Callable:
+    return lambda state: not condition(state)
 
 
 def time_of(word: str) -> int:
     """The milliseconds of a time."""
-    if not re.fullmatch(r'(\d+(MS|[DHMS]))+', word):
+    if not re.fullmatch(r'([0-9]{1,20}(MS|[DHMS]))+', word):
         raise BadRule(f'{word.lower()} is no time: 5s, 1m30s or 500ms is wanted')
-    time = sum(int(number) * UNITS[unit] for number, unit in re.findall(r'(\d+)(MS|[DHMS])', word))
+    time = sum(int(number) * UNITS[unit] for number, unit in re.findall(r'([0-9]+)(MS|[DHMS])', word))
     if not 0 < time < 2 ** 31:
         raise BadRule(f'{word.lower()} is no time that a timer has')
     return time
 
 
-def values_of(text):
-    """Values parted by |, or None where they can't be read."""
-    try:
-        return [KNOWN[word] if word in KNOWN else int(word) for word in text.upper().split('|')]
-    except ValueError:
-        return None
-
-
-def lines_of(text):
+def lines_of(text: str) -> Iterator[tuple[int, str]]:
     """The lines that say something, each with its number, without comments and with single
     blanks."""
     for number, line in enumerate(text.split('\n'), 1):
@@ -184,37 +215,81 @@ def lines_of(text):
             yield number, rule
 
 
-def read_looks(text: str) -> dict:
-    """The values of names that a text tells to look at."""
-    looks = {}
-    for number, line in lines_of(text):
-        verb, *rest = line.split(' ')
-        if verb.upper() == 'LOOK':
-            values = values_of(rest[1]) if len(rest) == 2 else None
-            if values is None:
-                raise BadRule(f'line {number}: look NAME VALUE|VALUE is wanted')
-            looks[rest[0].upper()] = values
-    return looks
+@dataclass
+class Look:
+    """The values that a name is to go through, as they are written; `where` is the line or the
+    option that says so, and `kinds` are those that may be meant."""
+    name: str
+    words: list
+    where: str
+    kinds: tuple = tuple(WANTED)
+
+    def told(self, known: set) -> tuple[tuple, list]:
+        """The thing that is meant, and its values."""
+        kinds = [kind for kind in self.kinds if (kind, self.name) in known]
+        if not kinds:
+            others = [kind for kind in WANTED if (kind, self.name) in known]
+            raise self.wrong(f'{self.name} is a {others[0]}' if others else
+                             f'{self.name} is not in the bay')
+        for kind in kinds:
+            values = [value_of(kind, word) for word in self.words]
+            if None not in values:
+                break
+        else:
+            word = self.words[values.index(None)] or 'nothing'
+            raise self.wrong(f'{word} is no value of the {kind} {self.name}: {WANTED[kind]} is '
+                             'wanted')
+        twice = next((word for at, word in enumerate(self.words) if values[at] in values[:at]), '')
+        if twice:
+            raise self.wrong(f'{twice} stands twice')
+        return (kind, self.name), values
+
+    def wrong(self, told: str) -> Failed:
+        kind = BadOption if self.where.startswith('--') else BadRule
+        return kind(f'{self.where}: {told}')
 
 
-def held(option: str | None) -> dict:
-    """The values of names that an option holds: NAME=VALUE|VALUE, parted by commas."""
-    found = {}
-    for part in filter(None, (option or '').split(',')):
-        name, _, values = part.partition('=')
-        found[name.upper()] = values_of(values)
-        if found[name.upper()] is None:
-            raise BadRule(f'{part}: NAME=VALUE|VALUE is wanted')
+def looked_at(looks: list[Look], known: set) -> dict:
+    """The values of the things that looks tell of, by kind and name. A name has one look."""
+    found, first = {}, {}
+    for look in looks:
+        key, values = look.told(known)
+        if key in found:
+            raise look.wrong(f'{look.name} stands in {first[key].where} already')
+        found[key], first[key] = values, look
     return found
 
 
-def read_rules(text: str, switches: list, others: list) -> list[Rule]:
-    """The rules of a text, for the names of switches and of what else a bay has, in upper case."""
+def read_looks(text: str) -> list[Look]:
+    """What a text tells to look at."""
+    looks = []
+    for number, line in lines_of(text):
+        verb, *rest = line.split(' ')
+        if raised(verb) == 'LOOK':
+            if len(rest) != 2:
+                raise BadRule(f'line {number}: look NAME VALUE|VALUE is wanted')
+            looks.append(Look(raised(rest[0]), rest[1].split('|'), f'line {number}'))
+    return looks
+
+
+def held(option: str, text: str | None, kind: str) -> list[Look]:
+    """What an option holds: NAME=VALUE|VALUE, parted by commas, of things of one kind."""
+    looks = []
+    for part in filter(None, (text or '').split(',')):
+        name, sign, values = part.partition('=')
+        if not sign:
+            raise BadOption(f'{option} {part}: NAME=VALUE|VALUE is wanted')
+        looks.append(Look(raised(name.strip()), values.split('|'), f'{option} {part}', (kind,)))
+    return looks
+
+
+def read_rules(text: str, known: set) -> list[Rule]:
+    """The rules of a text, for the things of a bay, each as its kind and its name in upper case."""
     rules = []
     for number, line in lines_of(text):
-        if line.split(' ')[0].upper() != 'LOOK':
+        if raised(line.split(' ')[0]) != 'LOOK':
             try:
-                rules.append(Reader(line, switches, others).rule(number, line))
+                rules.append(Reader(line, known).rule(number, line))
             except BadRule as error:
                 raise BadRule(f'line {number}: {error}') from None
     return rules

@@ -8,9 +8,12 @@ from unittest import mock
 TOOLS = pathlib.Path(__file__).resolve().parent.parent
 sys.path.insert(0, str(TOOLS))
 from auditing import judging, matrix, program
-from auditing.bay import bay_of
+from auditing.bay import bay_of, keys_of
 from auditing.report import Report
-from session.rules import BadRule, read_looks, read_rules, time_of
+from common.ending import CalledWrong, Failed
+from session.rules import (INPUT, MEASURE, SWITCH, BadOption, BadRule, Look, held, looked_at,
+                           read_looks, read_rules, time_of, value_of)
+from tests.tool import Tools
 
 FILE = {'bay': {'domain': 'E1', 'vendor': 'V', 'model': 'M', 'revision': '1'},
         'switch': [{'id': 'QA1', 'kind': 'breaker'}, {'id': 'QC1', 'kind': 'earthing'}],
@@ -67,14 +70,29 @@ class Pulse(Interlocking):
         return {**found, 'QC1': (False, is_new)}
 
 
-def audited(rules, time=5000, logic=LOGIC, kind=Interlocking):
-    found = program.read(logic)
-    read = read_rules(rules, ['QA1', 'QC1'], ['VT_DEAD', 'SPARE', 'M1_AA'])
-    named = {name for rule in read for name in rule.names}
-    bay = bay_of(FILE, ('bay', logic), found, read_looks(rules), named)
+class Held(Interlocking):
+    """QC1 may be closed 5 s behind VT_DEAD, but at once where QA1 was closed as VT_DEAD began."""
+
+    last = was_closed = False
+
+    def scan(self, moment):
+        if self.values['VT_DEAD'] and self.since is None:
+            self.was_closed = self.last
+        found, self.last = super().scan(moment), self.values['QA1'] == 2
+        if self.since is not None and self.was_closed:
+            found['QC1'] = (False, True)
+        return found
+
+
+def audited(rules, time=5000, logic=LOGIC, kind=Interlocking, pause=None, file=FILE, given=()):
+    found, known = program.read(logic), keys_of(file)
+    read = read_rules(rules, known)
+    named = {key for rule in read for key in rule.names}
+    looks = looked_at(read_looks(rules), known) | looked_at(list(given), known)
+    bay = bay_of(file, ('bay', logic), found, looks, named)
     with mock.patch('auditing.judging.scans_of', kind(time).scans), \
             mock.patch('sys.stderr'):
-        return judging.audit(bay, read, None)
+        return judging.audit(bay, read, None, pause)
 
 
 def verdicts(rules, time=5000):
@@ -116,7 +134,68 @@ class Rules(unittest.TestCase):
         for rule in ('never QC1 close after VT_DEAD for 5s', 'never QC1 close until VT_DEAD',
                      'always QC1 close until VT_DEAD for 5s', 'never QC1 close until VT_DEAD for'):
             with self.assertRaises(BadRule):
-                read_rules(rule, ['QC1'], ['VT_DEAD'])
+                read_rules(rule, {(SWITCH, 'QC1'), (INPUT, 'VT_DEAD')})
+
+    def test_parentheses_that_are_too_deep(self):
+        for text in ('(' * 400 + 'VT_DEAD' + ')' * 400, 'not ' * 400 + 'VT_DEAD'):
+            with self.assertRaisesRegex(BadRule, 'within each other'):
+                read_rules(f'never QC1 close when {text}', {(SWITCH, 'QC1'), (INPUT, 'VT_DEAD')})
+
+
+class Values(unittest.TestCase):
+    """The words that a value has: of a switch positions, of an input truths."""
+    KNOWN = keys_of(FILE)
+
+    def looks(self, text):
+        return looked_at(read_looks(text), self.KNOWN)
+
+    def test_words(self):
+        self.assertEqual([value_of(SWITCH, it) for it in ('off', 'ON', 'TRUE', '1')],
+                         [1, 2, None, None])
+        self.assertEqual([value_of(INPUT, it) for it in ('0', '1', 'TRUE', 'false', 'off', '2')],
+                         [0, 1, 1, 0, None, None])
+        self.assertEqual([value_of(MEASURE, it) for it in ('-5', '007', '2147483648', '9' * 5000,
+                                                           'off')], [-5, 7, None, None, None])
+
+    def test_an_input_has_no_position(self):
+        with self.assertRaisesRegex(BadRule, 'line 1: off is no value of the input SPARE'):
+            self.looks('look SPARE off')
+        with self.assertRaisesRegex(BadOption, '--inputs SPARE=off: off is no value of the input'):
+            looked_at(held('--inputs', 'SPARE=off', INPUT), self.KNOWN)
+        with self.assertRaisesRegex(BadRule, 'off is no value of the input'):
+            read_rules('never QC1 close when SPARE off', self.KNOWN)
+
+    def test_a_switch_has_no_truth(self):
+        with self.assertRaisesRegex(BadRule, 'TRUE is no value of the switch QA1'):
+            self.looks('look QA1 TRUE')
+
+    def test_a_second_look_of_a_name(self):
+        with self.assertRaisesRegex(BadRule, 'line 2: QA1 stands in line 1 already'):
+            self.looks('look QA1 off\nlook qa1 on')
+
+    def test_a_value_that_is_given_twice(self):
+        with self.assertRaisesRegex(BadRule, 'FALSE stands twice'):
+            self.looks('look SPARE 0|FALSE')
+
+    def test_options_are_for_things_of_their_kind(self):
+        for option, text, told in (('--inputs', 'QA1=off', 'QA1 is a switch'),
+                                   ('--switches', 'QA1=offf', 'offf is no value of the switch'),
+                                   ('--switches', 'QA1', 'NAME=VALUE|VALUE is wanted'),
+                                   ('--measures', 'M9_AA=0', 'M9_AA is not in the bay')):
+            kind = {'--inputs': INPUT, '--switches': SWITCH, '--measures': MEASURE}[option]
+            with self.assertRaisesRegex(BadOption, re.escape(f'{option} {text}: {told}')):
+                looked_at(held(option, text, kind), self.KNOWN)
+
+    def test_a_switch_and_an_input_of_one_name(self):
+        file = {**FILE, 'input': [{'name': 'QA1'}, {'name': 'VT_DEAD'}]}
+        logic = LOGIC.replace('QA1_OPEN, ', 'QA1_OPEN, QA1, ').replace('LD t1.Q', 'LD QA1')
+        read = read_rules('never QC1 close when QA1 not off and QA1\n', keys_of(file))
+        self.assertEqual(read[0].names, {(SWITCH, 'QA1'), (INPUT, 'QA1')})
+        found = audited('never QC1 close when QA1 not off and QA1\n', file=file, logic=logic)
+        self.assertEqual((found.bay.count(), found.findings[0].looked), (16, 6))
+        looks = looked_at([Look('QA1', ['off'], 'line 1'), Look('QA1', ['1'], 'line 2')],
+                          keys_of(file))
+        self.assertEqual(looks, {(SWITCH, 'QA1'): [1], (INPUT, 'QA1'): [1]})
 
 
 class Audits(unittest.TestCase):
@@ -133,12 +212,47 @@ class Audits(unittest.TestCase):
         self.assertEqual(verdicts('always QA1 open\nnever QC1 close when not VT_DEAD\n'
                                   'always QC1 close when VT_DEAD and QA1 off\n'), ['holds'] * 3)
         self.assertEqual(verdicts('never QA1 open\nalways QC1 close\n'), ['BROKEN'] * 2)
-        self.assertEqual(verdicts('never QA1 open when M1_AA 7\n'), ['not asked'])
+        self.assertEqual(verdicts('never QA1 open when M1_AA 7\n'), ['never applies'])
 
-    def test_what_is_not_passed(self):
-        self.assertTrue(audited('always QA1 open\n').is_passed())
-        for rules in ('# nothing\n', 'always QA1 open\nnever QA1 open when M1_AA 7\n'):
-            self.assertFalse(audited(rules).is_passed())
+    def test_statuses_and_verdicts(self):
+        for rules, status, told in (
+                ('always QA1 open\n', 0, 'PASSED: the rule holds.'),
+                ('# nothing\n', 4, 'NOTHING AUDITED: there are no rules.'),
+                ('always QA1 open\nnever QA1 open when M1_AA 7\n', 4,
+                 'NOT ALL WAS TRIED: of 2 rules 1 never applies.'),
+                ('never QA1 open\nalways QA1 open when M1_AA 7\n', 1,
+                 'NOT PASSED: of 2 rules 1 broken, and 1 never applies.'),
+                ('look QA1 off\nalways QA1 open\n', 4,
+                 'NOT ALL WAS TRIED: the rule holds; QA1 was tried only off.'),
+                ('look M1_AA 0|5\nalways QA1 open\n', 0, 'PASSED: the rule holds.')):
+            found = audited(rules)
+            self.assertEqual((found.status(), found.verdict()), (status, told))
+
+    def test_a_pause_that_is_too_short(self):
+        for pause in (1, 4999, 5000):
+            with self.assertRaisesRegex(CalledWrong, f'--pause {pause}: it must be more than 5,000'):
+                audited(AFTER, pause=pause)
+        self.assertEqual(audited(AFTER, pause=5001).findings[0].verdict(), 'holds')
+
+    def test_each_state_before_is_tried(self):
+        rule = 'never QC1 close until VT_DEAD for 5s when QA1 off\n'
+        found, = audited(rule, kind=Held).findings
+        self.assertEqual(found.verdict(), 'BROKEN')
+        self.assertIn('contact QA1 2', '\n'.join(found.lines))
+        nearest = 'never QC1 close until VT_DEAD for 5s when M1_AA 0\n'
+        self.assertEqual(audited(nearest, kind=Held).findings[0].verdict(), 'BROKEN')
+
+    def test_too_many_states_before(self):
+        with mock.patch('auditing.judging.PAIRS', 3):
+            found = audited('never QC1 close until VT_DEAD for 5s when QA1 off\n')
+        self.assertIn('the rule of line 1 was tried from', found.verdict())
+        self.assertEqual(found.status(), 4)
+
+    def test_a_line_that_parts_a_scenario_in_a_comment(self):
+        bay = audited('always QA1 open', logic='(* a\n%%\n*)\n' + LOGIC).bay
+        parts = bay.scenario(['0 scan']).split(b'\n%%\n')
+        self.assertEqual(len(parts), 3)
+        self.assertIn(b'\n %%\n', parts[1])
 
     def test_never_is_to_hold_at_each_scan(self):
         found, = audited('never QC1 close when VT_DEAD\n', kind=Pulse).findings
@@ -164,13 +278,12 @@ class Audits(unittest.TestCase):
 
     def test_times_that_are_too_long(self):
         rule = 'never QC1 close until VT_DEAD for 24d\n'
-        with mock.patch('auditing.replaying.print') as told, self.assertRaises(SystemExit):
+        with self.assertRaisesRegex(Failed, 'more than a trace has times for'):
             audited('look M1_AA ' + '|'.join(map(str, range(600))) + '\n' + rule)
-        self.assertIn('more than a trace has moments for', told.call_args[0][0])
 
     def test_a_condition_that_never_begins(self):
         self.assertEqual(verdicts('always QC1 close after VT_DEAD or not VT_DEAD for 5s\n'),
-                         ['not asked'])
+                         ['never applies'])
 
     def test_the_scenario_that_breaks_a_time(self):
         found = audited(UNTIL, 0).findings[0]
@@ -205,7 +318,7 @@ class Pictures(unittest.TestCase):
     def test_the_report_is_whole(self):
         files = {'Rules': ('rules <&>', b'always QA1 open')}
         page = Report(audited('always QA1 open'), files, __file__, 0).page()
-        for told in ('PASSED: all 1 rules hold', 'rules &lt;&amp;&gt;', '1970-01-01 00:00:00 UTC',
+        for told in ('PASSED: the rule holds', 'rules &lt;&amp;&gt;', '1970-01-01 00:00:00 UTC',
                      'timers are not audited', 'QA1 off and VT_DEAD', 'Signature', 'SPARE'):
             self.assertIn(told, page)
         self.assertIsNone(re.search(r'(src|href)=', page), 'it needs no other file')
@@ -214,8 +327,59 @@ class Pictures(unittest.TestCase):
 
     def test_a_report_of_what_is_broken(self):
         page = Report(audited('never QA1 open\n'), {}, __file__, 0).page()
-        self.assertIn('NOT PASSED: of 1 rules 1 broken.', page)
+        self.assertIn('NOT PASSED: of 1 rule 1 broken.', page)
         self.assertIn('first by QA1 intermediate', page)
+
+
+class Asked(Tools):
+    """The tool itself, without a bayctl."""
+
+    def words(self, rules='always QA1 open\n'):
+        bay = '[bay]\ndomain = "B"\nvendor = "V"\nmodel = "M"\nrevision = "1"\n' + (
+            '[[switch]]\nid = "QA1"\nkind = "breaker"\n')
+        return [self.file('bay', bay), self.file('logic', 'PROGRAM p\nEND_PROGRAM\n'),
+                self.file('rules', rules)]
+
+    def test_what_can_not_be_written_is_told_first(self):
+        for option in ('--report', '--table', '--scenarios'):
+            found = self.run_tool('audit', *self.words(), option, 'none/it', '--bayctl', 'none')
+            self.assertIn('none/it', found.error)
+            self.assertIn('there is no folder none', found.error)
+            self.assertEqual((found.out, found.status), ('', 3))
+
+    def test_an_option_that_is_wrong_names_itself(self):
+        found = self.run_tool('audit', *self.words(), '--switches', 'QA1=offf')
+        self.assertEqual(found.error, 'audit: --switches QA1=offf: offf is no value of the switch '
+                         'QA1: intermediate, off, on or bad is wanted\n')
+        self.assertEqual(found.status, 2)
+
+    def test_rules_that_can_not_be_read(self):
+        found = self.run_tool('audit', *self.words('never QX open\n'))
+        self.assertIn('rules: line 1: QX is no switch of the bay', found.error)
+        self.assertEqual((found.out, found.status), ('', 3))
+        marked = self.run_tool('audit', *self.words('\ufeffnever QX open\n'))
+        self.assertEqual(marked.error, found.error)
+
+    def test_old_scenarios_go(self):
+        for name in ('broken_7.scenario', 'broken_x.scenario'):
+            self.file(name, '')
+        scans = 'instructions=0 depth=0 budget=0\n' + '0 scan steps=0 QA1=10\n' * 2
+        found = self.run_tool('audit', *self.words(), '--bayctl', self.bayctl(scans))
+        self.assertEqual((found.out.splitlines()[0], found.status),
+                         ('holds in 1 combination: always QA1 open', 0))
+        self.assertEqual([path.name for path in self.folder.glob('broken*')],
+                         ['broken_x.scenario'])
+
+    def test_statuses(self):
+        for rules, digits, status in (('always QA1 open\n', '10', 0), ('never QA1 open\n', '10', 1),
+                                      ('', '10', 4)):
+            scans = 'instructions=0 depth=0 budget=0\n' + f'0 scan steps=0 QA1={digits}\n' * 2
+            found = self.run_tool('audit', *self.words(rules), '--bayctl', self.bayctl(scans))
+            self.assertEqual(found.status, status, found)
+        found = self.run_tool('audit', *self.words(), '--bayctl',
+                              self.bayctl('load refused 53\n', 1))
+        self.assertEqual((found.status, found.error.splitlines()[-1]),
+                         (3, 'audit: load refused 53 (tools/diagnose tells why)'))
 
 
 if __name__ == '__main__':

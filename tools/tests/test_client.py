@@ -40,7 +40,7 @@ class Files(unittest.TestCase):
         with tempfile.NamedTemporaryFile() as file:
             file.write(b'\xff')
             file.flush()
-            with self.assertRaisesRegex(BadFile, 'is no bay file: it is not UTF-8'):
+            with self.assertRaisesRegex(BadFile, 'is no bay file: octet FF of line 1 is no UTF-8'):
                 bay_at(file.name)
 
 

@@ -1,4 +1,5 @@
-"""What tools/diagnose finds by itself: names and calls of a program, lines of a trace."""
+"""What tools/diagnose finds by itself: names and calls of a program, mistakes of a bay file, lines of
+a trace, and what it warns of."""
 import pathlib
 import sys
 import tomllib
@@ -6,17 +7,165 @@ import unittest
 
 TOOLS = pathlib.Path(__file__).resolve().parent.parent
 sys.path.insert(0, str(TOOLS))
-from diagnosis import lines, trace
+from diagnosis import bay, lines, program, tokens, trace
+from diagnosis.warnings import warnings
+from tests.tool import Tools
 
 EXAMPLES = sorted((TOOLS.parent / 'examples').glob('*/bay.toml'))
 BAY = {'switch': [{'id': 'QA1'}], 'input': [{'name': 'ES'}], 'meter': [{'id': 'M1'}]}
 HEAD = 'PROGRAM p\nVAR\n    {}\nEND_VAR\n'
+FILE = '''[bay]
+domain = "B"
+vendor = "V"
+model = "M"
+revision = "1"
+scan_max_age_ms = 1000
+''' + ''.join(f'''[[switch]]
+id = "{name}"
+kind = "earthing"
+control = "direct"
+travel_ms = 500
+''' for name in ('QC2', 'QC9'))
+ASKED = '''PROGRAM p
+VAR_EXTERNAL
+    QC2_ENA_CLS : BOOL;
+END_VAR
+    LD TRUE
+    ST {}
+END_PROGRAM
+'''
 
 
-def line_told(text):
+def line_told(text, is_replay=False):
     """Why a line of a trace is not taken."""
-    found = list(trace.troubles(text if isinstance(text, bytes) else text.encode(), BAY))
-    return [(it.line, it.code, it.told) for it in found]
+    octets = text if isinstance(text, bytes) else text.encode()
+    return [(it.line, it.code, it.told) for it in trace.troubles(octets, BAY, is_replay)]
+
+
+def first_told(text):
+    """Why a bay file is refused: the number, the words and the remedy."""
+    found = bay.refusals(text if isinstance(text, bytes) else text.encode())
+    return (found[0].code, found[0].place.told, found[0].place.mend) if found else None
+
+
+def warned(text, file=FILE):
+    found = warnings(text, bay.bay_points(file.encode()), tomllib.loads(file)['switch'])
+    return [it.told for it in found]
+
+
+class Names(Tools):
+    """A name that is unknown: no other switch is ever suggested."""
+
+    def told(self, name):
+        points = bay.bay_points(FILE.encode())
+        fault = program.faults_of(ASKED.format(name), points)[0]
+        return fault.told, fault.mend
+
+    def test_a_point_that_was_forgotten(self):
+        told, mend = self.told('QC9_ENA_CLS')
+        self.assertEqual(told, 'QC9_ENA_CLS is a point of the bay, and not declared')
+        self.assertEqual(mend, 'add it to VAR_EXTERNAL: QC9_ENA_CLS : BOOL;')
+
+    def test_a_switch_that_is_not_there(self):
+        self.assertEqual(self.told('QC8_ENA_CLS')[0],
+                         'QC8_ENA_CLS is not declared: the bay has no switch QC8')
+
+    def test_a_point_that_is_misspelled(self):
+        self.assertEqual(self.told('QC9_ENA_CSL')[0],
+                         'QC9_ENA_CSL is not declared; is QC9_ENA_CLS meant?')
+
+    def test_an_external_that_is_not_there(self):
+        text = ASKED.format('QC2_ENA_CLS').replace('    QC2', '    QC7_ENA_CLS, QC2', 1)
+        fault = program.faults_of(text, bay.bay_points(FILE.encode()))[0]
+        self.assertEqual(fault.told,
+                         'the bay has no point QC7_ENA_CLS: the bay has no switch QC7')
+
+    def test_names_are_raised_as_the_device_raises_them(self):
+        self.assertEqual(tokens.Token('name', 'q\u017f1', 0).upper, 'Q\u017f1')
+        self.assertEqual(line_told('0 contact QA\u0131 1\n')[0][1], 113)
+
+    def test_the_tool_tells_the_remedy_of_this_fault_alone(self):
+        words = ['--bay', self.file('bay', FILE), '--logic',
+                 self.file('logic', ASKED.format('QC9_ENA_CLS')), '--bayctl']
+        found = self.run_tool('diagnose', *words, self.bayctl('load refused 70 line 6\n', 1))
+        self.assertEqual(found.status, 1)
+        self.assertIn('Mend: add it to VAR_EXTERNAL: QC9_ENA_CLS : BOOL;.', found.out)
+        self.assertNotIn('declare it in VAR', found.out)
+        self.assertNotIn('QC2_ENA_CLS meant', found.out)
+
+
+class Warnings(unittest.TestCase):
+    def test_a_point_that_is_hidden(self):
+        text = ASKED.replace('END_VAR', 'END_VAR\nVAR\n    QC9_ENA_CLS : BOOL;\nEND_VAR')
+        self.assertIn('QC9_ENA_CLS hides the point QC9_ENA_CLS of the bay: what is stored in it '
+                      'reaches no switch', warned(text.format('QC9_ENA_CLS')))
+
+    def test_a_comment_within_a_comment(self):
+        text = ASKED.format('QC2_ENA_CLS').replace('    LD', '    (* a (* b *) LD', 1)
+        self.assertIn('comments don\'t nest', warned(text)[0])
+        self.assertEqual(tokens.nested_comments('(* a *) (* b *)'), [])
+
+    def test_what_is_never_read_used_called_or_released(self):
+        text = ASKED.replace('END_VAR', '    QC2_POS : INT;\nEND_VAR\nVAR\n    kept : BOOL;\n'
+                             '    t1 : TON;\nEND_VAR', 1)
+        found = warned(text.format('kept'))
+        for told in ('the point QC2_POS is never used', 'kept is never read',
+                     'the timer t1 is never called', 'QC9 can never be closed: no line writes '
+                     'QC9_ENA_CLS', 'the point QC2_ENA_CLS is never used'):
+            self.assertIn(told, found)
+
+    def test_the_examples_are_warned_of_nothing_but_points(self):
+        for path in EXAMPLES:
+            file = path.read_text()
+            for told in warned((path.parent / 'logic.il').read_text(), file):
+                self.fail(f'{path.parent.name}: {told}')
+
+
+class Bays(unittest.TestCase):
+    def test_the_remedy_of_each_mistake(self):
+        two = FILE.replace('[[switch]]', '[switch]')
+        for text, code, told, mend in (
+                (FILE.partition('[[')[0] + '[switch]\nid = "QA1"\n', 53, '[[switch]] is wanted',
+                 'write [[switch]] for each switch'),
+                (two, 50, 'the section [switch] stands twice', 'write [[switch]] for each switch'),
+                (FILE + '[bay]\n', 50, 'the section [bay] stands twice', 'leave one of them out'),
+                (FILE.replace('"V"', '"V'), 50, 'this quote is not closed', 'put a quote'),
+                (FILE.replace('[bay]', '// a comment\n[bay]'), 50, 'no key begins with //',
+                 'begin a comment with #'),
+                (FILE.replace('\n', '\r'), 50, 'a carriage return', 'LF or CR LF'),
+                (FILE.encode('utf-16'), 50, 'it is UTF-16', 'save the file as UTF-8'),
+                (FILE.replace('"direct"', '"SBO-enhanced"'), 53,
+                 '"SBO-enhanced" is to be in lower case', '')):
+            found = first_told(text)
+            self.assertEqual(found[0], code, told)
+            self.assertIn(told, found[1])
+            self.assertIn(mend, found[2])
+
+    def test_the_column_at_which_a_quote_opens(self):
+        found, = bay.refusals(FILE.replace('"V"', '"V').encode())
+        self.assertEqual((found.place.line, found.place.start), (3, 9))
+        self.assertEqual(bay.open_quote('a = "b\\"" # "'), None)
+        self.assertEqual(bay.open_quote('a = \'b\' "c'), 8)
+
+    def test_more_than_the_first(self):
+        text = FILE.replace('"direct"', '"Status"').replace('"1"', '1')
+        self.assertEqual([it.code for it in bay.refusals(text.encode())], [53, 53, 53])
+        self.assertEqual([it.code for it in bay.refusals(FILE.replace(
+            'control = "direct"\n', '').encode())], [51, 51])
+
+    def test_numbers_and_lists_past_all_limits(self):
+        for value in ('9' * 5000, '[' * 3000 + ']' * 3000):
+            text = FILE.replace('1000', value)
+            self.assertEqual(bay.refusals(text.encode())[0].code, 50)
+
+    def test_two_points_of_one_name(self):
+        found = first_told(FILE.replace('QC9', 'qc2'))
+        self.assertEqual(found[1], 'two points are called QC2_POS: of switch 1 (QC2) and of switch '
+                         '2 (qc2)')
+
+    def test_the_examples(self):
+        for path in EXAMPLES:
+            self.assertEqual(bay.refusals(path.read_bytes()), [])
 
 
 class Programs(unittest.TestCase):
@@ -35,6 +184,36 @@ class Programs(unittest.TestCase):
         text = HEAD.format('t1 : TON;') + 't1(IN := a, PT := T#5s)\nEND_PROGRAM\n'
         self.assertIn('a timer is called by CAL, as CAL t1(', self.told(text, 5))
 
+    def test_the_remedy_of_each_mistake(self):
+        head = HEAD.format('a, b : BOOL;')
+        for line, told, mend in (
+                ('AND NOT a', 'NOT is an operator of its own', 'write ANDN in the place of AND NOT'),
+                ('LD NOT a', 'NOT is an operator of its own', 'write LDN in the place of LD NOT'),
+                ('ST t1.IN', 't1.IN is an input of a timer', 'give it by CAL t1(IN := a'),
+                ('VAR_INPUT', 'VAR_INPUT is no block', 'points of the bay in VAR_EXTERNAL'),
+                ('// a', 'a comment stands between (* and *)', '')):
+            found = lines.placed(head + line + '\nEND_PROGRAM\n', 5)
+            self.assertIn(told, found.told)
+            self.assertIn(mend, found.mend)
+
+    def test_carriage_returns_and_marks(self):
+        text = HEAD.format('a : BOOL;') + 'END_PROGRAM\n'
+        self.assertIn('save the file with LF or CR LF', self.told(text.replace('\n', '\r'), 1))
+        self.assertIn('save it as UTF-8 without one', self.told('\ufeff' + text, 1))
+
+    def test_numbers_of_many_digits(self):
+        for word in ('9' * 5000, 'T#' + '9' * 5000 + 's', '16#' + 'F' * 5000):
+            self.assertEqual(tokens.word_token(word, 0).kind, 'far')
+        self.assertEqual(tokens.word_token('0' * 5000 + '7', 0).literal.value, 7)
+
+    def test_what_stands_before_a_hash(self):
+        self.assertIn('3 can\'t stand before #', tokens.number_of('3#1'))
+
+    def test_more_than_the_first(self):
+        text = HEAD.format('a : BOOL;') + '    LD c\n    ST d\nEND_PROGRAM\n'
+        self.assertEqual([(it.line, it.code) for it in program.faults_of(text, None)],
+                         [(5, 70), (6, 70)])
+
 
 class Traces(unittest.TestCase):
     def test_what_is_taken(self):
@@ -47,6 +226,30 @@ class Traces(unittest.TestCase):
             (_, code, told), = line_told(line)
             self.assertEqual(code, 120)
             self.assertIn('is a line of a replay', told)
+
+    def test_a_replay(self):
+        text = ('1 scan\n2 open 1\n2 recv 1 03aB\n3 close 1\n3 open 1\n3 contact QA1 1\n'
+                '4294967295999 scan\n')
+        self.assertEqual(line_told(text, True), [])
+        for text, code in (('5 scan\n4 scan', 110), ('1 open 9', 111), ('1 recv 1 03', 111),
+                           ('1 close 1', 111), ('1 open 1\n1 open 1', 112), ('1 input E 1', 113),
+                           ('4294967296000 scan', 114), ('1 recv 1 0', 120), ('1 recv 1', 120),
+                           ('1 scan 5', 120), ('1 open x', 120), ('1 open 0', 111)):
+            found = line_told(text, True)
+            self.assertEqual([it[1] for it in found], [code], text)
+
+    def test_a_refused_line_changes_nothing(self):
+        self.assertEqual(line_told('9 input X 1\n5 scan\n', True)[1:], [])
+
+    def test_a_trace_with_a_mark_at_its_start(self):
+        (_, code, told), = line_told('\ufeff0 contact QA1 1\n')
+        self.assertEqual((code, told), (120, 'the trace begins with a byte order mark: save it as '
+                                        'UTF-8 without one'))
+
+    def test_numbers_of_many_digits(self):
+        self.assertEqual(line_told('0' * 5000 + '1 contact QA1 1'), [])
+        self.assertEqual(line_told('9' * 5000 + ' contact QA1 1')[0][1], 120)
+        self.assertEqual(line_told('1 measure M1 HZ ' + '9' * 5000)[0][1], 120)
 
     def test_names_that_are_not_there(self):
         self.assertEqual(line_told('1 contact QB1 1\n'),
@@ -68,10 +271,40 @@ class Traces(unittest.TestCase):
 
     def test_examples(self):
         for path in EXAMPLES:
-            found = list(trace.troubles((path.parent / 'trace').read_bytes(),
-                                        tomllib.loads(path.read_text())))
+            octets, file = (path.parent / 'trace').read_bytes(), tomllib.loads(path.read_text())
+            found = list(trace.troubles(octets, file))
             self.assertLessEqual({it.told.split(' ')[0] for it in found if it.code == 120},
                                  {'scan', 'open', 'recv', 'close'})
+            if trace.has_replayed(octets):
+                self.assertNotIn(120, [it.code for it in trace.troubles(octets, file, True)])
+
+
+class Asked(Tools):
+    """The tool itself, with its statuses."""
+
+    def words(self, trace_text):
+        return ['--bay', self.file('bay', FILE), '--trace', self.file('trace', trace_text),
+                '--bayctl', self.bayctl('instructions=1 depth=1 budget=1\n')]
+
+    def test_which_trace_it_is(self):
+        found = self.run_tool('diagnose', *self.words('0 scan\n'))
+        self.assertIn('then ask with --replay', found.out)
+        self.assertIn('1 line of the trace is not taken', found.out)
+        self.assertEqual(found.status, 1)
+        found = self.run_tool('diagnose', *self.words('0 scan\n'), '--replay')
+        self.assertIn('a replay takes each line of the trace', found.out)
+        self.assertEqual(found.status, 0)
+
+    def test_further_faults(self):
+        bad = self.file('bay', FILE.replace('"direct"', '"Status"'))
+        found = self.run_tool('diagnose', '--bay', bad, '--bayctl',
+                              self.bayctl('load refused 53\n', 1))
+        self.assertIn('What else was found:\n  line 15: switch 2 (QC9), key control', found.out)
+
+    def test_what_can_not_be_read(self):
+        found = self.run_tool('diagnose', '--bay', 'none', '--bayctl', self.bayctl('fault 121\n', 3))
+        self.assertEqual((found.out, found.error, found.status),
+                         ('', 'diagnose: none: No such file or directory (121)\n', 3))
 
 
 if __name__ == '__main__':

@@ -1,9 +1,10 @@
 """Moments, joined traces, and what a captured session was over time."""
+import os
 import pathlib
-import subprocess
 import sys
-import tempfile
+import time
 import unittest
+from unittest import mock
 
 TOOLS = pathlib.Path(__file__).resolve().parent.parent
 sys.path.insert(0, str(TOOLS))
@@ -12,6 +13,7 @@ from session.capture import Event
 from session.history import History
 from session.joined import BadTrace, lines_of, merged, read_lines, renumbered
 from session.words import Bay
+from tests.tool import Tools
 
 DAY = 1_795_000_000_000
 REQUEST = stream.connection_request()
@@ -19,21 +21,41 @@ RELEASE = stream.wrapped(stream.release_request())
 
 
 class Moments(unittest.TestCase):
+    def tearDown(self):
+        time.tzset()
+
+    def zone(self, name):
+        patched = mock.patch.dict(os.environ, TZ=name)
+        patched.start()
+        self.addCleanup(patched.stop)
+        time.tzset()
+
     def test_words(self):
+        self.zone('UTC')
         self.assertEqual(moments.told(5000), '5000 ms')
         self.assertEqual(moments.told(DAY + 7), '11:06:40.007')
         self.assertEqual(moments.day_told(DAY), '2026-11-18 UTC')
+
+    def test_times_of_day_are_those_here(self):
+        self.zone('XYZ-5:30')
+        self.assertEqual(moments.told(DAY + 7), '16:36:40.007')
+        self.assertEqual(moments.day_told(DAY), '2026-11-18 UTC+05:30')
+
+    def test_past_the_year_9999(self):
+        for moment in (253_402_300_799_999, 253_402_300_800_000, 4_294_967_295_999_000):
+            self.assertEqual(moments.told(moment), f'{moment} ms')
+        self.assertTrue(moments.is_clock(4_294_967_295_999))
 
     def test_warnings(self):
         self.assertEqual(moments.warnings([0, 5], 0), [])
         self.assertEqual(moments.warnings([DAY, DAY + 1], 0), [])
         told, = moments.warnings([0, DAY], 0)
-        self.assertIn('1 line has moments that do not count from 1970', told)
+        self.assertIn('1 line has a time that does not count from 1970', told)
         told, = moments.warnings([5], 2)
-        self.assertIn('2 lines are refused (110)', told)
+        self.assertIn('2 lines were refused (110) because times go back', told)
 
 
-class Joined(unittest.TestCase):
+class Joined(Tools):
     def test_lines_of_a_trace_come_first(self):
         found = merged([[(0, 'contact QA1 2'), (9, 'scan')], [(DAY, 'open 1')]])
         self.assertEqual(found, f'{DAY} contact QA1 2\n{DAY} scan\n{DAY} open 1')
@@ -62,17 +84,24 @@ class Joined(unittest.TestCase):
         self.assertEqual(cut_off, ['open', 'scan', 'recv', 'close'])
 
     def test_the_tool(self):
-        with tempfile.TemporaryDirectory() as folder:
-            paths = [pathlib.Path(folder) / name for name in ('bay', 'logic', 'trace', 'sent')]
-            for path, text in zip(paths, ('[bay]', 'PROGRAM\r\n', '0 scan\n', f'{DAY} open 1')):
-                path.write_bytes(text.encode())
-            done = subprocess.run([TOOLS / 'join', *paths], capture_output=True)
-            self.assertEqual(done.stdout.decode(),
-                             f'[bay]\n%%\nPROGRAM\r\n%%\n{DAY} scan\n{DAY} open 1\n')
-            paths[2].write_text('no trace')
-            done = subprocess.run([TOOLS / 'join', *paths], capture_output=True, text=True)
-            self.assertEqual(done.returncode, 1)
-            self.assertIn('trace: line 1 is no line of a trace', done.stderr)
+        paths = [self.file(name, text) for name, text in (
+            ('bay', '[bay]'), ('logic', 'PROGRAM\r\n'), ('trace', '\ufeff0 scan\n'),
+            ('sent', f'{DAY} open 1'))]
+        self.assertEqual(self.run_tool('join', *paths).out,
+                         f'[bay]\n%%\nPROGRAM\r\n%%\n{DAY} scan\n{DAY} open 1\n')
+        for text in ('no trace', '9' * 5000 + ' scan'):
+            paths[2].write_text(text)
+            done = self.run_tool('join', *paths)
+            self.assertEqual((done.out, done.status), ('', 3))
+            self.assertIn('trace: line 1 is no line of a trace', done.error)
+
+    def test_a_line_that_parts_a_scenario(self):
+        paths = [self.file('bay', 'a = 1\n'), self.file('logic', '(*\n%%\r\n*)\n'),
+                 self.file('trace', '0 scan\n')]
+        self.assertEqual(self.run_tool('join', *paths).out,
+                         'a = 1\n%%\n(*\n %%\r\n*)\n%%\n0 scan\n')
+        paths[0].write_text('a = """\n%%\n"""\n')
+        self.assertEqual(self.run_tool('join', *paths).status, 3)
 
 
 class Histories(unittest.TestCase):

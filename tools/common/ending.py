@@ -1,0 +1,124 @@
+"""How a tool ends: with an exit status of one table, and with an error in one line on standard
+error, `tool: what: why`."""
+import argparse
+import os
+import pathlib
+import sys
+from collections.abc import Callable
+
+from .texts import escaped
+
+DONE, FOUND, CALLED_WRONG, UNREACHED, PARTLY, INTERRUPTED = 0, 1, 2, 3, 4, 130
+STATUSES = {
+    DONE: 'done',
+    FOUND: 'refused, broken or different',
+    CALLED_WRONG: 'the command line is wrong',
+    UNREACHED: 'something can\'t be read, written or reached',
+    PARTLY: 'not all was tried or asked',
+    INTERRUPTED: 'it was interrupted'}
+# The statuses that each tool ends with, beside 130.
+OF_TOOLS = {'audit': (0, 1, 2, 3, 4), 'client': (0, 1, 2, 3), 'diagnose': (0, 1, 2, 3),
+            'explain': (0, 1, 2, 3), 'join': (0, 2, 3), 'panel': (0, 2, 3), 'scl': (0, 2, 3),
+            'simulate': (0, 2, 3), 'timeline': (0, 1, 2, 3)}
+
+
+class Failed(Exception):
+    """What ends a tool, as `what: why`."""
+    status = UNREACHED
+
+
+class CalledWrong(Failed):
+    """A command line that makes no sense."""
+    status = CALLED_WRONG
+
+
+class Parser(argparse.ArgumentParser):
+    """The options of a tool. Its help is the tool's own description."""
+
+    def __init__(self, description: str | None = None, **more) -> None:
+        super().__init__(description=description, allow_abbrev=False,
+                         formatter_class=argparse.RawDescriptionHelpFormatter, **more)
+
+    def error(self, message: str) -> None:
+        complain(f'{message} (see --help)')
+        sys.exit(CALLED_WRONG)
+
+
+class Shown:
+    """A stream to which control characters go escaped."""
+
+    def __init__(self, stream) -> None:
+        self.stream = stream
+
+    def write(self, text: str) -> int:
+        return self.stream.write(escaped(text))
+
+    def __getattr__(self, name):
+        return getattr(self.stream, name)
+
+
+def complain(told: str) -> None:
+    """One line on standard error."""
+    print(f'{pathlib.Path(sys.argv[0]).name}: {told}', file=sys.stderr, flush=True)
+
+
+def show_plainly() -> None:
+    """From here on standard output and standard error show control characters escaped."""
+    for name in ('stdout', 'stderr'):
+        stream = getattr(sys, name)
+        if stream is not None:
+            stream.reconfigure(errors='backslashreplace')
+            setattr(sys, name, Shown(stream))
+
+
+def ends(main: Callable[[], int | None]) -> None:
+    """Runs a tool, and ends with its status."""
+    if sys.stdout is None:
+        complain('standard output: it is closed')
+        sys.exit(UNREACHED)
+    show_plainly()
+    sys.exit(status_of(main))
+
+
+def status_of(main: Callable[[], int | None]) -> int:
+    """Runs a tool; what it says and its status where that fails."""
+    try:
+        status = main() or DONE
+        sys.stdout.flush()
+        return status
+    except Failed as error:
+        complain(str(error))
+        return flushed(error.status)
+    except KeyboardInterrupt:
+        return flushed(INTERRUPTED)
+    except BrokenPipeError:
+        return without_output()
+    except OSError as error:
+        complain(told_of(error))
+        return flushed(UNREACHED) if error.filename else without_output()
+    except Exception as error:
+        if os.environ.get('TOOLS_TRACEBACK'):
+            raise
+        complain(f'a fault of this tool itself: {type(error).__name__}: {error} (with '
+                 'TOOLS_TRACEBACK=1 it tells where)')
+        return flushed(UNREACHED)
+
+
+def flushed(status: int) -> int:
+    """Writes what is left, as far as that can be."""
+    try:
+        sys.stdout.flush()
+    except OSError:
+        without_output()
+    return status
+
+
+def without_output() -> int:
+    """Nobody reads the output, or it can't be written: what is left goes nowhere."""
+    os.dup2(os.open(os.devnull, os.O_WRONLY), 1)
+    return UNREACHED
+
+
+def told_of(error: OSError) -> str:
+    """Which file it was, and why."""
+    return f'{error.filename or "standard output"}: {error.strerror or error}'

@@ -1,0 +1,49 @@
+"""A tool that is run on texts, with a program in the place of bayctl that prints what a test says."""
+import os
+import pathlib
+import subprocess
+import sys
+import tempfile
+import unittest
+from dataclasses import dataclass
+
+TOOLS = pathlib.Path(__file__).resolve().parent.parent
+
+
+@dataclass
+class Ran:
+    """What a tool printed, what it complained of, and its exit status."""
+    out: str
+    error: str
+    status: int
+
+
+class Tools(unittest.TestCase):
+    """Tests that run tools in a folder of their own."""
+
+    def setUp(self) -> None:
+        folder = tempfile.TemporaryDirectory()
+        self.addCleanup(folder.cleanup)
+        self.folder = pathlib.Path(folder.name)
+
+    def file(self, name: str, text: str | bytes) -> pathlib.Path:
+        path = self.folder / name
+        path.write_bytes(text.encode() if isinstance(text, str) else text)
+        return path
+
+    def bayctl(self, printed: str, status: int = 0) -> pathlib.Path:
+        """A program that prints this, whatever it is asked."""
+        path = self.file('bayctl', f'#!{sys.executable}\nimport sys\nsys.stdin.buffer.read()\n'
+                         f'sys.stdout.write({printed!r})\nsys.exit({status})\n')
+        path.chmod(0o755)
+        return path
+
+    def run_tool(self, name: str, *words, given: str = '', **more) -> Ran:
+        """Runs a tool in the folder. A traceback fails the test."""
+        environment = {**os.environ, 'TZ': 'UTC', 'TOOLS_TRACEBACK': '1'}
+        done = subprocess.run([sys.executable, '-B', TOOLS / name, *map(str, words)],
+                              input=given.encode(), capture_output=True, cwd=self.folder,
+                              env=environment, timeout=60, **more)
+        found = Ran(done.stdout.decode(), done.stderr.decode(), done.returncode)
+        self.assertNotIn('Traceback', found.error)
+        return found
