@@ -195,12 +195,14 @@ def response_of(content):
     return pdu
 
 
-def type_of(tag, content):
+def type_of(tag, content, depth=1):
     """A type: the name of its kind with its size, or a list of names and types."""
+    if depth > DEEPEST:
+        raise Unreadable('a type more than 10 deep')
     if tag == STRUCTURE:
         parts = (part for _, part in ber.elements(ber.needed(content, 0xA1)))
-        return [(text(ber.needed(part, 0x80)), type_of(*several(ber.needed(part, 0xA1), 1)[0]))
-                for part in parts]
+        return [(text(ber.needed(part, 0x80)),
+                 type_of(*several(ber.needed(part, 0xA1), 1)[0], depth + 1)) for part in parts]
     size = ber.integer(content) if content else None
     return KINDS.get(tag, f'{tag:02X}') + (f' {size}' if size is not None else '')
 

@@ -34,6 +34,12 @@ def clock_told(moment: int) -> str:
     return f'{date_of(moment):%H:%M:%S}.{moment % 1000:03}'
 
 
+def stamp_told(moment: int) -> str:
+    """A moment with its date and what the clock here is ahead of UTC."""
+    zone = zone_told(moment).removeprefix('UTC') or 'Z'
+    return f'{date_of(moment):%Y-%m-%d} {clock_told(moment)}{zone}'
+
+
 def told(moment: int) -> str:
     """A moment as it is shown: a time of day, or milliseconds."""
     return clock_told(moment) if is_clock(moment) else f'{moment} ms'

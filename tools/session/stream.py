@@ -25,15 +25,17 @@ class Got:
 
 @dataclass
 class Stream:
-    """One direction of a connection, whose octets come in pieces."""
+    """One direction of a connection, whose octets come in pieces: `kept` has those that are not
+    taken yet, from the place `at` on."""
     kept: bytes = b''
+    at: int = 0
     group: bytes = b''
     over: bool = False
     connected: bool = False
 
     def feed(self, piece):
         """What this piece completes, one after the other."""
-        self.kept += piece
+        self.kept, self.at = self.kept[self.at:] + piece, 0
         while not self.over:
             try:
                 frame = self.next_frame()
@@ -48,17 +50,18 @@ class Stream:
 
     def next_frame(self):
         """The TPDU of the next whole frame, or None."""
-        if self.kept[:1] not in (b'', b'\x03'):
-            raise Unreadable(f'no TPKT: it begins with {self.kept[0]:02X}')
-        if len(self.kept) < 4:
+        head, left = self.kept[self.at:self.at + 4], len(self.kept) - self.at
+        if head[:1] not in (b'', b'\x03'):
+            raise Unreadable(f'no TPKT: it begins with {head[0]:02X}')
+        if left < 4:
             return None
-        size = int.from_bytes(self.kept[2:4])
+        size = int.from_bytes(head[2:4])
         if size < 7:
             raise Unreadable(f'no TPKT: its length is {size}')
-        if len(self.kept) < size:
+        if left < size:
             return None
-        frame, self.kept = self.kept[4:size], self.kept[size:]
-        return frame
+        self.at += size
+        return self.kept[self.at - size + 4:self.at]
 
     def take(self, tpdu):
         """What a TPDU comes to, or None."""

@@ -1,6 +1,9 @@
 """What stands in MMS, in the words of those who switch: positions, qualities, causes, errors, names
 of a bay."""
+import re
 import tomllib
+
+from common.texts import raised
 
 from . import mms, moments
 from .mms import Data, Failure
@@ -153,7 +156,7 @@ def moment_told(moment):
         return octets_told(moment)
     if not moments.is_clock(moment):
         return f'{moment} ms'
-    return f'{moments.date_of(moment):%Y-%m-%d} {moments.clock_told(moment)}Z'
+    return moments.stamp_told(moment)
 
 
 def octets_told(octets):
@@ -187,6 +190,7 @@ class Bay:
     def __init__(self, text=None):
         bay = tomllib.loads(text) if text is not None else {}
         self.domain = bay.get('bay', {}).get('domain', '')
+        self.travels = {switch['id']: switch.get('travel_ms') for switch in bay.get('switch', [])}
         self.ids, counts = {}, {'XCBR': 0, 'XSWI': 0}
         for place, switch in enumerate(bay.get('switch', []), 1):
             kind = 'XCBR' if switch['kind'] == 'breaker' else 'XSWI'
@@ -195,6 +199,11 @@ class Bay:
                          f'{kind}{counts[kind]}': switch['id']}
         self.ids |= {f'MMXU{place}': meter['id']
                      for place, meter in enumerate(bay.get('meter', []), 1)}
+
+    def travel(self, switch: str) -> int | None:
+        """How many milliseconds a switch may take, where that is known."""
+        travel = self.travels.get(switch)
+        return travel if isinstance(travel, int) else None
 
     def item(self, name):
         """A name without this bay's domain."""
@@ -216,6 +225,5 @@ class Bay:
         """The control's logical node of a switch, by its id or as it stands; None where there is
         none."""
         found = next((node for node, name in self.ids.items() if node.startswith('CSWI')
-                      and name.upper() == switch.upper()), None)
-        return found or (switch.upper() if switch.upper().startswith('CSWI')
-                         and switch[4:].isdigit() else None)
+                      and raised(name) == raised(switch)), None)
+        return found or (raised(switch) if re.fullmatch('CSWI[0-9]+', raised(switch)) else None)
