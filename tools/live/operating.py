@@ -1,14 +1,15 @@
 """What a panel operates: a switch is selected, the command is confirmed, and its end is told."""
 import time
 
+from common.ending import Failed
 from session import words
-from session.ber import Unreadable
-from session.client import Lost, Refused
+from session.client import Refused
 from session.control import STATUS_ONLY, Control
 
 WAYS = {'open': False, 'close': True}
 ENDS = {'open': 'open', 'close': 'closed'}
 MARGIN = 1.0  # seconds beyond a switch's travel_ms, until its position is missed
+CONFIRMING = 30.0  # seconds in which a control that needs no select is to be confirmed
 
 
 def answer(is_good, told):
@@ -17,14 +18,15 @@ def answer(is_good, told):
 
 class Operator:
     """One control at a time, over the association of a watcher. `state['control']` of the watcher
-    says how far it is: the switch, the way, and the stage, selected or moving."""
+    says how far it is: the switch, the way, the stage, selected or moving, and the page that asked
+    for it. Every page may give it up, and it is given up where that page goes."""
 
     def __init__(self, watcher):
         self.watcher, self.control, self.end, self.refusal = watcher, None, 0, ''
         watcher.on_said.append(self.said)
         watcher.on_read.append(self.read)
 
-    def act(self, verb: str, switch: str, way: str) -> dict:
+    def act(self, verb: str, switch: str, way: str, page: str = '') -> dict:
         """Select, operate or cancel: what became of it."""
         acts = {'select': self.select, 'operate': self.operate, 'cancel': self.cancel}
         known = {it['id'] for it in self.watcher.file['switch']}
@@ -35,21 +37,28 @@ class Operator:
                 return answer(False, 'there is no connection to the server')
             self.refusal = ''
             try:
-                found = acts[verb](switch, way)
+                found = acts[verb](switch, way, page)
             except Refused as error:
                 self.set(None)
                 found = answer(False, str(error))
-            except (Lost, Unreadable, OSError) as error:
+            except (Failed, OSError) as error:
                 self.watcher.lose(error)
                 return answer(False, f'the connection is lost: {error}')
             self.watcher.event(found['told'], 'control' if found['good'] else 'refused')
         self.watcher.publish()
         return found
 
-    def set(self, control, stage='', way=''):
+    def set(self, control, stage='', way='', page=''):
         self.control = control
         self.watcher.state['control'] = control and {'switch': control.name, 'way': way,
-                                                     'stage': stage}
+                                                     'stage': stage, 'page': page}
+
+    def page_gone(self, page: str) -> None:
+        """Gives up what a page has selected, since it has gone."""
+        with self.watcher.lock:
+            state = self.watcher.state['control']
+            if state and state['stage'] == 'selected' and state['page'] == page:
+                self.act('cancel', state['switch'], state['way'])
 
     def finish(self, is_good, told):
         """A control has ended."""
@@ -62,25 +71,26 @@ class Operator:
         """The words of an outcome; of a refusal with a cause those of its report."""
         return answer(outcome.is_good, outcome.words or self.refusal or 'refused')
 
-    def select(self, switch, way):
+    def select(self, switch, way, page):
         state = self.watcher.state['control']
         if state:
             return answer(False, f'{state["switch"]} is {state["stage"]} by this panel')
         control = Control(self.watcher.client, switch, 'panel')
         if control.model == STATUS_ONLY:
             return answer(False, f'{switch} is not controlled: {words.CONTROL_MODELS[0]}')
+        self.end = time.monotonic() + CONFIRMING
         if not control.is_selected_first():
-            self.set(control, 'selected', way)
+            self.set(control, 'selected', way, page)
             return answer(True, f'{switch} needs no select')
         found = self.outcome(control.select(WAYS[way]))
         if found['good']:
-            self.set(control, 'selected', way)
+            self.set(control, 'selected', way, page)
         return found
 
-    def operate(self, switch, way):
+    def operate(self, switch, way, page):
         state = self.watcher.state['control']
-        if state != {'switch': switch, 'way': way, 'stage': 'selected'}:
-            return answer(False, f'{switch} is not selected by this panel')
+        if state != {'switch': switch, 'way': way, 'stage': 'selected', 'page': page}:
+            return answer(False, f'{switch} is not selected by this page')
         control = self.control
         found = self.outcome(control.operate(WAYS[way]))
         if not found['good']:
@@ -89,14 +99,14 @@ class Operator:
             return answer(False, f'{found["told"]}. {there}' if there else found['told'])
         entry = next(it for it in self.watcher.file['switch'] if it['id'] == switch)
         self.end = time.monotonic() + entry.get('travel_ms', 0) / 1000 + MARGIN
-        self.set(control, 'moving', way)
+        self.set(control, 'moving', way, page)
         return answer(True, f'{way} {switch}: the command is given')
 
-    def cancel(self, switch, way):
+    def cancel(self, switch, way, page):
         state = self.watcher.state['control']
         if not state or state['switch'] != switch or state['stage'] != 'selected':
             return answer(False, f'{switch} is not selected by this panel')
-        control = self.control
+        control, way = self.control, state['way']
         self.set(None)
         if not control.is_selected_first():
             return answer(True, f'{way} {switch}: given up')
@@ -122,6 +132,8 @@ class Operator:
         if state['stage'] == 'selected':
             if self.control.is_selected_first() and not switch['selected']:
                 self.finish(False, f'{told}: the selection has run out')
+            elif is_late and not self.control.is_selected_first():
+                self.finish(False, f'{told}: it was not confirmed within {CONFIRMING:g} s')
         elif switch['position'] == ENDS[state['way']] and (
                 is_late or not self.control.is_told_its_end()):
             self.finish(True, f'{told} has ended: done')

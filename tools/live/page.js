@@ -6,8 +6,11 @@ const operates = document.body.dataset.operates === 'true';
 const ENDS = {open: 'open', close: 'closed'};
 let state = {switches: [], measures: [], events: [], control: null};
 let shown = null;     // the id of the switch of the dialog
-let asked = null;     // {way, stage: 'asking' | 'selected' | 'moving', last} of the dialog
+let waits = false;    // whether the panel has yet to answer what this page asked
+let last = null;      // the number of the last end that was told here, or before this page
 let lastTold = '';    // the events that were shown
+let isGone = true;    // whether the panel itself is gone
+const page = Array.from(crypto.getRandomValues(new Uint32Array(4)), (n) => n.toString(16)).join('');
 
 function element(name, kind, text) {
   const found = document.createElement(name);
@@ -112,39 +115,63 @@ function tell(told, kind) {
   byId('dialog-told').className = kind || '';
 }
 
+// The control that the panel has under way, where it is of this page or of any.
+function control(isOurs) {
+  const found = state.control;
+  return found && (!isOurs || (found.page === page && found.switch === shown)) ? found : null;
+}
+
+function isLive() {
+  return operates && !isGone && state.connected && !waits;
+}
+
+function showWay(it, way) {
+  const found = may(it, way);
+  byId(`dialog-${way}`).textContent = found.why ? `${found.told}: ${found.why}` : found.told;
+  const button = byId(`button-${way}`);
+  const can = operates && it.control !== 'status' && !control() && it.position !== ENDS[way];
+  button.hidden = !can;
+  button.disabled = !isLive() || !found.free;
+}
+
+// What is offered: to confirm only what this page has selected and the interlocking releases, to
+// give up whatever the panel has selected.
 function showDialog() {
   const it = state.switches.find((one) => one.id === shown);
   if (!byId('dialog').open || !it) return;
   const since = it.time ? ` since ${it.time}` : '';
   byId('dialog-title').textContent = `${it.id}, ${it.kind}`;
-  byId('dialog-state').textContent = `It is ${placeOf(it)}${since}.`;
-  for (const way of ['open', 'close']) {
-    const found = may(it, way);
-    byId(`dialog-${way}`).textContent = found.why ? `${found.told}: ${found.why}` : found.told;
-    const button = byId(`button-${way}`);
-    const can = operates && it.control !== 'status' && !asked && it.position !== ENDS[way];
-    button.hidden = !can;
-    button.classList.toggle('barred', !it[way].free);
-  }
-  const selected = asked && asked.stage === 'selected';
-  byId('button-confirm').hidden = !selected;
-  byId('button-leave').textContent = selected ? 'Give up' : 'Leave';
+  byId('dialog-state').textContent = isGone || !state.connected
+    ? 'Nothing is known now: there is no connection.' : `It is ${placeOf(it)}${since}.`;
+  showWay(it, 'open');
+  showWay(it, 'close');
+  const ours = control(true);
+  const any = control();
+  const confirm = byId('button-confirm');
+  confirm.hidden = !ours || ours.stage !== 'selected' || !it[ours.way].free;
+  confirm.disabled = !isLive();
+  if (ours) confirm.textContent = `Confirm: ${ours.way} ${ours.switch}`;
+  const cancel = byId('button-cancel');
+  cancel.hidden = !operates || !any || any.stage !== 'selected';
+  cancel.disabled = !isLive();
+  if (any) cancel.textContent = `Give up: ${any.way} ${any.switch}`;
 }
 
 function followControl() {
-  if (!asked || state.control || !state.last || state.last.number === asked.last) return;
-  if (asked.stage === 'selected' || asked.stage === 'moving') {
+  const number = state.last ? state.last.number : 0;
+  if (last !== null && number !== last && byId('dialog').open) {
     tell(state.last.told, state.last.good ? 'good' : 'wrong');
-    asked = null;
   }
+  last = number;
 }
 
-async function post(verb, way) {
+async function post(verb, id, way, keepalive) {
   try {
     const answer = await fetch(verb, {
       method: 'POST',
       headers: {'X-Panel': document.body.dataset.token, 'Content-Type': 'application/json'},
-      body: JSON.stringify({switch: shown, way}),
+      body: JSON.stringify({switch: id, way, page}),
+      keepalive: Boolean(keepalive),
     });
     return answer.ok ? await answer.json() : {good: false, told: await answer.text()};
   } catch (error) {
@@ -152,59 +179,70 @@ async function post(verb, way) {
   }
 }
 
-async function select(way) {
-  asked = {way, stage: 'asking', last: state.last ? state.last.number : 0};
+// Asks the panel, and shows what it answers; its state comes by itself.
+async function ask(verb, id, way, more) {
+  waits = true;
   showDialog();
-  const found = await post('select', way);
-  if (found.good) {
-    asked.stage = 'selected';
-    tell(`${found.told}. Confirm, or give up.`);
-    byId('button-confirm').textContent = `Confirm: ${way} ${shown}`;
-  } else {
-    asked = null;
-    tell(found.told, 'wrong');
-  }
+  const found = await post(verb, id, way);
+  waits = false;
+  tell(found.good && more ? `${found.told}. ${more}` : found.told, found.good ? '' : 'wrong');
   showDialog();
-  if (found.good) byId('button-confirm').focus();
+  return found.good;
 }
 
-async function confirmIt() {
-  asked.stage = 'moving';
-  showDialog();
-  byId('button-leave').focus();
-  const found = await post('operate', asked.way);
-  if (!found.good) {
-    asked = null;
-    tell(found.told, 'wrong');
-  } else if (asked) {
-    tell(found.told);
-    followControl();
+async function select(way) {
+  if (await ask('select', shown, way, 'Confirm, or give up.')) {
+    await refresh();
+    byId('button-confirm').focus();
   }
-  showDialog();
+}
+
+async function refresh() {
+  try {
+    show(await (await fetch('state')).text());
+  } catch (error) {
+    gone();
+  }
+}
+
+function confirmIt() {
+  const found = control(true);
+  if (found) ask('operate', found.switch, found.way);
+}
+
+function giveUp() {
+  const found = control();
+  if (found) ask('cancel', found.switch, found.way);
 }
 
 function openDialog(id) {
   shown = id;
-  asked = null;
   tell('');
   byId('dialog').showModal();
   showDialog();
 }
 
-async function leave() {
-  const selected = asked && asked.stage === 'selected' ? asked.way : null;
-  asked = null;
-  if (selected) await post('cancel', selected);
+// What this page has selected is given up where its dialog closes or the page goes.
+function leave(isGoing) {
+  const found = control(true);
+  if (found && found.stage === 'selected') post('cancel', found.switch, found.way, isGoing);
 }
 
 function show(told) {
   state = JSON.parse(told);
+  isGone = false;
   showConnection(state.told, state.connected);
   showPicture();
   showSwitches();
   showMeasures();
   showEvents();
   followControl();
+  showDialog();
+}
+
+function gone() {
+  isGone = true;
+  showConnection('the panel is gone', false);
   showDialog();
 }
 
@@ -222,9 +260,11 @@ document.addEventListener('keydown', (event) => {
 byId('button-open').addEventListener('click', () => select('open'));
 byId('button-close').addEventListener('click', () => select('close'));
 byId('button-confirm').addEventListener('click', confirmIt);
-byId('button-leave').addEventListener('click', () => byId('dialog').close());
-byId('dialog').addEventListener('close', leave);
+byId('button-cancel').addEventListener('click', giveUp);
+byId('button-back').addEventListener('click', () => byId('dialog').close());
+byId('dialog').addEventListener('close', () => leave(false));
+window.addEventListener('pagehide', () => leave(true));
 
-const source = new EventSource('events');
+const source = new EventSource(`events?${page}`);
 source.onmessage = (event) => show(event.data);
-source.onerror = () => showConnection('the panel is gone', false);
+source.onerror = gone;

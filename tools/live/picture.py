@@ -3,12 +3,15 @@ import html
 import re
 from dataclasses import dataclass
 
+from common.ending import CalledWrong
+from common.texts import raised
+
 APART, TOP = 104, 46  # between two switches of the column, and above the first busbar
 BUS, COLUMN = 34, 190  # between two busbars, and between two switches side by side
-BUSBARS, LONG = 3, 1100  # busbars of the usual order, and the height of a long picture
+BUSBARS, NARROW = 3, 345  # busbars of the usual order, and the width of a picture for a phone
 
 
-class BadOrder(Exception):
+class BadOrder(CalledWrong):
     """An order that does not name the switches of the bay."""
 
 
@@ -38,8 +41,8 @@ def usual_order(switches) -> Order:
 
 def order_of(switches, text) -> Order:
     """The order that a text gives, as QB1|QB2,QA1,QC1: the first place may have several."""
-    known = {it['id'].upper(): it for it in switches}
-    places = [[word.strip().upper() for word in place.split('|')] for place in text.split(',')]
+    known = {raised(it['id']): it for it in switches}
+    places = [[raised(word.strip()) for word in place.split('|')] for place in text.split(',')]
     names = [name for place in places for name in place]
     wrong = [name for name in names if name not in known]
     if wrong:
@@ -126,8 +129,9 @@ def draw(order: Order) -> str:
     parts += [line(center, y, center, y + 22), f'<path class="arrow" d="M {center - 8} {y + 18} '
               f'L {center + 8} {y + 18} L {center} {y + 34} Z"/>',
               text(center + 18, y + 34, 'feeder', 'note')]
-    kind = ' class="long"' if y > LONG else ''
-    return (f'<svg{kind} viewBox="0 0 {width:.0f} {y + 48:.0f}" role="group" '
+    kind = ' class="wide"' if width > NARROW else ''
+    return (f'<svg{kind} viewBox="0 0 {width:.0f} {y + 48:.0f}" width="{width:.0f}" '
+            f'height="{y + 48:.0f}" role="group" '
             f'aria-label="Single-line picture">{"".join(parts)}</svg>')
 
 
@@ -141,8 +145,6 @@ def draw_busbars(order, count, center, width):
     for at, switch in enumerate(order.busbars):
         x, bar = 80 + COLUMN * at, TOP + BUS * at
         middle = TOP + BUS * (count - 1) + APART / 2 + 4
-        below = [TOP + BUS * other for other in range(at + 1, count)]
-        parts += [line(x, other - 8, x, other + 8, 'gap') for other in below]
         parts += [dot(x, bar, 7), line(x, bar, x, middle - 19), line(x, middle + 19, x, foot),
                   symbol(switch, x, middle)]
     if not order.busbars:

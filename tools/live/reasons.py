@@ -1,23 +1,29 @@
 """Why a switch may not be opened or closed: what is missing of the least condition under which the
 program releases it (tools/audit), as far as a client sees it."""
+from common.texts import raised
 from session.conditions import Condition
 
-POSITIONS = {'intermediate': 'between', 'off': 'open', 'on': 'closed', 'bad': 'bad'}
+POSITIONS = {'intermediate': 'intermediate', 'off': 'open', 'on': 'closed', 'bad': 'bad'}
 STILL = 'the program does not release it'
 
 
 class Seen:
     """What a client sees of a bay: positions in the words of rules and measured values, by names in
-    upper case. Inputs are shown to no client."""
+    upper case. Inputs are shown to no client, and may have the name of a switch."""
 
     def __init__(self, positions: dict[str, str], measures: dict[str, int]):
-        self.values = {**positions, **{name: str(value) for name, value in measures.items()}}
+        self.positions = positions
+        self.measures = {name: str(value) for name, value in measures.items()}
+
+    def value(self, variable) -> str | None:
+        is_position = set(variable.values) <= set(POSITIONS)
+        return (self.positions if is_position else self.measures).get(raised(variable.name))
 
     def missing(self, product: list) -> tuple[list[str], list[str]]:
         """What of a product does not hold, and what of it nobody sees here, in words."""
         broken, unseen = [], []
         for variable, allowed in product:
-            value = self.values.get(variable.name.upper())
+            value = self.value(variable)
             if value is None:
                 unseen.append(input_told(variable, allowed))
             elif value not in allowed:

@@ -6,18 +6,20 @@ import queue
 import threading
 import time
 
+from common.ending import Failed
+from common.texts import raised
 from diagnosis.words import FIELDS
 from session import moments, words
-from session.ber import Unreadable
-from session.client import Client, Lost, Refused
+from session.client import Client, Lost
 from session.mms import Failure
+from session.sockets import unconnected
 
 from .reasons import Seen, why_not
 
 EVERY, AGAIN, KEPT = 0.25, 1.0, 200  # seconds between two reads, and two attempts; events kept
 RULE_WORDS = {'00': 'intermediate', '01': 'off', '10': 'on', '11': 'bad'}
-SHOWN = {'00': 'between', '01': 'open', '10': 'closed', '11': 'bad'}
-LOST = (Lost, Refused, Unreadable, OSError, ValueError, LookupError, TypeError, AttributeError)
+LOST = (Failed, OSError, ValueError, LookupError, TypeError, AttributeError)
+PARTING = 3  # seconds for the end of the association
 
 
 def now() -> int:
@@ -75,8 +77,7 @@ class Watcher:
     def event(self, told: str, kind: str = 'quiet', moment: int | None = None) -> None:
         """Notes what happened: kind is position, control, refused or quiet."""
         moment = moment if moment and moments.is_clock(moment) else now()
-        self.events.append({'moment': moment, 'time': moments.clock_told(moment), 'told': told,
-                            'kind': kind})
+        self.events.append({'moment': moment, 'time': stamp(moment), 'told': told, 'kind': kind})
 
     # ---- the association
 
@@ -109,7 +110,7 @@ class Watcher:
             self.publish()
 
     def lose(self, error):
-        told = 'no server listens' if isinstance(error, ConnectionRefusedError) else str(error)
+        told = unconnected(error) if isinstance(error, OSError) else str(error)
         with self.lock:
             if self.client:
                 self.client.socket.close()
@@ -152,8 +153,8 @@ class Watcher:
 
     def explain(self, found, measures):
         """Says why something may not be done."""
-        seen = Seen({it['id'].upper(): it['word'] for it in found},
-                    {it['name'].upper(): it['value'] for it in measures})
+        seen = Seen({raised(it['id']): it['word'] for it in found},
+                    {raised(it['name']): it['value'] for it in measures})
         for it in found:
             for way, name in enumerate(('open', 'close')):
                 if it[name]['free']:
@@ -171,14 +172,30 @@ class Watcher:
                 self.event(f'{new["id"]} is {new["position"]}{quality}', 'position', new['moment'])
             if old and old['selected'] != new['selected']:
                 self.event(f'{new["id"]} is {"" if new["selected"] else "no longer "}selected')
-            if old and [old[way]['free'] for way in ('open', 'close')] != [
-                    new[way]['free'] for way in ('open', 'close')]:
-                self.event(f'{new["id"]} {may_told(new)}')
+            for told in may_told(old, new) if old else ():
+                self.event(f'{new["id"]} {told}')
+
+    def stop(self) -> None:
+        """Ends the reading; a server that doesn't let go is left."""
+        self.is_over.set()
+        client = self.client
+        if client:
+            client.end = min(client.end, time.monotonic() + PARTING)
 
 
-def may_told(it):
-    ways = [told for way, told in (('open', 'opened'), ('close', 'closed')) if it[way]['free']]
-    return f'may be {" and ".join(ways)}' if ways else 'may not be moved'
+def stamp(moment: int) -> str:
+    """The date and the time of day here."""
+    return f'{moments.date_of(moment):%Y-%m-%d} {moments.clock_told(moment)}'
+
+
+def may_told(old: dict, new: dict) -> list[str]:
+    """What of a switch's releases was gained, and what was lost."""
+    ways = [(done, old[way]['free'], new[way]['free'])
+            for way, done in (('open', 'opened'), ('close', 'closed'))]
+    gained = [done for done, before, now_free in ways if now_free and not before]
+    lost = [done for done, before, now_free in ways if before and not now_free]
+    return [f'may now be {" and ".join(gained)}'] * bool(gained) + [
+        f'may no longer be {" or ".join(lost)}'] * bool(lost)
 
 
 def switch_of(switch, position, opened, closed):
@@ -186,11 +203,15 @@ def switch_of(switch, position, opened, closed):
     value, quality, moment, *selected = (part.value for part in position.value)
     validity = words.VALIDITIES[quality[:2]]
     return {'id': switch['id'], 'kind': switch['kind'], 'control': switch['control'],
-            'word': RULE_WORDS[value], 'position': SHOWN[value], 'quality': validity,
+            'word': RULE_WORDS[value], 'position': words.POSITIONS[value], 'quality': validity,
             'moment': moment if isinstance(moment, int) else 0,
-            'time': moments.told(moment) if isinstance(moment, int) and moment else '',
+            'time': time_told(moment) if isinstance(moment, int) and moment else '',
             'selected': bool(selected and selected[0]),
             'open': {'free': opened.value}, 'close': {'free': closed.value}}
+
+
+def time_told(moment: int) -> str:
+    return stamp(moment) if moments.is_clock(moment) else moments.told(moment)
 
 
 def measures_of(meter, value):

@@ -4,10 +4,15 @@ import http.server
 import json
 import pathlib
 import queue
+import re
 import secrets
+import time
+
+from session.moments import zone_told
 
 FOLDER = pathlib.Path(__file__).resolve().parent
-BEAT, LARGEST = 10, 4096  # seconds between two signs of life, and octets of a request
+BEAT, LARGEST = 2, 4096  # seconds between two signs of life, and octets of a request
+LIMIT = 10  # seconds that a connection may be silent, or not take what it is sent
 TYPES = {'page.css': 'text/css', 'page.js': 'text/javascript'}
 POLICY = "default-src 'self'; img-src data:; base-uri 'none'; frame-ancestors 'none'"
 
@@ -31,22 +36,25 @@ class Pages(http.server.ThreadingHTTPServer):
     def page(self):
         bay = self.watcher.file['bay']
         parts = {'TITLE': bay['domain'], 'DEVICE': f'{bay["vendor"]} {bay["model"]}',
-                 'TOKEN': self.token, 'OPERATES': 'true' if self.operator else 'false'}
+                 'TOKEN': self.token, 'OPERATES': 'true' if self.operator else 'false',
+                 'ZONE': zone_told(time.time_ns() // 1_000_000)}
+        found = {name: html.escape(value, quote=True) for name, value in parts.items()}
+        found['PICTURE'] = self.picture
         text = (FOLDER / 'page.html').read_text(encoding='utf-8')
-        for name, value in parts.items():
-            text = text.replace(f'@{name}@', html.escape(value, quote=True))
-        return text.replace('@PICTURE@', self.picture)
+        return re.sub('@([A-Z]+)@', lambda it: found[it[1]], text)
 
 
 class Handler(http.server.BaseHTTPRequestHandler):
     """One request."""
-    protocol_version = 'HTTP/1.1'
+    protocol_version, timeout = 'HTTP/1.1', LIMIT
 
     def log_message(self, *words):
         """Requests are not printed."""
 
     def is_ours(self):
-        return self.headers.get('Host') in self.server.hosts()
+        hosts, origin = self.server.hosts(), self.headers.get('Origin')
+        return self.headers.get('Host') in hosts and (
+            origin is None or origin in {f'http://{host}' for host in hosts})
 
     def send(self, status, kind, octets):
         self.send_response(status)
@@ -63,7 +71,8 @@ class Handler(http.server.BaseHTTPRequestHandler):
         self.send(status, 'text/plain', told.encode())
 
     def do_GET(self):
-        name = self.path.partition('?')[0].lstrip('/')
+        name, _, page = self.path.partition('?')
+        name = name.lstrip('/')
         if not self.is_ours():
             self.refuse(403, 'this is the panel of another host')
         elif name == '':
@@ -73,12 +82,13 @@ class Handler(http.server.BaseHTTPRequestHandler):
         elif name == 'state':
             self.send(200, 'application/json', self.server.watcher.told().encode())
         elif name == 'events':
-            self.stream()
+            self.stream(page)
         else:
             self.refuse(404, 'there is no such page')
 
-    def stream(self):
-        """Hands each state on as a server-sent event, until the page goes away."""
+    def stream(self, page):
+        """Hands each state on as a server-sent event, until the page goes away: what it has
+        selected is given up then."""
         self.close_connection = True
         self.send_response(200)
         self.send_header('Content-Type', 'text/event-stream')
@@ -98,10 +108,12 @@ class Handler(http.server.BaseHTTPRequestHandler):
             pass
         finally:
             watcher.unsubscribe(found)
+            if self.server.operator:
+                self.server.operator.page_gone(page)
 
     def do_POST(self):
         size = self.headers.get('Content-Length', '')
-        if not size.isdigit() or int(size) > LARGEST:
+        if not re.fullmatch('[0-9]{1,5}', size) or int(size) > LARGEST:
             return self.refuse(400, 'the request is too long')
         body = self.rfile.read(int(size))
         if not self.is_ours() or self.headers.get('X-Panel') != self.server.token:
@@ -110,8 +122,8 @@ class Handler(http.server.BaseHTTPRequestHandler):
             return self.refuse(403, 'the panel was started without --operate')
         try:
             asked = json.loads(body)
-            switch, way = str(asked['switch']), str(asked['way'])
-        except (ValueError, LookupError, TypeError):
+            switch, way, page = str(asked['switch']), str(asked['way']), str(asked.get('page', ''))
+        except (ValueError, LookupError, TypeError, AttributeError, RecursionError):
             return self.refuse(400, 'the request can\'t be read')
-        found = self.server.operator.act(self.path.lstrip('/'), switch, way)
+        found = self.server.operator.act(self.path.lstrip('/'), switch, way, page)
         self.send(200, 'application/json', json.dumps(found).encode())

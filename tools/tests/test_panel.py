@@ -3,8 +3,12 @@ import http.client
 import json
 import pathlib
 import queue
+import signal
+import socket
+import subprocess
 import sys
 import threading
+import time
 import unittest
 import xml.etree.ElementTree as ET
 from unittest import mock
@@ -14,14 +18,18 @@ sys.path.insert(0, str(TOOLS))
 from live.operating import Operator
 from live.picture import BadOrder, draw, order_of, usual_order
 from live.reasons import Seen, why_not
-from live.watch import Watcher, measures_of, switch_of
+from live.watch import Watcher, may_told, measures_of, switch_of
 from live.web import Pages
+from session.ber import element
 from session.conditions import Condition, Variable
 from session.control import Outcome
 from session.conversation import Said
-from session.mms import BITS, BOOLEAN, INTEGER, STRUCTURE, TIME, Data
+from session.mms import BITS, BOOLEAN, INTEGER, STRUCTURE, TIME, Data, octets_of
+from session.served import until
 from tests.loopback import needs_loopback
 from tests.test_audit import FILE
+from tests.test_client import Bay, served
+from tests.tool import Tools
 
 QA1, QC1 = (Variable(name, ('intermediate', 'off', 'on', 'bad')) for name in ('QA1', 'QC1'))
 KEY = Variable('KEY', ('0', '1'), True)
@@ -44,7 +52,7 @@ class Reasons(unittest.TestCase):
     def test_the_product_of_which_the_least_is_missing(self):
         found = reason([(QA1, ['off']), (QC1, ['off'])], [(QC1, ['off', 'on'])], QA1='on',
                        QC1='intermediate')
-        self.assertEqual(found, 'QC1 is between and must be open or closed')
+        self.assertEqual(found, 'QC1 is intermediate and must be open or closed')
 
     def test_what_must_not_be(self):
         self.assertEqual(reason([(QA1, ['intermediate', 'on', 'bad'])], QA1='off'),
@@ -62,6 +70,11 @@ class Reasons(unittest.TestCase):
         current = Variable('M1_AA', ('0', '5'))
         found = why_not(Condition([[]], facts=[[(current, ['0'])]]), Seen({}, {'M1_AA': 212}))
         self.assertEqual(found, 'M1_AA is 212 and must be 0')
+
+    def test_an_input_with_the_name_of_a_switch(self):
+        key = Variable('QA1', ('0', '1'), True)
+        self.assertEqual(reason([(key, ['1']), (QA1, ['off'])], QA1='off'),
+                         'input QA1 must be 1 (not seen here)')
 
     def test_nothing_is_missing(self):
         self.assertIn('a timer may still run', reason([(QA1, ['off'])], QA1='off'))
@@ -91,6 +104,10 @@ class Pictures(unittest.TestCase):
                              sorted(it['id'] for it in switches))
             self.assertTrue(all(it.get('role') == 'button' and it.get('tabindex') == '0'
                                 and it.get('aria-label') for it in drawn))
+            self.assertEqual(f'0 0 {root.get("width")} {root.get("height")}', root.get('viewBox'))
+
+    def test_no_busbar_is_broken_where_a_lead_crosses(self):
+        self.assertNotIn('gap', draw(usual_order(SWITCHES)))
 
 
 class Values(unittest.TestCase):
@@ -155,8 +172,8 @@ class Operating(unittest.TestCase):
         self.kind, self.watcher = kind, Watcher(FILE, '', '127.0.0.1', 1)
         self.watcher.client, self.operator = object(), Operator(self.watcher)
 
-    def act(self, verb, switch='QA1', way='open'):
-        found = self.operator.act(verb, switch, way)
+    def act(self, verb, switch='QA1', way='open', page='one'):
+        found = self.operator.act(verb, switch, way, page)
         return found['good'], found['told']
 
     def reads(self, position, selected=True):
@@ -168,7 +185,7 @@ class Operating(unittest.TestCase):
         self.assertEqual(self.act('select'), (True, 'select QA1: said'))
         self.assertEqual(self.watcher.state['control']['stage'], 'selected')
         self.assertEqual(self.act('operate'), (True, 'open QA1: the command is given'))
-        self.reads('between', False)
+        self.reads('intermediate', False)
         self.assertEqual(self.watcher.state['control']['stage'], 'moving')
         self.reads('open', False)
         self.assertIsNone(self.watcher.state['control'])
@@ -180,7 +197,7 @@ class Operating(unittest.TestCase):
         self.act('select')
         for switch, way in (('QC1', 'open'), ('QA1', 'close')):
             self.assertEqual(self.act('operate', switch, way),
-                             (False, f'{switch} is not selected by this panel'))
+                             (False, f'{switch} is not selected by this page'))
         self.act('operate')
         self.assertFalse(self.act('operate')[0])
 
@@ -202,6 +219,38 @@ class Operating(unittest.TestCase):
         self.act('select')
         self.assertEqual(self.act('cancel'), (True, 'cancel QA1: said'))
         self.assertIsNone(self.watcher.state['control'])
+
+    def test_each_page_may_give_up_and_one_alone_may_confirm(self):
+        self.act('select')
+        self.assertEqual(self.act('operate', page='other'),
+                         (False, 'QA1 is not selected by this page'))
+        self.assertEqual(self.act('cancel', page='other', way='close'),
+                         (True, 'cancel QA1: said'))
+        self.assertIsNone(self.watcher.state['control'])
+
+    def test_a_page_that_goes_gives_up(self):
+        for model in (2, 1):
+            self.kind.model = model
+            self.act('select')
+            self.operator.page_gone('other')
+            self.assertIsNotNone(self.watcher.state['control'])
+            self.operator.page_gone('one')
+            self.assertIsNone(self.watcher.state['control'])
+
+    def test_a_page_that_goes_stops_no_switch_that_moves(self):
+        self.act('select')
+        self.act('operate')
+        self.operator.page_gone('one')
+        self.assertEqual(self.watcher.state['control']['stage'], 'moving')
+
+    def test_a_control_without_select_that_is_not_confirmed(self):
+        self.kind.model = 1
+        self.assertEqual(self.act('select'), (True, 'QA1 needs no select'))
+        self.reads('closed', False)
+        self.assertIsNotNone(self.watcher.state['control'])
+        self.operator.end = 0
+        self.reads('closed', False)
+        self.assertIn('it was not confirmed', self.watcher.state['last']['told'])
 
     def test_a_select_that_runs_out(self):
         self.act('select')
@@ -225,9 +274,9 @@ class Operating(unittest.TestCase):
         self.act('select')
         self.act('operate')
         self.operator.end = 0
-        self.reads('between', False)
+        self.reads('intermediate', False)
         self.assertEqual(self.watcher.state['last']['told'],
-                         'open QA1: it is between, and its time is over')
+                         'open QA1: it is intermediate, and its time is over')
 
     def test_a_connection_that_is_lost(self):
         self.act('select')
@@ -237,10 +286,28 @@ class Operating(unittest.TestCase):
         self.assertEqual(self.act('operate'), (False, 'there is no connection to the server'))
 
 
+class Events(unittest.TestCase):
+    def told(self, before, after):
+        old, new = ({way: {'free': free} for way, free in zip(('open', 'close'), it)}
+                    for it in (before, after))
+        return may_told(old, new)
+
+    def test_releases_that_are_gained_and_lost(self):
+        self.assertEqual(self.told((True, True), (True, False)), ['may no longer be closed'])
+        self.assertEqual(self.told((False, False), (True, True)),
+                         ['may now be opened and closed'])
+        self.assertEqual(self.told((True, False), (False, True)),
+                         ['may now be closed', 'may no longer be opened'])
+        self.assertEqual(self.told((True, True), (False, False)),
+                         ['may no longer be opened or closed'])
+        self.assertEqual(self.told((True, False), (True, False)), [])
+
+
 @needs_loopback
 class Web(unittest.TestCase):
-    def serve(self, operates):
-        watcher = Watcher(FILE, '', '127.0.0.1', 1)
+    def serve(self, operates, vendor='V'):
+        file = {**FILE, 'bay': {**FILE['bay'], 'vendor': vendor}}
+        watcher = Watcher(file, '', '127.0.0.1', 1)
         operator = Operator(watcher) if operates else None
         pages = Pages(0, watcher, draw(usual_order(FILE['switch'])), operator)
         serving = threading.Thread(target=pages.serve_forever, args=(0.02,))
@@ -271,9 +338,42 @@ class Web(unittest.TestCase):
         for told in ('Bay E1', 'data-operates="false"', 'data-switch="QA1"', 'aria-live'):
             self.assertIn(told, text)
         self.assertNotIn('@', text)
+        self.assertIn('times of this machine, UTC', text)
         for path in ('/page.js', '/page.css', '/state'):
             self.assertEqual(self.ask(pages, 'GET', path)[0], 200)
         self.assertEqual(self.ask(pages, 'GET', '/../panel')[0], 404)
+
+    def test_a_vendor_with_the_name_of_a_part(self):
+        pages = self.serve(True, '@TOKEN@ @PICTURE@')
+        text = self.ask(pages, 'GET', '/')[1]
+        self.assertIn('<p class="device">@TOKEN@ @PICTURE@ M</p>', text)
+        self.assertEqual(text.count(pages.token), 1)
+
+    def test_another_origin(self):
+        pages = self.serve(True)
+        port, body = pages.server_address[1], json.dumps({'switch': 'QA1', 'way': 'open'})
+        for origin, status in (('http://evil', 403), ('null', 403),
+                               (f'http://127.0.0.1:{port}', 200)):
+            self.assertEqual(self.ask(pages, 'POST', '/select', body, X_Panel=pages.token,
+                                      Origin=origin)[0], status)
+
+    def test_a_page_that_goes(self):
+        pages = self.serve(True)
+        gone = mock.Mock()
+        pages.operator.page_gone = gone
+        with mock.patch('live.web.BEAT', 0.05):
+            with socket.create_connection(pages.server_address) as one:
+                host = f'127.0.0.1:{pages.server_address[1]}'
+                one.sendall(f'GET /events?mine HTTP/1.1\r\nHost: {host}\r\n\r\n'.encode())
+                self.assertIn(b'200', one.recv(100))
+            until(lambda: gone.called, 'the page is gone')
+        gone.assert_called_with('mine')
+
+    def test_a_connection_that_says_nothing(self):
+        pages = self.serve(True)
+        with mock.patch('live.web.Handler.timeout', 0.1), \
+                socket.create_connection(pages.server_address, 5) as one:
+            self.assertEqual(one.recv(100), b'')
 
     def test_another_host(self):
         pages = self.serve(True)
@@ -314,6 +414,28 @@ class Web(unittest.TestCase):
             while True:
                 last = json.loads(found.get_nowait())
         self.assertEqual([it['told'] for it in last['events']], [str(n) for n in range(20)])
+
+
+@needs_loopback
+class Stopped(Tools):
+    def test_reports_without_end_do_not_keep_it(self):
+        def reports(pdu):
+            while True:
+                yield element(0xA3, element(0xA0, element(0xA0, element(0x30, element(
+                    0xA0, element(0x80, b'LastApplError')))), element(0xA0, octets_of(
+                        Data(INTEGER, 5)))))
+
+        with served(Bay(reports)) as server:
+            bay = self.file('bay', '[bay]\ndomain = "B"\nvendor = "V"\nmodel = "M"\n'
+                            '[[switch]]\nid = "QA1"\nkind = "breaker"\ncontrol = "sbo"\n')
+            run = subprocess.Popen([sys.executable, '-B', TOOLS / 'panel', '--bay', bay,
+                                    str(server.getsockname()[1]), '--http', '0'],
+                                   stdout=subprocess.PIPE, stderr=subprocess.PIPE, text=True)
+            self.assertIn('http://127.0.0.1:', run.stdout.readline())
+            time.sleep(0.5)
+            run.send_signal(signal.SIGINT)
+            out, error = run.communicate(timeout=12)
+        self.assertEqual((out, error, run.returncode), ('', '', 0))
 
 
 if __name__ == '__main__':
