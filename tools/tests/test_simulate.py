@@ -1,5 +1,6 @@
 """tools/simulate on a port that a test plays the server on."""
 import pathlib
+import signal
 import socket
 import subprocess
 import sys
@@ -8,7 +9,9 @@ import unittest
 
 TOOLS = pathlib.Path(__file__).resolve().parent.parent
 sys.path.insert(0, str(TOOLS))
+from session.served import Running, free_port
 from tests.loopback import needs_loopback
+from tests.tool import Tools
 
 BAY = '''[bay]
 domain = "E1"
@@ -34,9 +37,11 @@ class Simulated(unittest.TestCase):
         server = socket.create_server(('127.0.0.1', 0))
         self.addCleanup(server.close)
         server.settimeout(10)
+        self.out = tempfile.TemporaryFile('w+')
+        self.addCleanup(self.out.close)
         run = subprocess.Popen([TOOLS / 'simulate', bay, '--process', str(server.getsockname()[1]),
-                                '--once', *words], stdin=subprocess.PIPE,
-                               stdout=subprocess.DEVNULL)
+                                '--once', *words], stdin=subprocess.PIPE, stdout=self.out,
+                               stderr=subprocess.STDOUT)
         connection, _ = server.accept()
         connection.settimeout(10)
 
@@ -73,6 +78,30 @@ class Simulated(unittest.TestCase):
                          ['0 input ES 1', '0 measure M1 HZ 50', '0 measure M1 TOTW -5'])
         file.close()
 
+    def test_a_line_that_the_server_would_not_take_is_not_sent(self):
+        file, run = self.play()
+        self.lines(file, 2)
+        typed = b'M1 FOO 5\nM1 TOTW 3.5\nM1 HZ 9999999999\nES 2\nQA1 up\nM1 hz 50\n'
+        run.stdin.write(typed)
+        run.stdin.flush()
+        self.assertEqual(self.lines(file, 1), ['0 measure M1 HZ 50'])
+        file.close()
+        self.out.seek(0)
+        said = self.out.read()
+        for told in ("not sent: 'FOO' is no field", 'not sent: a whole number is wanted, and not '
+                     "'3.5'", 'not sent: \'9999999999\' has no room', '2 is none of 0, 1',
+                     'up is none of open, off, close, on'):
+            self.assertIn(told, said)
+
+    def test_odd_lines_of_the_server(self):
+        file, _ = self.play()
+        self.lines(file, 2)
+        file.buffer.write(b'1 command QA1 sideways\n\xff\n1 command QX on\n\n1 command\n'
+                          b'2 command qa1 on\r\n')
+        file.buffer.flush()
+        self.assertEqual(self.lines(file, 2), ['0 contact QA1 0', '0 contact QA1 2'])
+        file.close()
+
     def test_a_switch_that_is_stuck(self):
         file, run = self.play('--stuck', 'QA1')
         self.lines(file, 2)
@@ -90,6 +119,44 @@ class Simulated(unittest.TestCase):
         file.flush()
         self.assertEqual(self.lines(file, 1), ['0 contact QA1 3'])
         file.close()
+
+
+@needs_loopback
+class Waiting(Tools):
+    """What it says while nobody takes it."""
+
+    def running(self, port):
+        run = Running(sys.executable, '-B', TOOLS / 'simulate', self.file('bay', BAY), '--process',
+                      port, stdin=subprocess.PIPE)
+        self.addCleanup(run.__exit__)
+        return run
+
+    def test_without_a_server(self):
+        run = self.running(free_port())
+        run.waits_for('no server listens there; it is tried again until one does')
+        try:
+            run.run.wait(1.5)
+        except subprocess.TimeoutExpired:
+            pass
+        self.assertEqual(run.printed().count('\n'), 1)
+        run.run.send_signal(signal.SIGINT)
+        self.assertEqual(run.run.wait(10), 0)
+
+    def test_a_second_process_waits(self):
+        with socket.create_server(('127.0.0.1', 0)) as server:
+            run = self.running(server.getsockname()[1])
+            run.waits_for('the server takes one process at a time, and has another: waiting')
+            self.assertNotIn('connected', run.printed())
+            connection, _ = server.accept()
+            run.waits_for('connected')
+            connection.close()
+
+    def test_statuses(self):
+        bay = self.file('bay', BAY)
+        for words, status in ((['--at', 'QX=open'], 2), (['--at', 'QA1=ajar'], 2),
+                              (['--travel', 'nan'], 2), (['--process', '0'], 2), (['--once'], 3)):
+            found = self.run_tool('simulate', bay, '--process', free_port(), *words)
+            self.assertEqual((found.status, found.error.count('\n'), found.out), (status, 1, ''))
 
 
 if __name__ == '__main__':
