@@ -1,221 +1,215 @@
-"""Connections of TCP out of a capture file (pcap or pcapng), put together: segments in order,
-once."""
-import struct
+"""Connections of TCP out of a capture, put together: segments in order, once."""
+import heapq
 from dataclasses import dataclass, field
 
-from common.ending import Failed
+from .packets import Segment, address_told, packets, segment_in
 
-SYN, FIN, RST = 0x02, 0x01, 0x04
+SYN, FIN, RST, ACK = 0x02, 0x01, 0x04, 0x10
 HALF, WHOLE = 1 << 31, 1 << 32
-# Link types, of the files of tcpdump and tshark.
-NULL, ETHERNET, RAW, LOOP, COOKED, IPV4, IPV6, COOKED2 = 0, 1, 101, 108, 113, 228, 229, 276
-VLANS = 0x8100, 0x88A8, 0x9100
-TPKT_PORT = 102
-
-
-class BadCapture(Failed):
-    """The file is no capture that can be read."""
+TPKT_PORT, HEAD = 102, 6  # octets by which a connection of MMS is known
+CR, CC = 0xE0, 0xD0
 
 
 @dataclass
 class Event:
-    """What happens on a connection: `kind` is open, client, server, gap or close; `moment` is in
-    milliseconds since 1970, `octets` are what the client or the server sent."""
+    """What happens on a connection: `kind` is open, middle (it was open before the capture), client,
+    server, gap or close; `moment` is in milliseconds since 1970, `octets` are what the client or
+    the server sent, `side` is that of a gap, and `who` is the address of the client."""
     moment: int
     place: int
     kind: str
     octets: bytes = b''
+    side: str = ''
+    who: str = ''
 
-
-MAGICS = [b'\x0a\x0d\x0d\x0a', *(struct.pack(order + 'I', number) for order in '<>'
-                                 for number in (0xA1B2C3D4, 0xA1B23C4D))]
-
-
-# ---- the file
-
-def packets(octets):
-    """Each packet: its moment in milliseconds, its link type, and its octets."""
-    magic = octets[:4]
-    if magic == b'\x0a\x0d\x0d\x0a':
-        return packets_of_blocks(octets)
-    for order in '<>':
-        for number, unit in ((0xA1B2C3D4, 1_000), (0xA1B23C4D, 1_000_000)):
-            if magic == struct.pack(order + 'I', number):
-                return packets_of_records(octets, order, unit)
-    raise BadCapture('it is neither pcap nor pcapng')
-
-
-def packets_of_records(octets, order, unit):
-    if len(octets) < 24:
-        raise BadCapture('its header is cut off')
-    link, at = struct.unpack_from(order + 'I', octets, 20)[0] & 0xFFFF, 24
-    while at + 16 <= len(octets):
-        seconds, fraction, kept, _ = struct.unpack_from(order + 'IIII', octets, at)
-        yield seconds * 1000 + fraction // unit, link, octets[at + 16:at + 16 + kept]
-        at += 16 + kept
-
-
-def packets_of_blocks(octets):
-    at, order, links = 0, '<', []
-    while at + 12 <= len(octets):
-        if octets[at:at + 4] == b'\x0a\x0d\x0d\x0a':
-            order, links = '<' if octets[at + 8:at + 12] == b'\x4d\x3c\x2b\x1a' else '>', []
-        kind, size = struct.unpack_from(order + 'II', octets, at)
-        if size < 12 or at + size > len(octets):
-            return
-        body = octets[at + 8:at + size - 4]
-        if kind == 1:
-            links.append((struct.unpack_from(order + 'H', body)[0], ticks_of(body, order)))
-        elif kind == 6:
-            place, high, low, kept = struct.unpack_from(order + 'IIII', body)
-            link, ticks = links[place]
-            yield (high << 32 | low) * 1000 // ticks, link, body[20:20 + kept]
-        elif kind == 3 and links:
-            yield 0, links[0][0], body[4:]
-        at += size
-
-
-def ticks_of(body, order):
-    """How many ticks a second has on this interface (option 9)."""
-    at = 8
-    while at + 4 <= len(body):
-        option, size = struct.unpack_from(order + 'HH', body, at)
-        if option == 9:
-            exponent = body[at + 4]
-            return 2 ** (exponent & 0x7F) if exponent & 0x80 else 10 ** exponent
-        if option == 0:
-            break
-        at += 4 + (size + 3) // 4 * 4
-    return 1_000_000
-
-
-# ---- one packet
-
-def internet(link, octets):
-    """The packet of IP in a frame, or nothing."""
-    if link == ETHERNET:
-        return by_type(int.from_bytes(octets[12:14]), octets[14:])
-    if link == COOKED:
-        return by_type(int.from_bytes(octets[14:16]), octets[16:])
-    if link == COOKED2:
-        return by_type(int.from_bytes(octets[:2]), octets[20:])
-    if link in (NULL, LOOP):
-        return octets[4:]
-    return octets if link in (RAW, 12, IPV4, IPV6) else b''
-
-
-def by_type(kind, octets):
-    while kind in VLANS:
-        kind, octets = int.from_bytes(octets[2:4]), octets[4:]
-    return octets if kind in (0x0800, 0x86DD) else b''
-
-
-def segment_of(packet):
-    """The two ends and the segment of TCP of a packet, or None."""
-    version = packet[0] >> 4 if packet else 0
-    if version == 4 and len(packet) >= 20:
-        start, whole = (packet[0] & 15) * 4, int.from_bytes(packet[2:4]) or len(packet)
-        protocol, fragment = packet[9], int.from_bytes(packet[6:8]) & 0x1FFF
-        ends, octets = (packet[12:16], packet[16:20]), packet[start:whole]
-        protocol = 0 if fragment else protocol
-    elif version == 6 and len(packet) >= 40:
-        whole = 40 + int.from_bytes(packet[4:6])
-        protocol, ends, octets = packet[6], (packet[8:24], packet[24:40]), packet[40:whole]
-    else:
-        return None
-    if protocol != 6 or len(octets) < 20:
-        return None
-    ports = struct.unpack('>HH', octets[:4])
-    return (ends[0], ports[0]), (ends[1], ports[1]), octets
-
-
-# ---- one connection
 
 @dataclass
 class Way:
-    """One direction: the number of the octet that comes next, and what came before its turn."""
-    next: int | None = None
-    early: dict = field(default_factory=dict)
+    """One direction. Places count octets from the first; `next` is the place of the octet that comes
+    next, `early` has what came before its turn, and `known` is up to where octets were sent, as
+    far as this is seen."""
+    base: int | None = None
+    next: int = 0
+    known: int = 0
+    end: int | None = None
+    early: list = field(default_factory=list)
+    head: bytes = b''
 
-    def take(self, number, octets):
+    def place(self, number: int) -> int:
+        """The place of a number of TCP, near to the next."""
+        far = (number - self.base - self.next) % WHOLE
+        return self.next + (far - WHOLE if far >= HALF else far)
+
+    def take(self, number: int, data: bytes, size: int) -> bytes:
         """The octets that are next, in their order: none is given twice."""
-        if self.next is None:
-            self.next = number
-        if octets:
-            self.early[number] = max(octets, self.early.get(number, b''), key=len)
-        found = b''
-        while True:
-            ready = [n for n in self.early if (n - self.next) % WHOLE >= HALF or n == self.next]
-            if not ready:
-                return found
-            first = min(ready, key=lambda n: (n - self.next + HALF) % WHOLE)
-            piece = self.early.pop(first)
-            new = piece[(self.next - first) % WHOLE:]
-            found, self.next = found + new, (self.next + len(new)) % WHOLE
+        if self.base is None:
+            self.base = number
+        place = self.place(number)
+        self.known = max(self.known, place + size)
+        if place + len(data) > self.next:
+            heapq.heappush(self.early, (place, data))
+        return self.ready()
+
+    def ready(self) -> bytes:
+        """What can be handed on of what came early."""
+        found = []
+        while self.early and self.early[0][0] <= self.next:
+            place, data = heapq.heappop(self.early)
+            new = data[self.next - place:]
+            found.append(new)
+            self.next += len(new)
+        whole = b''.join(found)
+        self.head += whole[:HEAD - len(self.head)]
+        return whole
+
+    def acknowledge(self, number: int) -> bool:
+        """The other end has taken what is before a number: whether the capture lacks some of it.
+        The end of a way counts as an octet, and may not be in the capture."""
+        if self.base is None:
+            return False
+        place = self.place(number)
+        if self.end is not None:
+            place = min(place, self.end)
+        elif place == self.next + 1 and not self.early:
+            place = self.next
+        self.known = max(self.known, place)
+        return bool(self.early) and self.next < self.early[0][0] <= place
+
+    def skip(self) -> bytes:
+        """Leaves out what is lacking, and goes on behind it."""
+        self.next = self.early[0][0] if self.early else self.known
+        return self.ready()
 
 
 class Connection:
-    """A connection with its two ways; which end is the client's is told by who began it."""
+    """A connection with its two ways. `events` are what happened, by the number of the packet, the
+    moment, the end that sent it, the kind and octets."""
 
-    def __init__(self, place, client, server):
-        self.place, self.ends, self.closed = place, (client, server), False
-        self.ways = {client: Way(), server: Way()}
+    def __init__(self, first: int, moment: int, segment: Segment):
+        self.first, self.opened, self.events = first, moment, []
+        self.client, self.client_is_sure = None, False
+        self.ways = {segment.source: Way(), segment.target: Way()}
+        self.is_closed, self.ended = False, set()
+        self.last = (first, moment)
+        if segment.flags & SYN:
+            is_answer = segment.flags & ACK
+            self.client = segment.target if is_answer else segment.source
 
-    def take(self, moment, source, octets):
-        number, flags = int.from_bytes(octets[4:8]), octets[13]
-        payload = octets[(octets[12] >> 4) * 4:]
-        way = self.ways[source]
-        if flags & SYN:
-            way.next, number = (number + 1) % WHOLE, (number + 1) % WHOLE
-        found = way.take(number, payload)
-        if found:
-            yield Event(moment, self.place, 'client' if source == self.ends[0] else 'server', found)
-        if flags & (FIN | RST) and not self.closed:
-            self.closed = True
-            yield Event(moment, self.place, 'close')
+    def other(self, end):
+        return next((it for it in self.ways if it != end), end)
 
-    def lost(self):
-        """Whether octets came whose turn never did: some before them are not in the capture."""
-        return any(way.early for way in self.ways.values())
+    def is_again(self, segment: Segment) -> bool:
+        """Whether a segment begins another connection between the same ports."""
+        if segment.flags & (SYN | ACK) != SYN:
+            return False
+        base = self.ways[segment.source].base
+        return self.is_closed or base is not None and base != (segment.number + 1) % WHOLE
+
+    def take(self, at: int, moment: int, segment: Segment) -> None:
+        if self.is_closed:
+            return
+        self.last = (at, moment)
+        way, number = self.ways[segment.source], segment.number
+        if segment.flags & SYN:
+            number = (number + 1) % WHOLE
+            way.base = number if way.base is None else way.base
+        if segment.data or segment.size:
+            self.note(at, moment, segment.source, way.take(number, segment.data, segment.size))
+        if segment.flags & ACK:
+            other = self.ways[segment.target]
+            while other.acknowledge(segment.acknowledged):
+                self.gap(at, moment, segment.target)
+        if segment.flags & FIN and way.base is not None:
+            way.end = way.place((number + segment.size) % WHOLE)
+            way.known = max(way.known, way.end)
+        if segment.flags & (FIN | RST):
+            self.ended.add(segment.source)
+            self.is_closed = len(self.ended) == 2 or bool(segment.flags & RST)
+
+    def note(self, at, moment, end, octets) -> None:
+        if octets:
+            self.events.append((at, moment, end, 'data', octets))
+
+    def gap(self, at, moment, end) -> None:
+        """Octets of an end are not in the capture."""
+        self.events.append((at, moment, end, 'gap', b''))
+        self.note(at, moment, end, self.ways[end].skip())
+
+    def finish(self) -> None:
+        """The capture has ended: what is lacking, and that the connection was closed."""
+        for end, way in self.ways.items():
+            while way.next < way.known:
+                self.gap(*self.last, end)
+        if self.ended:
+            self.events.append((*self.last, None, 'close', b''))
+
+    def kind_of(self, end) -> int:
+        """The kind of the TPDU with which an end begins, or 0."""
+        head = self.ways[end].head
+        return head[5] if len(head) == HEAD and head[:2] == b'\x03\x00' else 0
+
+    def is_wanted(self, port: int | None) -> bool:
+        """Whether this is a connection to a port, or one on which MMS is spoken."""
+        ports = [end[1] for end in self.ways]
+        if port is not None:
+            return port in ports
+        return TPKT_PORT in ports or any(self.kind_of(end) in (CR, CC, 0xF0) for end in self.ways)
+
+    def begins(self) -> bool:
+        """Whether its beginning is in the capture."""
+        return self.client_is_sure or self.kind_of(self.client) == CR
+
+    def find_client(self, port: int | None) -> None:
+        """Which end is the client's: the one that began, else the one that asks for a connection,
+        else the one with another port than the server's."""
+        self.client_is_sure = self.client is not None
+        if self.client is None:
+            ends = list(self.ways)
+            asks = [end for end in ends if self.kind_of(end) == CR]
+            asks += [self.other(end) for end in ends if self.kind_of(end) == CC]
+            asks += [self.other(end) for end in ends if end[1] in (port, TPKT_PORT)]
+            self.client = asks[0] if asks else max(ends, key=lambda end: end[1])
 
 
 class Capture:
-    """The connections of a capture to one port, or to those on which a TPKT is seen."""
+    """The connections of a capture to one port, or those on which MMS is spoken."""
 
-    def __init__(self, octets, port=None):
-        self.octets, self.port, self.connections, self.count = octets, port, {}, 0
+    def __init__(self, octets: bytes, port: int | None = None):
+        self.octets, self.port, self.connections = octets, port, []
 
-    def events(self):
+    def events(self) -> list[Event]:
         """What happens, in the order of the capture."""
-        last = 0
-        for moment, link, octets in packets(self.octets):
-            last = moment
-            found = segment_of(internet(link, octets))
-            if found and self.is_wanted(*found):
-                yield from self.segment(moment, *found)
-        for connection in self.connections.values():
-            if connection.lost():
-                yield Event(last, connection.place, 'gap')
+        self.read()
+        found = []
+        wanted = [it for it in self.connections if it.is_wanted(self.port)]
+        for place, connection in enumerate(wanted, 1):
+            connection.find_client(self.port)
+            found += events_of(connection, place)
+        return [event for _, event in sorted(found, key=lambda it: it[0])]
 
-    def is_wanted(self, source, target, octets):
-        if self.port is not None:
-            return self.port in (source[1], target[1])
-        known = frozenset((source, target)) in self.connections
-        return known or TPKT_PORT in (source[1], target[1]) or self.is_first(octets)
+    def read(self) -> None:
+        """Puts the connections together."""
+        now = {}
+        for at, packet in enumerate(packets(self.octets)):
+            segment = segment_in(packet)
+            if segment is None or self.port not in (None, segment.source[1], segment.target[1]):
+                continue
+            key = frozenset((segment.source, segment.target))
+            if key not in now or now[key].is_again(segment):
+                now[key] = Connection(at, packet.moment, segment)
+                self.connections.append(now[key])
+            now[key].take(at, packet.moment, segment)
+        for connection in self.connections:
+            connection.finish()
 
-    @staticmethod
-    def is_first(octets):
-        """Whether the segment begins a connection's data with a connection request of COTP."""
-        payload = octets[(octets[12] >> 4) * 4:]
-        return payload[:2] == b'\x03\x00' and payload[5:6] == b'\xe0'
 
-    def segment(self, moment, source, target, octets):
-        key, flags = frozenset((source, target)), octets[13]
-        begins = flags & SYN and not flags & 0x10
-        if key not in self.connections or (begins and self.connections[key].closed):
-            self.count += 1
-            answers = flags & SYN and flags & 0x10 or source[1] in (self.port, TPKT_PORT)
-            ends = (target, source) if answers else (source, target)
-            self.connections[key] = Connection(self.count, *ends)
-            yield Event(moment, self.count, 'open')
-        yield from self.connections[key].take(moment, source, octets)
+def events_of(connection: Connection, place: int):
+    """The events of a connection, each with the number of its packet."""
+    who = address_told(connection.client[0])
+    kind = 'open' if connection.begins() else 'middle'
+    yield connection.first, Event(connection.opened, place, kind, who=who)
+    for at, moment, end, kind, octets in connection.events:
+        side = 'client' if end == connection.client else 'server'
+        event = Event(moment, place, side if kind == 'data' else kind, octets, who=who)
+        event.side = side if kind == 'gap' else ''
+        yield at, event

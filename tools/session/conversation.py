@@ -56,7 +56,8 @@ def replies_to(got):
 
 
 class Conversation:
-    """One association: what its client asked and has not been answered yet, by invoke id."""
+    """One association: what its client asked and has not been answered yet, by invoke id, the first
+    first."""
 
     def __init__(self, bay):
         self.bay, self.stream, self.asked = bay, Stream(), {}
@@ -88,7 +89,7 @@ class Conversation:
             return Said('read', 'sends', [f'a PDU that can\'t be read: {error}'], good=False)
         said = self.asked_of(pdu)
         if pdu.kind == 'request':
-            self.asked[pdu.invoke] = (pdu, said)
+            self.asked.setdefault(pdu.invoke, []).append((pdu, said))
         return said
 
     def asked_of(self, pdu):
@@ -119,7 +120,7 @@ class Conversation:
 
     def control_told(self, kind, switch, pdu):
         """A select, an operate or a cancel."""
-        if pdu.service == 'read':
+        if pdu.service == 'read' or not pdu.data:
             return f'{kind} {switch}'
         value = pdu.data[0]
         shape = words.CANCEL if kind == 'cancel' else words.OPER
@@ -175,7 +176,8 @@ class Conversation:
             return self.reported(pdu)
         if pdu.kind == 'concluded':
             return Said('end', 'is answered:', ['concluded'])
-        request, asked = self.asked.pop(pdu.invoke, (None, None))
+        waiting = self.asked.get(pdu.invoke)
+        request, asked = waiting.pop(0) if waiting else (None, None)
         kind, *control = pdu.service or 'read', '', ''
         if asked:
             kind, *control = asked.kind, asked.switch, asked.way
@@ -213,7 +215,7 @@ class Conversation:
         control = next((name for name in pdu.names if name.endswith('$Oper')), None)
         cause = next((cause_in(value) for name, value in zip(pdu.names, pdu.data)
                       if name == 'LastApplError'), None)
-        if control and words.fits(words.OPER, pdu.data[-1]):
+        if control and pdu.data and words.fits(words.OPER, pdu.data[-1]):
             switch, asked = self.bay.switch(control), self.bay.item(control) + '$ctlVal'
             on = words.told(asked, pdu.data[-1].value[0])
             told = 'done' if cause is None else words.cause_told(cause[1])
@@ -257,9 +259,12 @@ def cause_in(value):
 def proposed(initiate):
     """The PDU size in an initiate or its answer."""
     try:
-        size, = mms.read_pdu(initiate).code
+        pdu = mms.read_pdu(initiate)
     except Unreadable as error:
         return f', with an initiate that can\'t be read: {error}'
+    if pdu.kind not in ('initiate', 'initiated'):
+        return f', with a PDU that is no initiate: {pdu.kind}'
+    size, = pdu.code
     return f', PDUs of at most {size} octets' if size else ''
 
 

@@ -2,10 +2,12 @@
 measures, clients, commands and refusals."""
 from dataclasses import dataclass
 
+from common.texts import raised
+
 from . import moments
+from .captured import conversation_of, first_stream, go_on_behind
 from .conversation import Conversation, got_of
 from .replay import CODES, REASONS
-from .stream import Stream
 from .words import cause_told
 
 POSITIONS = ['intermediate', 'open', 'closed', 'bad']
@@ -40,12 +42,17 @@ class Mark:
 
 
 class Client:
-    """What one association was over time: when it was open, when it asked or was told something,
-    and its controls."""
+    """What one client was over time: when it was connected, when it asked or was told something, and
+    its controls."""
 
     def __init__(self, place):
         self.label, self.ticks, self.marks = f'Client {place}', {}, []
-        self.open = Track(self.label)
+        self.open, self.count = Track(self.label), 0
+
+    def connect(self, moment: int, is_open: bool) -> None:
+        """One more or one less of its connections."""
+        self.count = max(self.count + (1 if is_open else -1), 0)
+        self.open.set(moment, self.count > 0)
 
     def tick(self, moment, said):
         self.ticks.setdefault(moment, []).extend(said.told())
@@ -57,14 +64,14 @@ class History:
 
     def __init__(self, bay, report=''):
         self.bay, self.report, self.ending, self.falling = bay, report, '', 0
-        self.switches = {s['id'].upper(): Track(s['id'], s['kind']) for s in bay['switch']}
-        self.inputs = {i['name'].upper(): Track(i['name'], 'input') for i in bay.get('input', [])}
-        self.meters = {m['id'].upper(): m['id'] for m in bay.get('meter', [])}
+        self.switches = {raised(s['id']): Track(s['id'], s['kind']) for s in bay['switch']}
+        self.inputs = {raised(i['name']): Track(i['name'], 'input') for i in bay.get('input', [])}
+        self.meters = {raised(m['id']): m['id'] for m in bay.get('meter', [])}
         self.opens = {key: Track('may be opened') for key in self.switches}
         self.closes = {key: Track('may be closed') for key in self.switches}
         self.commands = {key: [] for key in self.switches}
         self.measures, self.scans, self.moments = {}, [], []
-        self.clients, self.conversations = {}, {}
+        self.clients, self.conversations, self.causes = {}, {}, {}
         self.refusals, self.events = [], []
 
     @classmethod
@@ -78,7 +85,8 @@ class History:
 
     @classmethod
     def of_capture(cls, file, bay, events):
-        """What was said in a captured session. Of the process nothing is known."""
+        """What was said in a captured session. Of the process nothing is known. Each address is a
+        client."""
         history, servers = cls(file), {}
         history.switches, history.inputs = {}, {}
         for event in events:
@@ -92,14 +100,15 @@ class History:
     def captured(self, event, bay, servers):
         """What happened on a connection of a capture."""
         self.moments.append(event.moment)
-        client = self.clients.setdefault(event.place, Client(event.place))
-        if event.kind == 'open':
-            self.conversations[event.place] = Conversation(bay)
-            servers[event.place] = Stream()
-        if event.kind in ('open', 'close'):
-            client.open.set(event.moment, event.kind == 'open')
+        who = event.who or event.place
+        client = self.clients.setdefault(who, Client(who))
+        if event.kind in ('open', 'middle'):
+            self.conversations[event.place] = conversation_of(event, bay)
+            servers[event.place] = first_stream(event)
+        if event.kind in ('open', 'middle', 'close'):
+            client.connect(event.moment, event.kind != 'close')
             return
-        conversation, causes = self.conversations[event.place], {}
+        conversation = self.conversations[event.place]
         if event.kind == 'client':
             for got in conversation.hear(event.octets):
                 client.tick(event.moment, conversation.asks(got))
@@ -107,7 +116,10 @@ class History:
             for got in servers[event.place].feed(event.octets):
                 said = conversation.answers(got)
                 client.tick(event.moment, said)
-                self.control(event.moment, event.place, said, causes)
+                self.control(event.moment, who, said, (event.place, ''))
+        else:
+            client.ticks.setdefault(event.moment, []).append('octets are missing in the capture')
+            go_on_behind(event, conversation, servers)
 
     def refuse(self, moment, words):
         """Notes a refusal, and gives its place in the list."""
@@ -132,7 +144,7 @@ class History:
 
     def event(self, moment, words):
         """A contact, an input or a measure."""
-        key = words[1].upper()
+        key = raised(words[1])
         if words[0] == 'contact':
             self.switches[key].set(moment, POSITIONS[int(words[2])])
         elif words[0] == 'input':
@@ -148,24 +160,23 @@ class History:
             for got in step.heard:
                 client.tick(step.moment, self.conversations[place].asks(got))
             return
-        client.open.set(step.moment, step.words[0] == 'open')
+        client.connect(step.moment, step.words[0] == 'open')
         self.conversations[place] = Conversation(bay)
 
     def printed(self, step):
         """What was printed for an event: answers, a command, a scan, an association that was
         closed."""
-        causes = {}
         for place, octets in step.sent:
             said = self.conversations[place].answers(got_of(octets))
             self.clients[place].tick(step.moment, said)
-            self.control(step.moment, place, said, causes)
+            self.control(step.moment, place, said, place)
         if step.command:
-            self.commands[step.command[0].upper()].append((step.moment, step.command[1]))
+            self.commands[raised(step.command[0])].append((step.moment, step.command[1]))
         if step.scan:
             self.scan(step.moment, step.scan)
         if step.closed:
             place, code = step.closed
-            self.clients[place].open.set(step.moment, False)
+            self.clients[place].connect(step.moment, False)
             if code != '0':
                 told = 'no memory'
                 if code.isdigit():
@@ -173,16 +184,16 @@ class History:
                 number = self.refuse(step.moment, f'client {place} is closed: {told}')
                 self.clients[place].marks.append(Mark(step.moment, 'closed', number))
 
-    def control(self, moment, place, said, causes):
-        """A mark for a control that was answered or has ended; the cause of a refusal was told
-        before it."""
+    def control(self, moment, place, said, talk):
+        """A mark for a control of a client that was answered or has ended; the cause of a refusal
+        was told before it in the same talk, in whatever pieces it came."""
         if said.kind == 'refused':
-            causes[place] = said.cause
+            self.causes[talk] = said.cause
         elif said.kind == 'ended':
             self.mark(moment, place, f'{said.switch} {said.way} has ended', said.good, said.cause)
         elif said.switch:
             told = said.lines[0].partition(': ')[2]
-            self.mark(moment, place, said.title(), said.good, causes.pop(place, None), told)
+            self.mark(moment, place, said.title(), said.good, self.causes.pop(talk, None), told)
 
     def mark(self, moment, place, label, good, cause, words=''):
         told = cause_told(cause) if cause is not None else words
@@ -194,6 +205,6 @@ class History:
         self.scans.append(moment)
         for part in line.split(' ')[2:]:
             name, _, digits = part.partition('=')
-            if name.upper() in self.switches:
-                self.opens[name.upper()].set(moment, digits[0] == '1')
-                self.closes[name.upper()].set(moment, digits[1] == '1')
+            if raised(name) in self.switches:
+                self.opens[raised(name)].set(moment, digits[:1] == '1')
+                self.closes[raised(name)].set(moment, digits[1:2] == '1')

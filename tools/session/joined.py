@@ -17,6 +17,17 @@ class BadTrace(Failed):
     """Lines that are none of a trace, or too many associations."""
 
 
+def check_whole(events: list) -> None:
+    """A capture that begins in the middle, or that lacks octets, can't be replayed."""
+    for event in events:
+        if event.kind == 'middle':
+            raise BadTrace(f'the capture: connection {event.place} began before it, so it can\'t be '
+                           'replayed')
+        if event.kind == 'gap':
+            raise BadTrace(f'the capture: octets of connection {event.place} are missing in it, so '
+                           'it can\'t be replayed')
+
+
 def placed(events):
     """The events with the number that a server gives their association: the lowest that is free."""
     free, places = list(range(1, PLACES + 1)), {}
@@ -72,6 +83,7 @@ def merged(parts: list) -> str:
 
 def trace_of(events: list, told: str) -> str:
     """All lines of a session, joined with those of the process."""
+    check_whole(events)
     return merged([read_lines(told), list(lines_of(events))]) + '\n'
 
 

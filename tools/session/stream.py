@@ -1,5 +1,6 @@
 """The layers below MMS: TPKT (RFC 1006), COTP of class 0 (X.224), session (X.225), presentation
 (ISO 8823-1) and ACSE."""
+import re
 from dataclasses import dataclass
 
 from . import ber
@@ -9,6 +10,7 @@ CR, CC, DT, DR, ER = 0xE0, 0xD0, 0xF0, 0x80, 0x70
 TPDU_SIZE = 0xC0
 CONNECT, ACCEPT, FINISH, DISCONNECT, ABORT = 0x0D, 0x0E, 0x09, 0x0A, 0x19
 ACSE_SYNTAX, MMS_SYNTAX = bytes.fromhex('52010001'), bytes.fromhex('28CA220201')
+DATA = re.compile(rb'(?s)\x03\x00..\x02\xf0[\x00\x80]')  # how a TPDU of data begins
 BER_SYNTAX, MMS_CONTEXT = bytes.fromhex('5101'), bytes.fromhex('28CA220203')
 
 
@@ -26,17 +28,27 @@ class Got:
 @dataclass
 class Stream:
     """One direction of a connection, whose octets come in pieces: `kept` has those that are not
-    taken yet, from the place `at` on."""
+    taken yet, from the place `at` on. Where `seeks` is set they begin anywhere, and what comes
+    before the first whole message is left out."""
     kept: bytes = b''
     at: int = 0
     group: bytes = b''
     over: bool = False
     connected: bool = False
+    seeks: bool = False
+
+    @classmethod
+    def behind_a_gap(cls) -> 'Stream':
+        """A stream of which some octets are missing at its beginning."""
+        return cls(connected=True, seeks=True)
 
     def feed(self, piece):
         """What this piece completes, one after the other."""
         self.kept, self.at = self.kept[self.at:] + piece, 0
         while not self.over:
+            if self.seeks and not self.seek():
+                return
+            before = self.at
             try:
                 frame = self.next_frame()
                 if frame is None:
@@ -44,9 +56,18 @@ class Stream:
                 found = self.take(frame)
             except Unreadable as error:
                 found = Got('fault', words=str(error))
+                if self.seeks:
+                    self.at, self.group, found = before + 1, b'', None
             if found:
+                self.seeks = False
                 self.over = found.kind in ('end', 'fault', 'abort', 'released')
                 yield found
+
+    def seek(self) -> bool:
+        """Goes on to where a TPDU of data may begin, if there is such a place."""
+        found = DATA.search(self.kept, self.at)
+        self.at = found.start() if found else max(len(self.kept) - 6, self.at)
+        return found is not None
 
     def next_frame(self):
         """The TPDU of the next whole frame, or None."""
