@@ -1,6 +1,8 @@
 """Pictures in SVG, that grow downward."""
 import html
 
+from common.texts import in_line
+
 INK, FAINT, GRID = '#1a1a1a', '#6a6a6a', '#e3e3e3'
 WARN, FREE, COMMAND = '#b3261e', '#2e7d32', '#8a4b00'
 FONTS = 'DejaVu Sans, Verdana, Helvetica, Arial, sans-serif'
@@ -11,8 +13,13 @@ def room(text, size):
     return len(text) * size * 0.62
 
 
+def safe(text: str) -> str:
+    """A text as SVG has it, its control characters spelled out."""
+    return html.escape(in_line(text))
+
+
 def title_of(tip):
-    return f'<title>{html.escape(tip)}</title>' if tip else ''
+    return f'<title>{safe(tip)}</title>' if tip else ''
 
 
 class Picture:
@@ -24,12 +31,12 @@ class Picture:
     def text(self, x, y, text, size=12, anchor='start', fill=INK, weight='normal'):
         self.parts.append(f'<text x="{x:.1f}" y="{y:.1f}" font-size="{size}" '
                           f'text-anchor="{anchor}" fill="{fill}" '
-                          f'font-weight="{weight}">{html.escape(text)}</text>')
+                          f'font-weight="{weight}">{safe(text)}</text>')
 
     def upward(self, x, y, text):
         """A text that reads from below to above."""
         self.parts.append(f'<text transform="translate({x:.1f} {y:.1f}) rotate(-90)" '
-                          f'font-size="11" fill="{INK}">{html.escape(text)}</text>')
+                          f'font-size="11" fill="{INK}">{safe(text)}</text>')
 
     def box(self, x, y, width, height, fill, stroke='none', tip='', dash=''):
         dashes = f' stroke-dasharray="{dash}"' if dash else ''
@@ -48,7 +55,7 @@ class Picture:
         return (f'<svg xmlns="http://www.w3.org/2000/svg" viewBox="0 0 {width} {height:.0f}" '
                 f'width="{width}" height="{height:.0f}" role="img" '
                 f'aria-labelledby="heading told" font-family="{FONTS}">\n'
-                f'<title id="heading">{html.escape(heading)}</title>\n'
-                f'<desc id="told">{html.escape(told)}</desc>\n{front}'
+                f'<title id="heading">{safe(heading)}</title>\n'
+                f'<desc id="told">{safe(told)}</desc>\n{front}'
                 '<rect width="100%" height="100%" fill="#ffffff"/>\n'
                 + '\n'.join(self.parts) + '\n</svg>\n')

@@ -22,10 +22,17 @@ MMS_TYPES = {
     'VisString129': 'visible-string -129', 'VisString255': 'visible-string -255',
     'ObjRef': 'visible-string -129'}
 LACKING = """\
- What the classes of IEC 61850-7-4 demand and this server lacks: Beh, Mod, Health and NamPlt of the
- nodes other than LLN0; hwRev, serNum and location of nameplates; configRev and ldNs of LLN0; Loc of
- XCBR and XSWI; CBOpCap and SwOpCap; ctlModel of BlkOpn and BlkCls; units and floating values of
- MMXU. Its rows are fixed. Inputs of a bay file have no rows. """
+ An importer may complain of what the classes of IEC 61850-7-4 demand and this server lacks: Beh,
+ Mod, Health and NamPlt of the nodes other than LLN0; hwRev, serNum and location of nameplates;
+ configRev and ldNs of LLN0; Loc of XCBR and XSWI; CBOpCap and SwOpCap; ctlModel of BlkOpn and
+ BlkCls; units and floating values of MMXU. Beyond the standard's data attributes stands d of NamPlt
+ of LLN0 as the model. There are no data sets and no reports, so dchg and qchg trigger nothing; what
+ has valKind RO can't be written. Its rows are fixed. Inputs of a bay file have no rows. """
+UNPORTED = """\
+ The server listens on port {}: edition 1 has no MMS-Port, so clients must be told. """
+ENDINGS = {'DOType': '_DO', 'DAType': '_DA', 'EnumType': '_Enum'}  # ids are unique over all kinds
+CHANGES = {'stVal': 'dchg', 'stSeld': 'dchg', 'mag': 'dchg', 'cVal': 'dchg', 'q': 'qchg'}
+FIXED = ('CF', 'DC')  # constraints of what can't be written
 
 
 def status(kind, *more):
@@ -82,12 +89,10 @@ def nodes_of(file):
     """The logical nodes of a bay file in their order: class, instance, type, and the description
     and the kind of control that it has of its switch."""
     found = [('LLN0', '', 'LLN0', '', None), ('LPHD', 1, 'LPHD', '', None)]
-    counts = {'XCBR': 0, 'XSWI': 0}
     switches = file.get('switch', [])
-    for switch in switches:
-        kind = 'XCBR' if switch['kind'] == 'breaker' else 'XSWI'
-        counts[kind] += 1
-        found.append((kind, counts[kind], kind, switch['id'], None))
+    for kind in ('XCBR', 'XSWI'):
+        own = [switch for switch in switches if (switch['kind'] == 'breaker') == (kind == 'XCBR')]
+        found += [(kind, place, kind, switch['id'], None) for place, switch in enumerate(own, 1)]
     for kind in ('CSWI', 'CILO'):
         for place, switch in enumerate(switches, 1):
             control = switch['control'] if kind == 'CSWI' else None
@@ -110,6 +115,8 @@ class Writer:
         ET.SubElement(root, 'Header', id=domain, version='1', revision='',
                       nameStructure='IEDName')
         root.append(ET.Comment(LACKING))
+        if port and self.edition == 1:
+            root.append(ET.Comment(UNPORTED.format(port)))
         self.communication(root, ied, address, port)
         self.device(root, ied, instance, domain)
         self.types(root)
@@ -121,8 +128,9 @@ class Writer:
                                 type='8-MMS')
         point = ET.SubElement(network, 'ConnectedAP', iedName=ied, apName='AP1')
         found = ET.SubElement(point, 'Address')
-        words = {'IP': address, 'OSI-TSEL': '0001', 'OSI-SSEL': '0001', 'OSI-PSEL': '00000001'}
-        if port:
+        kind = 'IPv6' if ':' in address else 'IP'
+        words = {kind: address, 'OSI-TSEL': '0001', 'OSI-SSEL': '0001', 'OSI-PSEL': '00000001'}
+        if port and self.edition == 2:
             words['MMS-Port'] = str(port)
         for kind, word in words.items():
             ET.SubElement(found, 'P', type=kind).text = word
@@ -169,14 +177,14 @@ class Writer:
             node = ET.SubElement(templates, 'LNodeType', id=kept, lnClass=kind)
             control = kept.partition('_')[2]
             for name, of in [('Pos', kept)] if control else NODES[kind]:
-                ET.SubElement(node, 'DO', name=name, type=of)
+                ET.SubElement(node, 'DO', name=name, type=of + ENDINGS['DOType'])
                 objects[of] = control_type(control) if control else DATA.get(of)
                 if of == 'WYE':
                     objects['CMV'] = DATA['CMV']
         needed = self.objects(templates, objects)
         structures = self.structures(templates, needed)
         for name in sorted(part[5:] for part in structures if part.startswith('Enum ')):
-            enum = ET.SubElement(templates, 'EnumType', id=name)
+            enum = ET.SubElement(templates, 'EnumType', id=name + ENDINGS['EnumType'])
             for number, word in ENUMS[name].items():
                 ET.SubElement(enum, 'EnumVal', ord=str(number)).text = word
 
@@ -185,13 +193,15 @@ class Writer:
         needed = []
         for name, of in objects.items():
             cdc = 'WYE' if name == 'WYE' else of[0 if self.edition == 2 else 1]
-            found = ET.SubElement(templates, 'DOType', id=name, cdc=cdc)
+            found = ET.SubElement(templates, 'DOType', id=name + ENDINGS['DOType'], cdc=cdc)
             if name == 'WYE':
                 for phase in ('phsA', 'phsB', 'phsC'):
-                    ET.SubElement(found, 'SDO', name=phase, type='CMV')
+                    ET.SubElement(found, 'SDO', name=phase, type='CMV' + ENDINGS['DOType'])
                 continue
             for part, constraint, kind in of[2]:
-                ET.SubElement(found, 'DA', name=part, fc=constraint, **self.kind(kind))
+                more = {CHANGES[part]: 'true'} if part in CHANGES else {}
+                more |= {'valKind': 'RO'} if constraint in FIXED else {}
+                ET.SubElement(found, 'DA', name=part, fc=constraint, **self.kind(kind), **more)
                 needed.append(kind)
         return needed
 
@@ -206,7 +216,7 @@ class Writer:
                 needed += [part for _, _, part in STRUCTURES[kind[7:]]]
         for kind in found:
             if kind.startswith('Struct '):
-                structure = ET.SubElement(templates, 'DAType', id=kind[7:])
+                structure = ET.SubElement(templates, 'DAType', id=kind[7:] + ENDINGS['DAType'])
                 for part, _, of in STRUCTURES[kind[7:]]:
                     ET.SubElement(structure, 'BDA', name=part, **self.kind(of))
         return found
@@ -215,7 +225,8 @@ class Writer:
         basic, _, of = kind.partition(' ')
         if basic == 'ObjRef' and self.edition == 1:
             basic = 'VisString129'
-        return {'bType': basic, **({'type': of} if of else {})}
+        ending = ENDINGS['EnumType' if basic == 'Enum' else 'DAType']
+        return {'bType': basic, **({'type': of + ending} if of else {})}
 
 
 def text_of(root):

@@ -342,29 +342,29 @@ class Asked(Tools):
 
     def test_what_can_not_be_written_is_told_first(self):
         for option in ('--report', '--table', '--scenarios'):
-            found = self.run_tool('audit', *self.words(), option, 'none/it', '--bayctl', 'none')
+            found = self.call_tool('audit', *self.words(), option, 'none/it', '--bayctl', 'none')
             self.assertIn('none/it', found.error)
             self.assertIn('there is no folder none', found.error)
             self.assertEqual((found.out, found.status), ('', 3))
 
     def test_an_option_that_is_wrong_names_itself(self):
-        found = self.run_tool('audit', *self.words(), '--switches', 'QA1=offf')
+        found = self.call_tool('audit', *self.words(), '--switches', 'QA1=offf')
         self.assertEqual(found.error, 'audit: --switches QA1=offf: offf is no value of the switch '
                          'QA1: intermediate, off, on or bad is wanted\n')
         self.assertEqual(found.status, 2)
 
     def test_rules_that_can_not_be_read(self):
-        found = self.run_tool('audit', *self.words('never QX open\n'))
+        found = self.call_tool('audit', *self.words('never QX open\n'))
         self.assertIn('rules: line 1: QX is no switch of the bay', found.error)
         self.assertEqual((found.out, found.status), ('', 3))
-        marked = self.run_tool('audit', *self.words('\ufeffnever QX open\n'))
+        marked = self.call_tool('audit', *self.words('\ufeffnever QX open\n'))
         self.assertEqual(marked.error, found.error)
 
     def test_old_scenarios_go(self):
         for name in ('broken_7.scenario', 'broken_x.scenario'):
             self.file(name, '')
         scans = 'instructions=0 depth=0 budget=0\n' + '0 scan steps=0 QA1=10\n' * 2
-        found = self.run_tool('audit', *self.words(), '--bayctl', self.bayctl(scans))
+        found = self.call_tool('audit', *self.words(), '--bayctl', self.bayctl(scans))
         self.assertEqual((found.out.splitlines()[0], found.status),
                          ('holds in 1 combination: always QA1 open', 0))
         self.assertEqual([path.name for path in self.folder.glob('broken*')],
@@ -374,9 +374,9 @@ class Asked(Tools):
         for rules, digits, status in (('always QA1 open\n', '10', 0), ('never QA1 open\n', '10', 1),
                                       ('', '10', 4)):
             scans = 'instructions=0 depth=0 budget=0\n' + f'0 scan steps=0 QA1={digits}\n' * 2
-            found = self.run_tool('audit', *self.words(rules), '--bayctl', self.bayctl(scans))
+            found = self.call_tool('audit', *self.words(rules), '--bayctl', self.bayctl(scans))
             self.assertEqual(found.status, status, found)
-        found = self.run_tool('audit', *self.words(), '--bayctl',
+        found = self.call_tool('audit', *self.words(), '--bayctl',
                               self.bayctl('load refused 53\n', 1))
         self.assertEqual((found.status, found.error.splitlines()[-1]),
                          (3, 'audit: load refused 53 (tools/diagnose tells why)'))

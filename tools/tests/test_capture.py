@@ -291,11 +291,11 @@ class Talks(Tools):
 
     def test_a_talk_that_begins_in_the_middle(self):
         whole = self.capture(self.told)
-        text = self.run_tool('explain', self.file('one.pcap', whole)).out
+        text = self.call_tool('explain', self.file('one.pcap', whole)).out
         self.assertIn('operate CSWI1: object access denied (3)', text)
         middle = pcap([segment(CLIENT, SERVER, 90, ACK, b'\x00\x01rest' + self.asked),
                        segment(SERVER, CLIENT, 70, ACK, b'\x03rest' + b''.join(self.told))])
-        text = self.run_tool('explain', self.file('two.pcap', middle)).out
+        text = self.call_tool('explain', self.file('two.pcap', middle)).out
         self.assertIn('is connected from 10.0.0.1: the capture begins in the middle', text)
         self.assertIn('operate CSWI1: object access denied (3)', text)
 

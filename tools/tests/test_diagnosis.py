@@ -87,7 +87,7 @@ class Names(Tools):
     def test_the_tool_tells_the_remedy_of_this_fault_alone(self):
         words = ['--bay', self.file('bay', FILE), '--logic',
                  self.file('logic', ASKED.format('QC9_ENA_CLS')), '--bayctl']
-        found = self.run_tool('diagnose', *words, self.bayctl('load refused 70 line 6\n', 1))
+        found = self.call_tool('diagnose', *words, self.bayctl('load refused 70 line 6\n', 1))
         self.assertEqual(found.status, 1)
         self.assertIn('Mend: add it to VAR_EXTERNAL: QC9_ENA_CLS : BOOL;.', found.out)
         self.assertNotIn('declare it in VAR', found.out)
@@ -287,22 +287,22 @@ class Asked(Tools):
                 '--bayctl', self.bayctl('instructions=1 depth=1 budget=1\n')]
 
     def test_which_trace_it_is(self):
-        found = self.run_tool('diagnose', *self.words('0 scan\n'))
+        found = self.call_tool('diagnose', *self.words('0 scan\n'))
         self.assertIn('then ask with --replay', found.out)
         self.assertIn('1 line of the trace is not taken', found.out)
         self.assertEqual(found.status, 1)
-        found = self.run_tool('diagnose', *self.words('0 scan\n'), '--replay')
+        found = self.call_tool('diagnose', *self.words('0 scan\n'), '--replay')
         self.assertIn('a replay takes each line of the trace', found.out)
         self.assertEqual(found.status, 0)
 
     def test_further_faults(self):
         bad = self.file('bay', FILE.replace('"direct"', '"Status"'))
-        found = self.run_tool('diagnose', '--bay', bad, '--bayctl',
+        found = self.call_tool('diagnose', '--bay', bad, '--bayctl',
                               self.bayctl('load refused 53\n', 1))
         self.assertIn('What else was found:\n  line 15: switch 2 (QC9), key control', found.out)
 
     def test_what_can_not_be_read(self):
-        found = self.run_tool('diagnose', '--bay', 'none', '--bayctl', self.bayctl('fault 121\n', 3))
+        found = self.call_tool('diagnose', '--bay', 'none', '--bayctl', self.bayctl('fault 121\n', 3))
         self.assertEqual((found.out, found.error, found.status),
                          ('', 'diagnose: none: No such file or directory (121)\n', 3))
 

@@ -87,21 +87,21 @@ class Joined(Tools):
         paths = [self.file(name, text) for name, text in (
             ('bay', '[bay]'), ('logic', 'PROGRAM\r\n'), ('trace', '\ufeff0 scan\n'),
             ('sent', f'{DAY} open 1'))]
-        self.assertEqual(self.run_tool('join', *paths).out,
+        self.assertEqual(self.call_tool('join', *paths).out,
                          f'[bay]\n%%\nPROGRAM\r\n%%\n{DAY} scan\n{DAY} open 1\n')
         for text in ('no trace', '9' * 5000 + ' scan'):
             paths[2].write_text(text)
-            done = self.run_tool('join', *paths)
+            done = self.call_tool('join', *paths)
             self.assertEqual((done.out, done.status), ('', 3))
             self.assertIn('trace: line 1 is no line of a trace', done.error)
 
     def test_a_line_that_parts_a_scenario(self):
         paths = [self.file('bay', 'a = 1\n'), self.file('logic', '(*\n%%\r\n*)\n'),
                  self.file('trace', '0 scan\n')]
-        self.assertEqual(self.run_tool('join', *paths).out,
+        self.assertEqual(self.call_tool('join', *paths).out,
                          'a = 1\n%%\n(*\n %%\r\n*)\n%%\n0 scan\n')
         paths[0].write_text('a = """\n%%\n"""\n')
-        self.assertEqual(self.run_tool('join', *paths).status, 3)
+        self.assertEqual(self.call_tool('join', *paths).status, 3)
 
 
 class Histories(unittest.TestCase):

@@ -8,6 +8,7 @@ import xml.etree.ElementTree as ET
 
 TOOLS = pathlib.Path(__file__).resolve().parent.parent
 sys.path.insert(0, str(TOOLS))
+from session import scl
 from session.scl import NAMESPACE, Reader, Writer, text_of
 from session.words import CONTROL_NODES, NODES, nodes_of
 
@@ -89,7 +90,44 @@ class Scl(unittest.TestCase):
     def test_words_that_do_not_fit(self):
         self.assertEqual(script(BAYS[0], '--ied', 'OTHER').returncode, 2)
         self.assertEqual(script(BAYS[0], '--edition', '1').returncode, 2)
-        self.assertEqual(script('none.toml').returncode, 1)
+        for words in (['--port', '0'], ['--port', '65536'], ['--address', '1.2.3'],
+                      ['--ied', '5A'], ['--ied', ''], ['--ied', 'E', '--edition', '1', '--address',
+                                                       '::1']):
+            found = script(BAYS[0], *words)
+            self.assertEqual((found.returncode, found.stdout, found.stderr.count('\n')),
+                             (2, '', 1), words)
+        self.assertEqual(script('none.toml').returncode, 3)
+
+    def test_ids_are_unique_over_all_kinds(self):
+        for bay in BAYS:
+            for edition in (1, 2):
+                templates = Reader(written(bay, edition)).templates
+                ids = [element.get('id') for element in templates]
+                self.assertEqual(len(ids), len(set(ids)))
+
+    def test_nodes_stand_as_the_device_lists_them(self):
+        file = {'switch': [{'id': name, 'kind': kind, 'control': 'status'} for name, kind in (
+            ('QB1', 'disconnector'), ('QA1', 'breaker'), ('QC1', 'earthing'), ('QA2', 'breaker'))]}
+        self.assertEqual([(kind, place, told) for kind, place, _, told, _ in scl.nodes_of(file)][2:6],
+                         [('XCBR', 1, 'QA1'), ('XCBR', 2, 'QA2'), ('XSWI', 1, 'QB1'),
+                          ('XSWI', 2, 'QC1')])
+
+    def test_what_changes_and_what_is_fixed(self):
+        root = ET.fromstring(written(BAYS[0]))
+        for element in root.iter():
+            if Reader.bare(element) == 'DA':
+                name, constraint = element.get('name'), element.get('fc')
+                self.assertEqual(element.get('qchg'), 'true' if name == 'q' else None)
+                self.assertEqual(element.get('dchg'), 'true' if name in (
+                    'stVal', 'stSeld', 'mag', 'cVal') else None)
+                self.assertEqual(element.get('valKind'), 'RO' if constraint in ('CF', 'DC')
+                                 else None)
+
+    def test_the_port_by_edition(self):
+        one, two = (written(BAYS[0], edition) for edition in (1, 2))
+        self.assertNotIn('type="MMS-Port"', one)
+        self.assertIn('listens on port 10102: edition 1 has no MMS-Port', one)
+        self.assertIn('<P type="MMS-Port">10102</P>', two)
 
     def test_the_nodes_are_all_of_the_shapes(self):
         self.assertEqual(len(CONTROL_NODES), 4)
