@@ -3,6 +3,7 @@ at each scan."""
 import itertools
 import subprocess
 import tempfile
+from collections.abc import Iterator
 
 from common.ending import Failed
 from common.texts import raised
@@ -61,24 +62,32 @@ def timed_scenarios(bay, pairs, offsets):
         yield part, bay.scenario(timed_trace_of(bay, part, offsets))
 
 
-def scans_of(bayctl, octets):
+def scans_of(bayctl, octets: bytes) -> Iterator[dict]:
     """What is released at each scan that bayctl prints, as they come: of each switch, by its name
     in upper case, whether it may be opened and closed."""
-    try:
-        with tempfile.TemporaryFile() as file:
-            file.write(octets)
-            file.seek(0)
+    with tempfile.TemporaryFile() as file:
+        file.write(octets)
+        file.seek(0)
+        try:
             run = subprocess.Popen([bayctl, 'replay'], stdin=file, stdout=subprocess.PIPE,
-                                   text=True)
-    except OSError as error:
-        raise not_run(error) from None
-    report = run.stdout.readline()
-    if not report.startswith('instructions='):
-        raise Failed(str(NotLoaded(report, run.wait())))
-    for line in run.stdout:
-        words = line.split()
-        if words[1:2] != ['scan']:
-            raise Failed(f'bayctl printed: {line.rstrip()}')
-        yield {raised(name): (digits[0] == '1', digits[1] == '1')
-               for name, _, digits in (word.partition('=') for word in words[3:])}
-    run.wait()
+                                   text=True, errors='backslashreplace')
+        except OSError as error:
+            raise not_run(error) from None
+    with run:
+        try:
+            report = run.stdout.readline()
+            if not report.startswith('instructions='):
+                raise Failed(str(NotLoaded(report, run.wait())))
+            yield from map(releases_of, run.stdout)
+        finally:
+            run.kill()
+
+
+def releases_of(line: str) -> dict:
+    """What a scan releases, by its line."""
+    words = line.split()
+    found = {raised(name): (digits[:1] == '1', digits[1:] == '1')
+             for name, _, digits in (word.partition('=') for word in words[3:])}
+    if words[1:2] != ['scan']:
+        raise Failed(f'bayctl printed: {line.rstrip()}')
+    return found
