@@ -10,7 +10,7 @@ from session.picture import FAINT, FREE, GRID, INK, Picture, room
 from .bay import SWITCH, WAYS
 
 SOME, NONE = '#cfe6d0', '#ffffff'
-LEFT, CELL, ROW, APART = 130, 46, 24, 14
+LEFT, CELL, ROW, APART, HEAD = 130, 46, 24, 14, 10  # HEAD is the size of what stands above columns
 
 
 def write_table(bay, table: list, path) -> None:
@@ -42,7 +42,11 @@ class Block:
     thing: object
     columns: list
     depends: set
+    cell: float = CELL
     x: float = 0
+
+    def width(self) -> float:
+        return self.cell * len(self.columns)
 
 
 def masks_of(bay, table):
@@ -56,7 +60,16 @@ def blocks_of(bay, table: list) -> list[Block]:
     """A block for each thing on which a release depends."""
     masks, count = masks_of(bay, table), len(WAYS) * len(bay.switches())
     blocks = [block_of(thing, place, table, masks, count) for place, thing in enumerate(bay.things)]
-    return [block for block in blocks if block.depends]
+    blocks = [block for block in blocks if block.depends]
+    widest = max((room(looked_told(column), HEAD) for block in blocks for column in block.columns),
+                 default=0)
+    for block in blocks:
+        block.cell = max(CELL, widest + 8)
+    return blocks
+
+
+def looked_told(column: Column) -> str:
+    return f'of {column.looked:,}'
 
 
 def block_of(thing, place, table, masks, count):
@@ -96,13 +109,17 @@ def bands_of(blocks: list[Block], width: float) -> list[list[Block]]:
     """The blocks in bands, none of which is wider than that where a block alone is not."""
     bands, x = [[]], LEFT
     for block in blocks:
-        space = max(CELL * len(block.columns), room(block.thing.name, 13)) + APART
+        space = max(block.width(), room(block.thing.name, 13)) + APART
         if bands[-1] and x + space > width:
             bands.append([])
             x = LEFT
         block.x, x = x, x + space
         bands[-1].append(block)
     return bands
+
+
+TOLD = ('For each release and each position or value on which it depends: in how many of the '
+        'combinations with that value it stands.')
 
 
 def draw(bay, table: list, heading: str = '', width: float = math.inf) -> str:
@@ -114,13 +131,28 @@ def draw(bay, table: list, heading: str = '', width: float = math.inf) -> str:
     picture.y = 40 if heading else 0
     for number, band in enumerate(bands_of(blocks, width)):
         draw_band(picture, bay, table, blocks, band, number == 0)
-    notes = notes_of(bay, blocks)
+    return finished(picture, bay, table, blocks, heading)
+
+
+def draw_parts(bay, table: list, width: float) -> list[str]:
+    """The same as a picture for each band and one of the legend, between which a page may end."""
+    blocks, parts = blocks_of(bay, table), []
+    for number, band in enumerate(bands_of(blocks, width)):
+        picture = Picture()
+        draw_band(picture, bay, table, blocks, band, number == 0)
+        widest = max([block.x + block.width() + 10 for block in band] + [LEFT + 60])
+        parts.append(picture.page(math.ceil(widest), picture.y + 8, f'Releases, band {number + 1}',
+                                  TOLD, key=f'-{number + 1}'))
+    return [*parts, finished(Picture(), bay, table, [], '', '-0')]
+
+
+def finished(picture, bay, table, blocks, heading, key=''):
+    """A picture with its legend and its notes."""
+    notes = notes_of(bay, blocks_of(bay, table))
     draw_legend(picture, len(table), notes)
-    ends = [block.x + CELL * len(block.columns) + 10 for block in blocks]
+    ends = [block.x + block.width() + 10 for block in blocks]
     widest = max([room(note, 11) + 24 for note in notes] + ends + [560])
-    told = ('For each release and each position or value on which it depends: in how many of the '
-            'combinations with that value it stands.')
-    return picture.page(math.ceil(widest), picture.y + 8, heading or 'Releases', told)
+    return picture.page(math.ceil(widest), picture.y + 8, heading or 'Releases', TOLD, key=key)
 
 
 def draw_band(picture, bay, table, blocks, band, is_first):
@@ -146,9 +178,9 @@ def draw_head(picture, block, x, y, top):
     """The name of a thing, and above each column its values and its combinations."""
     picture.text(x, y, block.thing.name, 12, weight='bold')
     for at, column in enumerate(block.columns):
-        picture.upward(x + CELL * at + CELL / 2 + 3, top - 26, column.told)
-        picture.text(x + CELL * at + CELL / 2 - 1, top - 8, f'of {column.looked:,}', 9, 'middle',
-                     FAINT)
+        middle = x + block.cell * at + block.cell / 2
+        picture.upward(middle + 3, top - 26, column.told)
+        picture.text(middle - 1, top - 8, looked_told(column), HEAD, 'middle', FAINT)
 
 
 def draw_row(picture, name, way, at, band):
@@ -159,19 +191,21 @@ def draw_row(picture, name, way, at, band):
     for block in band:
         if at in block.depends:
             for place, column in enumerate(block.columns):
-                draw_cell(picture, block.x + CELL * place, column, at, f'{name} {WAYS[way]} with '
+                draw_cell(picture, block, place, at, f'{name} {WAYS[way]} with '
                           f'{block.thing.name} {column.told}')
     picture.y += ROW
 
 
-def draw_cell(picture, x, column, at, told):
+def draw_cell(picture, block, place, at, told):
     """In how many of the combinations of a column a release stands."""
+    column, x = block.columns[place], block.x + block.cell * place
     count, y = column.counts[at], picture.y
     fill = FREE if count == column.looked else SOME if count else NONE
     tip = f'{told}: {count:,} of {column.looked:,}'
-    picture.box(x, y, CELL - 2, ROW - 2, fill, GRID, tip)
+    picture.box(x, y, block.cell - 2, ROW - 2, fill, GRID, tip)
     ink = '#ffffff' if fill == FREE else INK if count else FAINT
-    picture.text(x + CELL / 2 - 1, y + 15, f'{count:,}' if count else '–', 11, 'middle', ink)
+    shown = f'{count:,}' if count else '–'
+    picture.text(x + block.cell / 2 - 1, y + 15, shown, 11, 'middle', ink)
 
 
 def draw_legend(picture, count, notes):

@@ -10,10 +10,11 @@ from session import moments
 
 from .bay import WAYS
 from .judging import released, uncovered
-from .matrix import draw
+from .matrix import draw_parts
 
 TOOLS = pathlib.Path(__file__).resolve().parent.parent
 CHANGES = TOOLS.parent / 'CHANGELOG.md'
+FOLDERS = ('auditing', 'common', 'diagnosis', 'session')  # what the audit is made of
 STYLE = '''
 @page { size: A4; margin: 16mm 15mm 18mm;
   @bottom-right { content: counter(page) " / " counter(pages); font: 8pt sans-serif; color: #555 }
@@ -56,7 +57,7 @@ def sum_of(octets):
 def version() -> str:
     """The tool's version: the newest day of CHANGELOG.md, and a sum of its files."""
     day = re.search(r'^## (\S+)', CHANGES.read_text(encoding='utf-8'), re.M)
-    paths = [TOOLS / 'audit', *sorted(path for name in ('auditing', 'common', 'session', 'diagnosis')
+    paths = [TOOLS / 'audit', *sorted(path for name in FOLDERS
                                       for path in (TOOLS / name).glob('*.py'))]
     found = sum_of(b''.join(path.read_bytes() for path in paths))
     return f'{day[1] if day else "of no day"}, SHA-256 of its files {found[:16]}'
@@ -171,10 +172,11 @@ class Report:
                        '<p>None: each release is asked for by a rule.</p>')
 
     def matrix(self):
-        return ('<div class="figure"><h2>Matrix</h2><p class="quiet">In how many of the '
-                'combinations with a position or value each release stands; a column is empty '
-                'where the release does not depend on it.</p>'
-                + draw(self.bay, self.audit.table, width=820) + '</div>')
+        parts = ''.join(f'<div class="figure">{part}</div>'
+                        for part in draw_parts(self.bay, self.audit.table, 820))
+        return ('<h2>Matrix</h2><p class="quiet">In how many of the combinations with a position '
+                'or value each release stands; a column is empty where the release does not depend '
+                f'on it.</p>{parts}')
 
     def signatures(self):
         rows = [(who, '', '', '') for who in ('Tested by', 'Checked by', 'Accepted by')]

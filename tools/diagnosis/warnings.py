@@ -15,7 +15,7 @@ def comment_warnings(text: str) -> Iterator[Place]:
     """Comments that seem to begin within another."""
     for at in nested_comments(text):
         start = at - (text.rfind('\n', 0, at) + 1)
-        yield Place('this (* stands within a comment: comments don\'t nest, so the first *) ends it',
+        yield Place('this (* is within a comment: comments don\'t nest, so the first *) ends it',
                     line=text.count('\n', 0, at) + 1, start=start, end=start + 2)
 
 

@@ -19,7 +19,7 @@ from .reasons import Seen, why_not
 EVERY, AGAIN, KEPT = 0.25, 1.0, 200  # seconds between two reads, and two attempts; events kept
 RULE_WORDS = {'00': 'intermediate', '01': 'off', '10': 'on', '11': 'bad'}
 LOST = (Failed, OSError, ValueError, LookupError, TypeError, AttributeError)
-PARTING = 3  # seconds for the end of the association
+PARTING = 1  # seconds for the end of the association
 
 
 def now() -> int:

@@ -12,9 +12,9 @@ CR, CC = 0xE0, 0xD0
 
 @dataclass
 class Event:
-    """What happens on a connection: `kind` is open, middle (it was open before the capture), client,
-    server, gap or close; `moment` is in milliseconds since 1970, `octets` are what the client or
-    the server sent, `side` is that of a gap, and `who` is the address of the client."""
+    """What happens on a connection: `kind` is open, middle (it was open before the capture),
+    client, server, gap or close; `moment` is in milliseconds since 1970, `octets` are what the
+    client or the server sent, `side` is that of a gap, and `who` is the address of the client."""
     moment: int
     place: int
     kind: str
@@ -25,9 +25,9 @@ class Event:
 
 @dataclass
 class Way:
-    """One direction. Places count octets from the first; `next` is the place of the octet that comes
-    next, `early` has what came before its turn, and `known` is up to where octets were sent, as
-    far as this is seen."""
+    """One direction. Places count octets from the first; `next` is the place of the octet that
+    comes next, `early` has what came before its turn, `known` is up to where octets were sent, as
+    far as this is seen, `end` is where they end, and `head` are the first."""
     base: int | None = None
     next: int = 0
     known: int = 0

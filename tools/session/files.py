@@ -22,13 +22,20 @@ def octets_of(path) -> bytes:
         raise BadFile(told_of(error)) from None
 
 
-def text_of(path, kind='text', keeps_mark=False) -> str:
-    """The text of a file, by itself without a byte order mark at its start."""
+def text_of(path, kind='text') -> str:
+    """The text of a file, without a byte order mark at its start."""
     octets = octets_of(path)
     try:
-        return octets.decode('utf-8' if keeps_mark else 'utf-8-sig')
+        return octets.decode('utf-8-sig')
     except UnicodeDecodeError as error:
         raise BadFile(f'{path}: it is no {kind}: {encoding_told(octets, error.start)}') from None
+
+
+def program_at(path) -> str:
+    """The text of a program, in which bayctl takes no byte order mark."""
+    if octets_of(path).startswith(MARK.encode()):
+        raise BadFile(f'{path}: it {MARKED}')
+    return text_of(path, 'program')
 
 
 def encoding_told(octets: bytes, at: int) -> str:

@@ -42,8 +42,8 @@ class Mark:
 
 
 class Client:
-    """What one client was over time: when it was connected, when it asked or was told something, and
-    its controls."""
+    """What one client was over time: when it was connected, when it asked or was told something,
+    and its controls."""
 
     def __init__(self, place):
         self.label, self.ticks, self.marks = f'Client {place}', {}, []
@@ -60,7 +60,7 @@ class Client:
 
 class History:
     """What became of a scenario, or of a captured session: see `of_replay` and `of_capture`.
-    `falling` counts the lines that were refused since their moments fall."""
+    `falling` counts the lines that were refused because times go back."""
 
     def __init__(self, bay, report=''):
         self.bay, self.report, self.ending, self.falling = bay, report, '', 0

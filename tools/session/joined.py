@@ -21,8 +21,8 @@ def check_whole(events: list) -> None:
     """A capture that begins in the middle, or that lacks octets, can't be replayed."""
     for event in events:
         if event.kind == 'middle':
-            raise BadTrace(f'the capture: connection {event.place} began before it, so it can\'t be '
-                           'replayed')
+            raise BadTrace(f'the capture: connection {event.place} began before it, so it can\'t '
+                           'be replayed')
         if event.kind == 'gap':
             raise BadTrace(f'the capture: octets of connection {event.place} are missing in it, so '
                            'it can\'t be replayed')

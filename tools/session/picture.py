@@ -50,12 +50,13 @@ class Picture:
         self.parts.append(f'<path d="M {way}" fill="{fill}" stroke="{stroke}" '
                           f'stroke-width="{width}"{dashes}>{title_of(tip)}</path>')
 
-    def page(self, width, height, heading, told, front=''):
-        """The octets of the file, with a heading and a description for readers."""
+    def page(self, width, height, heading, told, front='', key=''):
+        """The octets of the file, with a heading and a description for readers. `key` tells its ids
+        from those of other pictures of a page."""
         return (f'<svg xmlns="http://www.w3.org/2000/svg" viewBox="0 0 {width} {height:.0f}" '
                 f'width="{width}" height="{height:.0f}" role="img" '
-                f'aria-labelledby="heading told" font-family="{FONTS}">\n'
-                f'<title id="heading">{safe(heading)}</title>\n'
-                f'<desc id="told">{safe(told)}</desc>\n{front}'
+                f'aria-labelledby="heading{key} told{key}" font-family="{FONTS}">\n'
+                f'<title id="heading{key}">{safe(heading)}</title>\n'
+                f'<desc id="told{key}">{safe(told)}</desc>\n{front}'
                 '<rect width="100%" height="100%" fill="#ffffff"/>\n'
                 + '\n'.join(self.parts) + '\n</svg>\n')

@@ -71,7 +71,8 @@ class Replay:
         if at and 0 < int(at[1]) <= len(self.trace):
             line = self.trace[int(at[1]) - 1]
             shown = line if len(line) < 60 else line[:57] + '...'
-            return f'the replay ends at line {at[1]} of the trace, which can\'t be read (120): {shown}'
+            return (f'the replay ends at line {at[1]} of the trace, which can\'t be read (120): '
+                    f'{shown}')
         return f'the replay ends early: {ENDED.get(self.ending, self.ending)}'
 
     def steps(self):
@@ -94,8 +95,8 @@ class Replay:
         try:
             return self.step(number, line)
         except (ValueError, LookupError):
-            raise Failed(f'line {number} of the trace: it can\'t be read, or the report is not that '
-                         'of this scenario') from None
+            raise Failed(f'line {number} of the trace: it can\'t be read, or the report is not '
+                         'that of this scenario') from None
 
     def step(self, number, line):
         first, *words = line.split(' ')

@@ -11,10 +11,10 @@ state of the bay.
 
 A condition is made with and, or, not and parentheses of: a switch and its positions (intermediate,
 off, on, bad; several with |; `not` before them), an input alone, or an input or a measure and its
-values (`M1_AA 0|5`). `is` may stand before positions and values. Case does not matter in names, and
-# begins a comment. Where a switch and an input have one name, positions mean the switch. `look` says
-which values a switch, an input or a measure goes through: all positions, 0 and 1, and of a measure
-0 alone, where nothing is said.
+values (`M1_AA 0|5`). `is` may stand before positions and values. Case does not matter in names,
+and # begins a comment. Where a switch and an input have one name, positions mean the switch. `look`
+says which values a switch, an input or a measure goes through: all positions, 0 and 1, and of a
+measure 0 alone, where nothing is said.
 
 `never .. until C for T` forbids a release until C has held without a break for the time T, and
 `always .. after C for T` demands it from then on; `when` says in which combinations that is asked.
@@ -200,7 +200,8 @@ def time_of(word: str) -> int:
     """The milliseconds of a time."""
     if not re.fullmatch(r'([0-9]{1,20}(MS|[DHMS]))+', word):
         raise BadRule(f'{word.lower()} is no time: 5s, 1m30s or 500ms is wanted')
-    time = sum(int(number) * UNITS[unit] for number, unit in re.findall(r'([0-9]+)(MS|[DHMS])', word))
+    parts = re.findall(r'([0-9]+)(MS|[DHMS])', word)
+    time = sum(int(number) * UNITS[unit] for number, unit in parts)
     if not 0 < time < 2 ** 31:
         raise BadRule(f'{word.lower()} is no time that a timer has')
     return time

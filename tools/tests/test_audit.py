@@ -3,6 +3,7 @@ import pathlib
 import re
 import sys
 import unittest
+import xml.etree.ElementTree as ET
 from unittest import mock
 
 TOOLS = pathlib.Path(__file__).resolve().parent.parent
@@ -11,6 +12,7 @@ from auditing import judging, matrix, program
 from auditing.bay import bay_of, keys_of
 from auditing.report import Report
 from common.ending import CalledWrong, Failed
+from session.picture import room
 from session.rules import (INPUT, MEASURE, SWITCH, BadOption, BadRule, Look, held, looked_at,
                            read_looks, read_rules, time_of, value_of)
 from tests.tool import Tools
@@ -230,7 +232,7 @@ class Audits(unittest.TestCase):
 
     def test_a_pause_that_is_too_short(self):
         for pause in (1, 4999, 5000):
-            with self.assertRaisesRegex(CalledWrong, f'--pause {pause}: it must be more than 5,000'):
+            with self.assertRaisesRegex(CalledWrong, f'--pause {pause}: it must be more than'):
                 audited(AFTER, pause=pause)
         self.assertEqual(audited(AFTER, pause=5001).findings[0].verdict(), 'holds')
 
@@ -315,6 +317,19 @@ class Pictures(unittest.TestCase):
         blocks = matrix.blocks_of(found.bay, found.table)
         self.assertEqual([len(band) for band in matrix.bands_of(blocks, 250)], [1, 1])
 
+    def test_heads_of_columns_do_not_touch(self):
+        found = audited('always QA1 open')
+        with mock.patch('auditing.matrix.looked_told', lambda column: 'of 99,999,999'):
+            for block in matrix.blocks_of(found.bay, found.table):
+                self.assertLess(room('of 99,999,999', matrix.HEAD), block.cell)
+
+    def test_each_band_is_a_picture_of_the_page(self):
+        found = audited('always QA1 open')
+        parts = [ET.fromstring(part) for part in matrix.draw_parts(found.bay, found.table, 250)]
+        self.assertEqual(len(parts), 3)
+        ids = [it.get('id') for part in parts for it in part.iter() if it.get('id')]
+        self.assertEqual(len(ids), len(set(ids)))
+
     def test_the_report_is_whole(self):
         files = {'Rules': ('rules <&>', b'always QA1 open')}
         page = Report(audited('always QA1 open'), files, __file__, 0).page()
@@ -322,6 +337,7 @@ class Pictures(unittest.TestCase):
                      'timers are not audited', 'QA1 off and VT_DEAD', 'Signature', 'SPARE'):
             self.assertIn(told, page)
         self.assertIsNone(re.search(r'(src|href)=', page), 'it needs no other file')
+        self.assertLess(page.index('Signatures'), page.index('What was looked at'))
         timed = Report(audited(UNTIL), files, __file__, 0).page()
         self.assertNotIn('timers are not audited', timed)
 

@@ -11,11 +11,10 @@ TOOLS = pathlib.Path(__file__).resolve().parent.parent
 sys.path.insert(0, str(TOOLS))
 from session import mms, stream, words
 from session.ber import element, number
-from session.client import Client, Lost, Refused, told
-from session.control import Control
-from session.files import BadFile, bay_at, tables_of, text_of
+from session.client import told
+from session.files import BadFile, bay_at, program_at, tables_of, text_of
 from session.mms import BITS, BOOLEAN, INTEGER, TEXT, Data
-from session.sockets import is_taken, port_of, seconds_of
+from session.sockets import port_of, seconds_of
 from tests.loopback import needs_loopback
 from tests.tool import Tools
 
@@ -40,7 +39,9 @@ class Files(unittest.TestCase):
             file.write(b'\xef\xbb\xbfa\r\n')
             file.flush()
             self.assertEqual(text_of(file.name), 'a\r\n')
-            self.assertEqual(text_of(file.name, keeps_mark=True), '\ufeffa\r\n')
+            with self.assertRaisesRegex(BadFile, 'it begins with a byte order mark: save it as '
+                                        'UTF-8 without one'):
+                program_at(file.name)
 
     def test_other_octets(self):
         for octets, told_of_it in ((b'\xff', 'octet FF of line 1 is no UTF-8'),

@@ -1,5 +1,5 @@
-"""What tools/diagnose finds by itself: names and calls of a program, mistakes of a bay file, lines of
-a trace, and what it warns of."""
+"""What tools/diagnose finds by itself: names and calls of a program, mistakes of a bay file, lines
+of a trace, and what it warns of."""
 import pathlib
 import sys
 import tomllib
@@ -187,8 +187,8 @@ class Programs(unittest.TestCase):
     def test_the_remedy_of_each_mistake(self):
         head = HEAD.format('a, b : BOOL;')
         for line, told, mend in (
-                ('AND NOT a', 'NOT is an operator of its own', 'write ANDN in the place of AND NOT'),
-                ('LD NOT a', 'NOT is an operator of its own', 'write LDN in the place of LD NOT'),
+                ('AND NOT a', 'NOT is an operator of its own', 'write ANDN in the place of AND'),
+                ('LD NOT a', 'NOT is an operator of its own', 'write LDN in the place of LD'),
                 ('ST t1.IN', 't1.IN is an input of a timer', 'give it by CAL t1(IN := a'),
                 ('VAR_INPUT', 'VAR_INPUT is no block', 'points of the bay in VAR_EXTERNAL'),
                 ('// a', 'a comment stands between (* and *)', '')):
@@ -302,7 +302,8 @@ class Asked(Tools):
         self.assertIn('What else was found:\n  line 15: switch 2 (QC9), key control', found.out)
 
     def test_what_can_not_be_read(self):
-        found = self.call_tool('diagnose', '--bay', 'none', '--bayctl', self.bayctl('fault 121\n', 3))
+        found = self.call_tool('diagnose', '--bay', 'none', '--bayctl',
+                               self.bayctl('fault 121\n', 3))
         self.assertEqual((found.out, found.error, found.status),
                          ('', 'diagnose: none: No such file or directory (121)\n', 3))
 

@@ -141,8 +141,8 @@ class Outputs(Tools):
                          'time.sleep(60)\n')
         slow.chmod(0o755)
         scenario = self.file('scenario', f'{BAY}%%\n{LOGIC}%%\n0 scan\n')
-        run = subprocess.Popen([sys.executable, '-B', TOOLS / 'explain', scenario, '--bayctl', slow],
-                               stdout=subprocess.PIPE, stderr=subprocess.PIPE, text=True,
+        words = [sys.executable, '-B', TOOLS / 'explain', scenario, '--bayctl', slow]
+        run = subprocess.Popen(words, stdout=subprocess.PIPE, stderr=subprocess.PIPE, text=True,
                                start_new_session=True)
         time.sleep(1)
         run.send_signal(signal.SIGINT)
@@ -163,8 +163,8 @@ class Scenarios(Tools):
             for tool in ('explain', 'timeline'):
                 found = self.told(tool, '0 contact QA1 1\n5 nonsense\n', report)
                 self.assertEqual((found.status, found.out.splitlines()[-1]), (1, told), found)
-        found = self.call_tool('explain', '--report', self.file('report', LOADED + 'fault memory\n'))
-        self.assertEqual(found.status, 1)
+        report = self.file('report', LOADED + 'fault memory\n')
+        self.assertEqual(self.call_tool('explain', '--report', report).status, 1)
 
     def test_moments_that_are_too_large(self):
         for moment in ('253402300800000', '4294967296000', '18446744073709551615'):

@@ -108,7 +108,8 @@ class Scl(unittest.TestCase):
     def test_nodes_stand_as_the_device_lists_them(self):
         file = {'switch': [{'id': name, 'kind': kind, 'control': 'status'} for name, kind in (
             ('QB1', 'disconnector'), ('QA1', 'breaker'), ('QC1', 'earthing'), ('QA2', 'breaker'))]}
-        self.assertEqual([(kind, place, told) for kind, place, _, told, _ in scl.nodes_of(file)][2:6],
+        nodes = [(kind, place, told) for kind, place, _, told, _ in scl.nodes_of(file)]
+        self.assertEqual(nodes[2:6],
                          [('XCBR', 1, 'QA1'), ('XCBR', 2, 'QA2'), ('XSWI', 1, 'QB1'),
                           ('XSWI', 2, 'QC1')])
 

@@ -1,4 +1,5 @@
-"""A tool that is run on texts, with a program in the place of bayctl that prints what a test says."""
+"""Tools that are run on texts, with a program in the place of bayctl that prints what a test
+says."""
 import contextlib
 import functools
 import importlib.machinery
