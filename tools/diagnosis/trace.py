@@ -50,13 +50,13 @@ class Known:
             return 120, f'octet {octets[error.start]:02X} is no UTF-8'
         if words[0].startswith('\ufeff'):
             return 120, f'the trace {MARKED}'
-        if not re.fullmatch(r'0*[0-9]{1,20}', words[0], re.ASCII) or number(words[0]) >= 2 ** 64:
+        if not re.fullmatch(r'0*[0-9]{1,20}', words[0], re.ASCII) or number_of(words[0]) >= 2 ** 64:
             return 120, f'a time in milliseconds is wanted first, and not {shown(words[0])}'
         verb = words[1] if len(words) > 1 else ''
         found = self.form(verb, words[2:])
         if found or not self.is_replay:
             return found or self.refused(verb, words[2:])
-        return self.replayed(number(words[0]), verb, words[2:])
+        return self.replayed(number_of(words[0]), verb, words[2:])
 
     def form(self, verb: str, rest: list[str]) -> tuple[int, str] | None:
         """Why a line can't be read."""
@@ -74,7 +74,7 @@ class Known:
             return 120, field_told(rest[1])
         if not re.fullmatch(VALUES[verb], value, re.ASCII):
             return 120, f'{WHAT[verb]} is wanted, and not {shown(value)}'
-        if verb == 'measure' and not -2 ** 31 <= number(value) < 2 ** 31:
+        if verb == 'measure' and not -2 ** 31 <= number_of(value) < 2 ** 31:
             return 120, f'{shown(value)} has no room in 32 bits with sign'
         return None
 
@@ -102,7 +102,7 @@ class Known:
             return 114, f'the time is past {LATEST:,}: are these microseconds?'
         if moment < self.last:
             return 110, f'the time goes back: {self.last} was before it'
-        place = number(rest[0]) if verb in ('open', 'recv', 'close') else 0
+        place = number_of(rest[0]) if verb in ('open', 'recv', 'close') else 0
         if verb in FORMS and (found := self.refused(verb, rest)):
             return found
         if verb in ('open', 'recv', 'close') and not 1 <= place <= PLACES:
@@ -117,7 +117,7 @@ class Known:
         return None
 
 
-def number(digits: str) -> int:
+def number_of(digits: str) -> int:
     """A number of any length; one past 30 digits counts as one of 30."""
     sign, digits = ('-', digits[1:]) if digits.startswith('-') else ('', digits)
     return int(sign + (digits.lstrip('0')[:30] or '0'))

@@ -7,6 +7,7 @@ from dataclasses import dataclass, field
 
 from common.ending import FOUND, UNREACHED, Failed
 from common.texts import raised
+from diagnosis.trace import Known, number_of
 
 from .conversation import Conversation, replies_to, report_in
 from .files import octets_of, tables_of
@@ -28,6 +29,8 @@ CODES = {0: 'ended', 10: 'no TPKT', 11: 'no TPDU that may come now', 12: 'anothe
 ENDED = {'fault memory': 'memory ran out', 'fault 121': 'standard input can\'t be read (121)',
          'fault 122': 'a write failed (122)',
          'fault 120 line 0': 'a part of the scenario is missing (120)'}
+PRINTED = {'scan': r'scan steps=[0-9]+( \w+=[01][01])*', 'command': r'command \w+ (on|off)',
+           'send': r'send [1-8] ([0-9a-f]{2})+', 'closed': r'closed [1-8] ([0-9]{1,9}|memory)'}
 ENDINGS = ('end', 'abort', 'fault', 'finish', 'release')
 
 
@@ -58,7 +61,7 @@ class Replay:
         self.report, *lines = printed.splitlines()
         self.lines = [line.split(' ') for line in reversed(lines)]
         self.trace, self.last, self.ending = trace, 0, ''
-        self.conversations = {}
+        self.conversations, self.forms = {}, Known(self.file, is_replay=True)
         self.known = {'contact': {raised(s['id']) for s in self.file['switch']},
                       'input': {raised(i['name']) for i in self.file.get('input', [])},
                       'measure': {raised(m['id']) for m in self.file.get('meter', [])}}
@@ -100,7 +103,9 @@ class Replay:
 
     def step(self, number, line):
         first, *words = line.split(' ')
-        step = Step(number, line, int(first), words)
+        step = Step(number, line, number_of(first), words)
+        if self.forms.form(words[0], words[1:]):
+            raise ValueError(line)
         code = self.refusal(step)
         if code is not None:
             if not self.lines or self.lines.pop()[1:] != ['refused', str(code)]:
@@ -139,11 +144,18 @@ class Replay:
             step.heard = self.conversations[place].hear(bytes.fromhex(rest[1]))
             self.take_replies(step, place)
         elif verb == 'scan' and self.is_next(step, 'scan'):
-            step.scan = ' '.join(self.lines.pop())
+            step.scan = ' '.join(self.line('scan'))
 
     def is_next(self, step, *words):
         """Whether the next line was printed at this moment, and goes on so."""
         return bool(self.lines) and self.lines[-1][:len(words) + 1] == [str(step.moment), *words]
+
+    def line(self, kind: str) -> list[str]:
+        """The next line that was printed, which is of this kind."""
+        words = self.lines.pop()
+        if not re.fullmatch(PRINTED[kind], ' '.join(words[1:]), re.ASCII):
+            raise ValueError(words)
+        return words
 
     def take_ending(self, step, verb):
         """The report of an operate that ends with this event: by a contact, or since its time is
@@ -154,7 +166,7 @@ class Replay:
             self.take_sent(step)
 
     def take_sent(self, step):
-        line = self.lines.pop()
+        line = self.line('send')
         step.sent.append((int(line[2]), bytes.fromhex(line[3])))
 
     def take_replies(self, step, place):
@@ -164,10 +176,12 @@ class Replay:
             replies -= report_in(bytes.fromhex(self.lines[-1][3])) is None
             self.take_sent(step)
         if self.is_next(step, 'command'):
-            step.command = tuple(self.lines.pop()[2:])
+            step.command = tuple(self.line('command')[2:])
+            if raised(step.command[0]) not in self.known['contact']:
+                raise LookupError(step.command[0])
         ends = replies or any(got.kind in ENDINGS for got in step.heard)
         if ends and self.is_next(step, 'closed', str(place)):
-            step.closed = (place, self.lines.pop()[3])
+            step.closed = (place, self.line('closed')[3])
             del self.conversations[place]
 
 
