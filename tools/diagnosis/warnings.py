@@ -8,6 +8,7 @@ from .place import Place
 from .tokens import nested_comments
 from .words import JUMPS, STORES, TIMERS
 
+POSITIONS = ('_POS', '_OPEN', '_CLOSED')
 ENDINGS = {'_ENA_OPN': 'opened', '_ENA_CLS': 'closed'}
 
 
@@ -34,9 +35,9 @@ class Uses:
             self.read |= {operand[0].upper for _, operand in item.arguments}
 
 
-def warnings(text: str, points: dict | None, switches: list) -> list[Place]:
+def warnings(text: str, points: dict | None, file: dict) -> list[Place]:
     """What looks like a mistake: of comments, and of a program that reads well of its names too.
-    `points` and `switches` are those of the bay file."""
+    `points` are those of the bay file."""
     found = list(comment_warnings(text))
     try:
         program = lines.read(text)
@@ -47,7 +48,8 @@ def warnings(text: str, points: dict | None, switches: list) -> list[Place]:
         told = declared_told(it, uses, points or {})
         if told:
             found.append(Place(told, line=it.line, start=it.name.start, end=it.name.end))
-    return found + list(never_released(program, uses, switches))
+    found += never_asked(program, uses, file)
+    return found + list(never_released(program, uses, file['switch']))
 
 
 def declared_told(it, uses: Uses, points: dict) -> str:
@@ -61,6 +63,18 @@ def declared_told(it, uses: Uses, points: dict) -> str:
     if it.kind in TIMERS and name not in uses.called:
         return f'the timer {text} is never called'
     return '' if name in uses.read else f'{text} is never read'
+
+
+def never_asked(program, uses: Uses, file: dict) -> Iterator[Place]:
+    """Switches and inputs on which nothing depends, since no line reads them."""
+    external = {it.name.upper for it in program.declarations if it.scope == 'VAR_EXTERNAL'}
+    for switch in file['switch']:
+        names = {raised(switch['id'] + ending) for ending in POSITIONS}
+        if not names & external & uses.read:
+            yield Place(f'no line asks for the position of {switch["id"]}')
+    for one in file.get('input', []):
+        if raised(one['name']) not in external & uses.read:
+            yield Place(f'no line asks for the input {one["name"]}')
 
 
 def never_released(program, uses: Uses, switches: list) -> Iterator[Place]:

@@ -49,7 +49,7 @@ def first_told(text):
 
 
 def warned(text, file=FILE):
-    found = warnings(text, bay.bay_points(file.encode()), tomllib.loads(file)['switch'])
+    found = warnings(text, bay.bay_points(file.encode()), tomllib.loads(file))
     return [it.told for it in found]
 
 
@@ -108,10 +108,11 @@ class Warnings(unittest.TestCase):
     def test_what_is_never_read_used_called_or_released(self):
         text = ASKED.replace('END_VAR', '    QC2_POS : INT;\nEND_VAR\nVAR\n    kept : BOOL;\n'
                              '    t1 : TON;\nEND_VAR', 1)
-        found = warned(text.format('kept'))
+        found = warned(text.format('kept'), FILE + '[[input]]\nname = "ES"\n')
         for told in ('the point QC2_POS is never used', 'kept is never read',
                      'the timer t1 is never called', 'QC9 can never be closed: no line writes '
-                     'QC9_ENA_CLS', 'the point QC2_ENA_CLS is never used'):
+                     'QC9_ENA_CLS', 'the point QC2_ENA_CLS is never used',
+                     'no line asks for the position of QC9', 'no line asks for the input ES'):
             self.assertIn(told, found)
 
     def test_the_examples_are_warned_of_nothing_but_points(self):
