@@ -46,7 +46,8 @@ def text_of(octets):
     except UnicodeDecodeError as error:
         line = octets.count(b'\n', 0, error.start) + 1
         wide = octets[:2] in WIDE
-        raise Refused(50, Place(encoding_told(octets, error.start), line=None if wide else line,
+        told = encoding_told(octets, error.start, names_line=False)
+        raise Refused(50, Place(told, line=None if wide else line,
                                 mend='save the file as UTF-8' if wide else '')) from None
 
 

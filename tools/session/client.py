@@ -72,7 +72,7 @@ class Client:
         try:
             self.next('accept')
         except TimeoutError:
-            raise self.lost('it does not answer the request for an association') from None
+            raise self.lost('does not answer the request for an association') from None
 
     def first_answer(self) -> stream.Got:
         """The answer to the connection request. A server with eight associations takes no other
@@ -86,7 +86,7 @@ class Client:
                            'connection request') from None
             if is_taken(self.socket) is False:
                 raise Lost(f'{what}: the connection waits, and the server does not take it: all '
-                           'eight associations are taken, or it is busy') from None
+                           'eight associations are taken, or this is the port of a process') from None
             raise Lost(f'{what}: a connection request is not answered: is it the port of the '
                        'clients?') from None
 
@@ -111,7 +111,7 @@ class Client:
         got = self.waiting.pop(0)
         if got.kind != kind:
             came = f' ({told(self.came)})' if got.kind == 'fault' else ''
-            raise self.lost(f'it sends {got.words or got.kind}{came} in the place of {kind}')
+            raise self.lost(f'sends {got.words or got.kind}{came} in the place of {kind}')
         return got
 
     def left(self) -> float:
@@ -127,13 +127,13 @@ class Client:
         self.socket.settimeout(self.left())
         piece = self.socket.recv(65536)
         if not piece:
-            raise self.lost('it closed the connection')
+            raise self.lost('closed the connection')
         self.came = (self.came + piece)[:SHOWN + 1]
         self.waiting += self.answers.feed(piece)
 
     def lost(self, why: str) -> Lost:
         self.is_lost = True
-        return Lost(f'the server: {why}')
+        return Lost(f'the server {why}')
 
     def ask(self, request: Callable, *more, is_begun: bool = False) -> mms.Pdu:
         """The response to a request, which is a function of its invoke id and of what else is
@@ -147,10 +147,10 @@ class Client:
             self.send(stream.wrapped(stream.data_tsdu(octets), self.size))
             pdu = self.response()
         except TimeoutError:
-            raise self.lost(f'no whole answer came within {self.timeout:g} s') from None
+            raise self.lost(f'gave no whole answer within {self.timeout:g} s') from None
         wanted = mms.read_pdu(octets).service
         if pdu.service != wanted:
-            raise self.lost(f'it answers {pdu.service or pdu.kind}, and {wanted} was asked')
+            raise self.lost(f'answers {pdu.service or pdu.kind}, and {wanted} was asked')
         return pdu
 
     def response(self) -> mms.Pdu:
@@ -160,7 +160,7 @@ class Client:
             if pdu.kind == 'report':
                 continue
             if pdu.invoke != self.invoke and (pdu.kind, pdu.invoke) != ('reject', None):
-                raise self.lost(f'it answers request {pdu.invoke}, and {self.invoke} was asked')
+                raise self.lost(f'answers request {pdu.invoke}, and {self.invoke} was asked')
             if pdu.kind in ('error', 'reject'):
                 raise Refused('\n'.join(said.lines))
             return pdu
@@ -171,7 +171,7 @@ class Client:
         try:
             pdu = mms.read_pdu(octets)
         except Unreadable as error:
-            raise self.lost(f'it sends a PDU that can\'t be read: {error}') from None
+            raise self.lost(f'sends a PDU that can\'t be read: {error}') from None
         said = self.conversation.answers_mms(octets)
         if pdu.kind == 'report':
             self.cause = said.cause
@@ -188,7 +188,7 @@ class Client:
             self.is_lost = False
             return None
         if pdu.kind != 'report':
-            raise self.lost('it answers what was not asked')
+            raise self.lost('answers what was not asked')
         return said
 
     def domains(self) -> list[str]:
@@ -216,7 +216,7 @@ class Client:
             before, more = len(found), page.more
             found |= dict.fromkeys(page.names)
             if more and len(found) == before:
-                raise self.lost('its pages of names have no end')
+                raise self.lost('sends pages of names without end')
         return list(found)
 
     def read(self, items: list[str]) -> list[tuple[str, Data | Failure]]:
@@ -226,7 +226,7 @@ class Client:
             names = [self.full(item) for item in items[at:at + TOGETHER]]
             data = self.ask(mms.read_request, names).data
             if len(data) != len(names):
-                raise self.lost(f'it answers {len(data)} values, and {len(names)} were asked')
+                raise self.lost(f'answers {len(data)} values, and {len(names)} were asked')
             found += data
         return list(zip(items, found))
 
@@ -241,14 +241,14 @@ class Client:
         """A value that is to have this type; of bits there are two."""
         if not isinstance(found, Data) or found.tag != tag or (
                 tag == mms.BITS and len(found.value) != 2):
-            raise self.lost(f'{item} has a value of another type')
+            raise self.lost(f'gives {item} a value of another type')
         return found.value
 
     def write(self, item: str, value: Data) -> Failure | None:
         """None where a value was written, else a failure."""
         data = self.ask(mms.write_request, [self.full(item)], [value]).data
         if len(data) != 1:
-            raise self.lost(f'it answers {len(data)} results, and one value was written')
+            raise self.lost(f'answers {len(data)} results, and one value was written')
         return data[0]
 
     def shape(self, item: str):

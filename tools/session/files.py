@@ -5,7 +5,7 @@ import tomllib
 
 from common.ending import Failed, told_of
 
-MARK, WIDE = '\ufeff', (b'\xff\xfe', b'\xfe\xff')
+MARK, WIDE, NEWLINE = '\ufeff', (b'\xff\xfe', b'\xfe\xff'), b'\n'
 MARKED = 'begins with a byte order mark: save it as UTF-8 without one'
 OTHER = 'this is no bay file; tools/diagnose tells what is wrong'
 
@@ -38,12 +38,12 @@ def program_at(path) -> str:
     return text_of(path, 'program')
 
 
-def encoding_told(octets: bytes, at: int) -> str:
+def encoding_told(octets: bytes, at: int, names_line: bool = True) -> str:
     """Why octets are no UTF-8."""
     if octets[:2] in WIDE:
         return 'it is UTF-16: save it as UTF-8'
-    line = octets.count(b'\n', 0, at) + 1
-    return f'octet {octets[at]:02X} of line {line} is no UTF-8'
+    line = f' of line {octets.count(NEWLINE, 0, at) + 1}' if names_line else ''
+    return f'octet {octets[at]:02X}{line} is no UTF-8'
 
 
 def tables_of(text) -> dict:

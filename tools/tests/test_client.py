@@ -157,7 +157,7 @@ class Hostile(Tools):
 
     def test_a_server_that_ends(self):
         self.assertEqual(self.asked(lambda connection: connection.recv(100)),
-                         'the server: it closed the connection')
+                         'the server closed the connection')
 
     def test_pages_without_end(self):
         def same(pdu):
@@ -168,8 +168,8 @@ class Hostile(Tools):
             time.sleep(0.05)
             yield respond(pdu.invoke, 0xA1, element(0xA0, element(0x1A, name)))
 
-        self.assertIn('pages of names have no end', self.answered(same))
-        self.assertIn('no whole answer came within 0.6 s', self.answered(new))
+        self.assertIn('sends pages of names without end', self.answered(same))
+        self.assertIn('gave no whole answer within 0.6 s', self.answered(new))
 
     def test_reports_without_end(self):
         def reports(pdu):
@@ -178,11 +178,11 @@ class Hostile(Tools):
                     0xA0, element(0x80, b'LastApplError')))), element(0xA0, mms.octets_of(
                         Data(TEXT, 'x')))))
 
-        self.assertIn('no whole answer came', self.answered(reports))
+        self.assertIn('gave no whole answer', self.answered(reports))
 
     def test_a_wrong_invoke_id(self):
         self.assertEqual(self.answered(lambda pdu: [respond(77, 0xA1, element(0xA0))]),
-                         'the server: it answers request 77, and 1 was asked')
+                         'the server answers request 77, and 1 was asked')
 
     def test_a_result_that_is_missing_or_of_another_shape(self):
         def read(*data):
@@ -193,10 +193,10 @@ class Hostile(Tools):
                 return [values(pdu.invoke, *data)]
             return answer
 
-        self.assertIn('it answers 0 values, and 1 were asked', self.answered(read(), 'read', 'A$B'))
-        self.assertIn('CSWI1$CF$Pos$ctlModel has a value of another type',
+        self.assertIn('answers 0 values, and 1 were asked', self.answered(read(), 'read', 'A$B'))
+        self.assertIn('gives CSWI1$CF$Pos$ctlModel a value of another type',
                       self.answered(read(Data(TEXT, 'x')), 'operate', 'CSWI1', 'on'))
-        self.assertIn('it answers names, and read was asked', self.answered(
+        self.assertIn('answers names, and read was asked', self.answered(
             lambda pdu: [respond(pdu.invoke, 0xA1, element(0xA0, element(0x1A, b'D')),
                                  element(0x81, b'\0'))], 'read', 'A$B'))
 
@@ -282,7 +282,7 @@ class Operating(Tools):
     def test_a_switch_that_does_not_come(self):
         said, status = self.asked(Switchgear(moves=False), 'operate', 'CSWI1', 'off', '--wait',
                                   '0.3')
-        self.assertEqual((said[-1], status), ('operate CSWI1: it is closed after 0.3 s', 1))
+        self.assertEqual((said[-1], status), ('operate CSWI1: not done: closed after 0.3 s', 1))
         said, status = self.asked(Switchgear(moves=False), 'operate', 'CSWI1', 'off', '--wait', '0')
         self.assertEqual((said[-1], status), ('operate CSWI1: accepted', 0))
 
