@@ -3,7 +3,7 @@ import itertools
 import sys
 import time
 from collections.abc import Iterator
-from dataclasses import dataclass
+from dataclasses import dataclass, field
 
 from common.ending import DONE, FOUND, PARTLY, CalledWrong, Failed
 from common.texts import counted, raised
@@ -41,12 +41,14 @@ class Finding:
 @dataclass
 class Audit:
     """All that was found. `table` has each combination with what is released in it once timers
-    have run out; `scans` counts the scans, at `offsets` after each combination is reached."""
+    have run out; `scans` counts the scans, at `offsets` after each combination is reached; `kept`
+    has what was derived of it."""
     bay: object
     findings: list
     table: list
     offsets: list
     scans: int
+    kept: dict = field(default_factory=dict)
 
     def status(self) -> int:
         """The exit status: a rule is broken, or not all was tried or asked, or all holds."""
@@ -245,7 +247,7 @@ def variables_of(bay):
 def conditions(bay, table: list, holds) -> dict:
     """The least condition of something, by each switch and way: of `holds` of the switch's name,
     the way, the state and what is released. None where it is too large."""
-    found = {}
+    found, progress = {}, Progress(len(bay.switches()) * len(WAYS))
     places = [[thing.values.index(value) for thing, value in zip(bay.things, combination)]
               for combination, _ in table]
     for name in bay.switches():
@@ -256,17 +258,27 @@ def conditions(bay, table: list, holds) -> dict:
                 found[name, way] = condition(variables_of(bay), truths)
             except TooLarge:
                 found[name, way] = None
+            progress.step()
     return found
 
 
 def released(audit: Audit) -> dict:
     """The least condition of each release."""
-    return conditions(audit.bay, audit.table, lambda name, way, _, seen: seen[name][way])
+    if 'released' not in audit.kept:
+        audit.kept['released'] = conditions(audit.bay, audit.table,
+                                            lambda name, way, _, seen: seen[name][way])
+    return audit.kept['released']
 
 
 def uncovered(audit: Audit) -> dict:
     """The least condition under which something is released that no rule asks for; and how often,
     by each switch and way."""
+    if 'uncovered' not in audit.kept:
+        audit.kept['uncovered'] = found_uncovered(audit)
+    return audit.kept['uncovered']
+
+
+def found_uncovered(audit: Audit) -> dict:
     rules, counts = [it.rule for it in audit.findings if it.rule.wanted], {}
 
     def is_bare(name, way, combination, seen):
