@@ -180,6 +180,16 @@ class Scenarios(Tools):
         self.told('timeline', text, '0 refused 113\n')
         ET.parse(self.folder / 'timeline.svg')
 
+    def test_days_are_told_where_they_begin(self):
+        day = 1_795_000_000_000
+        trace = f'{day} contact QA1 1\n{day + 90_000_000} contact QA1 2\n'
+        self.assertEqual(self.told('timeline', trace, '').error, '')
+        text = (self.folder / 'timeline.svg').read_text()
+        self.assertIn('>2026-11-19<', text)
+        said = self.told('explain', trace, '').out
+        self.assertEqual([line[:10] for line in said.splitlines() if line.startswith('2026')],
+                         ['2026-11-18', '2026-11-19'])
+
     def test_positions_have_one_word_each(self):
         trace = ''.join(f'{value} contact QA1 {value}\n' for value in range(4))
         said = self.told('explain', trace, '').out
