@@ -29,22 +29,22 @@ class Thing:
         """What rules know it by: an input may have the name of a switch."""
         return self.kind, raised(self.name)
 
-    def line(self, moment, value):
+    def line(self, moment, value) -> str:
         """The line of the trace that gives it a value."""
         subject = self.name if self.kind != MEASURE else ' '.join(self.name.rsplit('_', 1))
         return f'{moment} {VERBS[self.kind]} {subject} {value}'
 
-    def told(self, value):
+    def told(self, value) -> str:
         return NAMES[value] if self.kind == SWITCH else str(value)
 
-    def words(self):
+    def words(self) -> list:
         """Its values in words."""
         return [self.told(value) for value in self.values]
 
-    def is_truth(self):
+    def is_truth(self) -> bool:
         return self.kind == INPUT and self.values == [0, 1]
 
-    def is_restricted(self):
+    def is_restricted(self) -> bool:
         """Whether it goes through fewer values than it can have. Of a measure nobody tries all."""
         return self.kind != MEASURE and len(self.values) < len(ALL[self.kind])
 
@@ -64,19 +64,19 @@ class Bay:
     def combinations(self):
         return itertools.product(*(thing.values for thing in self.things))
 
-    def count(self):
+    def count(self) -> int:
         return math.prod(len(thing.values) for thing in self.things)
 
-    def state(self, combination):
+    def state(self, combination) -> dict:
         return {thing.key: value for thing, value in zip(self.things, combination)}
 
-    def switches(self):
+    def switches(self) -> list:
         return [switch['id'] for switch in self.file['switch']]
 
     def restricted(self) -> list[Thing]:
         return [thing for thing in self.things if thing.is_restricted()]
 
-    def told(self, combination):
+    def told(self, combination) -> str:
         return ', '.join(f'{thing.name} {thing.told(value)}'
                          for thing, value in zip(self.things, combination)) or 'anything'
 

@@ -29,10 +29,10 @@ class Finding:
     lines: tuple = ()
     note: str = ''
 
-    def verdict(self):
+    def verdict(self) -> str:
         return 'BROKEN' if self.broken else 'holds' if self.looked else 'never applies'
 
-    def breaks(self, combination, after, lines):
+    def breaks(self, combination, after, lines) -> None:
         self.broken += 1
         if self.broken == 1:
             self.first, self.after, self.lines = combination, after, tuple(lines)
@@ -76,7 +76,7 @@ class Audit:
         rest += [it.note for it in self.findings if it.note]
         return f'NOT ALL WAS TRIED: {"; ".join([told, *rest])}.'
 
-    def has_times(self):
+    def has_times(self) -> bool:
         return any(it.rule.since for it in self.findings)
 
 
@@ -138,7 +138,7 @@ def several(scans: Iterator, count: int) -> list:
     return seen
 
 
-def tell_size(bay, octets, offsets):
+def tell_size(bay, octets, offsets) -> None:
     """Tells what it takes, and ends where that is too much."""
     switches = sum(thing.kind == SWITCH for thing in bay.things)
     told = f'{counted(switches, "switch", "switches")}, '
@@ -153,7 +153,7 @@ def tell_size(bay, octets, offsets):
     print(f'{told}, a scenario of {len(octets):,} octets', file=sys.stderr)
 
 
-def judge(finding, bay, place, combination, offsets, seen):
+def judge(finding, bay, place, combination, offsets, seen) -> None:
     """Counts a combination for a rule: `never` is to hold at each scan, `always` at the last. Of a
     rule with a time only what may never be is asked here, where its condition does not hold."""
     rule, state = finding.rule, bay.state(combination)
@@ -229,7 +229,7 @@ def judge_times(finding, bay, bayctl, offsets) -> int:
     return count
 
 
-def shortest(audit: Audit, finding: Finding, bayctl):
+def shortest(audit: Audit, finding: Finding, bayctl) -> list:
     """The lines of one combination that breaks a rule; where it does so only after others, the
     lines up to it."""
     bay, rule = audit.bay, finding.rule
@@ -240,7 +240,7 @@ def shortest(audit: Audit, finding: Finding, bayctl):
     return alone if again.broken else finding.lines
 
 
-def variables_of(bay):
+def variables_of(bay) -> list:
     return [Variable(thing.name, tuple(thing.words()), thing.is_truth()) for thing in bay.things]
 
 
@@ -281,7 +281,7 @@ def uncovered(audit: Audit) -> dict:
 def found_uncovered(audit: Audit) -> dict:
     rules, counts = [it.rule for it in audit.findings if it.rule.wanted], {}
 
-    def is_bare(name, way, combination, seen):
+    def is_bare(name, way, combination, seen) -> bool:
         state = audit.bay.state(combination)
         is_so = seen[name][way] and not any(
             rule.switch == name and way in rule.ways and rule.condition(state)

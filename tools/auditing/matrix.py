@@ -49,7 +49,7 @@ class Block:
         return self.cell * len(self.columns)
 
 
-def masks_of(bay, table):
+def masks_of(bay, table) -> list:
     """What is released in each combination, as bits: to open and to close each switch in turn."""
     order = [(raised(name), way) for name in bay.switches() for way in range(len(WAYS))]
     return [sum(releases[name][way] << at for at, (name, way) in enumerate(order))
@@ -72,7 +72,7 @@ def looked_told(column: Column) -> str:
     return f'of {column.looked:,}'
 
 
-def block_of(thing, place, table, masks, count):
+def block_of(thing, place, table, masks, count) -> 'Block':
     by_value = {value: [] for value in thing.values}
     for (combination, _), mask in zip(table, masks):
         by_value[combination[place]].append(mask)
@@ -88,14 +88,14 @@ def block_of(thing, place, table, masks, count):
     return Block(thing, columns, {at for at in range(count) if differing >> at & 1})
 
 
-def group_told(thing, values):
+def group_told(thing, values) -> str:
     others = [thing.told(value) for value in thing.values if value not in values]
     if thing.kind == SWITCH and others and len(others) < len(values):
         return 'not ' + '|'.join(others)
     return '|'.join(thing.told(value) for value in values)
 
 
-def notes_of(bay, blocks):
+def notes_of(bay, blocks) -> list:
     """What has no column, in words."""
     shown = [block.thing for block in blocks]
     idle = [it.name for it in bay.things if it not in shown and len(it.values) > 1]
@@ -146,7 +146,7 @@ def draw_parts(bay, table: list, width: float) -> list[str]:
     return [*parts, finished(Picture(), bay, table, [], '', '-0')]
 
 
-def finished(picture, bay, table, blocks, heading, key=''):
+def finished(picture, bay, table, blocks, heading, key='') -> str:
     """A picture with its legend and its notes."""
     notes = notes_of(bay, blocks_of(bay, table))
     draw_legend(picture, len(table), notes)
@@ -155,7 +155,7 @@ def finished(picture, bay, table, blocks, heading, key=''):
     return picture.page(math.ceil(widest), picture.y + 8, heading or 'Releases', TOLD, key=key)
 
 
-def draw_band(picture, bay, table, blocks, band, is_first):
+def draw_band(picture, bay, table, blocks, band, is_first) -> None:
     """The releases over some of the blocks; below the first band only those that depend on one."""
     longest = max([room(column.told, 11) for block in band for column in block.columns] + [24])
     name_y = picture.y + 24
@@ -174,7 +174,7 @@ def draw_band(picture, bay, table, blocks, band, is_first):
             picture.y += 8
 
 
-def draw_head(picture, block, x, y, top):
+def draw_head(picture, block, x, y, top) -> None:
     """The name of a thing, and above each column its values and its combinations."""
     picture.text(x, y, block.thing.name, 12, weight='bold')
     for at, column in enumerate(block.columns):
@@ -183,7 +183,7 @@ def draw_head(picture, block, x, y, top):
         picture.text(middle - 1, top - 8, looked_told(column), HEAD, 'middle', FAINT)
 
 
-def draw_row(picture, name, way, at, band):
+def draw_row(picture, name, way, at, band) -> None:
     """One release over a band."""
     y = picture.y
     picture.text(12, y + 16, name if way == 0 else '', 13, weight='bold')
@@ -196,7 +196,7 @@ def draw_row(picture, name, way, at, band):
     picture.y += ROW
 
 
-def draw_cell(picture, block, place, at, told):
+def draw_cell(picture, block, place, at, told) -> None:
     """In how many of the combinations of a column a release stands."""
     column, x = block.columns[place], block.x + block.cell * place
     count, y = column.counts[at], picture.y
@@ -208,7 +208,7 @@ def draw_cell(picture, block, place, at, told):
     picture.text(x + block.cell / 2 - 1, y + 15, shown, 11, 'middle', ink)
 
 
-def draw_legend(picture, count, notes):
+def draw_legend(picture, count, notes) -> None:
     y = picture.y + 10
     picture.text(12, y + 10, f'Of {count:,}', 11, fill=FAINT)
     x = LEFT

@@ -13,14 +13,14 @@ LARGEST, SHORTEST = 16_777_216, 30  # octets of a scenario, and of the lines of 
 LATEST = 4_294_967_295_999  # the last moment that a trace can have
 
 
-def changes(bay, moment, last, combination):
+def changes(bay, moment, last, combination) -> Iterator:
     """The lines that lead from one combination to another, or from nothing."""
     for thing, value, old in zip(bay.things, combination, last or itertools.repeat(None)):
         if value != old:
             yield thing.line(moment, value)
 
 
-def trace_of(bay, combinations, offsets):
+def trace_of(bay, combinations, offsets) -> Iterator:
     """The lines that go through combinations: what changed of each, and a scan at each offset."""
     last, moment = None, 0
     for combination in combinations:
@@ -30,7 +30,7 @@ def trace_of(bay, combinations, offsets):
         last, moment = combination, moment + offsets[-1]
 
 
-def timed_trace_of(bay, pairs, offsets):
+def timed_trace_of(bay, pairs, offsets) -> Iterator:
     """The lines that go to the first combination of each pair, wait there, and then go to the
     second, with a scan at each offset."""
     last, moment = None, 0
@@ -53,7 +53,7 @@ def whole_scenario(bay, offsets: list[int]) -> bytes:
     return octets if len(octets) <= LARGEST else b''
 
 
-def timed_scenarios(bay, pairs, offsets):
+def timed_scenarios(bay, pairs, offsets) -> Iterator:
     """The octets that go through pairs of combinations, in as many scenarios as that takes."""
     size = LARGEST // (2 * SHORTEST * (len(bay.things) + len(offsets) + 2))
     size = max(min(size, LATEST // (2 * offsets[-1])), 1)

@@ -42,15 +42,15 @@ code { font-family: "DejaVu Sans Mono", Consolas, monospace; font-size: 0.88em;
 '''
 
 
-def escaped(text):
+def escaped(text) -> str:
     return html.escape(in_line(str(text)))
 
 
-def code(text):
+def code(text) -> str:
     return f'<code>{escaped(text)}</code>'
 
 
-def sum_of(octets):
+def sum_of(octets) -> str:
     return hashlib.sha256(octets).hexdigest()
 
 
@@ -63,7 +63,7 @@ def version() -> str:
     return f'{day[1] if day else "of no day"}, SHA-256 of its files {found[:16]}'
 
 
-def table(heads, rows, style=''):
+def table(heads, rows, style='') -> str:
     """A table; of a head a leading # says that its column has numbers, and ! names."""
     kinds = [{'#': ' class="number"', '!': ' class="name"'}.get(head[:1], '') for head in heads]
     told = ''.join(f'<th scope="col"{kind}>{escaped(head.lstrip("#!"))}</th>'
@@ -74,7 +74,7 @@ def table(heads, rows, style=''):
     return f'<table{style}>{head}<tbody>{body}</tbody></table>'
 
 
-def product_list(condition):
+def product_list(condition) -> str:
     """The products of a condition, one below the other."""
     if condition is None:
         return 'has too many parts to be shortened: the matrix tells it'
@@ -86,7 +86,7 @@ class Report:
     """An audit as a page. `files` are what was read, by what it is: name and octets; `moment` is in
     seconds since 1970."""
 
-    def __init__(self, audit, files, bayctl, moment):
+    def __init__(self, audit, files, bayctl, moment) -> None:
         self.audit, self.bay, self.files, self.bayctl = audit, audit.bay, files, bayctl
         told = int(moment) * 1000
         self.day = f'{moments.date_of(told):%Y-%m-%d %H:%M:%S} {moments.zone_told(told)}'
@@ -104,11 +104,11 @@ class Report:
                 f'<title>{escaped(title)}</title><style>{style}</style></head>\n<body>\n'
                 + '\n'.join(parts) + '\n</body></html>\n')
 
-    def verdict(self):
+    def verdict(self) -> str:
         kind = 'good' if self.audit.status() == DONE else 'bad'
         return f'<p class="verdict {kind}">{escaped(self.audit.verdict())}</p>'
 
-    def what_was_read(self):
+    def what_was_read(self) -> str:
         bay = self.bay.file['bay']
         rows = [(what, code(name), f'{len(octets):,}', code(sum_of(octets)))
                 for what, (name, octets) in self.files.items()]
@@ -122,7 +122,7 @@ class Report:
         return ('<h2>What was audited</h2>' + table(['', ''], about) + '<p></p>'
                 + table(['', 'File', '#Octets', 'SHA-256'], rows))
 
-    def what_was_looked_at(self):
+    def what_was_looked_at(self) -> str:
         audit, program = self.audit, self.bay.program
         rows = [(escaped(it.name), it.kind, escaped(', '.join(it.words()))
                  + (' (not all)' if it.is_restricted() else '')) for it in self.bay.things]
@@ -143,7 +143,7 @@ class Report:
                 + ''.join(f'<p>{note}</p>' for note in notes)
                 + table(['Point', 'Kind', 'Values'], rows))
 
-    def rules(self):
+    def rules(self) -> str:
         rows = []
         for it in self.audit.findings:
             kind = 'good' if it.verdict() == 'holds' else 'bad'
@@ -156,14 +156,14 @@ class Report:
         heads = ['#Line', 'Rule', '#Applies', '#Broken', 'Verdict']
         return '<h2>Rules</h2>' + (table(heads, rows) if rows else '<p>There are none.</p>')
 
-    def conditions(self):
+    def conditions(self) -> str:
         rows = [(f'<b>{escaped(name)}</b> {WAYS[way]}', product_list(it))
                 for (name, way), it in released(self.audit).items()]
         return ('<h2>Derived conditions</h2><p class="quiet">The least condition under which each '
                 'release stands once timers have run out.</p>'
                 + table(['!Release', 'stands where'], rows))
 
-    def uncovered(self):
+    def uncovered(self) -> str:
         rows = [(f'<b>{escaped(name)}</b> {WAYS[way]}', f'{count:,}', product_list(it))
                 for (name, way), (count, it) in self.bare.items()]
         lead = ('<h2>Releases that no rule covers</h2><p class="quiet">What the program releases '
@@ -171,14 +171,14 @@ class Report:
         return lead + (table(['!Release', '#Combinations', 'where'], rows) if rows else
                        '<p>None: each release is asked for by a rule.</p>')
 
-    def matrix(self):
+    def matrix(self) -> str:
         parts = ''.join(f'<div class="figure">{part}</div>'
                         for part in draw_parts(self.bay, self.audit.table, 820))
         return ('<h2>Matrix</h2><p class="quiet">In how many of the combinations with a position '
                 'or value each release stands; a column is empty where the release does not depend '
                 f'on it.</p>{parts}')
 
-    def signatures(self):
+    def signatures(self) -> str:
         rows = [(who, '', '', '') for who in ('Tested by', 'Checked by', 'Accepted by')]
         return ('<div class="sign"><h2>Signatures</h2>'
                 + table(['', 'Name', 'Date', 'Signature'], rows) + '</div>')

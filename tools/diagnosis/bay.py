@@ -32,7 +32,7 @@ POINTS = {'switch': {'_POS': 'INT', '_OPEN': 'BOOL', '_CLOSED': 'BOOL', '_ENA_OP
 class Refused(Exception):
     """A refusal of a bay file: its number and its place."""
 
-    def __init__(self, code, place):
+    def __init__(self, code, place) -> None:
         super().__init__(code)
         self.code, self.place = code, place
 
@@ -106,7 +106,7 @@ class Lines:
     """The lines on which sections and keys of a bay file stand. None is known where a section is
     not written as [section] or [[section]]."""
 
-    def __init__(self, text):
+    def __init__(self, text) -> None:
         self.lines, self.heads, self.keys, self.top = text.split('\n'), {}, {}, {}
         quotes, at = None, None
         for number, line in enumerate(self.lines, 1):
@@ -148,7 +148,7 @@ class Judge:
     """Goes through a bay file as the profile says, and tells its refusals in the order in which
     bayctl looks for them."""
 
-    def __init__(self, file, lines):
+    def __init__(self, file, lines) -> None:
         self.file, self.lines = file, lines
 
     def all(self) -> Iterator[Refused]:
@@ -208,7 +208,7 @@ class Judge:
         it = '[bay]' if section == 'bay' else f'{ENTRIES[section][0]} {index + 1}{named}'
         return it + (f', key {key}' if key else '')
 
-    def entry(self, section, index, count, entry):
+    def entry(self, section, index, count, entry) -> Iterator:
         """The keys of one entry."""
         wanted = keys_of(section, entry)
         for key in entry:
@@ -233,7 +233,7 @@ class Judge:
             return f'control = "{entry["control"]}" has no {key}'
         return f'there is no key {key} here{near(key, wanted)}'
 
-    def names(self):
+    def names(self) -> None:
         """Points of one name, and such as are reserved words."""
         points, first = list(self.points()), {}
         for name, _, section, index, count, entry in points:
@@ -254,7 +254,7 @@ class Judge:
                 raise Refused(53, self.lines.place(told, where, section, index, count,
                                                    key_of(section)))
 
-    def points(self):
+    def points(self) -> Iterator:
         """Each point with its type and the entry that it is of."""
         for section, endings in POINTS.items():
             entries = self.file.get(section, [])

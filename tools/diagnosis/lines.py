@@ -35,7 +35,7 @@ class Misplaced(Exception):
     """Why a line can't stand where it does, with the token at which that shows, and the remedy
     where it is known."""
 
-    def __init__(self, told, token=None, others=(), mend=''):
+    def __init__(self, told, token=None, others=(), mend='') -> None:
         super().__init__(told)
         self.told, self.token, self.others, self.mend = told, token, list(others), mend
 
@@ -43,20 +43,20 @@ class Misplaced(Exception):
 class Reader:
     """Takes the lines of a program one after the other."""
 
-    def __init__(self, text):
+    def __init__(self, text) -> None:
         self.lines = lines_of(text)
         if text.endswith('\n') or not text:
             self.lines.pop()
         self.state, self.block, self.began, self.ended = 'start', None, None, None
         self.open, self.declarations, self.items, self.count = [], [], [], 0
 
-    def read(self, last):
+    def read(self, last) -> None:
         """Takes the lines up to this one; Misplaced comes of it."""
         for number, tokens in enumerate(self.lines[:last], 1):
             if tokens:
                 self.take(number, tokens)
 
-    def take(self, number, tokens):
+    def take(self, number, tokens) -> None:
         bad = next((token for token in tokens if token.kind in ('bad', 'far')), None)
         if bad:
             raise Misplaced(bad.told, bad)
@@ -80,13 +80,13 @@ class Reader:
             return self.declare(number, tokens)
         self.body(number, tokens)
 
-    def heading(self, tokens):
+    def heading(self, tokens) -> None:
         if not tokens[0].means('PROGRAM'):
             raise Misplaced('a program begins with PROGRAM and its name', tokens[0])
         self.named(tokens, 'PROGRAM')
         self.state = 'head'
 
-    def named(self, tokens, what):
+    def named(self, tokens, what) -> None:
         """One name, and nothing behind it."""
         if len(tokens) < 2:
             raise Misplaced(f'{what} wants a name behind it', tokens[0])
@@ -94,7 +94,7 @@ class Reader:
             raise Misplaced(f'{tokens[1].text} is no name' + reserved_told(tokens[1]), tokens[1])
         self.nothing(tokens[2:], f'{what} and its name')
 
-    def nothing(self, rest, what):
+    def nothing(self, rest, what) -> None:
         if rest:
             told = f'nothing may stand behind {what} on its line'
             if rest[0].text == ';':
@@ -103,7 +103,7 @@ class Reader:
                 told += ': each instruction has a line of its own'
             raise Misplaced(told, rest[0])
 
-    def end(self, number, tokens):
+    def end(self, number, tokens) -> None:
         self.nothing(tokens[1:], 'END_PROGRAM')
         if self.open:
             raise Misplaced('a parenthesis is still open', tokens[0],
@@ -113,7 +113,7 @@ class Reader:
                             [(self.block[1], 'of the block that begins here')])
         self.state, self.ended = 'done', number
 
-    def frame(self, number, tokens):
+    def frame(self, number, tokens) -> None:
         first = tokens[0]
         self.nothing(tokens[1:], first.text)
         if first.means('END_VAR'):
@@ -129,7 +129,7 @@ class Reader:
                             [(self.began, 'which is here')])
         self.state, self.block = 'block', (first.upper, number)
 
-    def declare(self, number, tokens):
+    def declare(self, number, tokens) -> None:
         """name {, name} : type [:= literal] ;"""
         is_named = len(tokens) > 1 and tokens[1].text in (':', ',')
         if is_operator(tokens[0]) and not is_named:
@@ -158,7 +158,7 @@ class Reader:
                              'have that name', tokens[at])
         return Misplaced('a name is wanted here', tokens[at])
 
-    def tail(self, rest, before):
+    def tail(self, rest, before) -> tuple:
         if not rest or rest[0].text != ':':
             told = 'a : is wanted, and then a type'
             if rest and rest[0].text == ':=':
@@ -185,7 +185,7 @@ class Reader:
             raise Misplaced('each declaration has a line of its own', rest[at + 1])
         return kind, initial
 
-    def body(self, number, tokens):
+    def body(self, number, tokens) -> None:
         if self.state == 'head':
             self.state, self.began = 'body', number
         if tokens[0].kind == 'name':
@@ -219,7 +219,7 @@ class Reader:
             raise Misplaced('a ) stands alone on its line', tokens[2])
         return tokens[2:]
 
-    def instruction(self, number, tokens):
+    def instruction(self, number, tokens) -> None:
         first, rest = tokens[0], tokens[1:]
         if first.text != ')' and not is_operator(first):
             raise Misplaced(f'a line begins with an operator or a label, and not with {first.text}',
@@ -250,7 +250,7 @@ class Reader:
         if self.count > LONGEST:
             raise Misplaced(f'this is the {self.count:,}th line with an instruction or a )', first)
 
-    def plain(self, number, first, rest):
+    def plain(self, number, first, rest) -> 'Item':
         if first.means(*ALONE):
             self.nothing(rest, first.text)
             return Item(first.upper, number, first)
@@ -264,7 +264,7 @@ class Reader:
             raise Misplaced(f'{first.text} wants a variable, and not a literal', operand[0])
         return Item(first.upper, number, first, operand)
 
-    def operand(self, tokens, before, may_miss=False):
+    def operand(self, tokens, before, may_miss=False) -> list:
         """A literal, a name, or a name with `.Q` or `.ET`."""
         if not tokens:
             if may_miss:
@@ -290,7 +290,7 @@ class Reader:
         self.nothing(tokens[size:], f'{before.text} and its operand')
         return tokens[:size]
 
-    def call(self, number, first, rest):
+    def call(self, number, first, rest) -> 'Item':
         """name ( [IN := operand] [, PT := operand] )"""
         if not rest or rest[0].kind != 'name':
             raise Misplaced('CAL wants the name of a timer', rest[0] if rest else first)
@@ -309,7 +309,7 @@ class Reader:
             raise Misplaced(f'{names[-1]} is given twice', item.arguments[-1][0])
         return item
 
-    def argument(self, part, behind):
+    def argument(self, part, behind) -> tuple:
         if not part or part[0].upper not in ('IN', 'PT'):
             raise Misplaced('IN := or PT := is wanted', part[0] if part else behind)
         if len(part) < 2 or part[1].text != ':=':
@@ -354,7 +354,7 @@ def ending_told(reader):
     return 'the text ends here: END_PROGRAM is missing', ''
 
 
-def read(text):
+def read(text) -> 'Reader':
     """A program that reads well: its declarations and its items."""
     reader = Reader(text)
     reader.read(len(reader.lines))

@@ -48,15 +48,15 @@ class Fault:
 class Checker:
     """Goes through a program, and notes each fault that it finds."""
 
-    def __init__(self, program, points):
+    def __init__(self, program, points) -> None:
         self.program, self.points, self.faults = program, points, []
         self.names, self.labels, self.arrivals = {}, {}, {}
         self.result, self.outer = Result(None, 'nothing is loaded at the start of a program'), []
 
-    def note(self, code, line, told, token=None, others=(), mend=''):
+    def note(self, code, line, told, token=None, others=(), mend='') -> None:
         self.faults.append(Fault(code, line, told, token, list(others), mend))
 
-    def undeclared(self, line, token):
+    def undeclared(self, line, token) -> None:
         """Notes a name that is not declared. A point of the bay is to be added to VAR_EXTERNAL,
         and no other name is meant."""
         kind, _ = (self.points or {}).get(token.upper, (None, False))
@@ -77,7 +77,7 @@ class Checker:
             self.item(item)
         return self.faults
 
-    def declare(self, it):
+    def declare(self, it) -> None:
         name, line = it.name.upper, it.line
         if name in self.names:
             self.note(71, line, f'{it.name.text} is declared already', it.name,
@@ -103,7 +103,7 @@ class Checker:
                       it.name)
         return writable
 
-    def count(self, it):
+    def count(self, it) -> None:
         kinds = [named.kind in TIMERS for named in self.names.values()]
         slots, timers = kinds.count(False), kinds.count(True)
         if slots > SLOTS or timers > MOST_TIMERS:
@@ -112,7 +112,7 @@ class Checker:
                 told = f'{slots} externals and variables, {SLOTS} are the most'
             self.note(79, it.line, f'with {it.name.text} there are {told}', it.name)
 
-    def name_label(self, item):
+    def name_label(self, item) -> None:
         name = item.token.upper
         if name in self.labels:
             self.note(71, item.line, f'the label {item.token.text} stands twice', item.token,
@@ -149,7 +149,7 @@ class Checker:
                       item.token)
         return self.result.kind is None
 
-    def wrong(self, item, told, token=None):
+    def wrong(self, item, told, token=None) -> None:
         if self.result.reached:
             self.note(72, item.line, told, token or item.token)
 
@@ -174,7 +174,7 @@ class Checker:
             return None
         return {'Q': 'BOOL', 'ET': 'TIME'}[tokens[2].upper] if timer else named.kind
 
-    def load(self, item):
+    def load(self, item) -> None:
         kind = self.operand(item, item.operand)
         if isinstance(kind, Literal):
             kind = own_type(kind)
@@ -184,7 +184,7 @@ class Checker:
         since = f'{item.token.text} at line {item.line} loads nothing that is known'
         self.result = Result(kind, since, self.result.reached, self.result.gone)
 
-    def store(self, item):
+    def store(self, item) -> None:
         target, named = item.operand[0], self.names.get(item.operand[0].upper)
         kind = self.operand(item, item.operand)
         is_output = len(item.operand) == 3
@@ -202,7 +202,7 @@ class Checker:
             told = f'the result is {self.result.kind}, and {text_of(item.operand)} is {kind}'
             self.wrong(item, told, target)
 
-    def combine(self, item):
+    def combine(self, item) -> None:
         kind = self.operand(item, item.operand)
         first = item.operand[0]
         if item.verb in ('DIV', 'MOD') and (first.kind != 'literal' or first.literal.value == 0):
@@ -211,7 +211,7 @@ class Checker:
             self.note(78, item.line, told, first)
         self.join(item, item.verb, kind, text_of(item.operand), first)
 
-    def join(self, item, verb, kind, told, token):
+    def join(self, item, verb, kind, told, token) -> None:
         """An operator on the result and an operand of a type, a number without one, or nothing that
         is known."""
         wanted = wanted_by(verb)
@@ -233,17 +233,17 @@ class Checker:
         if self.result.kind and verb not in BOOLEAN | ARITHMETIC:
             self.result = Result('BOOL', '', self.result.reached, self.result.gone)
 
-    def invert(self, item):
+    def invert(self, item) -> None:
         if not self.unset(item) and self.result.kind != 'BOOL':
             self.wrong(item, f'NOT wants a BOOL, and the result is {self.result.kind}')
 
-    def convert(self, item):
+    def convert(self, item) -> None:
         wants, gives = CONVERTS[item.verb]
         if not self.unset(item) and self.result.kind != wants:
             self.wrong(item, f'{item.verb} wants {wants}, and the result is {self.result.kind}')
         self.result = Result(gives, '', self.result.reached, self.result.gone)
 
-    def jump(self, item):
+    def jump(self, item) -> None:
         name, label = item.operand[0], self.labels.get(item.operand[0].upper)
         if label is None:
             self.note(75, item.line,
@@ -254,10 +254,10 @@ class Checker:
             self.arrivals.setdefault(name.upper, []).append((item.line, self.result.kind))
         self.go(item)
 
-    def leave(self, item):
+    def leave(self, item) -> None:
         self.go(item)
 
-    def go(self, item):
+    def go(self, item) -> None:
         """What a jump or a return wants of the result, and whether what follows can be reached."""
         if item.verb in ('JMP', 'RET'):
             self.result = Result(self.result.kind, self.result.since, False,
@@ -265,7 +265,7 @@ class Checker:
         elif not self.unset(item) and self.result.kind != 'BOOL':
             self.wrong(item, f'{item.verb} wants a BOOL, and the result is {self.result.kind}')
 
-    def call(self, item):
+    def call(self, item) -> None:
         name = item.operand[0]
         named = self.names.get(name.upper)
         if named is None:
@@ -282,7 +282,7 @@ class Checker:
         self.result = Result(None, f'CAL at line {item.line} leaves it so', self.result.reached,
                              self.result.gone)
 
-    def open(self, item):
+    def open(self, item) -> None:
         if item.token.means('DIV', 'MOD'):
             self.note(78, item.line, 'what a parenthesis gives is no literal', item.token)
         self.outer.append((self.result, item))
@@ -291,7 +291,7 @@ class Checker:
             inner = type(item)('LD', item.line, item.token, item.operand)
             self.load(inner)
 
-    def close(self, item):
+    def close(self, item) -> None:
         """What the parenthesis gives is the operand; 72 and 73 are told at its )."""
         inner, (outer, opened) = self.result, self.outer.pop()
         self.result = outer
@@ -305,7 +305,7 @@ class Checker:
         for fault in self.faults[at:]:
             fault.token = item.token
 
-    def at_label(self, item):
+    def at_label(self, item) -> None:
         """What falls in and what jumps bring meet."""
         name = item.token.upper
         ways = self.arrivals.get(name, []) if self.labels[name] == item.line else []

@@ -1,5 +1,6 @@
 """A program cut into tokens, line by line, as far as a faulty line can be."""
 import re
+from collections.abc import Iterator
 from dataclasses import dataclass
 
 from common.texts import raised
@@ -38,14 +39,14 @@ class Token:
         return self.start + len(self.text)
 
     @property
-    def upper(self):
+    def upper(self) -> str:
         return raised(self.text)
 
-    def means(self, *words):
+    def means(self, *words) -> bool:
         return self.kind in ('word', 'mark') and self.upper in words
 
 
-def without_comments(text):
+def without_comments(text) -> tuple:
     """The text with blanks for comments, and the place of a comment that is not closed."""
     out, at = [], 0
     while (begin := text.find('(*', at)) >= 0:
@@ -68,11 +69,11 @@ def nested_comments(text: str) -> list[int]:
     return found
 
 
-def blank(text):
+def blank(text) -> str:
     return re.sub(r'[^\n]', ' ', text)
 
 
-def lines_of(text):
+def lines_of(text) -> list:
     """The tokens of each line of a program; those of line n stand at place n - 1."""
     plain, unclosed = without_comments(text)
     *whole, last = plain.split('\n')
@@ -84,7 +85,7 @@ def lines_of(text):
     return lines
 
 
-def tokens_of(line):
+def tokens_of(line) -> Iterator:
     for found in TOKEN.finditer(line):
         if found['word'] is not None:
             yield word_token(found['word'], found.start())
@@ -111,7 +112,7 @@ def odd_told(character):
     return f'no token begins with {character!r}'
 
 
-def word_token(text, start):
+def word_token(text, start) -> 'Token':
     upper = raised(text)
     if '#' not in text and re.match('[A-Z_]', upper):
         if upper in ('TRUE', 'FALSE'):
@@ -127,7 +128,7 @@ def word_token(text, start):
     return Token(kind, text, start, literal=held)
 
 
-def literal_of(text):
+def literal_of(text) -> tuple:
     """A literal, or why it is none (bad) or out of range (far)."""
     before, hash_mark, after = text.partition('#')
     if hash_mark and before in ('T', 'TIME'):
@@ -141,7 +142,7 @@ def literal_of(text):
     return in_range(None, number_of(text))
 
 
-def in_range(kind, value):
+def in_range(kind, value) -> tuple:
     """A number of a type, where it is one."""
     if isinstance(value, str):
         return 'bad', value
@@ -154,7 +155,7 @@ def in_range(kind, value):
     return 'literal', Literal(kind, value)
 
 
-def number_of(text):
+def number_of(text) -> int | str:
     """The value of a number with a base or a sign, or what is wrong with it."""
     before, hash_mark, digits = text.partition('#')
     if hash_mark and before not in ('2', '8', '16'):
@@ -175,7 +176,7 @@ def number_of(text):
     return int(value[:LONG], base) * (-1 if sign == '-' else 1)
 
 
-def duration_of(text):
+def duration_of(text) -> tuple:
     """A TIME by its parts in falling units."""
     parts, rest, total, last = 0, text, 0, -1
     while rest:
@@ -195,5 +196,5 @@ def duration_of(text):
     return 'literal', Literal('TIME', total)
 
 
-def is_operator(token):
+def is_operator(token) -> bool:
     return token.means(*OPERATORS)

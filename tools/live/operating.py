@@ -12,7 +12,7 @@ MARGIN = 1.0  # seconds beyond a switch's travel_ms, until its position is misse
 CONFIRMING = 30.0  # seconds in which a control that needs no select is to be confirmed
 
 
-def answer(is_good, told):
+def answer(is_good, told) -> dict:
     return {'good': is_good, 'told': told}
 
 
@@ -21,7 +21,7 @@ class Operator:
     says how far it is: the switch, the way, the stage, selected or moving, and the page that asked
     for it. Every page may give it up, and it is given up where that page goes."""
 
-    def __init__(self, watcher):
+    def __init__(self, watcher) -> None:
         self.watcher, self.control, self.end, self.refusal = watcher, None, 0, ''
         watcher.on_said.append(self.said)
         watcher.on_read.append(self.read)
@@ -48,7 +48,7 @@ class Operator:
         self.watcher.publish()
         return found
 
-    def set(self, control, stage='', way='', page=''):
+    def set(self, control, stage='', way='', page='') -> None:
         self.control = control
         self.watcher.state['control'] = control and {'switch': control.name, 'way': way,
                                                      'stage': stage, 'page': page}
@@ -60,7 +60,7 @@ class Operator:
             if state and state['stage'] == 'selected' and state['page'] == page:
                 self.act('cancel', state['switch'], state['way'])
 
-    def finish(self, is_good, told):
+    def finish(self, is_good, told) -> None:
         """A control has ended."""
         self.set(None)
         last = self.watcher.state.get('last') or {'number': 0}
@@ -112,7 +112,7 @@ class Operator:
             return answer(True, f'{way} {switch}: given up')
         return self.outcome(control.cancel(WAYS[way]))
 
-    def said(self, said):
+    def said(self, said) -> None:
         """A report of the server, or None where the connection is lost."""
         if said is None:
             self.control = None
@@ -121,7 +121,7 @@ class Operator:
         elif said.kind == 'ended' and self.control and said.switch == self.control.name:
             self.finish(said.good, '; '.join(said.lines))
 
-    def read(self, found):
+    def read(self, found) -> None:
         """Looks whether a control has ended that the server tells no end of, and whether a
         selection ran out."""
         state = self.watcher.state['control']

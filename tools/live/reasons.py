@@ -11,7 +11,7 @@ class Seen:
     """What a client sees of a bay: positions in the words of rules and measured values, by names in
     upper case. Inputs are shown to no client, and may have the name of a switch."""
 
-    def __init__(self, positions: dict[str, str], measures: dict[str, int]):
+    def __init__(self, positions: dict[str, str], measures: dict[str, int]) -> None:
         self.positions = positions
         self.measures = {name: str(value) for name, value in measures.items()}
 

@@ -30,7 +30,7 @@ class Watcher:
     """Reads a bay. `lock` is held by whoever uses the association; `conditions` are those of the
     audit by switch and way, once they are known."""
 
-    def __init__(self, file, text, host, port):
+    def __init__(self, file, text, host, port) -> None:
         self.file, self.text, self.host, self.port = file, text, host, port
         self.conditions, self.lock, self.client = None, threading.RLock(), None
         self.events = collections.deque(maxlen=KEPT)
@@ -49,7 +49,7 @@ class Watcher:
         found.put(self.told())
         return found
 
-    def unsubscribe(self, found):
+    def unsubscribe(self, found) -> None:
         with self.queues_lock:
             self.queues.discard(found)
 
@@ -59,7 +59,7 @@ class Watcher:
             events = sorted(self.events, key=lambda it: it['moment'])
             return json.dumps({**self.state, 'events': events})
 
-    def publish(self):
+    def publish(self) -> None:
         """Hands the state to all; who is slow misses what is older."""
         told = self.told()
         with self.queues_lock:
@@ -81,7 +81,7 @@ class Watcher:
 
     # ---- the association
 
-    def run(self):
+    def run(self) -> None:
         """Reads until it is over, and connects again where the connection is lost."""
         while not self.is_over.is_set():
             try:
@@ -97,7 +97,7 @@ class Watcher:
             if self.client:
                 self.client.close()
 
-    def connect(self):
+    def connect(self) -> None:
         client = Client(self.host, self.port, words.Bay(self.text), on_report=lambda told: None)
         client.on_said = self.said
         if self.file['bay']['domain'] not in client.domains():
@@ -109,7 +109,7 @@ class Watcher:
             self.event(f'connected to port {self.port}')
             self.publish()
 
-    def lose(self, error):
+    def lose(self, error) -> None:
         told = unconnected(error) if isinstance(error, OSError) else str(error)
         with self.lock:
             if self.client:
@@ -122,7 +122,7 @@ class Watcher:
                 act(None)
         self.publish()
 
-    def said(self, said):
+    def said(self, said) -> None:
         """A report of the server."""
         for act in self.on_said:
             act(said)
@@ -151,7 +151,7 @@ class Watcher:
             last = self.events and self.events[-1]
             return before != (json.dumps(self.state), len(self.events), last)
 
-    def explain(self, found, measures):
+    def explain(self, found, measures) -> None:
         """Says why something may not be done."""
         seen = Seen({raised(it['id']): it['word'] for it in found},
                     {raised(it['name']): it['value'] for it in measures})
@@ -164,7 +164,7 @@ class Watcher:
                 else:
                     it[name]['why'] = why_not(self.conditions.get((it['id'], way)), seen)
 
-    def compare(self, found):
+    def compare(self, found) -> None:
         """Notes what has changed since the last read."""
         for old, new in zip(self.state['switches'] or [{}] * len(found), found):
             if (old.get('position'), old.get('quality')) != (new['position'], new['quality']):

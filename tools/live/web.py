@@ -22,18 +22,18 @@ class Pages(http.server.ThreadingHTTPServer):
     controls needs the token of a page, so no page of another site can operate a switch."""
     daemon_threads = True
 
-    def __init__(self, port, watcher, picture, operator=None):
+    def __init__(self, port, watcher, picture, operator=None) -> None:
         super().__init__(('127.0.0.1', port), Handler)
         self.watcher, self.picture, self.operator = watcher, picture, operator
         self.token = secrets.token_urlsafe(16)
 
-    def hosts(self):
+    def hosts(self) -> set:
         return {f'{name}:{self.server_address[1]}' for name in ('127.0.0.1', 'localhost')}
 
-    def handle_error(self, request, client_address):
+    def handle_error(self, request, client_address) -> None:
         """A page that went away is no error."""
 
-    def page(self):
+    def page(self) -> str:
         bay = self.watcher.file['bay']
         parts = {'TITLE': bay['domain'], 'DEVICE': f'{bay["vendor"]} {bay["model"]}',
                  'TOKEN': self.token, 'OPERATES': 'true' if self.operator else 'false',
@@ -48,15 +48,15 @@ class Handler(http.server.BaseHTTPRequestHandler):
     """One request."""
     protocol_version, timeout = 'HTTP/1.1', LIMIT
 
-    def log_message(self, *words):
+    def log_message(self, *words) -> None:
         """Requests are not printed."""
 
-    def is_ours(self):
+    def is_ours(self) -> bool:
         hosts, origin = self.server.hosts(), self.headers.get('Origin')
         return self.headers.get('Host') in hosts and (
             origin is None or origin in {f'http://{host}' for host in hosts})
 
-    def send(self, status, kind, octets):
+    def send(self, status, kind, octets) -> None:
         self.send_response(status)
         self.send_header('Content-Type', f'{kind}; charset=utf-8')
         self.send_header('Content-Length', str(len(octets)))
@@ -66,11 +66,11 @@ class Handler(http.server.BaseHTTPRequestHandler):
         self.end_headers()
         self.wfile.write(octets)
 
-    def refuse(self, status, told):
+    def refuse(self, status, told) -> None:
         self.close_connection = True
         self.send(status, 'text/plain', told.encode())
 
-    def do_GET(self):
+    def do_GET(self) -> None:
         name, _, page = self.path.partition('?')
         name = name.lstrip('/')
         if not self.is_ours():
@@ -86,7 +86,7 @@ class Handler(http.server.BaseHTTPRequestHandler):
         else:
             self.refuse(404, 'there is no such page')
 
-    def stream(self, page):
+    def stream(self, page) -> None:
         """Hands each state on as a server-sent event, until the page goes away: what it has
         selected is given up then."""
         self.close_connection = True
@@ -111,7 +111,7 @@ class Handler(http.server.BaseHTTPRequestHandler):
             if self.server.operator:
                 self.server.operator.page_gone(page)
 
-    def do_POST(self):
+    def do_POST(self) -> None:
         size = self.headers.get('Content-Length', '')
         if not re.fullmatch('[0-9]{1,5}', size) or int(size) > LARGEST:
             return self.refuse(400, 'the request is too long')

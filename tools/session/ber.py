@@ -6,7 +6,7 @@ class Unreadable(Exception):
     """Octets that are not what is wanted of them."""
 
 
-def read(octets, at=0):
+def read(octets, at=0) -> tuple:
     """The element at a place: its tag, its content and the place behind it."""
     tag, at = octet(octets, at), at + 1
     if tag & 0x1f == 0x1f:
@@ -25,13 +25,13 @@ def read(octets, at=0):
     return tag, octets[at:at + size], at + size
 
 
-def octet(octets, at):
+def octet(octets, at) -> int:
     if at >= len(octets):
         raise Unreadable('octets that end early')
     return octets[at]
 
 
-def elements(octets):
+def elements(octets) -> list:
     """The elements that fill some octets, each as tag and content."""
     found, at = [], 0
     while at < len(octets):
@@ -40,7 +40,7 @@ def elements(octets):
     return found
 
 
-def only(octets, tag):
+def only(octets, tag) -> bytes:
     """The content of the one element of this tag that fills some octets."""
     found = elements(octets)
     if [t for t, _ in found] != [tag]:
@@ -48,25 +48,25 @@ def only(octets, tag):
     return found[0][1]
 
 
-def field(octets, tag, default=None):
+def field(octets, tag, default=None) -> bytes | None:
     """The content of the first element of this tag among others."""
     return next((content for t, content in elements(octets) if t == tag), default)
 
 
-def needed(octets, tag):
+def needed(octets, tag) -> bytes:
     content = field(octets, tag)
     if content is None:
         raise Unreadable(f'no element {tag:02X}')
     return content
 
 
-def integer(content):
+def integer(content) -> int:
     if not content:
         raise Unreadable('an integer of no octets')
     return int.from_bytes(content, signed=True)
 
 
-def element(tag, *contents):
+def element(tag, *contents) -> bytes:
     """The octets of an element."""
     content = b''.join(contents)
     name = bytes([tag >> 8, tag & 0xff]) if tag > 0xff else bytes([tag])
@@ -76,7 +76,7 @@ def element(tag, *contents):
     return name + bytes([0x80 + len(size)]) + size + content
 
 
-def number(tag, value):
+def number(tag, value) -> bytes:
     """The octets of an integer."""
     return element(tag,
                    value.to_bytes(((value if value >= 0 else ~value).bit_length() + 8) // 8,

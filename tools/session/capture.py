@@ -1,5 +1,6 @@
 """Connections of TCP out of a capture, put together: segments in order, once."""
 import heapq
+from collections.abc import Iterator
 from dataclasses import dataclass, field
 
 from .packets import Segment, address_told, packets, segment_in
@@ -85,7 +86,7 @@ class Connection:
     """A connection with its two ways. `events` are what happened, by the number of the packet, the
     moment, the end that sent it, the kind and octets."""
 
-    def __init__(self, first: int, moment: int, segment: Segment):
+    def __init__(self, first: int, moment: int, segment: Segment) -> None:
         self.first, self.opened, self.events = first, moment, []
         self.client, self.client_is_sure = None, False
         self.ways = {segment.source: Way(), segment.target: Way()}
@@ -95,7 +96,7 @@ class Connection:
             is_answer = segment.flags & ACK
             self.client = segment.target if is_answer else segment.source
 
-    def other(self, end):
+    def other(self, end) -> tuple:
         return next((it for it in self.ways if it != end), end)
 
     def is_again(self, segment: Segment) -> bool:
@@ -174,7 +175,7 @@ class Connection:
 class Capture:
     """The connections of a capture to one port, or those on which MMS is spoken."""
 
-    def __init__(self, octets: bytes, port: int | None = None):
+    def __init__(self, octets: bytes, port: int | None = None) -> None:
         self.octets, self.port, self.connections = octets, port, []
 
     def events(self) -> list[Event]:
@@ -203,7 +204,7 @@ class Capture:
             connection.finish()
 
 
-def events_of(connection: Connection, place: int):
+def events_of(connection: Connection, place: int) -> Iterator:
     """The events of a connection, each with the number of its packet."""
     who = address_told(connection.client[0])
     kind = 'open' if connection.begins() else 'middle'

@@ -31,10 +31,10 @@ class Trace:
     stands a scan: a server scans in every turn, and without one no operate is released in a
     replay."""
 
-    def __init__(self, path, place):
+    def __init__(self, path, place) -> None:
         self.file, self.place, self.last = open(path, 'a', encoding='utf-8'), place, 0
 
-    def line(self, verb, octets=b''):
+    def line(self, verb, octets=b'') -> None:
         self.last = max(self.last, time.time_ns() // 1_000_000)
         if verb == 'recv':
             print(self.last, 'scan', file=self.file)
@@ -48,7 +48,7 @@ class Client:
     Lost, whatever comes in its place."""
 
     def __init__(self, host: str, port: int, bay: Bay | None = None, trace: Trace | None = None,
-                 on_report: Callable = print, timeout: float = PATIENCE):
+                 on_report: Callable = print, timeout: float = PATIENCE) -> None:
         self.bay, self.trace, self.on_report = bay or Bay(), trace, on_report
         self.host, self.port, self.timeout = host, port, timeout
         self.conversation, self.answers = Conversation(self.bay), stream.Stream()
@@ -86,7 +86,8 @@ class Client:
                            'connection request') from None
             if is_taken(self.socket) is False:
                 raise Lost(f'{what}: the connection waits, and the server does not take it: all '
-                           'eight associations are taken, or this is the port of a process') from None
+                           'eight associations are taken, or this is the port of a process'
+                           ) from None
             raise Lost(f'{what}: a connection request is not answered: is it the port of the '
                        'clients?') from None
 

@@ -19,7 +19,7 @@ class Variable:
     is_truth: bool = False
 
 
-def matters(variables, holds):
+def matters(variables, holds) -> list:
     """The places of the variables on which it depends: one value more or less changes it.
     `holds` is whether it holds, by a combination's places of values."""
     found = []
@@ -33,7 +33,7 @@ def matters(variables, holds):
     return found
 
 
-def table_of(sizes, holds, places):
+def table_of(sizes, holds, places) -> int:
     """The truths of all combinations of these variables, the first of them the slowest, as bits."""
     kept = {tuple(combination[place] for place in places): is_so
             for combination, is_so in holds.items()}
@@ -46,11 +46,11 @@ def table_of(sizes, holds, places):
 class Products:
     """The prime products of a table: for each variable a set of its values, as bits."""
 
-    def __init__(self, sizes):
+    def __init__(self, sizes) -> None:
         self.sizes, self.steps, self.known = sizes, 0, {}
         self.rooms = [math.prod(sizes[place:]) for place in range(len(sizes) + 1)]
 
-    def of(self, table, place=0):
+    def of(self, table, place=0) -> list:
         """The largest products within the table, of the variables from a place on."""
         if not table:
             return []
@@ -61,7 +61,7 @@ class Products:
             self.known[key] = self.found(table, place)
         return self.known[key]
 
-    def found(self, table, place):
+    def found(self, table, place) -> list:
         room, size = self.rooms[place + 1], self.sizes[place]
         parts = [table >> room * value & (1 << room) - 1 for value in range(size)]
         found = []
@@ -80,7 +80,7 @@ def within(one, other):
     return all(mine & theirs == mine for mine, theirs in zip(one, other))
 
 
-def largest(products):
+def largest(products) -> list:
     """Those that lie in no other."""
     found = []
     for product in sorted(set(products), key=lambda p: -sum(part.bit_count() for part in p)):
@@ -89,7 +89,7 @@ def largest(products):
     return found
 
 
-def cells(product, sizes):
+def cells(product, sizes) -> int:
     """The combinations of a product, as bits of the table."""
     bits, room = 1, 1
     for values, size in reversed(list(zip(product, sizes))):
@@ -98,13 +98,13 @@ def cells(product, sizes):
     return bits
 
 
-def cost(product, sizes):
+def cost(product, sizes) -> tuple:
     """How much is said by a product: its conditions, and then their values."""
     told = [(values, size) for values, size in zip(product, sizes) if values != (1 << size) - 1]
     return len(told), sum(values.bit_count() for values, _ in told)
 
 
-def fewest(products, table, sizes):
+def fewest(products, table, sizes) -> tuple:
     """The fewest products that cover the table: those that nothing else can stand for, and of the
     rest the best that is found; whether it is sure that no fewer do."""
     covers = {product: cells(product, sizes) for product in products}
@@ -123,7 +123,7 @@ def fewest(products, table, sizes):
     return sorted(chosen + more, key=lambda product: cost(product, sizes)), is_sure
 
 
-def greedy(rest, covers, left):
+def greedy(rest, covers, left) -> list:
     chosen = []
     while left:
         best = max(rest, key=lambda product: (covers[product] & left).bit_count())
@@ -132,11 +132,11 @@ def greedy(rest, covers, left):
     return chosen
 
 
-def search(rest, covers, left):
+def search(rest, covers, left) -> tuple:
     """The fewest of the rest that cover what is left, by branch and bound."""
     best, steps = greedy(rest, covers, left), 0
 
-    def go(left, chosen):
+    def go(left, chosen) -> None:
         nonlocal best, steps
         steps += 1
         if not left:
@@ -162,10 +162,10 @@ class Condition:
     is_least: bool = True
     facts: list = field(default_factory=list)
 
-    def told(self):
+    def told(self) -> str:
         return ' or '.join(self.lines())
 
-    def lines(self):
+    def lines(self) -> list:
         """The words of each product; never and always have one line."""
         if not self.products:
             return ['never']
@@ -174,7 +174,7 @@ class Condition:
         return [' and '.join(parts) for parts in self.products]
 
 
-def part_told(variable, values):
+def part_told(variable, values) -> str:
     """One part of a product, in the words of the rules."""
     chosen = [word for at, word in enumerate(variable.values) if values >> at & 1]
     if variable.is_truth:
@@ -185,7 +185,7 @@ def part_told(variable, values):
     return f'{variable.name} {"|".join(chosen)}'
 
 
-def condition(variables, holds):
+def condition(variables, holds) -> 'Condition':
     """The least condition of what holds, by the places of values in each combination."""
     places = matters(variables, holds)
     kept = [variables[place] for place in places]

@@ -25,11 +25,11 @@ class Said:
     good: bool = True
     cause: int | None = None
 
-    def told(self):
+    def told(self) -> list:
         """The words, line by line."""
         return [f'{self.lead} {self.lines[0]}', *self.lines[1:]]
 
-    def title(self):
+    def title(self) -> str:
         """What is controlled, and how."""
         return f'{self.kind} {self.switch} {self.way}'.rstrip()
 
@@ -59,14 +59,14 @@ class Conversation:
     """One association: what its client asked and has not been answered yet, by invoke id, the first
     first."""
 
-    def __init__(self, bay):
+    def __init__(self, bay) -> None:
         self.bay, self.stream, self.asked = bay, Stream(), {}
 
-    def hear(self, piece):
+    def hear(self, piece) -> list:
         """The messages of the client that a piece of its octets completes."""
         return list(self.stream.feed(piece))
 
-    def asks(self, got):
+    def asks(self, got) -> 'Said':
         """A message of the client, in words."""
         if got.kind == 'CR':
             return Said('connect', 'asks for', [f'a transport connection, {sized(got.size)}'])
@@ -82,7 +82,7 @@ class Conversation:
         lead, line = told.get(got.kind, ('sends', got.kind))
         return Said('end', lead, [line], good=got.kind != 'fault')
 
-    def asks_mms(self, octets):
+    def asks_mms(self, octets) -> 'Said':
         try:
             pdu = mms.read_pdu(octets)
         except Unreadable as error:
@@ -92,7 +92,7 @@ class Conversation:
             self.asked.setdefault(pdu.invoke, []).append((pdu, said))
         return said
 
-    def asked_of(self, pdu):
+    def asked_of(self, pdu) -> 'Said':
         """A request in words."""
         if pdu.kind == 'conclude':
             return Said('end', 'asks', ['to conclude'])
@@ -108,7 +108,7 @@ class Conversation:
                                         else pdu.service]
         return Said(pdu.service, f'asks{numbered(pdu)}', lines, pdu.invoke)
 
-    def controlled(self, pdu):
+    def controlled(self, pdu) -> tuple:
         """The switch and the kind of a request that selects, operates or cancels, and asks nothing
         else."""
         path = pdu.names[0].split('$') if len(pdu.names) == 1 else []
@@ -118,7 +118,7 @@ class Conversation:
             return '', ''
         return self.bay.switch(pdu.names[0]), ASKED[path[3]]
 
-    def control_told(self, kind, switch, pdu):
+    def control_told(self, kind, switch, pdu) -> str:
         """A select, an operate or a cancel."""
         if pdu.service == 'read' or not pdu.data:
             return f'{kind} {switch}'
@@ -142,10 +142,10 @@ class Conversation:
         kind = {0: '', 9: ', domains'}.get(pdu.code[0], f', class {pdu.code[0]}')
         return [what + kind + (f', behind {pdu.after}' if pdu.after is not None else '')]
 
-    def asked_read(self, pdu):
+    def asked_read(self, pdu) -> list:
         return listed('read', [self.bay.titled(name) for name in pdu.names])
 
-    def asked_write(self, pdu):
+    def asked_write(self, pdu) -> list:
         return listed('write',
                       [f'{self.bay.titled(name)} := {words.told(self.bay.item(name), value)}'
                        for name, value in zip(pdu.names, pdu.data)])
@@ -153,7 +153,7 @@ class Conversation:
     def asked_type(self, pdu):
         return [f'the type of {self.bay.titled(pdu.names[0])}']
 
-    def answers(self, got):
+    def answers(self, got) -> 'Said':
         """A message of the server, in words."""
         if got is None:
             return Said('end', 'is sent', ['a part of a message'], good=False)
@@ -167,7 +167,7 @@ class Conversation:
             return Said('end', 'is given', ['its release'])
         return Said('end', 'is sent', [got.words or got.kind], good=False)
 
-    def answers_mms(self, octets):
+    def answers_mms(self, octets) -> 'Said':
         try:
             pdu = mms.read_pdu(octets)
         except Unreadable as error:
@@ -187,7 +187,7 @@ class Conversation:
         lines, good = self.response_told(pdu, request, asked)
         return Said(kind, f'is answered{numbered(pdu)}', lines, pdu.invoke, *control, good)
 
-    def response_told(self, pdu, request, asked):
+    def response_told(self, pdu, request, asked) -> tuple:
         """A response in words, and whether it is what was wanted."""
         if asked and asked.switch and len(pdu.data) == 1:
             return control_answer(asked, pdu.data[0])
@@ -210,7 +210,7 @@ class Conversation:
                       [f'{self.bay.titled(name)} = {value}' if name else value
                        for name, value in zip(names, told)]), good
 
-    def reported(self, pdu):
+    def reported(self, pdu) -> 'Said':
         """A LastApplError, or the end of an operate."""
         control = next((name for name in pdu.names if name.endswith('$Oper')), None)
         cause = next((cause_in(value) for name, value in zip(pdu.names, pdu.data)
@@ -230,7 +230,7 @@ class Conversation:
                     False, cause[1])
 
 
-def way_of(pdu):
+def way_of(pdu) -> str:
     """Whether a control asks for on or off, where it says so."""
     if not pdu.data or pdu.data[0].tag != mms.STRUCTURE or not pdu.data[0].value:
         return ''
@@ -238,7 +238,7 @@ def way_of(pdu):
     return {True: 'on', False: 'off'}.get(on, '') if isinstance(on, bool) else ''
 
 
-def control_answer(asked, value):
+def control_answer(asked, value) -> tuple:
     """What became of a select, an operate or a cancel."""
     subject = f'{asked.kind} {asked.switch}'
     if isinstance(value, Failure):
@@ -248,7 +248,7 @@ def control_answer(asked, value):
     return [f'{subject}: done'], True
 
 
-def cause_in(value):
+def cause_in(value) -> tuple | None:
     """The control and the AddCause of a LastApplError."""
     if not words.fits(words.LAST_APPL_ERROR, value):
         return None
@@ -282,15 +282,15 @@ def type_told(shape):
     return '{' + ', '.join(f'{name} {type_told(part)}' for name, part in shape) + '}'
 
 
-def sized(size):
+def sized(size) -> str:
     return f'TPDUs of {size} octets' if size else 'no TPDU size'
 
 
-def numbered(pdu):
+def numbered(pdu) -> str:
     return ':' if pdu.invoke is None else f' {pdu.invoke}:'
 
 
-def listed(verb, items):
+def listed(verb, items) -> list:
     """One thing on the line of its verb, several on lines of their own."""
     if len(items) == 1:
         return [f'{verb} {items[0]}'.lstrip()]

@@ -17,10 +17,10 @@ class Track:
     """What one thing was over time: changes are (moment, value), in the order in which they
     came."""
 
-    def __init__(self, label, note=''):
+    def __init__(self, label, note='') -> None:
         self.label, self.note, self.changes = label, note, []
 
-    def set(self, moment, value):
+    def set(self, moment, value) -> None:
         if not self.changes or self.changes[-1][1] != value:
             self.changes.append((moment, value))
 
@@ -45,7 +45,7 @@ class Client:
     """What one client was over time: when it was connected, when it asked or was told something,
     and its controls."""
 
-    def __init__(self, place):
+    def __init__(self, place) -> None:
         self.label, self.ticks, self.marks = f'Client {place}', {}, []
         self.open, self.count = Track(self.label), 0
 
@@ -54,7 +54,7 @@ class Client:
         self.count = max(self.count + (1 if is_open else -1), 0)
         self.open.set(moment, self.count > 0)
 
-    def tick(self, moment, said):
+    def tick(self, moment, said) -> None:
         self.ticks.setdefault(moment, []).extend(said.told())
 
 
@@ -62,7 +62,7 @@ class History:
     """What became of a scenario, or of a captured session: see `of_replay` and `of_capture`.
     `falling` counts the lines that were refused because times go back."""
 
-    def __init__(self, bay, report=''):
+    def __init__(self, bay, report='') -> None:
         self.bay, self.report, self.ending, self.falling = bay, report, '', 0
         self.switches = {raised(s['id']): Track(s['id'], s['kind']) for s in bay['switch']}
         self.inputs = {raised(i['name']): Track(i['name'], 'input') for i in bay.get('input', [])}
@@ -84,7 +84,7 @@ class History:
         return history
 
     @classmethod
-    def of_capture(cls, file, bay, events):
+    def of_capture(cls, file, bay, events) -> 'History':
         """What was said in a captured session. Of the process nothing is known. Each address is a
         client."""
         history, servers = cls(file), {}
@@ -97,7 +97,7 @@ class History:
         """What is to be said of the moments of the trace."""
         return moments.warnings(self.moments, self.falling)
 
-    def captured(self, event, bay, servers):
+    def captured(self, event, bay, servers) -> None:
         """What happened on a connection of a capture."""
         self.moments.append(event.moment)
         who = event.who or event.place
@@ -121,12 +121,12 @@ class History:
             client.ticks.setdefault(event.moment, []).append('octets are missing in the capture')
             go_on_behind(event, conversation, servers)
 
-    def refuse(self, moment, words):
+    def refuse(self, moment, words) -> int:
         """Notes a refusal, and gives its place in the list."""
         self.refusals.append((moment, words))
         return len(self.refusals) - 1
 
-    def step(self, step, bay):
+    def step(self, step, bay) -> None:
         """A line of the trace, and what was printed for it."""
         verb, *rest = step.words
         if step.refused is not None:
@@ -142,7 +142,7 @@ class History:
             self.heard(step, int(rest[0]), bay)
         self.printed(step)
 
-    def event(self, moment, words):
+    def event(self, moment, words) -> None:
         """A contact, an input or a measure."""
         key = raised(words[1])
         if words[0] == 'contact':
@@ -153,7 +153,7 @@ class History:
             label = f'{self.meters[key]} {words[2]}'
             self.measures.setdefault(label, Track(label, 'measure')).set(moment, int(words[3]))
 
-    def heard(self, step, place, bay):
+    def heard(self, step, place, bay) -> None:
         """What a client sent, or that it came or went."""
         client = self.clients.setdefault(place, Client(place))
         if step.words[0] == 'recv':
@@ -163,7 +163,7 @@ class History:
         client.connect(step.moment, step.words[0] == 'open')
         self.conversations[place] = Conversation(bay)
 
-    def printed(self, step):
+    def printed(self, step) -> None:
         """What was printed for an event: answers, a command, a scan, an association that was
         closed."""
         for place, octets in step.sent:
@@ -184,7 +184,7 @@ class History:
                 number = self.refuse(step.moment, f'client {place} is closed: {told}')
                 self.clients[place].marks.append(Mark(step.moment, 'closed', number))
 
-    def control(self, moment, place, said, talk):
+    def control(self, moment, place, said, talk) -> None:
         """A mark for a control of a client that was answered or has ended; the cause of a refusal
         was told before it in the same talk, in whatever pieces it came."""
         if said.kind == 'refused':
@@ -195,12 +195,12 @@ class History:
             told = said.lines[0].partition(': ')[2]
             self.mark(moment, place, said.title(), said.good, self.causes.pop(talk, None), told)
 
-    def mark(self, moment, place, label, good, cause, words=''):
+    def mark(self, moment, place, label, good, cause, words='') -> None:
         told = cause_told(cause) if cause is not None else words
         number = None if good else self.refuse(moment, f'client {place}: {label}: {told}')
         self.clients[place].marks.append(Mark(moment, label, number))
 
-    def scan(self, moment, line):
+    def scan(self, moment, line) -> None:
         """A scan, by the line that was printed for it."""
         self.scans.append(moment)
         for part in line.split(' ')[2:]:

@@ -1,6 +1,7 @@
 """Traces and captured sessions joined to one trace, so that bayctl replays it, and what it then
 says otherwise."""
 import re
+from collections.abc import Iterator
 
 from common.ending import Failed
 
@@ -28,7 +29,7 @@ def check_whole(events: list) -> None:
                            'it can\'t be replayed')
 
 
-def placed(events):
+def placed(events) -> Iterator:
     """The events with the number that a server gives their association: the lowest that is free."""
     free, places = list(range(1, PLACES + 1)), {}
     for event in events:
@@ -41,7 +42,7 @@ def placed(events):
             yield event, place
 
 
-def lines_of(events):
+def lines_of(events) -> Iterator:
     """The lines of a trace that the session is: a scan stands before each piece of a client. An
     association that its client has ended is not closed once more."""
     streams = {}
@@ -113,7 +114,7 @@ def scenario_of(bay: bytes, logic: bytes, trace: bytes) -> bytes:
                     for part in (bay, b'%%', logic, b'%%', trace))
 
 
-def sent_of(events):
+def sent_of(events) -> dict:
     """What the server sent to each association, piece by piece."""
     sent = {}
     for event, place in placed(events):

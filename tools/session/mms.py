@@ -43,11 +43,11 @@ class Pdu:
     shape: object = None
 
 
-def text(octets):
+def text(octets) -> str:
     return octets.decode('ascii', 'backslashreplace')
 
 
-def several(octets, count):
+def several(octets, count) -> list:
     """The elements that fill some octets, which are so many."""
     found = ber.elements(octets)
     if len(found) != count:
@@ -55,7 +55,7 @@ def several(octets, count):
     return found
 
 
-def name_of(octets):
+def name_of(octets) -> str:
     """The name of a variable: domain/item, item alone for one of the VMD, @/item for one of the
     association."""
     tag, content, _ = ber.read(octets)
@@ -65,12 +65,12 @@ def name_of(octets):
     return text(content) if tag == 0x80 else f'@/{text(content)}'
 
 
-def names_of(content):
+def names_of(content) -> list:
     """The names of a list of variables."""
     return [name_of(ber.needed(variable, 0xA0)) for _, variable in ber.elements(content)]
 
 
-def data_of(tag, content, depth=1):
+def data_of(tag, content, depth=1) -> 'Data':
     """A value, of an element."""
     if depth > DEEPEST:
         raise Unreadable('data more than 10 deep')
@@ -88,12 +88,12 @@ def data_of(tag, content, depth=1):
     return Data(tag, text(content) if tag == TEXT else content)
 
 
-def moment_of(octets):
+def moment_of(octets) -> int:
     """The milliseconds of a utc-time: seconds, and a fraction of 24 bits that was rounded down."""
     return int.from_bytes(octets[:4]) * 1000 + -(-int.from_bytes(octets[4:7]) * 1000 >> 24)
 
 
-def octets_of(data):
+def octets_of(data) -> bytes:
     """The octets of a value."""
     tag, value = data.tag, data.value
     if tag == STRUCTURE:
@@ -112,7 +112,7 @@ def octets_of(data):
     return element(tag, value.encode() if tag == TEXT else value)
 
 
-def read_pdu(octets):
+def read_pdu(octets) -> 'Pdu':
     """What a PDU says; a request that can't be read is of the kind `other`, with what is wrong as
     its service."""
     tag, content, end = ber.read(octets)
@@ -133,7 +133,7 @@ def initiate_of(kind, content):
     return Pdu(kind, code=(ber.integer(size) if size else None,))
 
 
-def request_of(content):
+def request_of(content) -> 'Pdu':
     (tag, invoke), (asked, content) = several(content, 2)
     if tag != 0x02:
         raise Unreadable('a request without an invoke id')
@@ -150,7 +150,7 @@ def request_of(content):
     return pdu
 
 
-def fill_names(pdu, content):
+def fill_names(pdu, content) -> None:
     (scope, domain), = several(ber.needed(content, 0xA1), 1)
     pdu.code = (ber.integer(ber.needed(ber.needed(content, 0xA0), 0x80)),)
     pdu.names = [text(domain)] if scope == 0x81 else []
@@ -158,16 +158,16 @@ def fill_names(pdu, content):
     pdu.after = None if after is None else text(after)
 
 
-def fill_read(pdu, content):
+def fill_read(pdu, content) -> None:
     pdu.names = names_of(ber.needed(ber.needed(content, 0xA1), 0xA0))
 
 
-def fill_write(pdu, content):
+def fill_write(pdu, content) -> None:
     (_, variables), (_, values) = several(content, 2)
     pdu.names, pdu.data = names_of(variables), [data_of(*value) for value in ber.elements(values)]
 
 
-def fill_attributes(pdu, content):
+def fill_attributes(pdu, content) -> None:
     pdu.names = [name_of(ber.needed(content, 0xA0))]
 
 
@@ -176,7 +176,7 @@ def result_of(tag, content):
     return Failure(ber.integer(content)) if tag == 0x80 else data_of(tag, content)
 
 
-def response_of(content):
+def response_of(content) -> 'Pdu':
     (_, invoke), (tag, content) = several(content, 2)
     pdu = Pdu('response', ber.integer(invoke),
               SERVICES.get(tag if tag != 0xA2 else 0x82, f'service {tag & 0x1f}'))
@@ -220,7 +220,7 @@ def reject_of(content):
                code=(tag & 0x1f, ber.integer(code)))
 
 
-def report_of(content):
+def report_of(content) -> 'Pdu':
     (_, variables), (_, values) = several(ber.needed(content, 0xA0), 2)
     return Pdu('report', names=names_of(variables),
                data=[result_of(*value) for value in ber.elements(values)])
@@ -234,18 +234,18 @@ def initiate_request(size=65000):
                    offered)
 
 
-def name_octets(name):
+def name_octets(name) -> bytes:
     """The octets of a name domain/item."""
     domain, _, item = name.partition('/')
     return element(0xA0,
                    element(0xA1, element(0x1A, domain.encode()), element(0x1A, item.encode())))
 
 
-def request_octets(invoke, *service):
+def request_octets(invoke, *service) -> bytes:
     return element(0xA0, number(0x02, invoke), element(service[0], *service[1:]))
 
 
-def variables(names):
+def variables(names) -> bytes:
     return element(0xA0, *(element(0x30, name_octets(name)) for name in names))
 
 
@@ -257,11 +257,11 @@ def names_request(invoke, domain=None, after=None):
                           element(0xA1, scope), *behind)
 
 
-def read_request(invoke, names):
+def read_request(invoke, names) -> bytes:
     return request_octets(invoke, 0xA4, element(0xA1, variables(names)))
 
 
-def write_request(invoke, names, values):
+def write_request(invoke, names, values) -> bytes:
     return request_octets(invoke, 0xA5, variables(names), element(0xA0, *map(octets_of, values)))
 
 
@@ -269,7 +269,7 @@ def attributes_request(invoke, name):
     return request_octets(invoke, 0xA6, name_octets(name))
 
 
-def control(on, category=2, ident=b'', count=0, moment=0, test=False, check='00'):
+def control(on, category=2, ident=b'', count=0, moment=0, test=False, check='00') -> 'Data':
     """The value of an Oper or an SBOw, and without a check that of a Cancel."""
     origin = Data(STRUCTURE, [Data(INTEGER, category), Data(OCTETS, ident)])
     parts = [Data(BOOLEAN, on), origin, Data(UNSIGNED, count), Data(TIME, moment),

@@ -66,7 +66,7 @@ def packets(octets: bytes) -> Iterator[Packet]:
     return packets_of_records(octets, *PCAP[octets[:4]])
 
 
-def packets_of_records(octets, order, unit):
+def packets_of_records(octets, order, unit) -> Iterator:
     link, at = struct.unpack_from(order + 'I', octets, 20)[0] & 0xFFFF, 24
     while at + 16 <= len(octets):
         seconds, fraction, kept, _ = struct.unpack_from(order + 'IIII', octets, at)
@@ -87,7 +87,7 @@ def blocks(octets: bytes) -> Iterator[tuple[str, int, bytes]]:
         at += (size + 3) // 4 * 4
 
 
-def packets_of_blocks(octets):
+def packets_of_blocks(octets) -> Iterator:
     """The packets of pcapng. A simple packet has no time: it has that of the packet before it."""
     interfaces, last = [], 0
     for order, kind, body in blocks(octets):
@@ -140,7 +140,7 @@ def internet(packet: Packet) -> bytes:
     return octets if link in (RAW, 12, IPV4, IPV6) else b''
 
 
-def by_type(kind, octets):
+def by_type(kind, octets) -> bytes:
     while kind in VLANS:
         kind, octets = int.from_bytes(octets[2:4]), octets[4:]
     return octets if kind in (0x0800, 0x86DD) else b''

@@ -3,6 +3,7 @@ import pathlib
 import re
 import subprocess
 import sys
+from collections.abc import Iterator
 from dataclasses import dataclass, field
 
 from common.ending import FOUND, UNREACHED, Failed
@@ -54,7 +55,7 @@ class Step:
 class Replay:
     """All of a scenario: its bay, its report, its steps, and how it ended where that was early."""
 
-    def __init__(self, octets, printed):
+    def __init__(self, octets, printed) -> None:
         bay, _, trace = parts_of(octets)
         self.file = tables_of(bay)
         self.bay = Bay(bay)
@@ -78,7 +79,7 @@ class Replay:
                     f'{shown}')
         return f'the replay ends early: {ENDED.get(self.ending, self.ending)}'
 
-    def steps(self):
+    def steps(self) -> Iterator:
         """Each line of the trace in turn, up to that at which the replay ended."""
         for number, line in enumerate(self.trace, 1):
             if self.ended_at(number):
@@ -131,7 +132,7 @@ class Replay:
             return 112 if verb == 'open' and place in self.conversations else None
         return 113 if verb in self.known and raised(rest[0]) not in self.known[verb] else None
 
-    def take(self, step):
+    def take(self, step) -> None:
         """What was printed for an accepted event."""
         verb, *rest = step.words
         place = int(rest[0]) if verb in ('open', 'recv', 'close') else None
@@ -157,7 +158,7 @@ class Replay:
             raise ValueError(words)
         return words
 
-    def take_ending(self, step, verb):
+    def take_ending(self, step, verb) -> None:
         """The report of an operate that ends with this event: by a contact, or since its time is
         over."""
         report = report_in(bytes.fromhex(self.lines[-1][3])) if self.is_next(step, 'send') else None
@@ -165,11 +166,11 @@ class Replay:
                                                               or len(report.names) == 2):
             self.take_sent(step)
 
-    def take_sent(self, step):
+    def take_sent(self, step) -> None:
         line = self.line('send')
         step.sent.append((int(line[2]), bytes.fromhex(line[3])))
 
-    def take_replies(self, step, place):
+    def take_replies(self, step, place) -> None:
         """What the messages of a client were answered, and what they did."""
         replies = sum(map(replies_to, step.heard))
         while replies and self.is_next(step, 'send', str(place)):

@@ -79,7 +79,7 @@ class Rule:
     since: Since | None = None
     names: set = field(default_factory=set)
 
-    def breaks(self, releases):
+    def breaks(self, releases) -> bool:
         """Whether what is released of each switch breaks the rule, in a state in which its
         condition holds."""
         return any(releases[self.switch][way] != self.wanted for way in self.ways)
@@ -93,20 +93,20 @@ class Reader:
         self.known, self.names, self.depth = known, set(), 0
         self.words = re.findall(r'[A-Za-z0-9_\-]+|\S', text)
 
-    def peek(self):
+    def peek(self) -> str:
         return raised(self.words[0]) if self.words else ''
 
-    def take(self, *wanted):
+    def take(self, *wanted) -> str:
         """The next word, where it is one of these, or any if none are given."""
         if not self.words or (wanted and self.peek() not in wanted):
             told = ' or '.join(wanted).lower() or 'a word'
             raise BadRule(f'{told} is wanted, not {self.words[0] if self.words else "the end"}')
         return raised(self.words.pop(0))
 
-    def may_take(self, word):
+    def may_take(self, word) -> bool:
         return bool(self.words) and self.peek() == word and bool(self.words.pop(0))
 
-    def rule(self, line, text):
+    def rule(self, line, text) -> 'Rule':
         wanted = self.take('NEVER', 'ALWAYS') == 'ALWAYS'
         switch = self.take()
         if (SWITCH, switch) not in self.known:
@@ -118,7 +118,7 @@ class Reader:
             raise BadRule(f'{self.words[0]} can\'t stand here')
         return Rule(line, text, wanted, switch, ways, condition, since, self.names)
 
-    def since(self, word):
+    def since(self, word) -> 'Since | None':
         """The condition of `until C for T` or `after C for T`, or None."""
         if self.peek() in ('UNTIL', 'AFTER') and self.peek() != word:
             raise BadRule('never goes with `until`, and always with `after`')
@@ -128,7 +128,7 @@ class Reader:
         self.take('FOR')
         return Since(condition, names, time_of(self.take()))
 
-    def several(self, one):
+    def several(self, one) -> list:
         found = [one()]
         while self.may_take('|'):
             found.append(one())
@@ -182,7 +182,7 @@ class Reader:
         self.names.add(key)
         return lambda state: holds(state[key])
 
-    def value(self, key):
+    def value(self, key) -> int:
         word = self.words[0] if self.words else 'the end'
         value = value_of(key[0], self.peek())
         if value is None:

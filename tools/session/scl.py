@@ -35,7 +35,7 @@ CHANGES = {'stVal': 'dchg', 'stSeld': 'dchg', 'mag': 'dchg', 'cVal': 'dchg', 'q'
 FIXED = ('CF', 'DC')  # constraints of what can't be written
 
 
-def status(kind, *more):
+def status(kind, *more) -> list:
     """A status value of a data object: its value, quality and time."""
     return [('stVal', 'ST', kind), ('q', 'ST', 'Quality'), ('t', 'ST', 'Timestamp'), *more]
 
@@ -106,7 +106,7 @@ def nodes_of(file):
 class Writer:
     """An SCL file of a bay, in one edition."""
 
-    def __init__(self, file, edition):
+    def __init__(self, file, edition) -> None:
         self.file, self.edition = file, edition
 
     def root(self, ied, instance, domain, address, port):
@@ -123,7 +123,7 @@ class Writer:
         ET.indent(root)
         return root
 
-    def communication(self, root, ied, address, port):
+    def communication(self, root, ied, address, port) -> None:
         network = ET.SubElement(ET.SubElement(root, 'Communication'), 'SubNetwork', name='Station',
                                 type='8-MMS')
         point = ET.SubElement(network, 'ConnectedAP', iedName=ied, apName='AP1')
@@ -135,7 +135,7 @@ class Writer:
         for kind, word in words.items():
             ET.SubElement(found, 'P', type=kind).text = word
 
-    def device(self, root, ied, instance, domain):
+    def device(self, root, ied, instance, domain) -> None:
         bay = self.file['bay']
         found = ET.SubElement(root, 'IED', name=ied, manufacturer=bay['vendor'], type=bay['model'],
                               configVersion=bay['revision'])
@@ -169,7 +169,7 @@ class Writer:
                             'sboTimeout': str(switch.get('sbo_timeout_ms', 0))}}
         return {'PhyNam': {'vendor': bay['vendor']}} if kind == 'LPHD' else {}
 
-    def types(self, root):
+    def types(self, root) -> None:
         """The templates: nodes, data objects, structures and enumerations, in this order."""
         templates = ET.SubElement(root, 'DataTypeTemplates')
         objects = {}
@@ -238,7 +238,7 @@ def text_of(root):
 class Reader:
     """An SCL file, as the names and types of MMS that it says its one logical device has."""
 
-    def __init__(self, text):
+    def __init__(self, text) -> None:
         self.root = ET.fromstring(text)
         self.templates = self.child(self.root, 'DataTypeTemplates')
 

@@ -1,6 +1,7 @@
 """The layers below MMS: TPKT (RFC 1006), COTP of class 0 (X.224), session (X.225), presentation
 (ISO 8823-1) and ACSE."""
 import re
+from collections.abc import Iterator
 from dataclasses import dataclass
 
 from . import ber
@@ -42,7 +43,7 @@ class Stream:
         """A stream of which some octets are missing at its beginning."""
         return cls(connected=True, seeks=True)
 
-    def feed(self, piece):
+    def feed(self, piece) -> Iterator:
         """What this piece completes, one after the other."""
         self.kept, self.at = self.kept[self.at:] + piece, 0
         while not self.over:
@@ -69,7 +70,7 @@ class Stream:
         self.at = found.start() if found else max(len(self.kept) - 6, self.at)
         return found is not None
 
-    def next_frame(self):
+    def next_frame(self) -> bytes | None:
         """The TPDU of the next whole frame, or None."""
         head, left = self.kept[self.at:self.at + 4], len(self.kept) - self.at
         if head[:1] not in (b'', b'\x03'):
@@ -84,7 +85,7 @@ class Stream:
         self.at += size
         return self.kept[self.at - size + 4:self.at]
 
-    def take(self, tpdu):
+    def take(self, tpdu) -> 'Got | None':
         """What a TPDU comes to, or None."""
         code = tpdu[1]
         if code in (CR, CC):
@@ -105,7 +106,7 @@ class Stream:
         return heard(tsdu)
 
 
-def agreed_size(tpdu):
+def agreed_size(tpdu) -> int | None:
     """The TPDU size that a connection request or its answer names, in octets, or None."""
     if tpdu[0] != len(tpdu) - 1 or len(tpdu) < 7:
         raise Unreadable('a connection TPDU that does not fill its frame')
@@ -115,7 +116,7 @@ def agreed_size(tpdu):
     return 2 ** size[0] if size else None
 
 
-def parameters(octets):
+def parameters(octets) -> Iterator:
     """The parameters of a TPDU: a code, a length of one octet, a value."""
     at = 0
     while at < len(octets):
@@ -126,7 +127,7 @@ def parameters(octets):
         at += 2 + size
 
 
-def session_parameters(octets):
+def session_parameters(octets) -> tuple:
     """The code and the parameters of an SPDU that fills some octets."""
     code, content, end = session_item(octets, 0)
     if end != len(octets):
@@ -138,7 +139,7 @@ def session_parameters(octets):
     return code, found
 
 
-def session_item(octets, at):
+def session_item(octets, at) -> tuple:
     """A code, a length of one or three octets, and a value."""
     code, size, at = ber.octet(octets, at), ber.octet(octets, at + 1), at + 2
     if size == 0xFF:
@@ -149,7 +150,7 @@ def session_item(octets, at):
     return code, octets[at:at + size], at + size
 
 
-def heard(tsdu):
+def heard(tsdu) -> 'Got':
     """What a TSDU says."""
     if tsdu[:4] == b'\x01\x00\x01\x00':
         return user_data(tsdu[4:])
@@ -168,7 +169,7 @@ def heard(tsdu):
     raise Unreadable(f'SPDU {code:02X}')
 
 
-def association(code, content):
+def association(code, content) -> 'Got':
     """A request for an association or its answer: the initiate in it."""
     fields = ber.needed(ber.only(content, 0x31), 0xA2)
     value = presented(ber.needed(fields, 0x61))
@@ -179,12 +180,12 @@ def association(code, content):
                ber.needed(ber.needed(ber.needed(acse, 0xBE), 0x28), 0xA0))
 
 
-def presented(content):
+def presented(content) -> bytes:
     """The value in user data of the presentation, whatever its context."""
     return ber.needed(ber.needed(content, 0x30), 0xA0)
 
 
-def user_data(octets):
+def user_data(octets) -> 'Got':
     """Data of a session: MMS, or a release."""
     value = presented(ber.only(octets, 0x61))
     if value[:1] == b'\x62':
@@ -194,18 +195,18 @@ def user_data(octets):
     return Got('mms', value)
 
 
-def connection_request(size=13):
+def connection_request(size=13) -> bytes:
     """The octets of a CR that asks for TPDUs of 2^size octets."""
     body = bytes.fromhex('E000000001 00') + bytes([TPDU_SIZE, 1, size])
     body += bytes.fromhex('C2020001 C1020001')
     return framed(bytes([len(body)]) + body)
 
 
-def framed(tpdu):
+def framed(tpdu) -> bytes:
     return b'\x03\x00' + (len(tpdu) + 4).to_bytes(2) + tpdu
 
 
-def wrapped(tsdu, size=8192):
+def wrapped(tsdu, size=8192) -> bytes:
     """The frames of a TSDU, in TPDUs of at most a size."""
     room = size - 3
     parts = [tsdu[at:at + room] for at in range(0, len(tsdu), room)] or [b'']
@@ -213,13 +214,13 @@ def wrapped(tsdu, size=8192):
     return b''.join(framed(bytes([2, DT, mark]) + part) for mark, part in zip(marks, parts))
 
 
-def data_tsdu(pdu, context=3):
+def data_tsdu(pdu, context=3) -> bytes:
     """The TSDU of a PDU of MMS."""
     value = element(0x30, number(0x02, context), element(0xA0, pdu))
     return b'\x01\x00\x01\x00' + element(0x61, value)
 
 
-def item(code, *contents):
+def item(code, *contents) -> bytes:
     """An SPDU or a parameter of one."""
     content = b''.join(contents)
     size = bytes([len(content)]) if len(content) < 0xFF else b'\xFF' + len(content).to_bytes(2)
@@ -243,7 +244,7 @@ def association_request(initiate):
                 item(0xC1, value))
 
 
-def release_request():
+def release_request() -> bytes:
     """The TSDU that ends an association."""
     asked = element(0xA0, element(0x62, number(0x80, 0)))
     return item(FINISH, item(0xC1, element(0x61, element(0x30, number(0x02, 1), asked))))

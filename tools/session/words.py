@@ -76,13 +76,13 @@ CONTROL_NODES = [POSITION | SETTINGS, *(POSITION | {'CO': {'Pos': control}} | SE
                                         for control in CONTROLS.values())]
 
 
-def nodes_of(node):
+def nodes_of(node) -> list:
     """The shapes that a logical node may have; which one a control's has goes by the bay."""
     kind = node if node == 'LLN0' else node.rstrip('0123456789')
     return CONTROL_NODES if kind == 'CSWI' else [NODES[kind]] if kind in NODES else []
 
 
-def below(shape, words):
+def below(shape, words) -> dict | None:
     """The shape at a name below another, or None."""
     for word in words:
         if not isinstance(shape, dict) or word not in shape:
@@ -91,7 +91,7 @@ def below(shape, words):
     return shape
 
 
-def fits(shape, value):
+def fits(shape, value) -> bool:
     """Whether a value has a shape: a dict of names, a tag, or None for any value without parts."""
     if not isinstance(shape, dict):
         return isinstance(value, Data) and value.tag != mms.STRUCTURE and shape in (None, value.tag)
@@ -99,7 +99,7 @@ def fits(shape, value):
             and len(shape) == len(value.value) and all(map(fits, shape.values(), value.value)))
 
 
-def told(item, value):
+def told(item, value) -> str:
     """A value or a failure in words; `item` is its name without the domain."""
     if isinstance(value, Failure):
         return f'{ACCESS_ERRORS.get(value.code, "error")} ({value.code})'
@@ -109,7 +109,7 @@ def told(item, value):
                   next((shape for shape in shapes if shape and fits(shape, value)), None))
 
 
-def shaped(words, value, shape):
+def shaped(words, value, shape) -> str:
     """A value in words, its parts by the names of its shape, where there is one."""
     if value.tag != mms.STRUCTURE:
         return leaf_told(words, value)
@@ -119,7 +119,7 @@ def shaped(words, value, shape):
     return '{' + ', '.join(parts) + '}'
 
 
-def leaf_told(words, value):
+def leaf_told(words, value) -> str:
     """A value without parts, by the last word of its name."""
     word, owner = words[-1] if words else '', words[-2] if len(words) > 1 else ''
     tag, it = value.tag, value.value
@@ -138,7 +138,7 @@ def leaf_told(words, value):
     return octets_told(it) if isinstance(it, bytes) else str(it)
 
 
-def bits_told(word, bits):
+def bits_told(word, bits) -> str:
     if word == 'Check':
         return CHECKS.get(bits, bits)
     if len(bits) == 2:
@@ -149,7 +149,7 @@ def bits_told(word, bits):
     return bits
 
 
-def moment_told(moment):
+def moment_told(moment) -> str:
     """A moment in milliseconds, and as a date where it is one of our days; octets of another length
     as they are."""
     if isinstance(moment, bytes):
@@ -159,7 +159,7 @@ def moment_told(moment):
     return moments.stamp_told(moment)
 
 
-def octets_told(octets):
+def octets_told(octets) -> str:
     printable = all(0x20 <= octet < 0x7f for octet in octets)
     if printable:
         return quoted(octets.decode('ascii'))
@@ -167,11 +167,11 @@ def octets_told(octets):
                                            else '')
 
 
-def quoted(text):
+def quoted(text) -> str:
     return "'" + text.replace("'", "\\'") + "'"
 
 
-def cause_told(code):
+def cause_told(code) -> str:
     """An AddCause."""
     return f'{ADD_CAUSES.get(code, "cause")} ({code})'
 
@@ -187,7 +187,7 @@ class Bay:
     """The names of a bay: its domain and the ids of its switches and meters by their logical nodes.
     None are known without a bay file."""
 
-    def __init__(self, text=None):
+    def __init__(self, text=None) -> None:
         bay = tomllib.loads(text) if text is not None else {}
         self.domain = bay.get('bay', {}).get('domain', '')
         self.travels = {switch['id']: switch.get('travel_ms') for switch in bay.get('switch', [])}
@@ -205,18 +205,18 @@ class Bay:
         travel = self.travels.get(switch)
         return travel if isinstance(travel, int) else None
 
-    def item(self, name):
+    def item(self, name) -> str:
         """A name without this bay's domain."""
         domain, _, item = name.partition('/')
         return item if item and (domain == self.domain or not self.domain) else name
 
-    def titled(self, name):
+    def titled(self, name) -> str:
         """A name without the domain, and with the id of the switch or meter that it belongs to."""
         item = self.item(name)
         owner = self.ids.get(item.split('$')[0])
         return f'{item} ({owner})' if owner else item
 
-    def switch(self, name):
+    def switch(self, name) -> str:
         """The id of a control's switch, or its logical node."""
         node = self.item(name).split('$')[0]
         return self.ids.get(node, node)

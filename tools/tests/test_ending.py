@@ -197,7 +197,8 @@ class Scenarios(Tools):
             self.assertIn(told, said)
 
     def test_reports_of_another_scenario(self):
-        for report in ('0 refused 5\n', 'x\n', '0 command QX on\n', '0 scan\n', '0 scan steps=1 QA1=1\n', '0 send 1 zz\n',
+        for report in ('0 refused 5\n', 'x\n', '0 command QX on\n', '0 scan\n',
+                       '0 scan steps=1 QA1=1\n', '0 send 1 zz\n',
                        '0 closed 1\n', '0 command\n', '9' * 5000 + ' scan\n', '0 send 1 \n'):
             for tool in ('explain', 'timeline'):
                 self.told(tool, '0 scan\n0 open 1\n0 recv 1 03\n', report)

@@ -9,6 +9,7 @@ import pathlib
 import subprocess
 import sys
 import tempfile
+import time
 import types
 import unittest
 from dataclasses import dataclass
@@ -76,13 +77,15 @@ class Tools(unittest.TestCase):
         main, out, error = loaded(name).main, stream(), stream()
         streams = mock.patch.multiple(sys, argv=[name, *map(str, words)], stdout=out, stderr=error,
                                       stdin=stream(given.encode()))
-        traceback = mock.patch.dict(os.environ, TOOLS_TRACEBACK='1')
-        with streams, traceback, contextlib.chdir(self.folder):
+        environment = mock.patch.dict(os.environ, TOOLS_TRACEBACK='1', TZ='UTC')
+        with streams, environment, contextlib.chdir(self.folder):
+            time.tzset()
             show_plainly()
             try:
                 status = status_of(main)
             except SystemExit as end:
                 status = end.code or 0
+        time.tzset()
         for one in (out, error):
             one.flush()
         return Ran(out.buffer.getvalue().decode(), error.buffer.getvalue().decode(), status)
