@@ -121,7 +121,7 @@ class Hostile(Tools):
     def asked(self, act, *words_of_it, timeout='0.6'):
         server = served(act)
         since = time.monotonic()
-        found = self.run_tool('client', '--timeout', timeout, server.getsockname()[1],
+        found = self.call_tool('client', '--timeout', timeout, server.getsockname()[1],
                               *(words_of_it or ('browse',)))
         self.assertLess(time.monotonic() - since, 8)
         server.close()
@@ -138,7 +138,7 @@ class Hostile(Tools):
 
     def test_a_server_that_takes_nobody(self):
         with socket.create_server(('127.0.0.1', 0)) as server:
-            found = self.run_tool('client', '--timeout', '0.5', server.getsockname()[1], 'browse')
+            found = self.call_tool('client', '--timeout', '0.5', server.getsockname()[1], 'browse')
         self.assertEqual(found.status, 3)
         self.assertIn('the connection waits, and the server does not take it', found.error)
 
@@ -218,16 +218,16 @@ class Statuses(Tools):
         with socket.socket() as one:
             one.bind(('127.0.0.1', 0))
             port = one.getsockname()[1]
-            found = self.run_tool('client', port, 'browse')
+            found = self.call_tool('client', port, 'browse')
         self.assertEqual((found.error, found.status), (
             f'client: port {port} of 127.0.0.1: no server listens there\n', 3))
 
     def test_wrong_words(self):
         for words_of_it in ((1, 'operate', 'QA1', 'up'), (65_536, 'browse'),
                             ('--timeout', 'nan', 1, 'browse'), ('--association', 9, 1, 'browse')):
-            found = self.run_tool('client', *words_of_it)
+            found = self.call_tool('client', *words_of_it)
             self.assertEqual((found.status, found.out, found.error.count('\n')), (2, '', 1))
-        found = self.run_tool('client', '--bay', 'none.toml', 1, 'browse')
+        found = self.call_tool('client', '--bay', 'none.toml', 1, 'browse')
         self.assertEqual((found.error, found.status),
                          ('client: none.toml: No such file or directory\n', 3))
 

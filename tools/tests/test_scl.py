@@ -1,6 +1,5 @@
 """The SCL file of a bay: its elements in the order of the schema, and the names that it tells."""
 import pathlib
-import subprocess
 import sys
 import tomllib
 import unittest
@@ -11,6 +10,7 @@ sys.path.insert(0, str(TOOLS))
 from session import scl
 from session.scl import NAMESPACE, Reader, Writer, text_of
 from session.words import CONTROL_NODES, NODES, nodes_of
+from tests.tool import Tools
 
 BAYS = sorted((TOOLS.parent / 'examples').glob('*/bay.toml'))
 ORDER = {  # IEC 61850-6: the children of an element, in their order
@@ -33,11 +33,7 @@ def names(shape):
     return {name: names(part) if isinstance(part, dict) else None for name, part in shape.items()}
 
 
-def script(*words):
-    return subprocess.run([TOOLS / 'scl', *words], capture_output=True, text=True)
-
-
-class Scl(unittest.TestCase):
+class Scl(Tools):
     def test_elements_stand_in_the_order_of_the_schema(self):
         for bay in BAYS:
             for edition in (1, 2):
@@ -83,20 +79,20 @@ class Scl(unittest.TestCase):
     def test_the_device_keeps_its_name(self):
         bay = BAYS[0]
         domain = tomllib.loads(bay.read_text())['bay']['domain']
-        run = script(bay, '--ied', domain[:-1])
-        self.assertEqual(Reader(run.stdout).domain(), domain)
-        self.assertEqual(Reader(script(bay).stdout).domain(), domain)
+        run = self.call_tool('scl', bay, '--ied', domain[:-1])
+        self.assertEqual(Reader(run.out).domain(), domain)
+        self.assertEqual(Reader(self.call_tool('scl', bay).out).domain(), domain)
 
     def test_words_that_do_not_fit(self):
-        self.assertEqual(script(BAYS[0], '--ied', 'OTHER').returncode, 2)
-        self.assertEqual(script(BAYS[0], '--edition', '1').returncode, 2)
+        self.assertEqual(self.call_tool('scl', BAYS[0], '--ied', 'OTHER').status, 2)
+        self.assertEqual(self.call_tool('scl', BAYS[0], '--edition', '1').status, 2)
         for words in (['--port', '0'], ['--port', '65536'], ['--address', '1.2.3'],
                       ['--ied', '5A'], ['--ied', ''], ['--ied', 'E', '--edition', '1', '--address',
                                                        '::1']):
-            found = script(BAYS[0], *words)
-            self.assertEqual((found.returncode, found.stdout, found.stderr.count('\n')),
+            found = self.call_tool('scl', BAYS[0], *words)
+            self.assertEqual((found.status, found.out, found.error.count('\n')),
                              (2, '', 1), words)
-        self.assertEqual(script('none.toml').returncode, 3)
+        self.assertEqual(self.call_tool('scl', 'none.toml').status, 3)
 
     def test_ids_are_unique_over_all_kinds(self):
         for bay in BAYS:

@@ -155,7 +155,7 @@ class Waiting(Tools):
         bay = self.file('bay', BAY)
         for words, status in ((['--at', 'QX=open'], 2), (['--at', 'QA1=ajar'], 2),
                               (['--travel', 'nan'], 2), (['--process', '0'], 2), (['--once'], 3)):
-            found = self.run_tool('simulate', bay, '--process', free_port(), *words)
+            found = self.call_tool('simulate', bay, '--process', free_port(), *words)
             self.assertEqual((found.status, found.error.count('\n'), found.out), (status, 1, ''))
 
 
