@@ -108,7 +108,6 @@ class Client:
         """The next message, which is to be of this kind."""
         while not self.waiting:
             self.receive()
-        self.left()
         got = self.waiting.pop(0)
         if got.kind != kind:
             came = f' ({told(self.came)})' if got.kind == 'fault' else ''
