@@ -9,7 +9,7 @@ from common.ending import DONE, FOUND, PARTLY, CalledWrong, Failed
 from common.texts import counted, raised
 from session.conditions import TooLarge, Variable, condition
 
-from .bay import SWITCH, WAYS
+from .things import SWITCH, WAYS
 from .replaying import (LARGEST, LATEST, scans_of, timed_scenarios, timed_trace_of, trace_of,
                         whole_scenario)
 

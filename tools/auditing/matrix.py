@@ -7,7 +7,7 @@ from dataclasses import dataclass
 from common.texts import raised
 from session.picture import FAINT, FREE, GRID, INK, Picture, room
 
-from .bay import SWITCH, WAYS
+from .things import SWITCH, WAYS
 
 SOME, NONE = '#cfe6d0', '#ffffff'
 LEFT, CELL, ROW, APART, HEAD = 130, 46, 24, 14, 10  # HEAD is the size of what stands above columns

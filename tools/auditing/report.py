@@ -8,7 +8,7 @@ from common.ending import DONE
 from common.texts import counted, in_line
 from session import moments
 
-from .bay import WAYS
+from .things import WAYS
 from .judging import released, uncovered
 from .matrix import draw_parts
 

@@ -8,8 +8,8 @@ from unittest import mock
 
 TOOLS = pathlib.Path(__file__).resolve().parent.parent
 sys.path.insert(0, str(TOOLS))
-from auditing import judging, matrix, program
-from auditing.bay import bay_of, keys_of
+from auditing import judging, matrix, reads
+from auditing.things import bay_of, keys_of
 from auditing.report import Report
 from common.ending import CalledWrong, Failed
 from session.picture import room
@@ -87,7 +87,7 @@ class Held(Interlocking):
 
 
 def audited(rules, time=5000, logic=LOGIC, kind=Interlocking, pause=None, file=FILE, given=()):
-    found, known = program.read(logic), keys_of(file)
+    found, known = reads.read(logic), keys_of(file)
     read = read_rules(rules, known)
     named = {key for rule in read for key in rule.names}
     looks = looked_at(read_looks(rules), known) | looked_at(list(given), known)
@@ -107,20 +107,20 @@ AFTER = 'always QC1 close after VT_DEAD for 5s when QA1 off\n'
 
 class Programs(unittest.TestCase):
     def test_what_is_read(self):
-        found = program.read(LOGIC)
+        found = reads.read(LOGIC)
         self.assertEqual(found.points, {'QA1_OPEN', 'VT_DEAD', 'M1_AA'})
         self.assertEqual((found.times, found.timers, found.untold), ([5000], 1, []))
         self.assertEqual(found.moments(), [4999, 5000])
 
     def test_a_time_that_is_a_variable(self):
         text = LOGIC.replace('T#5s', 'delay').replace('t1 : TON;', 't1 : TON;\n{}')
-        kept = program.read(text.replace('{}', 'delay : TIME := T#2s;'))
+        kept = reads.read(text.replace('{}', 'delay : TIME := T#2s;'))
         self.assertEqual(kept.times, [2000])
-        changed = program.read(text.replace('{}', 'delay : TIME;'))
+        changed = reads.read(text.replace('{}', 'delay : TIME;'))
         self.assertEqual((changed.times, changed.untold), ([], ['t1']))
 
     def test_a_text_that_is_no_program(self):
-        found = program.read('no program')
+        found = reads.read('no program')
         self.assertTrue(found.reads('ANY') and found.reads_switch('ANY'))
 
 

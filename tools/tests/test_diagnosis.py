@@ -89,7 +89,7 @@ class Names(Tools):
                  self.file('logic', ASKED.format('QC9_ENA_CLS')), '--bayctl']
         found = self.call_tool('diagnose', *words, self.bayctl('load refused 70 line 6\n', 1))
         self.assertEqual(found.status, 1)
-        self.assertIn('Mend: add it to VAR_EXTERNAL: QC9_ENA_CLS : BOOL;.', found.out)
+        self.assertIn('Mend: add it to VAR_EXTERNAL: QC9_ENA_CLS : BOOL;\n', found.out)
         self.assertNotIn('declare it in VAR', found.out)
         self.assertNotIn('QC2_ENA_CLS meant', found.out)
 

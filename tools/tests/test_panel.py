@@ -16,7 +16,7 @@ from unittest import mock
 TOOLS = pathlib.Path(__file__).resolve().parent.parent
 sys.path.insert(0, str(TOOLS))
 from live.operating import Operator
-from live.picture import BadOrder, draw, order_of, usual_order
+from live.single_line import BadOrder, draw, order_of, usual_order
 from live.reasons import Seen, why_not
 from live.watch import Watcher, may_told, measures_of, switch_of
 from live.web import Pages

@@ -9,7 +9,7 @@ from diagnosis.words import FIELDS
 from session.joined import scenario_of
 from session.rules import INPUT, MEASURE, POSITIONS, SWITCH
 
-from .program import Program
+from .reads import Program
 
 NAMES = [name.lower() for name in POSITIONS]
 WAYS = ('open', 'close')
