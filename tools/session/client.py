@@ -93,7 +93,7 @@ class Client:
 
     def begin(self) -> None:
         """From now on an answer may take its time."""
-        self.end = time.monotonic() + self.timeout
+        self.end, self.came = time.monotonic() + self.timeout, b''
 
     def note(self, verb, octets=b'') -> None:
         if self.trace:
