@@ -41,27 +41,27 @@ class Way:
         far = (number - self.base - self.next) % WHOLE
         return self.next + (far - WHOLE if far >= HALF else far)
 
-    def take(self, number: int, data: bytes, size: int) -> bytes:
+    def take(self, number: int, data: bytes, size: int, when: tuple) -> bytes:
         """The octets that are next, in their order: none is given twice."""
         if self.base is None:
             self.base = number
         place = self.place(number)
         self.known = max(self.known, place + size)
         if place + len(data) > self.next:
-            heapq.heappush(self.early, (place, data))
-        return self.ready()
+            heapq.heappush(self.early, (place, when, data))
+        return b''.join(octets for _, octets in self.ready())
 
-    def ready(self) -> bytes:
-        """What can be handed on of what came early."""
+    def ready(self) -> list[tuple[tuple, bytes]]:
+        """What can be handed on of what came early, with when it came."""
         found = []
         while self.early and self.early[0][0] <= self.next:
-            place, data = heapq.heappop(self.early)
+            place, when, data = heapq.heappop(self.early)
             new = data[self.next - place:]
-            found.append(new)
+            if new:
+                found.append((when, new))
             self.next += len(new)
-        whole = b''.join(found)
-        self.head += whole[:HEAD - len(self.head)]
-        return whole
+            self.head += new[:HEAD - len(self.head)]
+        return found
 
     def acknowledge(self, number: int) -> bool:
         """The other end has taken what is before a number: whether the capture lacks some of it.
@@ -76,15 +76,15 @@ class Way:
         self.known = max(self.known, place)
         return bool(self.early) and self.next < self.early[0][0] <= place
 
-    def skip(self) -> bytes:
+    def skip(self) -> list[tuple[tuple, bytes]]:
         """Leaves out what is lacking, and goes on behind it."""
         self.next = self.early[0][0] if self.early else self.known
         return self.ready()
 
 
 class Connection:
-    """A connection with its two ways. `events` are what happened, by the number of the packet, the
-    moment, the end that sent it, the kind and octets."""
+    """A connection with its two ways. `events` are what happened: when, as the number of the packet
+    and the moment, the end that sent it, the kind and octets."""
 
     def __init__(self, first: int, moment: int, segment: Segment) -> None:
         self.first, self.opened, self.events = first, moment, []
@@ -109,17 +109,18 @@ class Connection:
     def take(self, at: int, moment: int, segment: Segment) -> None:
         if self.is_closed:
             return
-        self.last = (at, moment)
+        when = self.last = (at, moment)
         way, number = self.ways[segment.source], segment.number
         if segment.flags & SYN:
             number = (number + 1) % WHOLE
             way.base = number if way.base is None else way.base
         if segment.data or segment.size:
-            self.note(at, moment, segment.source, way.take(number, segment.data, segment.size))
+            found = way.take(number, segment.data, segment.size, when)
+            self.events += [(when, segment.source, 'data', found)] if found else []
         if segment.flags & ACK:
             other = self.ways[segment.target]
             while other.acknowledge(segment.acknowledged):
-                self.gap(at, moment, segment.target)
+                self.gap(when, segment.target)
         if segment.flags & FIN and way.base is not None:
             way.end = way.place((number + segment.size) % WHOLE)
             way.known = max(way.known, way.end)
@@ -127,22 +128,19 @@ class Connection:
             self.ended.add(segment.source)
             self.is_closed = len(self.ended) == 2 or bool(segment.flags & RST)
 
-    def note(self, at, moment, end, octets) -> None:
-        if octets:
-            self.events.append((at, moment, end, 'data', octets))
-
-    def gap(self, at, moment, end) -> None:
-        """Octets of an end are not in the capture."""
-        self.events.append((at, moment, end, 'gap', b''))
-        self.note(at, moment, end, self.ways[end].skip())
+    def gap(self, when: tuple, end: tuple) -> None:
+        """Octets of an end are not in the capture. What came behind them is told as it came."""
+        found = self.ways[end].skip()
+        self.events.append((found[0][0] if found else when, end, 'gap', b''))
+        self.events += [(came, end, 'data', octets) for came, octets in found]
 
     def finish(self) -> None:
         """The capture has ended: what is lacking, and that the connection was closed."""
         for end, way in self.ways.items():
             while way.next < way.known:
-                self.gap(*self.last, end)
+                self.gap(self.last, end)
         if self.ended:
-            self.events.append((*self.last, None, 'close', b''))
+            self.events.append((self.last, None, 'close', b''))
 
     def kind_of(self, end) -> int:
         """The kind of the TPDU with which an end begins, or 0."""
@@ -209,7 +207,7 @@ def events_of(connection: Connection, place: int) -> Iterator:
     who = address_told(connection.client[0])
     kind = 'open' if connection.begins() else 'middle'
     yield connection.first, Event(connection.opened, place, kind, who=who)
-    for at, moment, end, kind, octets in connection.events:
+    for (at, moment), end, kind, octets in connection.events:
         side = 'client' if end == connection.client else 'server'
         event = Event(moment, place, side if kind == 'data' else kind, octets, who=who)
         event.side = side if kind == 'gap' else ''

@@ -98,7 +98,7 @@ class Captures(unittest.TestCase):
         found = session()
         client, server, kinds = said(pcap(found[:2] + found[3:]))
         self.assertEqual((client, server), (b'56789', b'abcd'))
-        self.assertEqual(kinds, ['open', 'server', 'gap', 'client', 'close'])
+        self.assertEqual(kinds, ['open', 'gap', 'client', 'server', 'close'])
 
     def test_a_last_segment_that_is_missing(self):
         found = session()
@@ -111,7 +111,10 @@ class Captures(unittest.TestCase):
         found = session()
         answer = segment(SERVER, CLIENT, 5001, ACK, b'abcd', 1011)
         client, _, kinds = said(pcap([*found[:2], found[3], answer, found[5]]))
-        self.assertEqual((client, kinds), (b'56789', ['open', 'server', 'gap', 'client', 'close']))
+        self.assertEqual((client, kinds), (b'56789', ['open', 'gap', 'client', 'server', 'close']))
+        events = Capture(pcap([*found[:2], found[3], answer])).events()
+        self.assertEqual([event.moment for event in events], [1_000_000, *[1_000_002] * 2,
+                                                              1_000_003])
 
     def test_the_end_of_a_way_is_no_octet(self):
         found = [*session(), segment(SERVER, CLIENT, 5005, ACK, b'', 1012)]
