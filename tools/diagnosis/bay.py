@@ -46,7 +46,7 @@ def text_of(octets):
     except UnicodeDecodeError as error:
         line = octets.count(b'\n', 0, error.start) + 1
         wide = octets[:2] in WIDE
-        told = encoding_told(octets, error.start, names_line=False)
+        told = encoding_told(octets, error.start, names_line=False).partition(':')[0]
         raise Refused(50, Place(told, line=None if wide else line,
                                 mend='save the file as UTF-8' if wide else '')) from None
 
@@ -221,7 +221,9 @@ class Judge:
             if key in entry:
                 told = value_fault(key, entry[key])
                 if told:
-                    yield Refused(53, self.lines.place(told, where, section, index, count, key))
+                    place = self.lines.place(told, where, section, index, count, key)
+                    place.mend = case_mend(key, entry[key])
+                    yield Refused(53, place)
             elif key not in TIMES or entry.get('control') in list(CONTROLS):
                 told = f'the key {key} is missing'
                 if key in TIMES:
@@ -311,6 +313,13 @@ def identifier_fault(value, most):
     if re.fullmatch(IDENTIFIER, value):
         return None
     return f'"{value}" must begin with a letter, and have only letters, digits and _'
+
+
+def case_mend(key: str, value) -> str:
+    """The remedy for a word in upper case, or nothing."""
+    words = {'kind': KINDS, 'control': list(CONTROLS)}.get(key, ())
+    is_case = isinstance(value, str) and value not in words and value.lower() in words
+    return f'write {key} = "{value.lower()}"' if is_case else ''
 
 
 def word_fault(value: str, words: list[str]) -> str | None:

@@ -59,7 +59,7 @@ class Reader:
     def take(self, number, tokens) -> None:
         bad = next((token for token in tokens if token.kind in ('bad', 'far')), None)
         if bad:
-            raise Misplaced(bad.told, bad)
+            raise Misplaced(bad.told, bad, mend=bad.mend)
         first = tokens[0]
         if self.state == 'done':
             raise Misplaced(

@@ -27,12 +27,13 @@ class Literal:
 @dataclass
 class Token:
     """A token of a line with its column. `kind` is name, word, mark, literal, bad (60) or far (63);
-    `told` is what is wrong with it."""
+    `told` is what is wrong with it, and `mend` the remedy where it is known."""
     kind: str
     text: str
     start: int
     told: str = ''
     literal: Literal | None = None
+    mend: str = ''
 
     @property
     def end(self):
@@ -92,24 +93,26 @@ def tokens_of(line) -> Iterator:
         elif found['mark'] is not None:
             yield Token('mark', found['mark'], found.start())
         elif found['odd'] is not None:
-            yield Token('bad', found['odd'], found.start(), odd_told(found['odd']))
+            told, mend = odd_told(found['odd'])
+            yield Token('bad', found['odd'], found.start(), told, mend=mend)
 
 
-def odd_told(character):
+def odd_told(character) -> tuple[str, str]:
+    """Why no token begins with a character, and the remedy."""
     if character == '\ufeff':
-        return ('a byte order mark stands here, which a program may not have: save it as UTF-8 '
-                'without one')
+        return ('a byte order mark stands here, which a program may not have',
+                'save the file as UTF-8 without a byte order mark')
     if character == '\r':
-        return ('a carriage return stands here without a line feed behind it: save the file with '
-                'LF or CR LF')
-    if character == '/':
-        return 'no token begins with \'/\': a comment stands between (* and *)'
+        return ('a carriage return stands here without a line feed behind it',
+                'save the file with lines that end with LF or CR LF')
     if ord(character) > 126 or ord(character) < 32:
         return (f'the character {character!r} (U+{ord(character):04X}) is not of ASCII, and no '
-                'comment is round it')
+                'comment is round it', 'write it with characters of ASCII, or in a comment')
     if character in '+-':
-        return 'a sign stands directly before the first digit of a number'
-    return f'no token begins with {character!r}'
+        told = 'a sign stands directly before the first digit of a number'
+        return told, 'take out what stands between the sign and the digit'
+    mend = 'write a comment between (* and *)' if character == '/' else 'take it out'
+    return f'no token begins with {character!r}', mend
 
 
 def word_token(text, start) -> 'Token':

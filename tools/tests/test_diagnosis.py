@@ -136,7 +136,7 @@ class Bays(unittest.TestCase):
                 (FILE.replace('\n', '\r'), 50, 'a carriage return', 'LF or CR LF'),
                 (FILE.encode('utf-16'), 50, 'it is UTF-16', 'save the file as UTF-8'),
                 (FILE.replace('"direct"', '"SBO-enhanced"'), 53,
-                 '"SBO-enhanced" is to be in lower case', '')):
+                 '"SBO-enhanced" is to be in lower case', 'write control = "sbo-enhanced"')):
             found = first_told(text)
             self.assertEqual(found[0], code, told)
             self.assertIn(told, found[1])
@@ -192,15 +192,17 @@ class Programs(unittest.TestCase):
                 ('LD NOT a', 'NOT is an operator of its own', 'write LDN in the place of LD'),
                 ('ST t1.IN', 't1.IN is an input of a timer', 'give it by CAL t1(IN := a'),
                 ('VAR_INPUT', 'VAR_INPUT is no block', 'points of the bay in VAR_EXTERNAL'),
-                ('// a', 'a comment stands between (* and *)', '')):
+                ('// a', 'no token begins with', 'write a comment between (* and *)'),
+                ('LD \u00e9', 'is not of ASCII', 'or in a comment')):
             found = lines.placed(head + line + '\nEND_PROGRAM\n', 5)
             self.assertIn(told, found.told)
             self.assertIn(mend, found.mend)
 
     def test_carriage_returns_and_marks(self):
         text = HEAD.format('a : BOOL;') + 'END_PROGRAM\n'
-        self.assertIn('save the file with LF or CR LF', self.told(text.replace('\n', '\r'), 1))
-        self.assertIn('save it as UTF-8 without one', self.told('\ufeff' + text, 1))
+        for odd, mend in ((text.replace('\n', '\r'), 'lines that end with LF or CR LF'),
+                          ('\ufeff' + text, 'as UTF-8 without a byte order mark')):
+            self.assertIn(mend, lines.placed(odd, 1).mend)
 
     def test_numbers_of_many_digits(self):
         for word in ('9' * 5000, 'T#' + '9' * 5000 + 's', '16#' + 'F' * 5000):
@@ -295,6 +297,16 @@ class Asked(Tools):
         found = self.call_tool('diagnose', *self.words('0 scan\n'), '--replay')
         self.assertIn('a replay takes each line of the trace', found.out)
         self.assertEqual(found.status, 0)
+
+    def test_a_number_of_many_meanings_is_told_by_its_place(self):
+        logic = self.file('logic', 'PROGRAM p\n    ST\nEND_PROGRAM\n')
+        words = ['--bay', self.file('bay', FILE), '--logic', logic, '--bayctl']
+        found = self.call_tool('diagnose', *words, self.bayctl('load refused 61 line 2\n', 1))
+        self.assertIn('ST wants an operand', found.out)
+        self.assertNotIn('Usually', found.out)
+        found = self.call_tool('diagnose', *words, self.bayctl('load refused 61 line 1\n', 1))
+        self.assertIn('this tool does not find what is wrong', found.out)
+        self.assertIn('Usually', found.out)
 
     def test_further_faults(self):
         bad = self.file('bay', FILE.replace('"direct"', '"Status"'))
