@@ -35,6 +35,8 @@ class Operator:
         with self.watcher.lock:
             if self.watcher.client is None:
                 return answer(False, 'there is no connection to the server')
+            if self.watcher.state['barred']:
+                return answer(False, self.watcher.state['barred'])
             self.refusal = ''
             try:
                 found = acts[verb](switch, way, page)

@@ -122,14 +122,15 @@ function control(isOurs) {
 }
 
 function isLive() {
-  return operates && !isGone && state.connected && !waits;
+  return operates && !isGone && state.connected && !state.barred && !waits;
 }
 
 function showWay(it, way) {
   const found = may(it, way);
   byId(`dialog-${way}`).textContent = found.why ? `${found.told}: ${found.why}` : found.told;
   const button = byId(`button-${way}`);
-  const can = operates && it.control !== 'status' && !control() && it.position !== ENDS[way];
+  const can = operates && !state.barred && it.control !== 'status' && !control()
+    && it.position !== ENDS[way];
   button.hidden = !can;
   button.disabled = !isLive() || !found.free;
 }
@@ -141,8 +142,9 @@ function showDialog() {
   if (!byId('dialog').open || !it) return;
   const since = it.time ? ` since ${it.time}` : '';
   byId('dialog-title').textContent = `${it.id}, ${it.kind}`;
+  const barred = operates && state.barred ? ` But ${state.barred}.` : '';
   byId('dialog-state').textContent = isGone || !state.connected
-    ? 'Nothing is known now: there is no connection.' : `It is ${placeOf(it)}${since}.`;
+    ? 'Nothing is known now: there is no connection.' : `It is ${placeOf(it)}${since}.${barred}`;
   showWay(it, 'open');
   showWay(it, 'close');
   const ours = control(true);

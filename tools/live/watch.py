@@ -12,10 +12,13 @@ from diagnosis.words import FIELDS
 from session import moments, words
 from session.client import Client, Lost
 from session.mms import Failure
+from session.same_bay import compared
 from session.sockets import unconnected
 
 from .reasons import Seen, why_not
 
+READ = ('CSWI', 'MMXU')  # the nodes of which nothing may be missing
+OTHER = 'the server has another bay than the bay file'
 EVERY, AGAIN, KEPT = 0.25, 1.0, 200  # seconds between two reads, and two attempts; events kept
 RULE_WORDS = {'00': 'intermediate', '01': 'off', '10': 'on', '11': 'bad'}
 LOST = (Failed, OSError, ValueError, LookupError, TypeError, AttributeError)
@@ -28,16 +31,18 @@ def now() -> int:
 
 class Watcher:
     """Reads a bay. `lock` is held by whoever uses the association; `conditions` are those of the
-    audit by switch and way, once they are known."""
+    audit by switch and way, once they are known. Where the server has another bay than the file,
+    `state['barred']` says that nothing is operated, unless it is to be operated anyway."""
 
-    def __init__(self, file, text, host, port) -> None:
+    def __init__(self, file, text, host, port, anyway=False) -> None:
         self.file, self.text, self.host, self.port = file, text, host, port
+        self.anyway, self.differs = anyway, []
         self.conditions, self.lock, self.client = None, threading.RLock(), None
         self.events = collections.deque(maxlen=KEPT)
         self.queues, self.queues_lock = set(), threading.Lock()
         self.on_said, self.on_read = [], []
         self.state = {'bay': file['bay']['domain'], 'connected': False, 'told': 'connecting',
-                      'switches': [], 'measures': [], 'control': None}
+                      'switches': [], 'measures': [], 'control': None, 'barred': ''}
         self.is_over = threading.Event()
 
     # ---- those who look
@@ -100,14 +105,24 @@ class Watcher:
     def connect(self) -> None:
         client = Client(self.host, self.port, words.Bay(self.text), on_report=lambda told: None)
         client.on_said = self.said
-        if self.file['bay']['domain'] not in client.domains():
+        held = compared(client, self.file)
+        if any(node.startswith(READ) for node in held.absent):
             client.close()
-            raise Lost(f'the server has no domain {self.file["bay"]["domain"]}: is it another bay?')
+            raise Lost('; '.join(held.lines()))
         with self.lock:
             self.client = client
-            self.state.update(connected=True, told=f'connected to port {self.port}')
-            self.event(f'connected to port {self.port}')
+            self.is_connected(held.lines())
             self.publish()
+
+    def is_connected(self, found) -> None:
+        """Notes a new connection, and how its server differs from the bay file."""
+        told = f'connected to port {self.port}' + (f': {OTHER}' if found else '')
+        barred = f'{OTHER}, so nothing is operated' if found and not self.anyway else ''
+        self.state.update(connected=True, told=told, barred=barred)
+        self.event(told, 'refused' if found else 'quiet')
+        for line in found if found != self.differs else ():
+            self.event(line, 'refused')
+        self.differs = found
 
     def lose(self, error) -> None:
         told = unconnected(error) if isinstance(error, OSError) else str(error)

@@ -57,10 +57,11 @@ def replies_to(got):
 
 class Conversation:
     """One association: what its client asked and has not been answered yet, by invoke id, the first
-    first."""
+    first. `on_answer` is given each request with its response."""
 
     def __init__(self, bay) -> None:
         self.bay, self.stream, self.asked = bay, Stream(), {}
+        self.on_answer = lambda request, answer: None
 
     def hear(self, piece) -> list:
         """The messages of the client that a piece of its octets completes."""
@@ -184,6 +185,8 @@ class Conversation:
         if pdu.kind in ('error', 'reject'):
             return Said(kind, f'is answered{numbered(pdu)}', [words.error_told(pdu.kind, pdu.code)],
                         pdu.invoke, *control, False)
+        if request and request.service == pdu.service:
+            self.on_answer(request, pdu)
         lines, good = self.response_told(pdu, request, asked)
         return Said(kind, f'is answered{numbered(pdu)}', lines, pdu.invoke, *control, good)
 
