@@ -4,6 +4,7 @@ import pathlib
 import sys
 import tomllib
 import unittest
+from hashlib import sha256
 
 TOOLS = pathlib.Path(__file__).resolve().parent.parent
 sys.path.insert(0, str(TOOLS))
@@ -288,6 +289,14 @@ class Asked(Tools):
     def words(self, trace_text):
         return ['--bay', self.file('bay', FILE), '--trace', self.file('trace', trace_text),
                 '--bayctl', self.bayctl('instructions=1 depth=1 budget=1\n')]
+
+    def test_the_sum_of_the_bay_file(self):
+        told = sha256(FILE.encode()).hexdigest()
+        for printed, status in (('instructions=1 depth=1 budget=1\n', 0), ('load refused 50\n', 1)):
+            found = self.run_tool('diagnose', '--bay', self.file('bay', FILE), '--bayctl',
+                                  self.bayctl(printed, status))
+            self.assertRegex(found.out, f'\nSHA-256 of .*bay: {told}\n$')
+            self.assertEqual(found.status, status)
 
     def test_which_trace_it_is(self):
         found = self.call_tool('diagnose', *self.words('0 scan\n'))
