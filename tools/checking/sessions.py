@@ -1,11 +1,16 @@
 """Sessions of clients with a served bay: what they sent, joined and replayed, and as captures."""
 import pathlib
+import re
 import socket
 import struct
 import threading
 import time
 
+from session.client import Client
+from session.files import bay_at
+from session.same_bay import compared
 from session.served import Server, until, value
+from session.words import Bay
 from tests.test_capture import ACK, CLIENT, FIN, SERVER, SYN, segment
 
 SERVED = pathlib.Path(__file__).resolve().parent.parent.parent / 'examples' / 'served'
@@ -70,8 +75,10 @@ def sessions(checks):
         watching = server.client()
         until(lambda: value(watching, 'MMXU1$MX$A$phsA$cVal$mag$i') == 212, 'the trace is done')
         sent, tap = checks.folder / 'sent', Tap(server.port)
-        words = ['--bay', BAY, '--trace', sent, str(tap.own), 'operate', 'QA1', 'open']
-        checks.wants('a client', *checks.run('client', *words), ['operate QA1: done'], 0)
+        words = ['--bay', BAY, '--trace', sent, str(tap.own), 'operate', 'QA1', 'open', '--wait',
+                 '0']
+        checks.wants('a client', *checks.run('client', *words), ['operate QA1: accepted'], 0)
+        another_bay(checks, server)
         watching.close()
     joined = checks.file('joined', checks.run('join', BAY, LOGIC, TRACE, sent)[0])
     asked = ['--bayctl', checks.bayctl]
@@ -82,6 +89,31 @@ def sessions(checks):
     until(lambda: tap.seen[-1][2] == FIN, 'the client is gone')
     for is_torn in (False, True):
         captured(checks, checks.file('session.pcap', tap.capture(is_torn)))
+    same_bays(checks)
+
+
+def another_bay(checks, server):
+    """Nothing is operated with the file of another bay: its first two switches changed places."""
+    head, one, two, *rest = re.split(r'(?m)^(?=\[\[)', BAY.read_text())
+    bay = checks.file('another.toml', head + two + one + ''.join(rest))
+    words = ['--bay', bay, str(server.port), 'operate', 'QB1', 'open']
+    checks.wants('a client with another bay', *checks.run('client', *words),
+                 ['the server\'s CSWI1 has control sbo, the bay file\'s QB1 has sbo-enhanced',
+                  'nothing is operated without --anyway'])
+
+
+def same_bays(checks):
+    """The server of each example says the bay of its file."""
+    logic = checks.file('none.il', 'PROGRAM P\nEND_PROGRAM\n')
+    for path in sorted(SERVED.parent.glob('*/bay.toml')):
+        text, file = bay_at(path)
+        with Server(checks.bayctl, path, logic) as server:
+            server.client().close()
+            client = Client('127.0.0.1', server.port, Bay(text))
+            found = compared(client, file).lines()
+            client.close()
+        checks.wants(f'the bay of {path.parent.name}', '\n'.join(found) or 'the same', 0,
+                     ['the same'], 0)
 
 
 def drawn(checks, *words):

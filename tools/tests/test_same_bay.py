@@ -270,6 +270,8 @@ class Captures(Tools):
         self.assertEqual((found.error.splitlines(), found.status), ([
             'another bay: the server\'s CSWI1 has control direct, the bay file\'s QA1 has sbo',
             'another bay: the server has revision \'2\', the bay file has \'1\''], 0))
+        again = self.run_tool('explain', path, '--bay', bay, '--port', SERVER[1], '--replay', bay)
+        self.assertEqual(again.error.splitlines()[:2], found.error.splitlines())
 
     def held(self, *octets):
         held = Comparison(Bay(FILE), tomllib.loads(FILE))
