@@ -90,7 +90,8 @@ def panel(checks):
                              ['open QA1 has ended: done'], 0)
                 server.kill()
                 state = page.until(lambda it: not it['connected'])
-                checks.wants('the panel without a server', state['told'], 0, ['it closed'], 0)
+                checks.wants('the panel without a server', state['told'], 0, ['the server closed'],
+                             0)
 
 
 def shown(checks, page):
