@@ -3,6 +3,7 @@ import http.client
 import json
 import pathlib
 import re
+import secrets
 import sys
 import time
 
@@ -16,11 +17,11 @@ class Page:
     """A page of a panel: what it has, the states that it is sent, and what it asks."""
 
     def __init__(self, port):
-        self.port = port
+        self.port, self.name = port, secrets.token_hex(8)
         self.text = self.ask('GET', '/')
         self.token = re.search(r'data-token="([^"]+)"', self.text)[1]
         self.connection = http.client.HTTPConnection('127.0.0.1', port, timeout=PATIENCE)
-        self.connection.request('GET', '/events')
+        self.connection.request('GET', f'/events?{self.name}')
         self.answer = self.connection.getresponse()
 
     def __enter__(self):
@@ -38,7 +39,7 @@ class Page:
 
     def asks(self, verb, switch, way):
         """What a control is answered, in words."""
-        body = json.dumps({'switch': switch, 'way': way})
+        body = json.dumps({'switch': switch, 'way': way, 'page': self.name})
         found = json.loads(self.ask('POST', f'/{verb}', body, {'X-Panel': self.token}))
         return f'{"good" if found["good"] else "refused"}: {found["told"]}'
 
