@@ -34,6 +34,14 @@ def number_of(one: socket.socket) -> int:
     return int.from_bytes(one.recv(100)[8:10], 'big')
 
 
+def prints(server: Server, told: str) -> bool:
+    """Whether a server prints something within five seconds."""
+    end = time.monotonic() + 5
+    while told not in server.printed() and time.monotonic() < end:
+        time.sleep(0.05)
+    return told in server.printed()
+
+
 def took(do, *words) -> float:
     """How many seconds a call takes."""
     begun = time.monotonic()
@@ -83,7 +91,7 @@ def silence(checks) -> None:
             is_closed = one.recv(1) == b''
             waited = time.monotonic() - begun
         checks.holds('a client that says nothing is never closed',
-                     is_closed and 9.5 < waited < 20 and ' closed 2 131\n' in server.printed(),
+                     is_closed and 9.5 < waited < 20 and prints(server, ' closed 2 131\n'),
                      f'after {waited:.1f} s: {server.printed()!r}')
         time.sleep(max(0, begun + 12 - time.monotonic()))
         kept.callback(client.close)
@@ -105,14 +113,11 @@ def clients(checks) -> None:
     """A client that hangs up is told, and its number is the next one's."""
     with Server(checks.bayctl, BAY, LOGIC) as server:
         server.client().socket.close()
-        for _ in range(100):
-            if ' closed 1 0\n' not in server.printed():
-                time.sleep(0.05)
+        is_told = prints(server, ' closed 1 0\n')
         with connected(server.port) as second:
             second.sendall(stream.connection_request())
             number = heard(second, 5)[8:10]
-        checks.holds('the end of a client is never seen',
-                     ' closed 1 0\n' in server.printed() and number == b'\0\1',
+        checks.holds('the end of a client is never seen', is_told and number == b'\0\1',
                      f'number {number!r}, {server.printed()!r}')
 
 
