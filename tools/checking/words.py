@@ -14,6 +14,7 @@ from .limits import LOGIC, bay
 
 HELP = pathlib.Path(__file__).with_name('help.txt')
 NOBODY = 65_534  # the user who is no one, in whose place root runs a program
+OLD = [('out.image', b'old')]
 NO_TEXT = b'error: a word of the command line is no text\n'
 
 
@@ -36,32 +37,10 @@ def no_texts(checks) -> None:
         checks.holds('a word that is no text wants memory', told == (2, b'', NO_TEXT), str(told))
 
 
-class Unprivileged:
-    """A folder of its own with the program and the files of a bay, in which it runs as a user who
-    may not do everything."""
-
-    def __init__(self, checks, folder: str) -> None:
-        self.folder = pathlib.Path(folder)
-        self.folder.chmod(0o755)
-        shutil.copy(checks.bayctl, self.folder / 'bayctl')
-        (self.folder / 'bay.toml').write_text(bay(), encoding='utf-8')
-        (self.folder / 'logic.il').write_text(LOGIC, encoding='utf-8')
-        self.own = self.folder / 'own'
-        self.own.mkdir()
-        (self.own / 'out.image').write_bytes(b'old')
-        if os.geteuid() == 0:
-            os.chown(self.own, NOBODY, NOBODY)
-
-    def run(self, *asked, **more) -> tuple[int, str, str]:
-        """The status, and what is printed on both outputs."""
-        user = {'user': NOBODY, 'group': NOBODY, 'extra_groups': []} if os.geteuid() == 0 else {}
-        done = subprocess.run([self.folder / 'bayctl', *asked], cwd=self.folder, text=True,
-                              capture_output=True, timeout=60, **user, **more)
-        return done.returncode, done.stdout, done.stderr
-
-    def compile(self, out: pathlib.Path, **more) -> tuple[int, str, str]:
-        """A compilation to a file."""
-        return self.run('compile', '--bay', 'bay.toml', '--logic', 'logic.il', '--out', out, **more)
+def printed(words: list, **more) -> tuple[int, str, str]:
+    """The status of a program, and what it prints on both outputs."""
+    done = subprocess.run(words, capture_output=True, text=True, timeout=60, **more)
+    return done.returncode, done.stdout, done.stderr
 
 
 def full() -> None:
@@ -71,36 +50,57 @@ def full() -> None:
 
 
 def files(checks) -> None:
-    """A file that may not be read, a folder that may not be written, and a disk that is full: a
-    file that was there stays, and nothing is left beside it."""
+    """A write to a disk that is full leaves the file that was there, and nothing beside it."""
     with tempfile.TemporaryDirectory() as folder:
-        place = Unprivileged(checks, folder)
-        closed = place.folder / 'closed.toml'
-        closed.write_text(bay(), encoding='utf-8')
-        closed.chmod(0)
-        told = place.run('check', '--bay', closed, '--logic', 'logic.il')
+        out = pathlib.Path(folder) / 'out.image'
+        out.write_bytes(b'old')
+        words = [checks.bayctl, 'compile', '--bay', checks.file('bay.toml', bay()), '--logic',
+                 checks.file('logic.il', LOGIC), '--out', out]
+        told = printed(words, preexec_fn=full)
+        checks.holds('a failed write removes the file that was there',
+                     told[0] == 3 and told[2] == 'fault 122\n' and left(out.parent) == OLD,
+                     f'{told}, {left(out.parent)}')
+        told = printed(words)
+        checks.holds('no file is ever written',
+                     told[0] == 0 and out.read_bytes()[:4] == b'ILBC', str(told))
+
+
+def left(folder: pathlib.Path) -> list[tuple[str, bytes]]:
+    """The files of a folder."""
+    return [(it.name, it.read_bytes()) for it in sorted(folder.iterdir())]
+
+
+def closed(checks) -> None:
+    """A file that may not be read, and a folder that may not be written, by a user who may not do
+    everything."""
+    user = {'user': NOBODY, 'group': NOBODY, 'extra_groups': []} if os.geteuid() == 0 else {}
+    with tempfile.TemporaryDirectory() as name:
+        folder = pathlib.Path(name)
+        folder.chmod(0o755)
+        program = shutil.copy(checks.bayctl, folder / 'bayctl')
+        (folder / 'logic.il').write_text(LOGIC, encoding='utf-8')
+        for bay_file, mode in (('bay.toml', 0o644), ('closed.toml', 0)):
+            (folder / bay_file).write_text(bay(), encoding='utf-8')
+            (folder / bay_file).chmod(mode)
+        try:
+            printed([program, 'replay'], stdin=subprocess.DEVNULL, **user)
+        except OSError as error:
+            print(f'left out, since no other user can be had here: files that are closed ({error})')
+            return
+        shut = folder / 'shut'
+        shut.mkdir()
+        (shut / 'out.image').write_bytes(b'old')
+        shut.chmod(0o555)
+        words = ['--logic', 'logic.il', '--bay']
+        told = printed([program, 'check', *words, 'closed.toml'], cwd=folder, **user)
         checks.holds('a file that may not be read wants memory', told == (3, 'fault 121\n', ''),
                      str(told))
-        for name, at, more in (('a failed write removes the file that was there', place.own,
-                                {'preexec_fn': full}),
-                               ('a write changes a folder that may not be written',
-                                shut(place.folder / 'shut'), {})):
-            out = at / 'out.image'
-            told = place.compile(out, **more)
-            left = [(it.name, it.read_bytes()) for it in sorted(at.iterdir())]
-            checks.holds(name, told[0] == 3 and told[2] == 'fault 122\n'
-                         and left == [('out.image', b'old')], f'{told}, {left}')
-        told = place.compile(place.own / 'out.image')
-        checks.holds('no file is ever written', told[0] == 0
-                     and (place.own / 'out.image').read_bytes()[:4] == b'ILBC', str(told))
+        told = printed([program, 'compile', *words, 'bay.toml', '--out', shut / 'out.image'],
+                       cwd=folder, **user)
+        checks.holds('a write changes a folder that may not be written',
+                     told[0] == 3 and told[2] == 'fault 122\n' and left(shut) == OLD,
+                     f'{told}, {left(shut)}')
+        shut.chmod(0o755)
 
 
-def shut(at: pathlib.Path) -> pathlib.Path:
-    """A folder with an old file, which may not be written."""
-    at.mkdir()
-    (at / 'out.image').write_bytes(b'old')
-    at.chmod(0o555)
-    return at
-
-
-PARTS = (helps, no_texts, files)
+PARTS = (helps, no_texts, files, closed)
