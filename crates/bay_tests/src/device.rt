@@ -1,5 +1,8 @@
 // A device as a library is called: its look-ups, a run of events, the image of its program, and
 // what its refusals are told as.
+ghost use Rattle.std.specs.Prelude.{◌<◌, length};
+
+use crate::session;
 use crate::session::{CONFIRM, REQUEST, has_octets, octets_of};
 use bay_device::device::Device;
 use bay_device::event::{Event, Step};
@@ -209,6 +212,67 @@ fn a_device_gives_image(alloc: Global, first: &[u8]) -> Result<bool, Fail> {
 fn images(rt: HostRuntime) -> Result<(), Fail> {
     let first = octets_of(rt.alloc(), &[IMAGE[0], "01", IMAGE[1]])?;
     assert!(rt; a_device_gives_image(rt.alloc(), first.as_slice())?);
+    Ok(())
+}
+
+/// Whether a scan of a device ends within its budget, and the device can give its image behind it.
+fn ends_in_time(device: &mut Device) -> Result<bool, Fail> {
+    let budget = device.report().budget;
+    let step = device.step(1000, Event::Scan)?;
+    Ok(step.scan.unwrap_or(u32::MAX) <= budget && device.image().is_ok())
+}
+
+/// Whether an image is loaded. Its scan must end within its budget.
+fn is_loaded(alloc: Global, image: &[u8]) -> Result<bool, Fail> {
+    let ends = match load_image(alloc, session::BAY, image) {
+        Ok(mut device) => ends_in_time(&mut device),
+        Err(LoadFault::Refused { .. }) => return Ok(false),
+        Err(LoadFault::OutOfMemory) => Err(Fail::from("no memory")),
+    };
+    if !ends? {
+        return Err(Fail::from("a scan does not end in time"));
+    }
+    Ok(true)
+}
+
+/// Loads an image with the octet at an index replaced by each other value, and returns how many are
+/// loaded.
+fn loaded_of(alloc: Global, image: &mut [u8], at: usize) -> Result<usize, Fail>
+    requires { at < length image.old }
+{
+    let was = image[at];
+    let mut loaded = 0usize;
+    for value in 0..=255u8 {
+        if value != was {
+            image[at] = value;
+            loaded = loaded.saturating_add(is_loaded(alloc, image)? as usize);
+        }
+    }
+    image[at] = was;
+    Ok(loaded)
+}
+
+/// Loads an image with each octet replaced by each other value, and returns how many are loaded.
+fn loaded_in(alloc: Global, image: &mut [u8]) -> Result<usize, Fail> {
+    let mut loaded = 0usize;
+    for at in 0..image.len() {
+        loaded = loaded.saturating_add(loaded_of(alloc, image, at)?);
+    }
+    Ok(loaded)
+}
+
+/// Does the same with the image in a version.
+fn loaded_changed(alloc: Global, version: &str) -> Result<usize, Fail> {
+    let mut image = octets_of(alloc, &[IMAGE[0], version, IMAGE[1]])?;
+    loaded_in(alloc, image.as_mut_slice())
+}
+
+/// Three names of another point, the other version, and changes of the code: 14, and in version 2
+/// one more, to a PUSHL. In version 1 also 1 to 64 timers, of which nothing follows their number.
+#[test]
+fn changed_images(rt: HostRuntime) -> Result<(), Fail> {
+    assert_eq!(rt; loaded_changed(rt.alloc(), "01")?, 82);
+    assert_eq!(rt; loaded_changed(rt.alloc(), "02")?, 19);
     Ok(())
 }
 

@@ -3,18 +3,21 @@ ghost use Rattle.std.specs.Prelude.{◌≡◌, Some};
 ghost use Rattle.std.specs.Io.{ReadsAtMost, WritesAtMost};
 ghost use Rattle.std.specs.Io.KnownBytes.{Keeps, ReadConsumes, WriteAppends};
 
+use crate::session::{BAY, LOGIC};
 use bay_io::reader::WatchedReader;
 use bay_io::writer::WatchedWriter;
 use bay_main::replay::{replay_run, replay_watched};
-use std::alloc::Global;
+use std::alloc::{AllocError, Global};
 use std::io;
 use std::io::{ErrorKind, Read, Write};
 use std::test::Fail;
 
-/// A reader over octets in memory that gives one octet at a time, and may fail at one read.
+/// A reader over octets in memory that gives at most so many octets at a read, at least one, and may
+/// fail at one of its reads.
 #[derive(Drop)]
 struct Dripping<'a> {
     rest: &'a [u8],
+    most: usize,
     reads: u64,
     fails_at: u64,
 }
@@ -31,19 +34,32 @@ impl Read for Dripping<'_> {
         if self.reads == self.fails_at {
             return Err(io::Error::from(ErrorKind::Other));
         }
-        let some = buf.len().min(1);
+        let some = buf.len().min(self.most.max(1));
         self.rest.read(&mut buf[..some])
     }
 }
 
-/// A writer that takes at most three octets per call, and fails once it is full or at each flush.
-/// It counts its flushes.
+/// A writer that takes at most so many octets at a write, and may fail at one of its calls: a write,
+/// or the flush behind them.
 #[derive(Drop)]
 struct Narrow {
     taken: Vec<u8>,
-    room: usize,
-    can_flush: bool,
-    flushes: u64,
+    most: usize,
+    calls: u64,
+    fails_at: u64,
+}
+
+impl Narrow {
+    /// Counts a call, and fails if it is the one that fails.
+    fn call(&mut self) -> io::Result<()>
+        ensures { self.new.taken ≡ self.old.taken }
+    {
+        self.calls = self.calls.saturating_add(1);
+        if self.calls == self.fails_at {
+            return Err(io::Error::from(ErrorKind::Other));
+        }
+        Ok(())
+    }
 }
 
 impl Write for Narrow {
@@ -54,131 +70,138 @@ impl Write for Narrow {
         ensures bytes { WriteAppends (Some self.old.taken.items) (Some self.new.taken.items) result
             buf.now }
     {
-        let some = buf.len().min(3).min(self.room);
-        if some == 0 {
-            return Err(io::Error::from(ErrorKind::Other));
-        }
-        self.room -= some;
+        self.call()?;
+        let some = buf.len().min(self.most);
         self.taken.write(&buf[..some])
     }
 
     fn flush(&mut self) -> io::Result<()>
         ensures bytes { Keeps (Some self.old.taken.items) (Some self.new.taken.items) }
     {
-        self.flushes = self.flushes.saturating_add(1);
-        if self.can_flush {
-            Ok(())
-        } else {
-            Err(io::Error::from(ErrorKind::Other))
-        }
+        self.call()
     }
 }
 
-/// What the replay of a scenario wrote, its status (255 for a failed write), what is known of the
-/// reader and the writer, and what these counted themselves.
+/// What the replay of a scenario wrote, its status (255 for a failed write), and how often its
+/// reader and its writer were called.
 #[derive(Drop)]
 struct Outcome {
     report: Vec<u8>,
     status: u8,
     reads: u64,
-    read_failed: bool,
-    write_failed: bool,
-    is_flushed: bool,
-    reads_below: u64,
-    flushes_below: u64,
+    writes: u64,
 }
 
-fn outcome_of(
-    alloc: Global,
-    scenario: &[u8],
-    fails_at: u64,
-    room: usize,
-    can_flush: bool,
-) -> Outcome {
+/// The calls of a replay: the most octets of each, and the read and the write that fail, or 0.
+#[derive(Clone, Copy)]
+struct Calls {
+    most: usize,
+    read: u64,
+    write: u64,
+}
+
+/// Replays a scenario with such calls.
+fn outcome_of(alloc: Global, scenario: &[u8], calls: Calls) -> Outcome {
     let mut given = Dripping {
         rest: scenario,
+        most: calls.most,
         reads: 0,
-        fails_at,
+        fails_at: calls.read,
     };
-    let mut taken = Narrow {
+    let mut narrow = Narrow {
         taken: Vec::new(alloc),
-        room,
-        can_flush,
-        flushes: 0,
+        most: calls.most,
+        calls: 0,
+        fails_at: calls.write,
     };
-    let mut reader = WatchedReader::new(&mut given);
-    let mut writer = WatchedWriter::new(&mut taken);
-    let status = match replay_watched(alloc, &mut reader, &mut writer) {
-        Ok(status) => status,
-        Err(_) => 255,
-    };
-    let (reads, read_failed) = (reader.reads(), reader.has_failed());
-    let (write_failed, is_flushed) = (writer.has_failed(), writer.is_flushed());
-    let Narrow { taken, flushes, .. } = taken;
+    let status = replay_run(alloc, &mut given, &mut narrow).unwrap_or(255);
+    let Narrow { taken, calls, .. } = narrow;
     Outcome {
         report: taken,
         status,
-        reads,
-        read_failed,
-        write_failed,
-        is_flushed,
-        reads_below: given.reads,
-        flushes_below: flushes,
+        reads: given.reads,
+        writes: calls,
     }
 }
 
-/// A switch, a program without instructions, and two scans.
-fn scenario() -> &'static [u8] {
-    b"bay = { domain = \"B\", vendor = \"V\", model = \"M\", revision = \"1\", scan_max_age_ms = 0 }
-switch = [{ id = \"Q\", kind = \"breaker\", control = \"status\" }]
-%%
-PROGRAM P
-END_PROGRAM
-%%
-1 scan
-2 scan
-"
+/// The scenario of two switches: the first is closed and then open, with a scan behind each.
+fn scenario(alloc: Global) -> Result<String, AllocError> {
+    format!(in alloc;
+        "{BAY}%%\n{LOGIC}%%\n1000 contact QA1 2\n1000 scan\n1500 contact QA1 1\n1500 scan\n"
+    )
 }
 
-/// The whole report of the scenario.
-fn report() -> &'static [u8] {
-    b"instructions=2 depth=1 budget=2\n1 scan steps=2 Q=00\n2 scan steps=2 Q=00\n"
+/// Its whole report.
+const REPORT: &[u8] = b"instructions=6 depth=1 budget=6
+1000 scan steps=6 QA1=00 QB1=00
+1500 scan steps=6 QA1=00 QB1=11
+";
+
+/// The most octets that a call moves: one, a few, or all.
+const MOST: [usize; 3] = [1, 7, 1000];
+
+/// Replays the scenario with calls of which none fails, and checks its report.
+fn whole(alloc: Global, scenario: &[u8], most: usize) -> Result<Outcome, Fail> {
+    let found = outcome_of(
+        alloc,
+        scenario,
+        Calls {
+            most,
+            read: 0,
+            write: 0,
+        },
+    );
+    if found.report.as_slice() == REPORT && found.status == 0 {
+        Ok(found)
+    } else {
+        Err(Fail::from("another report"))
+    }
 }
 
 #[test]
 fn goes_by_pieces(rt: HostRuntime) -> Result<(), Fail> {
-    let found = outcome_of(rt.alloc(), scenario(), 0, 1000, true);
-    assert!(rt; found.report.as_slice() == report() && found.status == 0);
-    assert!(rt; !found.read_failed && !found.write_failed && found.is_flushed);
-    assert_eq!(rt; found.reads_below, found.reads);
-    assert_eq!(rt; found.flushes_below, 1);
+    let scenario = scenario(rt.alloc())?;
+    let found = whole(rt.alloc(), scenario.as_bytes(), 1)?;
+    // a call for each octet, and one for the end or the flush
+    assert_eq!(rt; found.reads, scenario.len() as u64 + 1);
+    assert_eq!(rt; found.writes, REPORT.len() as u64 + 1);
     Ok(())
 }
 
 #[test]
-fn failing_reads(rt: HostRuntime) -> Result<(), Fail> {
-    // one read for each octet, and one that tells their end
-    for k in 1..=scenario().len() as u64 + 1 {
-        let found = outcome_of(rt.alloc(), scenario(), k, 1000, true);
-        let is_told = found.report.as_slice() == b"fault 121\n".as_slice() && found.status == 3;
-        assert!(rt;
-            is_told && found.read_failed && found.is_flushed,
-            "at read {k}"
-        );
+fn each_read_may_fail(rt: HostRuntime) -> Result<(), Fail> {
+    let scenario = scenario(rt.alloc())?;
+    for most in MOST {
+        let reads = whole(rt.alloc(), scenario.as_bytes(), most)?.reads;
+        for read in 1..=reads {
+            let calls = Calls {
+                most,
+                read,
+                write: 0,
+            };
+            let found = outcome_of(rt.alloc(), scenario.as_bytes(), calls);
+            let is_told = found.report.as_slice() == b"fault 121\n".as_slice() && found.status == 3;
+            assert!(rt; is_told && found.reads == read, "read {read}");
+        }
     }
     Ok(())
 }
 
 #[test]
-fn failing_writes(rt: HostRuntime) -> Result<(), Fail> {
-    let whole = report();
-    for room in 0..=whole.len() {
-        let found = outcome_of(rt.alloc(), scenario(), 0, room, false);
-        let is_front = found.report.as_slice() == &whole[..room] && found.status == 255;
-        assert!(rt;
-            is_front && found.write_failed && !found.is_flushed,
-            "at room {room}"
-        );
+fn each_write_may_fail(rt: HostRuntime) -> Result<(), Fail> {
+    let scenario = scenario(rt.alloc())?;
+    for most in MOST {
+        let writes = whole(rt.alloc(), scenario.as_bytes(), most)?.writes;
+        for write in 1..=writes {
+            let calls = Calls {
+                most,
+                read: 0,
+                write,
+            };
+            let found = outcome_of(rt.alloc(), scenario.as_bytes(), calls);
+            let is_front = REPORT.starts_with(found.report.as_slice()) && found.status == 255;
+            assert!(rt; is_front && found.writes == write, "write {write}");
+        }
     }
     Ok(())
 }
@@ -186,15 +209,19 @@ fn failing_writes(rt: HostRuntime) -> Result<(), Fail> {
 #[test]
 fn reads_no_more_than_the_limit(rt: HostRuntime) -> Result<(), Fail> {
     let long = vec![in rt.alloc(); 97u8; 16_777_221]?;
-    let mut reader = WatchedReader::new(Dripping {
+    let mut given = Dripping {
         rest: long.as_slice(),
+        most: 1,
         reads: 0,
         fails_at: 0,
-    });
+    };
+    let mut reader = WatchedReader::new(&mut given);
     let mut writer = WatchedWriter::new(Vec::new(rt.alloc()));
     let found = replay_watched(rt.alloc(), &mut reader, &mut writer);
-    assert!(rt; found.ok() == Some(3) && reader.reads() == 16_777_217);
+    let reads = reader.reads();
+    assert!(rt; found.ok() == Some(3) && reads == 16_777_217);
     assert!(rt; !reader.has_failed() && writer.is_flushed());
+    assert_eq!(rt; given.reads, reads);
     Ok(())
 }
 

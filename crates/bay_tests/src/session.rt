@@ -10,11 +10,11 @@ use std::alloc::Global;
 use std::test::Fail;
 
 /// Two switches, the first of which is selected before it is operated.
-const BAY: &str =
+pub const BAY: &str =
     "[bay]\ndomain = \"BAY1\"\nvendor = \"Demo\"\nmodel = \"BC1\"\nrevision = \"1.0\"\nscan_max_age_ms = 1000\n[[switch]]\nid = \"QA1\"\nkind = \"breaker\"\ncontrol = \"sbo\"\nsbo_timeout_ms = 2000\ntravel_ms = 500\n[[switch]]\nid = \"QB1\"\nkind = \"disconnector\"\ncontrol = \"direct\"\ntravel_ms = 3000\n";
 
 /// The second switch is free while the first is open.
-const LOGIC: &str =
+pub const LOGIC: &str =
     "PROGRAM P\nVAR_EXTERNAL\nQA1_OPEN : BOOL;\nQB1_ENA_OPN : BOOL;\nQB1_ENA_CLS : BOOL;\nEND_VAR\nLD QA1_OPEN\nST QB1_ENA_OPN\nST QB1_ENA_CLS\nEND_PROGRAM\n";
 
 pub const REQUEST: &str = "0300001611e00000000100c0010dc2020001c1020001";
