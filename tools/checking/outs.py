@@ -2,33 +2,44 @@
 links, and nothing else. Each check has the name of the wrong behaviour that it refuses."""
 import os
 import pathlib
+import shutil
 import socket
 import stat
-import subprocess
 import tempfile
 
-from .words import Unprivileged
+from .limits import LOGIC, bay
+from .words import NOBODY, printed
 
 MODES = (0o600, 0o644, 0o444)
 
 
-class Privileged(Unprivileged):
-    """The same folder, in which the program runs as whoever runs the checks."""
+class Place:
+    """A folder with the program and the files of a bay, and a folder of its own to write to, in
+    which the program runs as a user: whoever runs the checks, or one who may not do everything."""
 
-    def run(self, *asked, **more) -> tuple[int, str, str]:
-        done = subprocess.run([self.folder / 'bayctl', *asked], cwd=self.folder, text=True,
-                              capture_output=True, timeout=60, **more)
-        return done.returncode, done.stdout, done.stderr
+    def __init__(self, checks, folder: str, **user) -> None:
+        self.folder, self.user = pathlib.Path(folder), user
+        self.folder.chmod(0o755)
+        self.program = shutil.copy(checks.bayctl, self.folder / 'bayctl')
+        (self.folder / 'bay.toml').write_text(bay(), encoding='utf-8')
+        (self.folder / 'logic.il').write_text(LOGIC, encoding='utf-8')
+        self.own = self.folder / 'own'
+        self.own.mkdir()
+        self.owned(self.own)
+
+    def owned(self, at: pathlib.Path) -> pathlib.Path:
+        """The path, which is now the user's."""
+        if self.user:
+            os.chown(at, NOBODY, NOBODY, follow_symlinks=False)
+        return at
+
+    def compile(self, out: pathlib.Path) -> tuple[int, str, str]:
+        """The status of a compilation to a file, and what it prints."""
+        words = [self.program, 'compile', '--bay', 'bay.toml', '--logic', 'logic.il', '--out', out]
+        return printed(words, cwd=self.folder, **self.user)
 
 
-def owned(place: Unprivileged, at: pathlib.Path) -> pathlib.Path:
-    """The path, which is its folder's owner's."""
-    if os.geteuid() == 0:
-        os.chown(at, place.own.stat().st_uid, place.own.stat().st_gid, follow_symlinks=False)
-    return at
-
-
-def is_written(place: Unprivileged, out: pathlib.Path, at: pathlib.Path, mode: int) -> str:
+def is_written(place: Place, out: pathlib.Path, at: pathlib.Path, mode: int) -> str:
     """Whether a compilation to a name leaves an image with a mode at a place; else what there is
     instead."""
     told = place.compile(out)
@@ -40,14 +51,14 @@ def is_written(place: Unprivileged, out: pathlib.Path, at: pathlib.Path, mode: i
     return '' if is_image and found == mode and not left else f'{is_image} {found:o} {left}'
 
 
-def replaced(checks, place: Unprivileged) -> None:
+def replaced(checks, place: Place) -> None:
     """Files of some modes, nothing, and links to them."""
     umask = os.umask(0o027)
     try:
         for mode in MODES:
             at = place.own / f'file{mode:o}'
             at.write_bytes(b'old')
-            owned(place, at).chmod(mode)
+            place.owned(at).chmod(mode)
             told = is_written(place, at, at, mode)
             checks.holds('a file that is replaced gets another mode', not told, told)
         told = is_written(place, place.own / 'new', place.own / 'new', 0o640)
@@ -56,14 +67,14 @@ def replaced(checks, place: Unprivileged) -> None:
                                ('to_link', 'to_file', 0o600)):
             link = place.own / name
             link.symlink_to(to)
-            told = is_written(place, owned(place, link), link.resolve(), mode)
+            told = is_written(place, place.owned(link), link.resolve(), mode)
             checks.holds('a link is replaced and not followed',
                          not told and link.is_symlink(), f'{name}: {told}')
     finally:
         os.umask(umask)
 
 
-def special(place: Unprivileged) -> list[pathlib.Path]:
+def special(place: Place) -> list[pathlib.Path]:
     """Names at which something else than a regular file stands."""
     folder, pipe, loop = (place.own / name for name in ('folder', 'pipe', 'loop'))
     folder.mkdir()
@@ -82,7 +93,7 @@ def special(place: Unprivileged) -> list[pathlib.Path]:
     return names
 
 
-def refused(checks, place: Unprivileged) -> None:
+def refused(checks, place: Place) -> None:
     """Folders, pipes, sockets, devices, links to them, and a link that leads nowhere."""
     for at in special(place):
         before = sorted((it.name, it.lstat().st_mode) for it in place.own.iterdir())
@@ -95,9 +106,15 @@ def refused(checks, place: Unprivileged) -> None:
 
 def outs(checks) -> None:
     """Each kind of file, as whoever runs the checks and as a user who may not do everything."""
-    for kind in (Unprivileged, Privileged):
+    nobody = {'user': NOBODY, 'group': NOBODY, 'extra_groups': []}
+    for user in ({}, nobody) if os.geteuid() == 0 else ({},):
         with tempfile.TemporaryDirectory() as folder:
-            place = kind(checks, folder)
+            place = Place(checks, folder, **user)
+            try:
+                place.compile(place.own / 'first')
+            except OSError as error:
+                print(f'left out, since no other user can be had here: what is replaced ({error})')
+                continue
             replaced(checks, place)
             refused(checks, place)
 
