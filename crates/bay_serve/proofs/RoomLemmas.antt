@@ -1,6 +1,7 @@
 -- There is room for an entry of each association that is not told yet.
 use Rattle.std.proofs.Common.{◌≡◌, ℕ, zero, suc, ◌+◌, ◌<◌, true, false, cond, List, [], ◌∷◌, length, count_by, slice_index_or, slice_set, refl, ap, arith}
 use Rattle.std.proofs.lemmas.List.Sums.{count_by-le-length, sum_by-cons}
+use Rattle.bay_serve.specs.Room.{HasEntries}
 use Rattle.bay_serve.specs.Standings.{is_told}
 use Rattle.bay_serve.specs.declared.standing.Standing.{Standing}
 use Rattle.bay_serve.specs.declared.standing.Standing.TheVariants.{Steady, Gone}
@@ -64,3 +65,11 @@ told-room xs k h isnt =
       count_by-le-length is_told (slice_set xs k Gone),
       set-length xs k Gone,
     )
+
+-- then there is room for its entry
+pub entry-room : {C M : Type 0} (xs : List Standing) (k : ℕ) (closed : List C) (memory : List M)
+    → length xs ≡ 8 → k < 8 → is_told (slice_index_or xs k Steady) ≡ false
+    → HasEntries xs closed memory → (length closed < 8) × (length memory < 8)
+entry-room xs k closed memory sized low isnt counted =
+    let few = told-room xs k (omega (arith, sized, low)) isnt in
+    (omega (arith, few, sized, counted), omega (arith, few, sized, counted))

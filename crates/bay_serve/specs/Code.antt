@@ -1,9 +1,9 @@
 -- The numbers of closings and faults.
-use Rattle.std.specs.Prelude.{ℕ, Option, Some, None}
+use Rattle.std.specs.Prelude.{ℕ}
 use Rattle.bay_serve.specs.declared.told.Closing.{Closing}
 use Rattle.bay_serve.specs.declared.told.Closing.TheVariants.{Ended, Fault, QueueFull, LinkFailed}
 use Rattle.bay_serve.specs.declared.fault.ServeFault.{ServeFault}
-use Rattle.bay_serve.specs.declared.fault.ServeFault.TheVariants.{BadLine, MomentTooLarge, OutOfMemory}
+use Rattle.bay_serve.specs.declared.fault.ServeFault.TheVariants.{BadLine, MomentTooLarge}
 
 -- the number by which the end of an association is told
 abbrev pub code_of : Closing → ℕ
@@ -12,8 +12,7 @@ code_of (Fault code) = code
 code_of QueueFull = 130
 code_of LinkFailed = 131
 
--- the number of a refused turn; want of memory has none
-abbrev pub serve_code_of : ServeFault → Option ℕ
-serve_code_of BadLine = Some 120
-serve_code_of MomentTooLarge = Some 114
-serve_code_of OutOfMemory = None
+-- the number of a refused turn
+abbrev pub serve_code_of : ServeFault → ℕ
+serve_code_of BadLine = 120
+serve_code_of MomentTooLarge = 114

@@ -7,7 +7,7 @@ use Rattle.bay_serve.specs.Calls.{Call, Talks}
 use Rattle.bay_serve.specs.Offers.{offering_of, after_calls}
 use Rattle.bay_serve.specs.Turns.{Held, Script, Turning, after_each, calls_of_each, moment_at, taken_in, after_turn, turn_calls}
 use Rattle.bay_serve.specs.declared.fault.ServeFault.{ServeFault}
-use Rattle.bay_serve.specs.declared.fault.ServeFault.TheVariants.{BadLine, MomentTooLarge, OutOfMemory}
+use Rattle.bay_serve.specs.declared.fault.ServeFault.TheVariants.{BadLine, MomentTooLarge}
 use Rattle.bay_serve.specs.declared.told.Turn.{Turn}
 
 -- ---- why a turn is not done
@@ -39,12 +39,6 @@ refusal_at (Some text) is_late = refusal_of (line_of text) is_late
 -- too large.
 abbrev pub turn_refusal : ℕ → Option (List ℕ) → Held → Option ServeFault
 turn_refusal clock line h = refusal_at line (nat_lt last_moment (moment_at clock h))
-
--- Want of memory is told only where nothing else is.
-abbrev pub IsRefused : ServeFault → Option ServeFault → Type 0
-IsRefused BadLine refusal = refusal ≡ Some BadLine
-IsRefused MomentTooLarge refusal = refusal ≡ Some MomentTooLarge
-IsRefused OutOfMemory refusal = refusal ≡ None
 
 -- ---- its parts
 

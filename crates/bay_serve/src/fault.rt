@@ -13,20 +13,16 @@ pub enum ServeFault {
     /// The time is past the last one that a time stamp can hold.
     #[error("the moment is too large")]
     MomentTooLarge,
-    /// Out of memory for what the turn would report.
-    #[error("out of memory")]
-    OutOfMemory,
 }
 
 impl ServeFault {
-    /// Returns the fault's number, 120 or 114, or `None` for out of memory.
-    pub fn code(self) -> Option<u8>
+    /// Returns the fault's number, 120 or 114.
+    pub fn code(self) -> u8
         ensures { result ≡ serve_code_of self }
     {
         match self {
-            ServeFault::BadLine => Some(120),
-            ServeFault::MomentTooLarge => Some(114),
-            ServeFault::OutOfMemory => None,
+            ServeFault::BadLine => 120,
+            ServeFault::MomentTooLarge => 114,
         }
     }
 }

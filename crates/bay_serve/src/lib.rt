@@ -2,7 +2,7 @@
 //
 // What is handed out: `link` (the clients' connections, a trait whose meaning is the calls that
 // were made and what they answered), `server` (a device with what is still to be sent to each
-// client), `turn` (one turn of the server), `told` (what a turn tells).
+// client), `turn` (one turn of the server), `told` (what a turn tells), `entries` (its lists).
 //
 // Within: `queue` is what is still to be sent to one client, `standing` how an association stands
 // in a turn, `notes` what a turn has to remember, `line` what a line of the trace tells a server,
@@ -11,6 +11,7 @@
 #![tactic(auto)]
 
 mod closing;
+pub mod entries;
 pub mod fault;
 mod line;
 pub mod link;

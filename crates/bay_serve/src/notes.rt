@@ -1,27 +1,26 @@
 // What a turn has to remember.
-ghost use Rattle.std.specs.Prelude.{◌≡◌, ◌+◌, ◌<◌, ◌++◌, ◌∷◌, [], Some, true, length, IfOk, IfSome};
+ghost use Rattle.std.specs.Prelude.{◌≡◌, ◌+◌, ◌<◌, ◌++◌, ◌∷◌, [], Some, true, length, IfSome};
 ghost use Rattle.bay_serve.specs.Standings.{after_full, is_leaving};
 ghost use Rattle.bay_serve.specs.Turns.{goes, leaves, left_noted, nothing_noted, standing_in, stands};
 ghost use Rattle.bay_serve.specs.Turns as spec;
 ghost use Rattle.bay_serve.specs.declared.standing.Standing.TheVariants.{Gone};
 
+use crate::entries::Entries;
 use crate::standing::Standing;
 use crate::told::{Closing, Turn};
-use bay_base::listing::Listing;
 use bay_device::event::{ASSOCIATIONS, Why};
 use bay_services::answer::Command;
-use std::alloc::{AllocError, Global};
 use std::marker::Model;
 
-/// The standing of each association in a turn, and what the turn will report. The room is allocated
-/// up front: one entry for each association, and one command for each association read.
+/// The standing of each association in a turn, and what the turn will report: at most one entry for
+/// each association, and one command for each association read.
 #[derive(Drop)]
 pub struct Notes {
     standings: [Standing; ASSOCIATIONS],
     refused: Option<u8>,
-    commands: Vec<Command>,
-    closed: Vec<(u16, Closing)>,
-    memory: Vec<u16>,
+    commands: Entries<Command>,
+    closed: Entries<(u16, Closing)>,
+    memory: Entries<u16>,
 }
 
 impl Model for Notes {
@@ -33,29 +32,29 @@ impl Model for Notes {
     ghost view = { λ n. record {
       standings = n.standings;
       refused = n.refused;
-      commands = n.commands.items;
-      closed = n.closed.items;
-      memory = n.memory.items;
+      commands = n.commands;
+      closed = n.closed;
+      memory = n.memory;
     } };
 
-    ghost invariant = { λ n. HasEntries n.standings n.commands n.closed n.memory };
+    ghost invariant = { λ n. HasEntries n.standings n.closed n.memory };
 }
 
 impl Notes {
     /// Creates notes with no association closed and nothing to report.
-    pub fn new(alloc: Global) -> Result<Self, AllocError>
-        ensures { IfOk result (λ notes. notes ≡ nothing_noted) }
+    pub fn new() -> Self
+        ensures { result ≡ nothing_noted }
     {
-        let commands = Vec::with_capacity(alloc, ASSOCIATIONS)?;
-        let closed = Vec::with_capacity(alloc, ASSOCIATIONS)?;
-        let memory = Vec::with_capacity(alloc, ASSOCIATIONS)?;
-        Ok(Notes {
+        Notes {
             standings: [Standing::Steady; ASSOCIATIONS],
             refused: None,
-            commands,
-            closed,
-            memory,
-        })
+            commands: Entries::new(Command {
+                switch: 0,
+                on: false,
+            }),
+            closed: Entries::new((0, Closing::Ended)),
+            memory: Entries::new(0),
+        }
     }
 
     /// Returns the standing of the association at an index.
@@ -92,16 +91,9 @@ impl Notes {
     {
         if !self.standings[place].is_told() {
             match why {
-                Why::Ended => self
-                    .closed
-                    .push((place as u16 + 1, Closing::Ended))
-                    .unwrap(),
-                Why::Fault(code) => {
-                    self.closed
-                        .push((place as u16 + 1, Closing::Fault(code)))
-                        .unwrap();
-                }
-                Why::Memory => self.memory.push(place as u16 + 1).unwrap(),
+                Why::Ended => self.closed.push((place as u16 + 1, Closing::Ended)),
+                Why::Fault(code) => self.closed.push((place as u16 + 1, Closing::Fault(code))),
+                Why::Memory => self.memory.push(place as u16 + 1),
             }
         }
         self.standings[place] = Standing::Leaving;
@@ -123,7 +115,7 @@ impl Notes {
         ensures { self.new ≡ goes place closing self.old }
     {
         if !self.standings[place].is_told() {
-            self.closed.push((place as u16 + 1, closing)).unwrap();
+            self.closed.push((place as u16 + 1, closing));
         }
         self.standings[place] = Standing::Gone;
     }
@@ -149,7 +141,7 @@ impl Notes {
         requires { length self.old.commands < 8 }
         ensures { self.new ≡ record self.old { commands = self.old.commands ++ command ∷ [] } }
     {
-        self.commands.push(command).unwrap();
+        self.commands.push(command);
     }
 
     /// Returns what the turn reports.
@@ -170,9 +162,9 @@ impl Notes {
         } = self;
         Turn {
             refused,
-            commands: Listing::new(commands),
-            closed: Listing::new(closed),
-            memory: Listing::new(memory),
+            commands,
+            closed,
+            memory,
         }
     }
 }

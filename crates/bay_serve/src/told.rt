@@ -2,7 +2,7 @@
 ghost use Rattle.std.specs.Prelude.{◌≡◌};
 ghost use Rattle.bay_serve.specs.Code.{code_of};
 
-use bay_base::listing::Listing;
+use crate::entries::Entries;
 use bay_services::answer::Command;
 
 /// Why an association was closed.
@@ -40,9 +40,9 @@ pub struct Turn {
     /// switch, input or meter.
     pub refused: Option<u8>,
     /// The commands to operate switches.
-    pub commands: Listing<Command>,
+    pub commands: Entries<Command>,
     /// The associations that were closed, each with the reason, in the order of closing.
-    pub closed: Listing<(u16, Closing)>,
+    pub closed: Entries<(u16, Closing)>,
     /// The associations that the device closed because it was out of memory.
-    pub memory: Listing<u16>,
+    pub memory: Entries<u16>,
 }

@@ -3,7 +3,7 @@ ghost use Rattle.std.specs.Prelude.{◌≡◌, [], None, Some, Option, option_ma
 ghost use Rattle.bay_trace.specs.Placing.{AreOctets};
 ghost use Rattle.bay_trace.specs.TraceView.{named_view};
 ghost use Rattle.bay_serve.specs.Calls.{Called, Talks};
-ghost use Rattle.bay_serve.specs.Served.{IsRefused, Serves, line_in, text_in, turn_refusal};
+ghost use Rattle.bay_serve.specs.Served.{Serves, line_in, text_in, turn_refusal};
 ghost use Rattle.bay_serve.specs.Turns.{line_calls, with_line, moment_at, scan_calls, after_turn_scan, told_of, turning};
 
 use crate::closing::settle;
@@ -19,7 +19,6 @@ use crate::told::Turn;
 use bay_device::event::{Event, LAST_MOMENT};
 use bay_trace::placing::placed_event;
 use bay_trace::trace::NamedEvent;
-use std::alloc::{AllocError, Global};
 
 /// Does the event of a line at the turn's time.
 fn tell(server: &mut Server, notes: &mut Notes, now: u64, event: NamedEvent<'_>)
@@ -75,9 +74,8 @@ fn scan<L: Link>(server: &mut Server, notes: &mut Notes, link: &mut L, now: u64)
 /// reply does not fit into what is still to be sent to it.
 ///
 /// A line that does not report a contact, an input or a measurement is refused first, then a time
-/// that is too late. If there is no memory for what the turn would report, nothing is done either.
+/// that is too late. Nothing is done then.
 pub fn serve_turn<L: Link>(
-    alloc: Global,
     server: &mut Server,
     link: &mut L,
     clock: u64,
@@ -88,11 +86,11 @@ pub fn serve_turn<L: Link>(
     ensures ok { IfOk result
         (λ turn. Serves (Called L.does L.failures) link.old link.new (moment_at clock server.old)
         (line_in (text_in line.entry)) server.old server.new turn) }
-    // A turn is done where its line and its moment are right, and where it is not there is want of
-    // memory or it says why.
+    // A turn is done exactly where its line and its moment are right, and otherwise it says which of
+    // them is not.
     ensures right { OnOk result (turn_refusal clock (text_in line.entry) server.old ≡ None) }
     ensures refused { IfErr result
-        (λ fault. IsRefused fault (turn_refusal clock (text_in line.entry) server.old)) }
+        (λ fault. turn_refusal clock (text_in line.entry) server.old ≡ Some fault) }
     ensures server_kept { OnErr result (server.new ≡ server.old) }
     ensures link_kept { OnErr result (link.new ≡ link.old) }
 {
@@ -101,10 +99,7 @@ pub fn serve_turn<L: Link>(
     if now > LAST_MOMENT {
         return Err(ServeFault::MomentTooLarge);
     }
-    let mut notes = match Notes::new(alloc) {
-        Ok(notes) => notes,
-        Err(AllocError) => return Err(ServeFault::OutOfMemory),
-    };
+    let mut notes = Notes::new();
     accept_one(server, &mut notes, link, now);
     read_each(server, &mut notes, link, now);
     tell_line(server, &mut notes, link, now, line);

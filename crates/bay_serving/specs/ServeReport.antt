@@ -13,7 +13,7 @@ use Rattle.bay_port.specs.Ports.{PortData, is_leaving, taken_line}
 use Rattle.bay_port.specs.Telling.{told_text}
 use Rattle.bay_port.specs.declared.news.News.{News}
 use Rattle.bay_serve.specs.Calls.{Call}
-use Rattle.bay_serve.specs.Served.{IsRefused, Serves, line_in, turn_refusal}
+use Rattle.bay_serve.specs.Served.{Serves, line_in, turn_refusal}
 use Rattle.bay_serve.specs.Turns.{Held, moment_at}
 use Rattle.bay_serve.specs.declared.fault.ServeFault.{ServeFault}
 use Rattle.bay_serve.specs.declared.told.Turn.{Turn}
@@ -155,7 +155,7 @@ module _ {L H W : Type 0} (step : L → Call → L → Type 0) (acts : H → Hos
     pub clock : ℕ
     pub told : acts before.host (Tells clock) host
     pub fault : ServeFault
-    pub is : IsRefused fault (turn_refusal clock (text_of_next line) before.held)
+    pub is : turn_refusal clock (text_of_next line) before.held ≡ Some fault
     pub printed : Prints contents asks (IsLast (unserved_text fault (number_of_next line)) 3) old
         new
         answer

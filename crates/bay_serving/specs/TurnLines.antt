@@ -10,7 +10,7 @@ use Rattle.bay_port.specs.declared.news.News.TheVariants.{Opened, Closed}
 use Rattle.bay_report.specs.Lines.{closing_text, unreadable_text}
 use Rattle.bay_serve.specs.Code.{code_of}
 use Rattle.bay_serve.specs.declared.fault.ServeFault.{ServeFault}
-use Rattle.bay_serve.specs.declared.fault.ServeFault.TheVariants.{BadLine, MomentTooLarge, OutOfMemory}
+use Rattle.bay_serve.specs.declared.fault.ServeFault.TheVariants.{BadLine, MomentTooLarge}
 use Rattle.bay_serve.specs.declared.told.Closing.{Closing}
 use Rattle.bay_serve.specs.declared.told.Turn.{Turn}
 
@@ -47,4 +47,3 @@ is_quiet turn =
 abbrev pub unserved_text : ServeFault → ℕ → List ℕ
 unserved_text BadLine k = unreadable_text k
 unserved_text MomentTooLarge k = codes "fault 114\n"
-unserved_text OutOfMemory k = codes "fault memory\n"

@@ -59,16 +59,7 @@ fn serve_with<L: Link + Drop, H: Host<L>, W: Sink>(
         process host.old host.new writer.old writer.new result }
 {
     match Server::new(alloc, device) {
-        Ok(server) => serve_turns(
-            alloc,
-            server,
-            link,
-            process,
-            host,
-            trace,
-            numbers.turns,
-            writer,
-        ),
+        Ok(server) => serve_turns(server, link, process, host, trace, numbers.turns, writer),
         Err(AllocFailed { value: _ }) => write_text(writer, NO_MEMORY, FAULT),
     }
 }

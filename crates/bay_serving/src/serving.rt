@@ -1,11 +1,11 @@
 // A device is served, turn by turn.
-ghost use Rattle.std.specs.Prelude.{◌≡◌, ◌⊎◌, IfErr, IfOk, OnErr};
+ghost use Rattle.std.specs.Prelude.{◌≡◌, ◌⊎◌, Some, IfErr, IfOk, OnErr};
 ghost use Rattle.bay_serving.specs.Host.{Pauses};
 ghost use Rattle.bay_report.specs.TextLines.{lines_of};
 ghost use Rattle.bay_serving.specs.ServeReport.{ServesTurns, next_view, number_of_next, text_of_next, told_lines};
 ghost use Rattle.bay_serving.specs.Serving.{TriesTurn};
 ghost use Rattle.bay_serve.specs.Calls.{Called};
-ghost use Rattle.bay_serve.specs.Served.{IsRefused, Serves, line_in, text_in, turn_refusal};
+ghost use Rattle.bay_serve.specs.Served.{Serves, line_in, text_in, turn_refusal};
 ghost use Rattle.bay_serve.specs.Turns.{moment_at};
 
 use crate::busy::BusyLink;
@@ -23,7 +23,6 @@ use bay_serve::link::Link;
 use bay_serve::server::Server;
 use bay_serve::told::Turn;
 use bay_serve::turn::serve_turn;
-use std::alloc::Global;
 
 /// The result of trying a turn.
 #[derive(Clone, Copy, Debug, PartialEq, Eq)]
@@ -55,7 +54,6 @@ fn number_of(line: Option<(usize, &[u8])>) -> usize
 /// Serves one turn with the octets of a line. A line that is not UTF-8 does not report a contact,
 /// an input or a measurement.
 fn serve_line<L: Link>(
-    alloc: Global,
     server: &mut Server,
     link: &mut L,
     clock: u64,
@@ -65,22 +63,21 @@ fn serve_line<L: Link>(
         (λ turn. Serves (Called L.does L.failures) link.old link.new (moment_at clock server.old)
         (line_in (text_in line.entry)) server.old server.new turn) }
     ensures refused { IfErr result
-        (λ fault. IsRefused fault (turn_refusal clock (text_in line.entry) server.old)) }
+        (λ fault. turn_refusal clock (text_in line.entry) server.old ≡ Some fault) }
     ensures server_kept { OnErr result (server.new ≡ server.old) }
     ensures link_kept { OnErr result (link.new ≡ link.old) }
 {
     let Some(octets) = line else {
-        return serve_turn(alloc, server, link, clock, None);
+        return serve_turn(server, link, clock, None);
     };
     match std::str::from_utf8(octets) {
-        Ok(text) => serve_turn(alloc, server, link, clock, Some(text)),
+        Ok(text) => serve_turn(server, link, clock, Some(text)),
         Err(_) => Err(ServeFault::BadLine),
     }
 }
 
 /// Tries a turn and prints what it reports, and then attends to the process.
 fn try_turn<L: Link, H: Host<L>, W: Sink>(
-    alloc: Global,
     server: &mut Server,
     link: &mut BusyLink<L>,
     process: &mut Option<Process<L>>,
@@ -96,7 +93,7 @@ fn try_turn<L: Link, H: Host<L>, W: Sink>(
 {
     let clock = host.now();
     let moment = clock.max(server.device().moment());
-    match serve_line(alloc, server, link, clock, octets_of(line)) {
+    match serve_line(server, link, clock, octets_of(line)) {
         Ok(turn) => {
             let device = server.device();
             tell_turn(writer, device, moment, &turn)?;
@@ -125,7 +122,6 @@ fn rest<L, H: Host<L>>(host: &mut H, was_idle: bool)
 /// exit status: 0 after the last turn, or 3 at a turn that is not done. Pauses after a turn that
 /// left nothing to do at once.
 fn serve_lines<L: Link, H: Host<L>, W: Sink>(
-    alloc: Global,
     server: &mut Server,
     link: &mut BusyLink<L>,
     process: &mut Option<Process<L>>,
@@ -142,7 +138,7 @@ fn serve_lines<L: Link, H: Host<L>, W: Sink>(
     for turn in 0..turns {
         let (traced, is_heard) = choose(lines, process, server.device(), &mut buffer);
         let line = line_of(traced, is_heard, &buffer);
-        match try_turn(alloc, server, link, process, host, line, writer)? {
+        match try_turn(server, link, process, host, line, writer)? {
             Tried::Ends(status) => return Ok(status),
             Tried::Done { was_idle } => rest::<L, H>(host, was_idle),
         }
@@ -153,7 +149,6 @@ fn serve_lines<L: Link, H: Host<L>, W: Sink>(
 /// Serves the given number of turns over a link, each with the next line of a trace, or after the
 /// last one with a line of the process, if there is one.
 pub fn serve_turns<L: Link + Drop, H: Host<L>, W: Sink>(
-    alloc: Global,
     server: Server,
     link: L,
     process: Option<Process<L>>,
@@ -172,7 +167,6 @@ pub fn serve_turns<L: Link + Drop, H: Host<L>, W: Sink>(
     let mut process = process;
     let mut lines = TraceLines::new(trace);
     serve_lines(
-        alloc,
         &mut server,
         &mut link,
         &mut process,

@@ -189,6 +189,5 @@ pub fn write_unserved<W: Sink>(
     match fault {
         ServeFault::BadLine => write_bad_line(writer, number),
         ServeFault::MomentTooLarge => write_text(writer, b"fault 114\n", FAULT),
-        ServeFault::OutOfMemory => write_text(writer, b"fault memory\n", FAULT),
     }
 }

@@ -11,13 +11,12 @@ use std::test::Fail;
 
 /// Serves one turn, and appends its closings to those before.
 fn turn(
-    alloc: Global,
     server: &mut Server,
     link: &mut MemoryLink,
     now: u64,
     closed: &mut Vec<(u16, Closing)>,
 ) -> Result<(), Fail> {
-    let turn = serve_turn(alloc, server, link, now, None)?;
+    let turn = serve_turn(server, link, now, None)?;
     closed.extend_from_slice(turn.closed.as_slice())?;
     Ok(())
 }
@@ -31,7 +30,7 @@ fn turns_of(
 ) -> Result<Vec<(u16, Closing)>, Fail> {
     let mut closed = Vec::new(alloc);
     for now in 0..turns {
-        turn(alloc, server, link, now, &mut closed)?;
+        turn(server, link, now, &mut closed)?;
     }
     Ok(closed)
 }
@@ -142,7 +141,7 @@ fn a_client_that_never_reads_is_closed(rt: HostRuntime) -> Result<(), Fail> {
 /// Serves a turn with a line, and returns the number of its refusal.
 fn tell(alloc: Global, server: &mut Server, now: u64, line: &str) -> Result<Option<u8>, Fail> {
     let mut link = sessions(alloc, 0)?;
-    let turn = serve_turn(alloc, server, &mut link, now, Some(line))?;
+    let turn = serve_turn(server, &mut link, now, Some(line))?;
     Ok(turn.refused)
 }
 
@@ -176,9 +175,9 @@ fn fault_of(
     line: Option<&str>,
 ) -> Result<Option<u8>, Fail> {
     let mut link = sessions(alloc, 0)?;
-    match serve_turn(alloc, server, &mut link, now, line) {
+    match serve_turn(server, &mut link, now, line) {
         Ok(_) => Ok(None),
-        Err(fault) => Ok(fault.code()),
+        Err(fault) => Ok(Some(fault.code())),
     }
 }
 

@@ -37,7 +37,7 @@ fn ask<R: Runtime<A = Global>>(
 ) -> Result<(), Fail> {
     (&mut &*stream).write_all(octets)?;
     for now in 0..2000 {
-        serve_turn(rt.alloc(), server, link, now, None)?;
+        serve_turn(server, link, now, None)?;
         read_some(stream, answer)?;
         if answer.len() >= count {
             break;

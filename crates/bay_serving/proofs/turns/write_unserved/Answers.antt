@@ -2,6 +2,3 @@ use Rattle.bay_serving.proofs.turns.write_unserved.Goals as goal
 
 pub returns-in-BadLine : goal.returns-in-BadLine
 returns-in-BadLine g c = rw c.in-BadLine.is c.write_bad_line.ensures
-
-pub returns-in-OutOfMemory : goal.returns-in-OutOfMemory
-returns-in-OutOfMemory g c = rw c.in-OutOfMemory.is c.write_text-in-OutOfMemory.ensures
