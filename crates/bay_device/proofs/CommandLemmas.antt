@@ -1,5 +1,5 @@
 -- Each command of a step is released, and there is one at most.
-use Rattle.std.proofs.Common.{◌≡◌, ◌≢◌, ◌≤◌, ℕ, zero, suc, Bool, true, false, not, ◌&&◌, cond, nat_lt, List, [], ◌∷◌, ◌++◌, drop, get_or, map, slice_get, Option, Some, None, Result, IfOk, refl, ap, sym, ◌∙◌, arith}
+use Rattle.std.proofs.Common.{◌≡◌, ◌≢◌, ◌≤◌, ℕ, zero, suc, Bool, true, false, not, ◌&&◌, cond, nat_lt, List, [], ◌∷◌, ◌++◌, map, slice_get, Option, Some, None, Result, IfOk, refl, ap, sym, subst, ◌∙◌, arith}
 use Rattle.std.specs.List.{AllByRecursion}
 use Rattle.bay_tree.specs.declared.leaf.Dbpos.{Dbpos}
 use Rattle.bay_nodes.specs.declared.switch.Switch.{Switch}
@@ -11,10 +11,11 @@ use Rattle.bay_services.specs.Released.{AreTimed, Leaves, releasing}
 use Rattle.bay_services.specs.Released as services
 use Rattle.bay_services.specs.declared.answer.Command.{Command}
 use Rattle.bay_services.proofs.ReleaseLemmas.{Sole, all-of, answer-sent, at-most-one, busy-still, commands-each, idle-now, leaves-then, leaves-with, request-leaves, sole-said}
-use Rattle.bay_device.specs.Commands.{AllCommanded, AreCommanded, IsReleasedAt, IsSingle}
+use Rattle.bay_device.specs.Commands.{AreCommanded, CommandedAt, IsReleasedAt, IsSingle}
 use Rattle.bay_device.specs.Device.{State, device_at, bay_of, ended_at, is_recent}
 use Rattle.bay_device.specs.Hearing.{Done, AllHeard, client_at, after_indications, on_heard, after_pdu, sent_on, with_sent}
-use Rattle.bay_device.specs.Outcomes.{Outcome, close_outcome, connection_at, contact_outcome, event_outcome, input_outcome, first_talk, last_moment, measure_outcome, nothing_done, octets_outcome, open_outcome, outcome, outcomes, place_of, recv_after, recv_outcome, with_connection, without_owner}
+use Rattle.bay_device.specs.Outcomes.{Outcome, close_outcome, connection_at, contact_outcome, event_outcome, input_outcome, first_talk, last_moment, measure_outcome, nothing_done, octets_outcome, open_outcome, place_of, recv_after, recv_outcome, with_connection, without_owner}
+use Rattle.bay_device.specs.Steps.{Steps}
 use Rattle.bay_device.specs.declared.event.Event.{Event}
 use Rattle.bay_device.specs.declared.event.Event.TheVariants.{Open, Recv, Close, Contact, Input, Measure, Scan}
 use Rattle.bay_device.specs.declared.event.Sent.{Sent}
@@ -218,17 +219,13 @@ commanded-if : (b : Bool) (now : ℕ) (s : State) (x y : Outcome) → Commanded 
 commanded-if true now s x y p q = p
 commanded-if false now s x y p q = q
 
-pub step-commanded : (choice : Option ℕ) (now : ℕ) (event : Event) (s : State)
-    → Commanded now s (outcome choice now event s).answer
-step-commanded choice now event s =
-    commanded-if (nat_lt last_moment now) now s _ _ tt
-    (commanded-if (nat_lt now s.moment) now s _ _ tt (event-commanded choice now event s))
-
-pub all-commanded : (choices : List (Option ℕ)) (events : List (ℕ × Event)) (s : State)
-    → AllCommanded choices events s
-all-commanded choices [] s = tt
-all-commanded choices (e ∷ es) s =
-    (step-commanded (get_or choices 0 None) e.0 e.1 s, all-commanded (drop 1 choices) es _)
+pub step-commanded : (now : ℕ) (event : Event) (old : State) (answer : Result Step StepFault)
+    (new : State) → Steps now event old answer new → CommandedAt now event old answer new
+step-commanded now event old answer new steps =
+    subst (Commanded now old) (sym steps.answered)
+    (commanded-if (nat_lt last_moment now) now old _ _ tt
+    (commanded-if (nat_lt now old.moment) now old _ _ tt
+    (event-commanded steps.choice now event old)))
 
 -- ---- one command at most
 
@@ -297,12 +294,6 @@ single-if : (b : Bool) (x y : Outcome) → IsSingle x.answer → IsSingle y.answ
     → IsSingle (cond b x y).answer
 single-if true x y p q = p
 single-if false x y p q = q
-
-pub step-single : (choice : Option ℕ) (now : ℕ) (event : Event) (s : State)
-    → AreTimed s.controls.controls → IsSingle (outcome choice now event s).answer
-step-single choice now event s timed =
-    single-if (nat_lt last_moment now) _ _ tt
-    (single-if (nat_lt now s.moment) _ _ tt (event-single choice now event s timed))
 
 -- ---- what the bay file says of controls stays
 
@@ -393,17 +384,15 @@ timed-if : (b : Bool) (x y : Outcome) → AreTimed x.after.controls.controls
 timed-if true x y p q = p
 timed-if false x y p q = q
 
-pub step-timed : (choice : Option ℕ) (now : ℕ) (event : Event) (s : State)
-    → AreTimed s.controls.controls → AreTimed (outcome choice now event s).after.controls.controls
-step-timed choice now event s timed =
-    timed-if (nat_lt last_moment now) _ _ timed
-    (timed-if (nat_lt now s.moment) _ _ timed (event-timed choice now event s timed))
-
-pub all-single : (choices : List (Option ℕ)) (events : List (ℕ × Event)) (s : State)
-    → AreTimed s.controls.controls → AllByRecursion IsSingle (outcomes choices events s).answers
-all-single choices [] s timed = tt
-all-single choices (e ∷ es) s timed =
-    let choice = get_or choices 0 None in (
-      step-single choice e.0 e.1 s timed,
-      all-single (drop 1 choices) es _ (step-timed choice e.0 e.1 s timed),
-    )
+-- a step on a device whose switches take some time
+pub step-single : (now : ℕ) (event : Event) (old : State) (answer : Result Step StepFault)
+    (new : State) → AreTimed old.controls.controls → Steps now event old answer new
+    → IsSingle answer × AreTimed new.controls.controls
+step-single now event old answer new timed steps = (
+  subst IsSingle (sym steps.answered)
+      (single-if (nat_lt last_moment now) _ _ tt
+      (single-if (nat_lt now old.moment) _ _ tt (event-single steps.choice now event old timed))),
+  subst (λ (s : State). AreTimed s.controls.controls) (sym steps.left)
+      (timed-if (nat_lt last_moment now) _ _ timed
+      (timed-if (nat_lt now old.moment) _ _ timed (event-timed steps.choice now event old timed))),
+)

@@ -1,5 +1,5 @@
 -- What events ask of a device's controls leads them from those before to those after.
-use Rattle.std.proofs.Common.{◌≡◌, ◌≢◌, ◌<◌, ◌+◌, ◌-◌, ℕ, zero, suc, Bool, true, false, not, ◌&&◌, ◌||◌, cond, nat_lt, List, [], ◌∷◌, ◌++◌, drop, get_or, length, Option, None, Some, is_some, unwrap_or, slice_get, slice_set, refl, ap, sym, subst, ◌∙◌, arith, append-nil}
+use Rattle.std.proofs.Common.{◌≡◌, ◌≢◌, ◌<◌, ◌+◌, ◌-◌, ℕ, zero, suc, Bool, true, false, not, ◌&&◌, ◌||◌, cond, nat_lt, List, [], ◌∷◌, ◌++◌, length, Option, None, Some, is_some, unwrap_or, slice_get, slice_set, refl, ap, sym, subst, ◌∙◌, arith, append-nil}
 use Rattle.std.specs.Prelude.{ℤ, ◌==◌, Result, is_ok}
 use Rattle.std.proofs.lemmas.Bool.{eqb-true, eq-eqb}
 use Rattle.std.proofs.lemmas.List.{length-set}
@@ -8,18 +8,16 @@ use Rattle.bay_nodes.specs.declared.switch.Switch.{Switch}
 use Rattle.bay_tree.specs.declared.leaf.Dbpos.{Dbpos}
 use Rattle.bay_control.specs.Acts as act
 use Rattle.bay_control.specs.Acts.{Entry}
-use Rattle.bay_control.specs.Backing.{AreBacked}
 use Rattle.bay_control.specs.Happenings as call
 use Rattle.bay_control.specs.Happenings.{Leads, act_of, entries_of, is_open_after, is_orderly_call, outcome_of}
-use Rattle.bay_control.proofs.BackingLemmas.{all-backed}
 use Rattle.bay_control.proofs.LeadsLemmas.{none-leads, two-lead}
 use Rattle.bay_connection.specs.Talk.{Indication, Talk, answers, tells, releases, ends as ends-heard, fails, indications, left_by}
 use Rattle.bay_services.proofs.EntryLemmas.{request-leads}
 use Rattle.bay_services.specs.Entries.{entries_in}
 use Rattle.bay_device.specs.Device.{State, device_at, bay_of, contact_taken}
-use Rattle.bay_device.specs.Entries.{Leading, entries_all, entries_at, entries_close, entries_closed, entries_heard, entries_octets, entries_of_event, entries_on, entries_open, entries_recv, opens, entries_of_act}
+use Rattle.bay_device.specs.Entries.{Leading, entries_at, entries_close, entries_closed, entries_heard, entries_octets, entries_of_event, entries_on, entries_open, entries_recv, opens, entries_of_act}
 use Rattle.bay_device.specs.Hearing.{Done, AllHeard, client_at, after_indications, on_heard, after_pdu}
-use Rattle.bay_device.specs.Outcomes.{Outcome, close_outcome, without_connection, connection_at, contact_outcome, event_outcome, first_talk, input_outcome, last_moment, measure_outcome, nothing_done, octets_outcome, open_outcome, outcome, outcomes, place_of, refusal_of, recv_after, recv_outcome, with_connection, without_owner}
+use Rattle.bay_device.specs.Outcomes.{Outcome, close_outcome, without_connection, connection_at, contact_outcome, event_outcome, first_talk, input_outcome, last_moment, measure_outcome, nothing_done, octets_outcome, open_outcome, outcome, place_of, refusal_of, recv_after, recv_outcome, with_connection, without_owner}
 use Rattle.bay_device.specs.Steps.{Steps}
 use Rattle.bay_device.specs.declared.event.Event.{Event}
 use Rattle.bay_device.specs.declared.event.Event.TheVariants.{Open, Recv, Close, Contact, Input, Measure, Scan}
@@ -426,21 +424,10 @@ leading now event old answer new sized steps =
           (opens after) before old.controls after.controls so_far led.leads);
     }
 
--- ---- a list of events
-
-led-all : (choices : List (Option ℕ)) (events : List (ℕ × Event)) (s : State)
-    → length s.connections ≡ 8
-    → Led (entries_all choices events s) s (outcomes choices events s).after
-led-all choices [] s sized = nothing s
-led-all choices (e ∷ es) s sized =
-    let first = led-outcome e.0 s sized (get_or choices 0 None) e.1 in
-    behind _ _ _ _ _ first (led-all (drop 1 choices) es _ (first.sized ∙ sized))
-
-pub all-are-backed : (choices : List (Option ℕ)) (events : List (ℕ × Event)) (s : State)
-    → length s.connections ≡ 8 → s.controls.selection ≡ None
-    → AreBacked s.controls.controls (entries_all choices events s)
-all-are-backed choices events s sized none =
-    let after : State = (outcomes choices events s).after in
-    let led : Led (entries_all choices events s) s after = led-all choices events s sized in
-    all-backed (entries_all choices events s) (opens s) (opens after) s.controls after.controls
-    led.leads none
+-- it leaves the eight places
+pub eight-places : (now : ℕ) (event : Event) (old : State) (answer : Result Step StepFault)
+    (new : State) → length old.connections ≡ 8 → Steps now event old answer new
+    → length new.connections ≡ 8
+eight-places now event old answer new sized steps =
+    ap (λ (s : State). length s.connections) steps.left
+    ∙ (led-outcome now old sized steps.choice event).sized ∙ sized

@@ -1,5 +1,5 @@
 -- Behind each command is a fresh scan, by what the process told after each event since.
-use Rattle.std.proofs.Common.{◌≡◌, ◌≢◌, ◌≤◌, ◌+◌, ◌-◌, ℕ, ℤ, Bool, true, false, not, ◌||◌, cond, nat_lt, List, [], ◌∷◌, ◌++◌, All, drop, get_or, map, slice_get, slice_set, unwrap_or, Option, None, Some, Result, Ok, Err, IfOk, IsOk, refl, ap, ap₂, sym, ◌∙◌, subst, arith}
+use Rattle.std.proofs.Common.{◌≡◌, ◌≢◌, ◌≤◌, ◌+◌, ◌-◌, ℕ, ℤ, Bool, true, false, not, ◌||◌, cond, nat_lt, List, [], ◌∷◌, ◌++◌, All, map, slice_get, slice_set, unwrap_or, Option, None, Some, Result, Ok, Err, IfOk, IsOk, refl, ap, ap₂, sym, ◌∙◌, subst, arith}
 use Rattle.std.specs.Bool.{beq}
 use Rattle.std.specs.List.{AllByRecursion}
 use Rattle.std.proofs.lemmas.Bool.{and_parts, leb-true}
@@ -23,9 +23,10 @@ use Rattle.bay_tree.specs.declared.leaf.Leaf.TheVariants as leaf
 use Rattle.bay_tree.specs.declared.leaf.Quality.TheVariants.{Good}
 use Rattle.bay_device.specs.Commands.{AreCommanded, IsReleasedAt}
 use Rattle.bay_device.specs.Device.{State, device_at, contact_taken, input_taken, inputs_of, is_fresh, is_recent, measure_taken, point_value, after_scan}
-use Rattle.bay_device.specs.Fresh.{AllFresh, Came, HasScan, IsFresh, IsSameProcess, Past, with_event}
+use Rattle.bay_device.specs.Fresh.{Came, FreshAt, HasScan, IsFresh, IsSameProcess, Past}
 use Rattle.bay_device.specs.Hearing.{Done, AllHeard, after_indications}
 use Rattle.bay_device.specs.Outcomes.{Outcome, close_outcome, without_connection, connection_at, contact_outcome, event_outcome, first_talk, input_outcome, last_moment, measure_outcome, nothing_done, octets_outcome, open_outcome, outcome, place_of, recv_after, recv_outcome, refusal_of, with_connection, without_owner}
+use Rattle.bay_device.specs.Steps.{Steps}
 use Rattle.bay_device.specs.declared.event.Event.{Event}
 use Rattle.bay_device.specs.declared.event.Event.TheVariants.{Open, Recv, Close, Contact, Input, Measure, Scan}
 use Rattle.bay_device.specs.declared.event.Step.{Step}
@@ -209,6 +210,11 @@ record Since (m : ℕ) (past : List Past) (s : State) : Type 0 where
 record Tracks (past : List Past) (s : State) : Type 0 where
   since_scan : (m : ℕ) → s.last_scan ≡ Some m → s.is_stale ≡ false → Since m past s
 
+-- these events, and then one with this outcome
+with_event : ℕ → Event → Outcome → List Past → List Past
+with_event now event o past =
+    record { now = now; event = event; answer = o.answer; after = o.after } ∷ past
+
 -- behind an event with this outcome
 abbrev Led : ℕ → Event → List Past → Outcome → Type 0
 Led now event past o = Tracks (with_event now event o past) o.after
@@ -370,17 +376,6 @@ fresh-if now past s (Ok step) tracks commanded =
     λ some. has-scan now past s tracks (first-fresh now s step.commands commanded.released some)
 fresh-if now past s (Err fault) tracks commanded = tt
 
-fresh-from : (past : List Past) (choices : List (Option ℕ)) (events : List (ℕ × Event)) (s : State)
-    → Tracks past s → AllFresh past choices events s
-fresh-from past choices [] s tracks = tt
-fresh-from past choices (e ∷ es) s tracks =
-    let choice = get_or choices 0 None in
-    let o = outcome choice e.0 e.1 s in (
-      fresh-if e.0 past s o.answer tracks (step-commanded choice e.0 e.1 s),
-      fresh-from (with_event e.0 e.1 o past) (drop 1 choices) es o.after
-          (led past s tracks e.0 choice e.1),
-    )
-
 -- ---- since load
 
 -- an event that was done so
@@ -399,7 +394,7 @@ led-past p past o answered left all =
 came-tracks : (past : List Past) (s : State) → Came past s → Tracks past s
 came-tracks [] s loaded = record {
   since_scan = λ m scans fresh.
-      let none : s.last_scan ≡ None = ap (λ (t : State). t.last_scan) loaded.is in
+      let none : s.last_scan ≡ None = ap (λ (t : State). t.last_scan) loaded.2 in
       absurd (let no : None ≡ (let o : Option ℕ = Some m in o) = sym none ∙ scans in cc);
 }
 came-tracks (p ∷ past) s came =
@@ -409,18 +404,11 @@ came-tracks (p ∷ past) s came =
     (led-past p past (outcome steps.choice p.now p.event before) steps.answered steps.left
     (led past before (came-tracks past before came.1.1) p.now steps.choice p.event))
 
-pub came-fresh : (past : List Past) (now : ℕ) (event : Event) (s : State)
-    (answer : Result Step StepFault) (choice : Option ℕ)
-    → answer ≡ (outcome choice now event s).answer → Came past s
-    → IsFresh now s.scan_max_age_ms past answer
-came-fresh past now event s answer choice is came =
-    fresh-if now past s answer (came-tracks past s came)
-    (subst (λ (r : Result Step StepFault). IfOk r (AreCommanded now s)) (sym is)
-    (step-commanded choice now event s))
-
-pub all-fresh : (past : List Past) (choices : List (Option ℕ)) (events : List (ℕ × Event))
-    (s : State) → Came past s → AllFresh past choices events s
-all-fresh past choices events s came = fresh-from past choices events s (came-tracks past s came)
+pub step-fresh : (now : ℕ) (event : Event) (old : State) (answer : Result Step StepFault)
+    (new : State) → Steps now event old answer new → FreshAt now event old answer new
+step-fresh now event old answer new steps past came =
+    fresh-if now past old answer (came-tracks past old came)
+    (step-commanded now event old answer new steps)
 
 -- ---- what a program reads
 

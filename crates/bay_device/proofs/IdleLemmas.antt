@@ -17,76 +17,69 @@ use Rattle.bay_control.specs.Decisions.{controls_of}
 use Rattle.bay_services.specs.Released.{AreTimed}
 use Rattle.bay_device.specs.Device.{State}
 use Rattle.bay_device.specs.Entries.{IsIdle}
-use Rattle.bay_device.specs.Fresh.{IsLoaded}
-use Rattle.bay_device.specs.Load.{LoadsRead, initial_device, of_bay, of_checked, of_compiled, of_program}
+use Rattle.bay_device.specs.Load.{IsCompiled, IsLoaded, LoadsRead, initial_device, of_bay, of_checked, of_compiled}
 use Rattle.bay_device.specs.declared.fault.LoadFault.{LoadFault}
 use Rattle.bay_device.specs.declared.fault.LoadFault.TheVariants.{OutOfMemory}
 
--- a device of a bay, before its first event
-record IsFirst (bay : Bay) (s : State) : Type 0 where
-  image : Image
-  is : s ≡ initial_device bay image
+-- ---- which device it is
 
-first-compiled : (bay : Bay) (image : Result Image CompileFault) (s : State)
-    → of_compiled bay image ≡ Ok s → IsFirst bay s
-first-compiled bay (Ok image) s e = record { image = image; is = cc }
-first-compiled bay (Err fault) s e = absurd cc
+by-image : (b : Bay) (p : PlainProgram) (c : Checked) (image : Result Image CompileFault) (s : State)
+    → checked_of b.points p ≡ Ok c → compiled_of c ≡ image → of_compiled b image ≡ Ok s
+    → IsLoaded (Ok b) (IsCompiled (Ok p)) s
+by-image b p c (Ok image) s passes compiles e = record {
+  bay = b;
+  read = refl;
+  image = image;
+  made = record {
+    program = p;
+    reads = refl;
+    checked = c;
+    passes = passes;
+    compiles = compiles;
+  };
+  is = cc;
+}
+by-image b p c (Err fault) s passes compiles e = absurd cc
 
-first-checked : (bay : Bay) (checked : Result Checked CheckFault) (s : State)
-    → of_checked bay checked ≡ Ok s → IsFirst bay s
-first-checked bay (Ok checked) s e = first-compiled bay (compiled_of checked) s e
-first-checked bay (Err fault) s e = absurd cc
+by-checked : (b : Bay) (p : PlainProgram) (checked : Result Checked CheckFault) (s : State)
+    → checked_of b.points p ≡ checked → of_checked b checked ≡ Ok s
+    → IsLoaded (Ok b) (IsCompiled (Ok p)) s
+by-checked b p (Ok c) s passes e = by-image b p c (compiled_of c) s passes refl e
+by-checked b p (Err fault) s passes e = absurd cc
 
-first-program : (bay : Bay) (program : Result PlainProgram TextFault) (s : State)
-    → of_program bay program ≡ Ok s → IsFirst bay s
-first-program bay (Ok program) s e = first-checked bay (checked_of bay.points program) s e
-first-program bay (Err fault) s e = absurd cc
-
-first-read : (bay : Bay) (image : Result Image ImageFault) (s : State) → LoadsRead bay image (Ok s)
-    → IsFirst bay s
-first-read bay (Ok image) s loads = record { image = image; is = loads.1 }
-first-read bay (Err fault) s loads = absurd cc
-
-timed-first : (bay : Bay) (s : State) → AreTimed (controls_of bay.switches) → IsFirst bay s
-    → AreTimed s.controls.controls
-timed-first bay s timed first =
-    subst (λ (t : State). AreTimed t.controls.controls) (sym first.is) timed
-
-loaded-first : (bay : Bay) (s : State) → IsFirst bay s → IsLoaded s
-loaded-first bay s first = record { bay = bay; image = first.image; is = first.is }
-
-pub text-loaded : (bay : Result Bay BayFault) (program : Result PlainProgram TextFault)
+pub text-loaded : (file : Result Bay BayFault) (text : Result PlainProgram TextFault)
     (result : Result State LoadFault)
-    → Gives OutOfMemory (λ (s : State). s) result (of_bay bay program) → IfOk result IsLoaded
-text-loaded (Ok bay) program (Ok s) e = loaded-first bay s (first-program bay program s e)
-text-loaded (Err fault) program (Ok s) e = absurd cc
-text-loaded bay program (Err refusal) e = tt
+    → Gives OutOfMemory (λ (s : State). s) result (of_bay file text)
+    → IfOk result (IsLoaded file (IsCompiled text))
+text-loaded (Ok b) (Ok p) (Ok s) e = by-checked b p (checked_of b.points p) s refl e
+text-loaded (Ok b) (Err fault) (Ok s) e = absurd cc
+text-loaded (Err fault) text (Ok s) e = absurd cc
+text-loaded file text (Err refusal) e = tt
 
-pub image-loaded : (bay : Bay) (image : Result Image ImageFault) (result : Result State LoadFault)
-    → IfOk result (λ s. LoadsRead bay image (Ok s)) → IfOk result IsLoaded
-image-loaded bay image (Ok s) loads = loaded-first bay s (first-read bay image s loads)
-image-loaded bay image (Err refusal) loads = tt
+pub image-loaded : (file : Result Bay BayFault) (bay : Bay) (image : Result Image ImageFault)
+    (result : Result State LoadFault) → file ≡ Ok bay
+    → IfOk result (λ s. LoadsRead bay image (Ok s))
+    → IfOk result (IsLoaded file (λ b i. image ≡ Ok i))
+image-loaded file bay (Ok image) (Ok s) read loads =
+    record { bay = bay; read = read; image = image; made = refl; is = loads.1 }
+image-loaded file bay (Err fault) (Ok s) read loads = absurd cc
+image-loaded file bay image (Err refusal) read loads = tt
 
-pub loaded-idle : (result : Result State LoadFault) → IfOk result IsLoaded → IfOk result IsIdle
-loaded-idle (Ok s) loaded = let idle : IsIdle (initial_device loaded.bay loaded.image) =
-    record { unselected = refl; closed = refl } in subst IsIdle (sym loaded.is) idle
-loaded-idle (Err refusal) loaded = tt
+-- ---- what is so of it
 
--- where each switch of the bay file that can be operated takes some time
-abbrev IsTimed : Result State LoadFault → Type 0
-IsTimed result = IfOk result (λ (s : State). AreTimed s.controls.controls)
+module _ (file : Result Bay BayFault) (IsImage : Bay → Image → Type 0) where
+  pub loaded-idle : (result : Result State LoadFault) → IfOk result (IsLoaded file IsImage)
+      → IfOk result IsIdle
+  loaded-idle (Ok s) loaded = let idle : IsIdle (initial_device loaded.bay loaded.image) =
+      record { unselected = refl; closed = refl } in subst IsIdle (sym loaded.is) idle
+  loaded-idle (Err refusal) loaded = tt
 
-pub text-timed : (bay : Result Bay BayFault) (program : Result PlainProgram TextFault)
-    (result : Result State LoadFault)
-    → ((b : Bay) → bay ≡ Ok b → AreTimed (controls_of b.switches))
-    → Gives OutOfMemory (λ (s : State). s) result (of_bay bay program) → IsTimed result
-text-timed (Ok bay) program (Ok s) timed e =
-    timed-first bay s (timed bay refl) (first-program bay program s e)
-text-timed (Err fault) program (Ok s) timed e = absurd cc
-text-timed bay program (Err refusal) timed e = tt
-
-pub image-timed : (bay : Bay) (image : Result Image ImageFault) (result : Result State LoadFault)
-    → AreTimed (controls_of bay.switches)
-    → IfOk result (λ s. LoadsRead bay image (Ok s)) → IsTimed result
-image-timed bay image (Ok s) timed loads = timed-first bay s timed (first-read bay image s loads)
-image-timed bay image (Err refusal) timed loads = tt
+  -- where each switch of the bay file that can be operated takes some time
+  pub loaded-timed : (result : Result State LoadFault)
+      → ((b : Bay) → file ≡ Ok b → AreTimed (controls_of b.switches))
+      → IfOk result (IsLoaded file IsImage)
+      → IfOk result (λ (s : State). AreTimed s.controls.controls)
+  loaded-timed (Ok s) timed loaded =
+      subst (λ (t : State). AreTimed t.controls.controls) (sym loaded.is)
+      (timed loaded.bay loaded.read)
+  loaded-timed (Err refusal) timed loaded = tt

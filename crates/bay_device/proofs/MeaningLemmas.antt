@@ -1,5 +1,5 @@
 -- A device that runs a text does what the text means.
-use Rattle.std.proofs.Common.{◌≡◌, ℕ, zero, suc, Bool, true, false, not, cond, nat_lt, List, [], ◌∷◌, ◌++◌, length, map, take, drop, get_or, slice_get, Option, Some, None, refl, sym, ap, ap₂, subst, ◌∙◌, arith}
+use Rattle.std.proofs.Common.{◌≡◌, ℕ, zero, suc, Bool, true, false, not, cond, nat_lt, List, [], ◌∷◌, ◌++◌, length, map, take, drop, slice_get, Option, Some, None, Result, IfOk, refl, sym, ap, ap₂, subst, ◌∙◌, arith}
 use Rattle.std.proofs.lemmas.List.{length-map, take-append-drop}
 use Rattle.std.proofs.Math.Seq.{drop-append_seam, take-append_seam}
 use Rattle.bay_base.specs.declared.types.ElementaryType.{ElementaryType}
@@ -34,10 +34,14 @@ use Rattle.il_scan.specs.Scans.{Held, first_input, first_slots, outputs_of, read
 use Rattle.bay_connection.specs.Talk.{Talk, Indication, indications, left_by, answers, tells, releases, ends as ends-heard, fails}
 use Rattle.bay_device.specs.Device.{State, Ran, device_at, ending_at, inputs_of, point_value, ran_at, ran_of, after_scan}
 use Rattle.bay_device.specs.Hearing.{Done, AllHeard, after_indications, on_heard}
-use Rattle.bay_device.specs.Outcomes.{Outcome, close_outcome, connection_at, contact_outcome, event_outcome, input_outcome, last_moment, measure_outcome, nothing_done, octets_outcome, open_outcome, outcome, place_of, recv_after, recv_outcome, with_connection}
+use Rattle.bay_device.specs.Outcomes.{Outcome, close_outcome, connection_at, contact_outcome, event_outcome, input_outcome, last_moment, measure_outcome, nothing_done, octets_outcome, open_outcome, outcome, place_of, recv_after, recv_outcome, refusal_of, with_connection}
+use Rattle.bay_device.specs.Steps.{Steps}
+use Rattle.bay_device.specs.declared.event.Step.{Step}
 use Rattle.bay_device.specs.declared.event.Why.{Why}
+use Rattle.bay_device.specs.declared.fault.StepFault.{StepFault}
+use Rattle.bay_device.specs.declared.fault.StepFault.TheVariants.{MomentTooLarge, TimeWentBack}
 use Rattle.bay_process.specs.Values.{with_outputs}
-use Rattle.bay_device.specs.Meaning.{AllMean, Means, MeansAt, Runs, memory_before, memory_of}
+use Rattle.bay_device.specs.Meaning.{Means, MeansAt, Runs, memory_before, memory_of}
 use Rattle.bay_process.specs.Sources.{type_of_source}
 use Rattle.bay_device.specs.declared.event.Event.{Event}
 use Rattle.bay_device.specs.declared.event.Event.TheVariants.{Open, Recv, Close, Contact, Input, Measure, Scan}
@@ -200,7 +204,7 @@ module _ (c : Checked) (s : State) (r : Runs c s) (now : ℕ) where
   keeps : memory_of c (after_scan now s).machine.slots (after_scan now s).machine.timers ≡ after
   keeps = ap (λ (x : Ran). memory_of c x.slots x.timers) ran ∙ kept
 
-  pub means-scan : Means c now s
+  pub means-scan : Means c now s (after_scan now s)
   means-scan = record {
     after = after;
     is = follows.means.is;
@@ -337,28 +341,39 @@ module _ (c : Checked) (s : State) (r : Runs c s) (now : ℕ) where
   runs-if true x y h k = h
   runs-if false x y h k = k
 
-  pub runs-still : (choice : Option ℕ) (event : Event) → Runs c (outcome choice now event s).after
-  runs-still choice event =
+  runs-outcome : (choice : Option ℕ) (event : Event) → Runs c (outcome choice now event s).after
+  runs-outcome choice event =
       runs-if (nat_lt last_moment now) _ _ r
       (runs-if (nat_lt now s.moment) _ _ r (runs-event choice event))
 
-  pub means-event : (event : Event) → MeansAt c now event s
-  means-event Scan = means-scan c (device_at now s) runs-advanced now
-  means-event (Open a) = tt
-  means-event (Recv a octets) = tt
-  means-event (Close a) = tt
-  means-event (Contact k position) = tt
-  means-event (Input k value) = tt
-  means-event (Measure k field value) = tt
+  -- a device that was left by a scan, if it was accepted
+  abbrev Left : Outcome → Type 0
+  Left o = IfOk o.answer (λ step. Means c now s o.after)
 
--- ---- a list of events
+  left-if : (b : Bool) (x y : Outcome) → Left x → Left y → Left (cond b x y)
+  left-if true x y p q = p
+  left-if false x y p q = q
 
-pub all-mean : (c : Checked) (choices : List (Option ℕ)) (events : List (ℕ × Event)) (s : State)
-    → Runs c s → AllMean c choices events s
-all-mean c choices [] s r = tt
-all-mean c choices (e ∷ events) s r = (
-  means-event c s r e.0 e.1,
-  all-mean c (drop 1 choices) events _ (runs-still c s r e.0 (get_or choices 0 None) e.1),
+  left-scan : (choice : Option ℕ) → Left (outcome choice now Scan s)
+  left-scan choice =
+      let m = means-scan c (device_at now s) runs-advanced now in
+      left-if (nat_lt last_moment now) (refusal_of MomentTooLarge s) _ tt
+      (left-if (nat_lt now s.moment) (refusal_of TimeWentBack s) (event_outcome choice now Scan s) tt
+      (record { after = m.after; is = m.is; keeps = m.keeps; rows = m.rows }))
+
+-- a step on a device that runs the program
+pub means-step : (c : Checked) (now : ℕ) (event : Event) (old : State)
+    (answer : Result Step StepFault) (new : State) → Runs c old → Steps now event old answer new
+    → MeansAt c now event old answer new × Runs c new
+means-step c now event old answer new r steps = (
+  λ is. subst (λ (a : Result Step StepFault). IfOk a (λ step. Means c now old new))
+      (sym (steps.answered
+      ∙ ap (λ (e : Event). (outcome steps.choice now e old).answer) is))
+      (subst (λ (t : State). IfOk (outcome steps.choice now Scan old).answer
+      (λ step. Means c now old t))
+      (sym (steps.left ∙ ap (λ (e : Event). (outcome steps.choice now e old).after) is))
+      (left-scan c old r now steps.choice)),
+  subst (Runs c) (sym steps.left) (runs-outcome c old r now steps.choice event),
 )
 
 -- ---- before the first event

@@ -1,5 +1,5 @@
 -- The commands of events are the operates that are accepted in what they tell.
-use Rattle.std.proofs.Common.{◌≡◌, ℕ, ℤ, zero, suc, Bool, true, false, ◌&&◌, cond, nat_lt, List, [], ◌∷◌, ◌++◌, drop, get_or, slice_get, Option, None, Some, Result, Ok, Err, IfOk, ◌⊎◌, inl, inr, refl, ap, sym, ◌∙◌, subst, arith, append-nil, append_assoc}
+use Rattle.std.proofs.Common.{◌≡◌, ℕ, ℤ, zero, suc, Bool, true, false, ◌&&◌, cond, nat_lt, List, [], ◌∷◌, ◌++◌, slice_get, Option, None, Some, Result, Ok, Err, IfOk, ◌⊎◌, inl, inr, refl, ap, sym, ◌∙◌, subst, arith, append-nil, append_assoc}
 use Rattle.std.specs.List.{Contains}
 use Rattle.std.proofs.lemmas.List.Elements.{Contains-append_cases, Contains-append_left, Contains-append_right}
 use Rattle.bay_config.specs.declared.bay.MeterField.{MeterField}
@@ -15,10 +15,11 @@ use Rattle.bay_services.specs.declared.client.Client.{Client}
 use Rattle.bay_services.proofs.OperateLemmas.{answer-operates, operates-append}
 use Rattle.bay_tree.specs.declared.leaf.Dbpos.{Dbpos}
 use Rattle.bay_device.specs.Device.{State, device_at, bay_of}
-use Rattle.bay_device.specs.Entries.{IsIdle, entries_at, entries_close, entries_closed, entries_heard, entries_octets, entries_of_event, entries_on, entries_open, entries_recv}
+use Rattle.bay_device.specs.Entries.{entries_at, entries_close, entries_closed, entries_heard, entries_octets, entries_of_event, entries_on, entries_open, entries_recv}
 use Rattle.bay_device.specs.Hearing.{Done, AllHeard, client_at, after_indications, on_heard, after_pdu, with_sent}
-use Rattle.bay_device.specs.Operates.{AllOperate, AreOperates, AreReplied, AreRepliedAt, IsReplied}
-use Rattle.bay_device.specs.Outcomes.{Outcome, close_outcome, connection_at, contact_outcome, event_outcome, input_outcome, last_moment, measure_outcome, nothing_done, octets_outcome, open_outcome, outcome, outcomes, place_of, recv_outcome, refusal_of}
+use Rattle.bay_device.specs.Operates.{AreOperates, AreReplied, AreRepliedAt, IsReplied}
+use Rattle.bay_device.specs.Outcomes.{Outcome, close_outcome, connection_at, contact_outcome, event_outcome, input_outcome, last_moment, measure_outcome, nothing_done, octets_outcome, open_outcome, outcome, place_of, recv_outcome, refusal_of}
+use Rattle.bay_device.specs.Steps.{Steps}
 use Rattle.bay_device.specs.Told.{AreTalks, behind_one, of_answer, pdus_in, talk_at, told_closed, told_heard, told_recv, told_step}
 use Rattle.bay_device.specs.declared.event.Event.{Event}
 use Rattle.bay_device.specs.declared.event.Event.TheVariants.{Open, Recv, Close, Contact, Input, Measure, Scan}
@@ -26,7 +27,7 @@ use Rattle.bay_device.specs.declared.event.Step.{Step}
 use Rattle.bay_device.specs.declared.event.Why.{Why}
 use Rattle.bay_device.specs.declared.fault.StepFault.{StepFault}
 use Rattle.bay_device.specs.declared.fault.StepFault.TheVariants.{MomentTooLarge, TimeWentBack}
-use Rattle.bay_device.proofs.ToldLemmas.{idle-talks, none-accepted, outcome-told}
+use Rattle.bay_device.proofs.ToldLemmas.{none-accepted, outcome-told}
 
 -- ---- lists
 
@@ -284,34 +285,12 @@ told-gives (Ok step) entries now event n talks gives told =
     record { operated = is; replied = replied-step now event n talks step is }
 told-gives (Err fault) entries now event n talks gives told = tt
 
-pub step-operates : (n : Bay) (choice : Option ℕ) (now : ℕ) (event : Event) (s : State)
-    → AreNamedAlike n (bay_of s) → AreTalks s.connections
-    → IfOk (outcome choice now event s).answer (AreOperates now event n s.connections)
-step-operates n choice now event s alike sized =
-    told-gives (outcome choice now event s).answer (entries_at choice now event s) now event n
-    s.connections (outcome-gives choice now event s)
-    (outcome-told n now s alike sized choice event).told
-
-all-operate : (n : Bay) (choices : List (Option ℕ)) (events : List (ℕ × Event)) (s : State)
-    → AreNamedAlike n (bay_of s) → AreTalks s.connections
-    → AllOperate n s.connections events (outcomes choices events s).answers
-all-operate n choices [] s alike sized = tt
-all-operate n choices (e ∷ es) s alike sized =
-    let choice = get_or choices 0 None in
-    let later = outcomes (drop 1 choices) es (outcome choice e.0 e.1 s).after in
-    let t = outcome-told n e.0 s alike sized choice e.1 in (
-      step-operates n choice e.0 e.1 s alike sized,
-      subst (λ (talks : List (Option Talk)). AllOperate n talks es later.answers) t.left
-          (all-operate n (drop 1 choices) es _ t.alike t.sized),
-    )
-
--- on a device as load made it
-pub all-operate-idle : (choices : List (Option ℕ)) (events : List (ℕ × Event)) (s : State)
-    (replies : List (Result Step StepFault)) → IsIdle s
-    → replies ≡ (outcomes choices events s).answers
-    → AllOperate (bay_of s) s.connections events replies
-all-operate-idle choices events s replies idle is =
-    subst (λ (rs : List (Result Step StepFault)). AllOperate (bay_of s) s.connections events rs)
-    (sym is)
-    (all-operate (bay_of s) choices events s
-    (record { domain = refl; switches = refl; names = refl }) (idle-talks s idle))
+pub step-operates : (n : Bay) (now : ℕ) (event : Event) (old : State) (answer : Result Step StepFault)
+    (new : State) → AreNamedAlike n (bay_of old) → AreTalks old.connections
+    → Steps now event old answer new → IfOk answer (AreOperates now event n old.connections)
+step-operates n now event old answer new alike sized steps =
+    subst (λ (r : Result Step StepFault). IfOk r (AreOperates now event n old.connections))
+    (sym steps.answered)
+    (told-gives (outcome steps.choice now event old).answer (entries_at steps.choice now event old)
+    now event n old.connections (outcome-gives steps.choice now event old)
+    (outcome-told n now old alike sized steps.choice event).told)

@@ -1,90 +1,146 @@
 -- A run, event by event.
-use Rattle.std.proofs.Common.{◌≡◌, ℕ, ◌+◌, false, List, [], ◌∷◌, ◌++◌, drop, get_or, length, Option, None, Result, refl, ap, sym, ◌∙◌, arith, append_assoc, append-nil}
-use Rattle.bay_device.specs.Device.{State}
-use Rattle.bay_device.specs.Meaning.{AllHalt, Halting, HaltsAt, is_refused}
-use Rattle.bay_device.specs.Outcomes.{outcome, outcomes}
-use Rattle.bay_device.specs.Steps.{Steps}
+use Rattle.std.proofs.Common.{◌≡◌, ℕ, List, [], ◌∷◌, ◌++◌, All, length, None, Option, Result, refl, subst, sym, append_assoc, append-nil}
+use Rattle.std.specs.List.{AllByRecursion}
+use Rattle.bay_connection.specs.Talk.{Talk}
+use Rattle.bay_control.specs.Backing.{AreBacked}
+use Rattle.bay_control.specs.Happenings.{Leads}
+use Rattle.bay_control.proofs.BackingLemmas.{all-backed}
+use Rattle.bay_control.proofs.LeadsLemmas.{none-leads, two-lead}
+use Rattle.bay_services.specs.Accepted.{AreNamedAlike}
+use Rattle.bay_services.specs.Bay.{Bay}
+use Rattle.bay_services.proofs.ReleaseLemmas.{all-of}
+use Rattle.bay_device.specs.Device.{State, bay_of}
+use Rattle.bay_device.specs.Entries.{opens}
+use Rattle.bay_device.specs.Operates.{AllOperate}
+use Rattle.bay_device.specs.Steps.{EachStep, Steps}
+use Rattle.bay_device.specs.Told.{AreTalks, talks_answer, told_all, told_answer}
 use Rattle.bay_device.specs.declared.event.Event.{Event}
 use Rattle.bay_device.specs.declared.event.Step.{Step}
 use Rattle.bay_device.specs.declared.fault.StepFault.{StepFault}
+use Rattle.bay_device.proofs.EntryLemmas.{eight-places, leading}
+use Rattle.bay_device.proofs.OperateLemmas.{step-operates}
+use Rattle.bay_device.proofs.ToldLemmas.{telling}
 
--- choices for the events so far, and then these
-pub record Chosen (events : List (ℕ × Event)) (old : State) (answers : List (Result Step StepFault))
-    (rest : List (ℕ × Event)) (new : State) (done : ℕ) (later : List (Option ℕ)) : Type 0 where
-  pub choices : List (Option ℕ)
-  pub each : length choices ≡ done + length later
-  pub answered : (outcomes choices events old).answers
-      ≡ answers ++ (outcomes later rest new).answers
-  pub left : (outcomes choices events old).after ≡ (outcomes later rest new).after
-  pub halts : AllHalt later rest new → AllHalt choices events old
+-- ---- the loop
 
--- The events so far, whatever is chosen later.
-pub record Leads (events : List (ℕ × Event)) (old : State) (answers : List (Result Step StepFault))
-    (rest : List (ℕ × Event)) (new : State) (done : ℕ) : Type 0 where
-  pub goes : (later : List (Option ℕ)) → Chosen events old answers rest new done later
+-- The events so far lead to a device: what is so of the rest from there is so of all of them.
+pub record Goes (Does : ℕ → Event → State → Result Step StepFault → State → Type 0)
+    (events : List (ℕ × Event)) (old : State) (answers : List (Result Step StepFault))
+    (rest : List (ℕ × Event)) (now : State) : Type 0 where
+  pub on : (more : List (Result Step StepFault)) (new : State) → EachStep Does rest now more new
+      → EachStep Does events old (answers ++ more) new
 
-pub leads-none : (events : List (ℕ × Event)) (old : State) → Leads events old [] events old 0
-leads-none events old =
-    record {
-      goes = λ later.
-          record {
-            choices = later;
-            each = omega arith;
-            answered = refl;
-            left = refl;
-            halts = λ h. h;
-          };
-    }
+module _ {Does : ℕ → Event → State → Result Step StepFault → State → Type 0} where
+  pub goes-none : (events : List (ℕ × Event)) (old : State) → Goes Does events old [] events old
+  goes-none events old = record { on = λ more new each. each }
 
-first-answered : (answers : List (Result Step StepFault)) (answer was : Result Step StepFault)
-    (rest : List (Result Step StepFault)) → answer ≡ was
-    → answers ++ was ∷ rest ≡ (answers ++ answer ∷ []) ++ rest
-first-answered answers answer was rest is =
-    ap (λ (x : Result Step StepFault). answers ++ x ∷ rest) (sym is)
-    ∙ sym (append_assoc answers (answer ∷ []) rest)
+  pub goes-step : (events : List (ℕ × Event)) (old : State) (answers : List (Result Step StepFault))
+      (e : ℕ × Event) (rest : List (ℕ × Event)) (s : State) (answer : Result Step StepFault)
+      (t : State) → Goes Does events old answers (e ∷ rest) s → Steps e.0 e.1 s answer t
+      → Does e.0 e.1 s answer t → Goes Does events old (answers ++ answer ∷ []) rest t
+  goes-step events old answers e rest s answer t goes steps does = record {
+    on = λ more new each.
+        subst (λ (rs : List (Result Step StepFault)). EachStep Does events old rs new)
+        (sym (append_assoc answers (answer ∷ []) more))
+        (goes.on (answer ∷ more) new (t, steps, does, each));
+  }
 
-pub leads-step : (events : List (ℕ × Event)) (old : State) (answers : List (Result Step StepFault))
-    (e : ℕ × Event) (rest : List (ℕ × Event)) (s : State) (done : ℕ)
-    (answer : Result Step StepFault) (t : State)
-    → Leads events old answers (e ∷ rest) s done → Steps e.0 e.1 s answer t
-    → (is_refused e.0 s ≡ false → HaltsAt e.0 e.1 s)
-    → Leads events old (answers ++ answer ∷ []) rest t (done + 1)
-leads-step events old answers e rest s done answer t leads step halts = record {
-  goes = λ later.
-      let g = leads.goes (step.choice ∷ later) in
-      record {
-        choices = g.choices;
-        each = omega (arith, g.each);
-        answered = g.answered
-            ∙ first-answered answers answer (outcome step.choice e.0 e.1 s).answer
-            (outcomes later rest (outcome step.choice e.0 e.1 s).after).answers step.answered
-            ∙ ap (λ (u : State). (answers ++ answer ∷ []) ++ (outcomes later rest u).answers)
-            (sym step.left);
-        left = g.left ∙ ap (λ (u : State). (outcomes later rest u).after) (sym step.left);
-        halts = λ h. g.halts (halts, rw (← step.left) h);
-      };
+  pub goes-all : (events : List (ℕ × Event)) (old : State) (answers : List (Result Step StepFault))
+      (new : State) → Goes Does events old answers [] new → EachStep Does events old answers new
+  goes-all events old answers new goes =
+      subst (λ (rs : List (Result Step StepFault)). EachStep Does events old rs new)
+      (append-nil answers) (goes.on [] new refl)
+
+-- ---- laws of a step
+
+-- A law of each step on a device of which something is so, which then stays so.
+pub each-does : {Does : ℕ → Event → State → Result Step StepFault → State → Type 0}
+    (Did : ℕ → Event → State → Result Step StepFault → State → Type 0) (Is : State → Type 0) → ((now : ℕ) (event : Event) (old : State)
+    (answer : Result Step StepFault) (new : State) → Is old → Steps now event old answer new
+    → Does now event old answer new × Is new)
+    → (es : List (ℕ × Event)) (old : State) (answers : List (Result Step StepFault)) (new : State)
+    → Is old → EachStep Did es old answers new → EachStep Does es old answers new × Is new
+each-does Did Is law [] old [] new is each = (each, subst Is (sym each) is)
+each-does Did Is law [] old (answer ∷ answers) new is each = absurd each
+each-does Did Is law (e ∷ es) old [] new is each = absurd each
+each-does Did Is law (e ∷ es) old (answer ∷ answers) new is each =
+    let did = law e.0 e.1 old answer each.0 is each.1 in
+    let rest = each-does Did Is law es each.0 answers new did.1 each.3 in
+    ((each.0, each.1, did.0, rest.0), rest.1)
+
+-- of each step on any device
+pub each-so : {Does : ℕ → Event → State → Result Step StepFault → State → Type 0}
+    (Did : ℕ → Event → State → Result Step StepFault → State → Type 0) → ((now : ℕ) (event : Event) (old : State) (answer : Result Step StepFault) (new : State)
+    → Steps now event old answer new → Does now event old answer new)
+    → (es : List (ℕ × Event)) (old : State) (answers : List (Result Step StepFault)) (new : State)
+    → EachStep Did es old answers new → EachStep Does es old answers new
+each-so Did law es old answers new each =
+    (each-does Did (λ s. Unit {0}) (λ now event old answer new is steps. (
+      law now event old answer new
+          steps,
+      tt,
+    )) es old answers new tt each).0
+
+-- what is so of each answer
+pub each-answer : (Is : Result Step StepFault → Type 0) (es : List (ℕ × Event)) (old : State)
+    (answers : List (Result Step StepFault)) (new : State)
+    → EachStep (λ now event s answer t. Is answer) es old answers new → All Is answers
+each-answer Is es old answers new each = all-of Is answers (parts es old answers new each)
+  where
+    parts : (es : List (ℕ × Event)) (old : State) (answers : List (Result Step StepFault))
+        (new : State) → EachStep (λ now event s answer t. Is answer) es old answers new
+        → AllByRecursion Is answers
+    parts [] old [] new each = tt
+    parts [] old (answer ∷ answers) new each = absurd each
+    parts (e ∷ es) old [] new each = absurd each
+    parts (e ∷ es) old (answer ∷ answers) new each =
+        (each.2, parts es each.0 answers new each.3)
+
+-- ---- what events and their answers tell
+
+-- It leads the controls on, and its accepted operates are the commands.
+pub record Tells (n : Bay) (es : List (ℕ × Event)) (old : State)
+    (answers : List (Result Step StepFault)) (new : State) : Type 0 where
+  pub leads : Leads (told_all n old.connections es answers) (opens old) old.controls (opens new)
+      new.controls
+  pub operates : AllOperate n old.connections es answers
+
+pub tells : (Did : ℕ → Event → State → Result Step StepFault → State → Type 0) (n : Bay)
+    (es : List (ℕ × Event)) (old : State) (answers : List (Result Step StepFault)) (new : State)
+    → length old.connections ≡ 8 → AreNamedAlike n (bay_of old) → AreTalks old.connections
+    → EachStep Did es old answers new → Tells n es old answers new
+tells Did n [] old [] new eight alike sized each = record {
+  leads = subst (λ (s : State). Leads [] (opens old) old.controls (opens s) s.controls) (sym each)
+      (none-leads (opens old) old.controls);
+  operates = tt;
 }
-
-pub runs-all : (events : List (ℕ × Event)) (old : State) (answers : List (Result Step StepFault))
-    (new : State) (done : ℕ) → done ≡ length events
-    → Leads events old answers [] new done → Halting events old answers new
-runs-all events old answers new done all leads =
-    let g = leads.goes [] in
+tells Did n [] old (answer ∷ answers) new eight alike sized each = absurd each
+tells Did n (e ∷ es) old [] new eight alike sized each = absurd each
+tells Did n (e ∷ es) old (answer ∷ answers) new eight alike sized each =
+    let next : State = each.0 in
+    let t = telling n e.0 e.1 old answer next alike sized
+    (leading e.0 e.1 old answer next eight each.1) in
+    let rest = tells Did n es next answers new
+    (eight-places e.0 e.1 old answer next eight each.1) t.alike t.sized each.3 in
     record {
-      steps = record {
-        choices = g.choices;
-        each = omega (arith, g.each);
-        answered = sym (g.answered ∙ append-nil answers);
-        left = sym g.left;
-      };
-      halts = g.halts tt;
+      leads = two-lead (told_answer e.0 e.1 n old.connections answer)
+          (told_all n (talks_answer e.1 old.connections answer) es answers) (opens old)
+          (opens next) (opens new) old.controls next.controls new.controls
+          (t.leads [] (opens old) old.controls (none-leads (opens old) old.controls))
+          (subst (λ (talks : List (Option Talk)). Leads (told_all n talks es answers) (opens next)
+          next.controls (opens new) new.controls) t.left rest.leads);
+      operates = (
+        step-operates n e.0 e.1 old answer next alike sized each.1,
+        subst (λ (talks : List (Option Talk)). AllOperate n talks es answers) t.left
+            rest.operates,
+      );
     }
 
--- What each event keeps is so after all of them.
-pub kept-all : (P : State → Type 0) → ((choice : Option ℕ) (now : ℕ) (event : Event) (s : State)
-    → P s → P (outcome choice now event s).after)
-    → (choices : List (Option ℕ)) (events : List (ℕ × Event)) (s : State) → P s
-    → P (outcomes choices events s).after
-kept-all P kept choices [] s p = p
-kept-all P kept choices (e ∷ es) s p =
-    kept-all P kept (drop 1 choices) es _ (kept (get_or choices 0 None) e.0 e.1 s p)
+-- From no selection what they tell is backed.
+pub tells-backed : (n : Bay) (es : List (ℕ × Event)) (old : State)
+    (answers : List (Result Step StepFault)) (new : State) → old.controls.selection ≡ None
+    → Tells n es old answers new
+    → AreBacked old.controls.controls (told_all n old.connections es answers)
+tells-backed n es old answers new none t =
+    all-backed (told_all n old.connections es answers) (opens old) (opens new) old.controls
+    new.controls t.leads none

@@ -14,7 +14,7 @@ use Rattle.il_image.specs.declared.value.Value.TheVariants.{Long}
 use Rattle.il_scan.specs.Places.{is_true}
 use Rattle.il_scan.specs.Scans.{Held, Scans, outputs_of, scan_start}
 use Rattle.bay_connection.specs.Talk.{Talk}
-use Rattle.bay_device.specs.Device.{Ran, after_run, ending_at, inputs_of, point_value, ran_at, ran_of, after_scan}
+use Rattle.bay_device.specs.Device.{State, Ran, after_run, ending_at, inputs_of, point_value, ran_at, ran_of, after_scan}
 use Rattle.bay_process.specs.Values.{measure_leaf, number_of_leaf, output_at, position_leaf, position_value, with_output, with_outputs}
 use Rattle.bay_process.specs.Layout.{Layout, layout_of, switches_of, IsBound, AreBound, AreLeafTyped, AreMetersBound, AreMetersLeafTyped}
 use Rattle.bay_device.specs.Meaning.{Halts}
@@ -147,15 +147,12 @@ module _ (connections : List (Option Talk)) (d : DeviceState) (now : ℕ) (input
       ≡ record { slots = new.slots; timers = new.timers; steps = steps }
   ran = ap ran_of ended
 
-  pub halted : Halts now (state_view connections d)
-  halted =
-      record {
-        slots = new.slots;
-        timers = new.timers;
-        steps = steps;
-        halts = ended;
-        within = did.within;
-      }
+  pub halted : (after : State) → after.machine ≡ new
+      → Halts now (state_view connections d) steps after
+  halted after left = record {
+    halts = ended ∙ sym (ap (λ (h : Held). Halted h.slots h.timers steps) left);
+    within = did.within;
+  }
 
   pub scan-done : (rows : List Row)
       → rows ≡ outputs_put (layout_of d.bay.tree) d.bay.switches outputs now d.bay.tree

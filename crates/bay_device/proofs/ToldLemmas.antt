@@ -1,6 +1,6 @@
 -- What events and their answers tell is what the device's definitions say of them.
 use Rattle.std.specs.Prelude.{replicate}
-use Rattle.std.proofs.Common.{◌≡◌, ◌≤◌, ℕ, zero, suc, ℤ, Bool, true, false, cond, nat_lt, List, [], ◌∷◌, ◌++◌, drop, get_or, length, map, slice_get, slice_set, Option, None, Some, IsSome, unwrap_or, Result, Ok, Err, refl, ap, ap₂, sym, ◌∙◌, subst, arith, append-nil, append_assoc}
+use Rattle.std.proofs.Common.{◌≡◌, ◌≤◌, ℕ, zero, suc, ℤ, Bool, true, false, cond, nat_lt, List, [], ◌∷◌, ◌++◌, map, slice_get, slice_set, Option, None, Some, IsSome, unwrap_or, Result, Ok, Err, refl, ap, ap₂, sym, ◌∙◌, subst, arith, append-nil, append_assoc}
 use Rattle.bay_base.specs.Options.{◌>>=◌}
 use Rattle.bay_ber.specs.Values.{Part, only_one, under, value_in, values_in}
 use Rattle.bay_ber.proofs.ListingLemmas.{no-values}
@@ -20,7 +20,6 @@ use Rattle.bay_assoc.specs.declared.hearing.Phase.{Phase}
 use Rattle.bay_assoc.specs.declared.hearing.Phase.TheVariants as phases
 use Rattle.bay_connection.specs.Talk.{Indication, Talk, Terms, answers, tells, releases, ends as ends-heard, fails, indications, left_by, sending}
 use Rattle.bay_control.specs.Acts.{Entry}
-use Rattle.bay_control.specs.Backing.{AreBacked}
 use Rattle.bay_control.specs.Decisions as control
 use Rattle.bay_control.specs.Decisions.{without_association}
 use Rattle.bay_control.specs.Happenings.{Leads}
@@ -32,10 +31,10 @@ use Rattle.bay_services.specs.declared.client.Client.{Client}
 use Rattle.bay_services.proofs.AcceptedLemmas.{alike-after, alike-still, none-read, none-written, response-tells}
 use Rattle.bay_services.proofs.ShortLemmas.{AreShort, answer-short}
 use Rattle.bay_device.specs.Device.{State, device_at, bay_of, ran_at}
-use Rattle.bay_device.specs.Entries.{IsIdle, Leading, opens, entries_all, entries_at, entries_close, entries_closed, entries_heard, entries_octets, entries_of_event, entries_on, entries_open, entries_recv}
+use Rattle.bay_device.specs.Entries.{IsIdle, Leading, opens, entries_at, entries_close, entries_closed, entries_heard, entries_octets, entries_of_event, entries_on, entries_open, entries_recv}
 use Rattle.bay_device.specs.Hearing.{Done, AllHeard, client_at, after_indications, on_heard, after_pdu, sent_on, size_of, with_sent}
-use Rattle.bay_device.specs.Outcomes.{Outcome, close_outcome, without_connection, closed_by, connection_at, contact_outcome, event_outcome, first_talk, input_outcome, last_moment, measure_outcome, nothing_done, octets_outcome, open_outcome, outcome, outcomes, place_of, refusal_of, recv_after, recv_outcome, with_connection, without_owner}
-use Rattle.bay_device.specs.Told.{AreTalks, Telling, of_answer, pdus_in, talk_at, talk_behind, talks_answer, talks_heard, talks_step, told_all, told_answer, told_closed, told_heard, told_recv, told_step, with_talk}
+use Rattle.bay_device.specs.Outcomes.{Outcome, close_outcome, without_connection, closed_by, connection_at, contact_outcome, event_outcome, first_talk, input_outcome, last_moment, measure_outcome, nothing_done, octets_outcome, open_outcome, outcome, place_of, refusal_of, recv_after, recv_outcome, with_connection, without_owner}
+use Rattle.bay_device.specs.Told.{AreTalks, Telling, of_answer, pdus_in, talk_at, talk_behind, talks_answer, talks_heard, talks_step, told_answer, told_closed, told_heard, told_recv, told_step, with_talk}
 use Rattle.bay_device.specs.declared.event.Event.{Event}
 use Rattle.bay_device.specs.declared.event.Event.TheVariants.{Open, Recv, Close, Contact, Input, Measure, Scan}
 use Rattle.bay_device.specs.declared.event.Sent.{Sent}
@@ -43,7 +42,7 @@ use Rattle.bay_device.specs.declared.event.Step.{Step}
 use Rattle.bay_device.specs.declared.event.Why.{Why}
 use Rattle.bay_device.specs.declared.fault.StepFault.{StepFault}
 use Rattle.bay_device.specs.declared.fault.StepFault.TheVariants.{MomentTooLarge, TimeWentBack}
-use Rattle.bay_device.proofs.EntryLemmas.{all-are-backed, heard-connected}
+use Rattle.bay_device.proofs.EntryLemmas.{heard-connected}
 use Rattle.bay_device.proofs.NameLemmas.{contact-names, measure-names, outputs-names}
 use Rattle.bay_device.proofs.SentLemmas.{read-back}
 use Rattle.bay_device.proofs.TalkLemmas.{CanAnswer, CanAnswerAll, IsOpen, can-answer, sized-behind}
@@ -486,21 +485,6 @@ telling n now event old answer new alike sized l =
       sized = subst (λ (u : State). AreTalks u.connections) (sym l.steps.left) t.sized;
     }
 
--- ---- a list of events
-
-pub all-told : (n : Bay) (choices : List (Option ℕ)) (events : List (ℕ × Event)) (s : State)
-    → AreNamedAlike n (bay_of s) → AreTalks s.connections
-    → told_all n s.connections events (outcomes choices events s).answers
-    ≡ entries_all choices events s
-all-told n choices [] s alike sized = refl
-all-told n choices (e ∷ es) s alike sized =
-    let choice = get_or choices 0 None in
-    let later = outcomes (drop 1 choices) es (outcome choice e.0 e.1 s).after in
-    let t = outcome-told n e.0 s alike sized choice e.1 in
-    ap₂ (λ (xs ys : List Entry). xs ++ ys) t.told
-    (ap (λ (talks : List (Option Talk)). told_all n talks es later.answers) (sym t.left)
-    ∙ all-told n (drop 1 choices) es _ t.alike t.sized)
-
 -- ---- a device as load made it
 
 none-there : (n place : ℕ)
@@ -515,17 +499,3 @@ idle-talks s idle place t e =
     ap (λ (cs : List (Option Talk)). unwrap_or (slice_get cs place) None) idle.closed
     ∙ none-there 8 place in
     absurd (let no : None ≡ Some t = sym none ∙ e in cc)
-
--- What the events of a run and their answers tell is backed.
-pub told-backed : (choices : List (Option ℕ)) (events : List (ℕ × Event)) (s : State)
-    (replies : List (Result Step StepFault)) → length s.connections ≡ 8 → IsIdle s
-    → replies ≡ (outcomes choices events s).answers
-    → AreBacked s.controls.controls (told_all (bay_of s) s.connections events replies)
-told-backed choices events s replies sized idle is =
-    let alike : AreNamedAlike (bay_of s) (bay_of s) =
-    record { domain = refl; switches = refl; names = refl } in
-    let same : told_all (bay_of s) s.connections events replies ≡ entries_all choices events s =
-    ap (λ (rs : List (Result Step StepFault)). told_all (bay_of s) s.connections events rs) is
-    ∙ all-told (bay_of s) choices events s alike (idle-talks s idle) in
-    subst (λ (es : List Entry). AreBacked s.controls.controls es) (sym same)
-    (all-are-backed choices events s sized idle.unselected)

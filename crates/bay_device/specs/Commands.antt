@@ -1,12 +1,11 @@
 -- When a device issues a command.
-use Rattle.std.specs.Prelude.{ℕ, ◌≡◌, ◌≢◌, ◌≤◌, true, List, [], length, All, Option, None, Result, IfOk}
+use Rattle.std.specs.Prelude.{ℕ, ◌≡◌, ◌≢◌, ◌≤◌, true, List, [], length, All, None, Result, IfOk}
 use Rattle.bay_tree.specs.Rows.{leaf_of}
 use Rattle.bay_process.specs.Values.{is_truth}
 use Rattle.bay_control.specs.Decisions as control
 use Rattle.bay_services.specs.Released.{releasing}
 use Rattle.bay_services.specs.declared.answer.Command.{Command}
 use Rattle.bay_device.specs.Device.{State, is_fresh}
-use Rattle.bay_device.specs.Steps.{EachEvent}
 use Rattle.bay_device.specs.declared.event.Event.{Event}
 use Rattle.bay_device.specs.declared.event.Step.{Step}
 use Rattle.bay_device.specs.declared.fault.StepFault.{StepFault}
@@ -18,14 +17,14 @@ pub record IsReleasedAt (now : ℕ) (s : State) (command : Command) : Type 0 whe
   pub enabled : is_truth true (leaf_of (releasing command.switch command.on) s.rows) ≡ true
   pub idle : (control.controls_at now s.controls).execution ≡ None
 
--- The commands of a step are so, and come with replies.
+-- The commands of a step are so, and where there are any something is sent.
 pub record AreCommanded (now : ℕ) (s : State) (step : Step) : Type 0 where
   pub released : All (IsReleasedAt now s) step.commands
   pub replied : step.commands ≢ [] → step.sent ≢ []
 
--- Those of each step of a list of events are.
-abbrev pub AllCommanded : List (Option ℕ) → List (ℕ × Event) → State → Type 0
-AllCommanded = EachEvent (λ now event s answer. IfOk answer (AreCommanded now s))
+-- Those of an answer are so.
+abbrev pub CommandedAt : ℕ → Event → State → Result Step StepFault → State → Type 0
+CommandedAt now event old answer new = IfOk answer (AreCommanded now old)
 
 -- A step has one command at most.
 abbrev pub IsSingle : Result Step StepFault → Type 0

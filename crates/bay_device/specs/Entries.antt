@@ -1,6 +1,6 @@
 -- What events ask of a device's controls, and what was accepted of it, as it is seen from outside;
 -- and which associations are open.
-use Rattle.std.specs.Prelude.{ℕ, ◌≡◌, zero, suc, nat_lt, Bool, true, List, [], ◌∷◌, ◌++◌, drop, get_or, Option, None, Some, is_some, replicate, Result, if◌then◌else◌}
+use Rattle.std.specs.Prelude.{ℕ, ◌≡◌, zero, suc, nat_lt, Bool, true, List, [], ◌∷◌, ◌++◌, Option, None, Some, is_some, replicate, Result, if◌then◌else◌}
 use Rattle.bay_control.specs.Acts.{Act, Opened, Closed, Entry}
 use Rattle.bay_control.specs.Decisions as control
 use Rattle.bay_control.specs.Happenings.{Leads}
@@ -8,7 +8,7 @@ use Rattle.bay_connection.specs.Talk.{Indication, Talk, answers, tells, releases
 use Rattle.bay_services.specs.Entries.{entries_in}
 use Rattle.bay_device.specs.Device.{State, device_at, bay_of}
 use Rattle.bay_device.specs.Hearing.{Done, client_at, after_indications, after_pdu, with_sent}
-use Rattle.bay_device.specs.Outcomes.{connection_at, last_moment, nothing_done, outcome, place_of}
+use Rattle.bay_device.specs.Outcomes.{connection_at, last_moment, nothing_done, place_of}
 use Rattle.bay_device.specs.Steps.{Steps}
 use Rattle.bay_device.specs.declared.event.Event.{Event}
 use Rattle.bay_device.specs.declared.event.Event.TheVariants.{Open, Recv, Close, Contact, Input, Measure, Scan}
@@ -97,14 +97,6 @@ entries_at choice now event s =
     if nat_lt last_moment now then []
     else if nat_lt now s.moment then []
     else entries_of_event choice now event s
-
--- Of a list of events, one after the other, with a choice for each; where there is none left memory
--- is not refused.
-abbrev pub entries_all : List (Option ℕ) → List (ℕ × Event) → State → List Entry
-entries_all choices [] s = []
-entries_all choices (e ∷ es) s =
-    let choice = get_or choices 0 None in
-    entries_at choice e.0 e.1 s ++ entries_all (drop 1 choices) es (outcome choice e.0 e.1 s).after
 
 -- ---- steps
 

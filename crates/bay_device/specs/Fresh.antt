@@ -1,7 +1,7 @@
 -- What stands behind a command: a scan that is not too old, since which no contact, no input and no
 -- measure has changed. It is said of what the process tells after each event, and nothing here
 -- looks at what a device notes of its scans.
-use Rattle.std.specs.Prelude.{ℕ, ◌≡◌, ◌≢◌, ◌+◌, ◌≤◌, All, List, [], ◌∷◌, ◌++◌, drop, get_or, Option, None, Result, IfOk, IsOk}
+use Rattle.std.specs.Prelude.{ℕ, ◌≡◌, ◌≢◌, ◌+◌, ◌≤◌, All, List, [], ◌∷◌, ◌++◌, Result, IfOk, IsOk}
 use Rattle.bay_config.specs.declared.bay.Bay.{Bay}
 use Rattle.bay_config.specs.declared.bay.MeterField.{MeterField}
 use Rattle.bay_nodes.specs.Names.{StatusNames, meter_names, position_names}
@@ -13,7 +13,6 @@ use Rattle.bay_tree.specs.declared.row.Row.{Row}
 use Rattle.il_image.specs.Images.{Image}
 use Rattle.bay_device.specs.Device.{State}
 use Rattle.bay_device.specs.Load.{initial_device}
-use Rattle.bay_device.specs.Outcomes.{Outcome, outcome}
 use Rattle.bay_device.specs.Steps.{Steps}
 use Rattle.bay_device.specs.declared.event.Event.{Event}
 use Rattle.bay_device.specs.declared.event.Event.TheVariants.{Scan}
@@ -38,12 +37,6 @@ pub record IsSameProcess (before after : State) : Type 0 where
 
 -- ---- what has happened
 
--- A device as load made it, of some bay file and some image.
-pub record IsLoaded (s : State) : Type 0 where
-  pub bay : Bay
-  pub image : Image
-  pub is : s ≡ initial_device bay image
-
 -- an event at a moment, its answer, and the device after it
 pub record Past : Type 0 where
   pub now : ℕ
@@ -51,9 +44,10 @@ pub record Past : Type 0 where
   pub answer : Result Step StepFault
   pub after : State
 
--- A device came so far by these events since load, the last of them first.
+-- A device came so far by these events since load, of whatever bay and image, the last of them
+-- first.
 abbrev pub Came : List Past → State → Type 0
-Came [] s = IsLoaded s
+Came [] s = (bay : Bay) × (image : Image) × (s ≡ initial_device bay image)
 Came (p ∷ past) s = (s ≡ p.after)
     × ((before : State) × Came past before × Steps p.now p.event before p.answer p.after)
 
@@ -75,15 +69,7 @@ pub record HasScan (now age : ℕ) (past : List Past) : Type 0 where
 abbrev pub IsFresh : ℕ → ℕ → List Past → Result Step StepFault → Type 0
 IsFresh now age past answer = IfOk answer (λ step. step.commands ≢ [] → HasScan now age past)
 
--- these events, and then one with this outcome
-unfoldable pub with_event : ℕ → Event → Outcome → List Past → List Past
-with_event now event o past =
-    record { now = now; event = event; answer = o.answer; after = o.after } ∷ past
-
--- So it is of each step of a list of events, with the events before it.
-abbrev pub AllFresh : List Past → List (Option ℕ) → List (ℕ × Event) → State → Type 0
-AllFresh past choices [] s = Unit {0}
-AllFresh past choices (e ∷ es) s =
-    let o = outcome (get_or choices 0 None) e.0 e.1 s in
-    IsFresh e.0 s.scan_max_age_ms past o.answer
-    × AllFresh (with_event e.0 e.1 o past) (drop 1 choices) es o.after
+-- So it is of an event's answer, by whatever events the device has come so far since load.
+abbrev pub FreshAt : ℕ → Event → State → Result Step StepFault → State → Type 0
+FreshAt now event old answer new =
+    (past : List Past) → Came past old → IsFresh now old.scan_max_age_ms past answer

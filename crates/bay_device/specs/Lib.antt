@@ -8,8 +8,8 @@
 --
 -- `Device`: what a device is, and what happens to it without a client; `Hearing`: what a client's
 -- bytes do. bay_connection says what they come to, and each PDU is answered and done, as
--- bay_services says, before the next is read. `Steps`: what a step and a run promise: there is a
--- choice, for a run one for each event, whose outcome this is.
+-- bay_services says, before the next is read. `Steps`: what a step promises: there is a choice
+-- whose outcome its answer and the device after it are; a run is such steps, one after the other.
 --
 -- `Load`: the device that a bay file and a program or an image load to, or the refusal that comes
 -- first. `Accepts`: which texts load accepts, said of what they are. `BoundBay`: what load makes of
@@ -17,8 +17,8 @@
 -- means.
 --
 -- Of commands: `Commands`: each is issued after a fresh scan whose EnaCls or EnaOpn is TRUE, while
--- no switch operates, with a reply. `Operates`: it is an operate that a PDU asked for and its
--- response accepted. `Fresh`: behind it stands a scan, not too old, since which nothing that the
+-- no switch operates. `Operates`: it is an operate that a PDU asked for and a response accepted,
+-- where responses belong to PDUs by their order. `Fresh`: behind it stands a scan, not too old, since which nothing that the
 -- process tells has changed. `Entries`: what was asked of controls and accepted, with the device;
 -- `Told`: the same by events and answers alone, through the layers of transport, session and
 -- presentation. `Backing` of bay_control is said over these. `Report`: instructions, depth and

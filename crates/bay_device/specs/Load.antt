@@ -107,6 +107,26 @@ checked_in (Ok bay) (Ok program) =
 checked_in (Ok bay) (Err fault) = Err (text_refusal fault)
 checked_in (Err fault) program = Err (bay_refusal fault)
 
+-- A program's text is compiled to an image: it reads as a program, which passes its checks with the
+-- points of the bay.
+pub record IsCompiled (text : Result PlainProgram TextFault) (bay : Bay) (image : Image)
+    : Type 0 where
+  pub program : PlainProgram
+  pub reads : text ≡ Ok program
+  pub checked : Checked
+  pub passes : checked_of bay.points program ≡ Ok checked
+  pub compiles : compiled_of checked ≡ Ok image
+
+-- A device as load made it, before its first event: of the bay as which a bay file reads, and of
+-- its program's image.
+pub record IsLoaded (file : Result Bay BayFault) (IsImage : Bay → Image → Type 0) (s : State)
+    : Type 0 where
+  pub bay : Bay
+  pub read : file ≡ Ok bay
+  pub image : Image
+  pub made : IsImage bay image
+  pub is : s ≡ initial_device bay image
+
 -- The image of a bay is loaded, if it is verified for the bay's points, or refused for its first
 -- fault.
 abbrev pub LoadsImage : Bay → Image → Result State LoadFault → Type 0

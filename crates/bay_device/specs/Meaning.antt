@@ -1,6 +1,6 @@
 -- What the events of a device come to that was loaded from the text of a program: each scan leaves
 -- what the text means.
-use Rattle.std.specs.Prelude.{ℕ, ◌≡◌, ◌≤◌, Bool, false, nat_lt, ◌||◌, List, length, map, take, drop, Option, Some, Result}
+use Rattle.std.specs.Prelude.{ℕ, ◌≡◌, ◌≤◌, Bool, false, nat_lt, ◌||◌, List, length, map, take, drop, Some, Result, IfOk, IsOkAnd, IsSomeAnd}
 use Rattle.il_image.specs.Machine.{Halted}
 use Rattle.il_image.specs.declared.timer.TimerState.{TimerState}
 use Rattle.il_image.specs.declared.value.Value.{Value}
@@ -10,49 +10,33 @@ use Rattle.il_compile.specs.Correct.{DoesTheText, HasTypes}
 use Rattle.il_compile.specs.Meaning.{Memory, mean}
 use Rattle.il_verify.specs.Verdicts.{IsBudget}
 use Rattle.il_scan.specs.Scans.{outputs_of, read_only, scan_start, type_of_point}
-use Rattle.bay_device.specs.Device.{State, device_at, ending_at, inputs_of, after_scan}
+use Rattle.bay_device.specs.Device.{State, ending_at, inputs_of}
 use Rattle.bay_device.specs.Outcomes.{last_moment}
-use Rattle.bay_device.specs.Steps.{AllSteps, EachEvent}
 use Rattle.bay_process.specs.Values.{with_outputs}
 use Rattle.bay_device.specs.declared.event.Event.{Event}
-use Rattle.bay_device.specs.declared.event.Event.TheVariants.{Open, Recv, Close, Contact, Input, Measure, Scan}
+use Rattle.bay_device.specs.declared.event.Event.TheVariants.{Scan}
 use Rattle.bay_device.specs.declared.event.Step.{Step}
 use Rattle.bay_device.specs.declared.fault.StepFault.{StepFault}
 use Rattle.bay_process.specs.Sources.{type_of_source}
 
 -- ---- no trap, and the budget
 
--- The run of a scan ends at HALT, without a trap, within the budget of the code.
-pub record Halts (now : ℕ) (s : State) : Type 0 where
-  pub slots : List Value
-  pub timers : List TimerState
-  pub steps : ℕ
-  pub halts : ending_at now s ≡ Halted slots timers steps
-  pub within : (budget : ℕ) → IsBudget s.machine.image.code budget → steps ≤ budget
-
--- So it is, if the event is a scan, once what has run out is ended.
-abbrev pub HaltsAt : ℕ → Event → State → Type 0
-HaltsAt now Scan s = Halts now (device_at now s)
-HaltsAt now (Open a) s = Unit {0}
-HaltsAt now (Recv a octets) s = Unit {0}
-HaltsAt now (Close a) s = Unit {0}
-HaltsAt now (Contact k position) s = Unit {0}
-HaltsAt now (Input k value) s = Unit {0}
-HaltsAt now (Measure k field value) s = Unit {0}
+-- The machine's run on what stands ended at HALT, without a trap, in so many steps, within the
+-- budget of the code, and the device keeps the slots and timers that it left.
+pub record Halts (now : ℕ) (old : State) (steps : ℕ) (new : State) : Type 0 where
+  pub halts : ending_at now old ≡ Halted new.machine.slots new.machine.timers steps
+  pub within : (budget : ℕ) → IsBudget old.machine.image.code budget → steps ≤ budget
 
 -- the moment refuses an event
 abbrev pub is_refused : ℕ → State → Bool
 is_refused now s = nat_lt last_moment now || nat_lt now s.moment
 
--- Each scan of a list of events that its moment does not refuse halts so.
-abbrev pub AllHalt : List (Option ℕ) → List (ℕ × Event) → State → Type 0
-AllHalt = EachEvent (λ now event s answer. is_refused now s ≡ false → HaltsAt now event s)
-
--- A list of events is answered so, leaves this, and each of its scans halts so.
-pub record Halting (events : List (ℕ × Event)) (old : State)
-    (answers : List (Result Step StepFault)) (new : State) : Type 0 where
-  pub steps : AllSteps events old answers new
-  pub halts : AllHalt steps.choices events old
+-- A scan that its moment does not refuse is accepted, and halts so in the steps that its answer
+-- tells.
+abbrev pub HaltsAt : ℕ → Event → State → Result Step StepFault → State → Type 0
+HaltsAt now event old answer new =
+    event ≡ Scan → is_refused now old ≡ false
+    → IsOkAnd answer (λ step. IsSomeAnd step.scan (λ steps. Halts now old steps new))
 
 -- ---- what the text means
 
@@ -71,29 +55,19 @@ abbrev pub memory_before : Checked → State → Memory
 memory_before c s = let start =
     scan_start s.machine (inputs_of s) in memory_of c start.slots start.timers
 
--- The scan does what the text means: what the program means on these values is what the device
--- keeps, and the interlocking values in the tree are those of its externals.
-pub record Means (c : Checked) (now : ℕ) (s : State) : Type 0 where
+-- The device after a scan holds what the text means: what the program means on these values is what
+-- it keeps, and the interlocking values in its tree are those of the program's externals.
+pub record Means (c : Checked) (now : ℕ) (old new : State) : Type 0 where
   pub after : Memory
-  pub is : mean now c.items (memory_before c s) ≡ Some after
-  pub keeps : memory_of c (after_scan now s).machine.slots (after_scan now s).machine.timers ≡ after
-  pub rows : (after_scan now s).rows
-      ≡ with_outputs s.switches s.writes (outputs_of (map point_of c.externals) after.externals) now
-      0 s.switches s.rows
+  pub is : mean now c.items (memory_before c old) ≡ Some after
+  pub keeps : memory_of c new.machine.slots new.machine.timers ≡ after
+  pub rows : new.rows
+      ≡ with_outputs old.switches old.writes
+      (outputs_of (map point_of c.externals) after.externals) now 0 old.switches old.rows
 
--- So it is, if the event is a scan, once what has run out is ended.
-abbrev pub MeansAt : Checked → ℕ → Event → State → Type 0
-MeansAt c now Scan s = Means c now (device_at now s)
-MeansAt c now (Open a) s = Unit {0}
-MeansAt c now (Recv a octets) s = Unit {0}
-MeansAt c now (Close a) s = Unit {0}
-MeansAt c now (Contact k position) s = Unit {0}
-MeansAt c now (Input k value) s = Unit {0}
-MeansAt c now (Measure k field value) s = Unit {0}
-
--- Each scan of a list of events does so.
-abbrev pub AllMean : Checked → List (Option ℕ) → List (ℕ × Event) → State → Type 0
-AllMean c = EachEvent (λ now event s answer. MeansAt c now event s)
+-- So does the device after a scan that is accepted.
+abbrev pub MeansAt : Checked → ℕ → Event → State → Result Step StepFault → State → Type 0
+MeansAt c now event old answer new = event ≡ Scan → IfOk answer (λ step. Means c now old new)
 
 -- ---- which device runs a text
 

@@ -1,5 +1,6 @@
 -- The commands of events, by what comes and what is answered: each is an operate that a PDU asks
--- for and that the response to it accepts. Nothing here looks at the device behind them.
+-- for and that a response accepts. Responses belong to PDUs by their order, as `Told` reads them.
+-- Nothing here looks at the device behind them.
 use Rattle.std.specs.Prelude.{ℕ, ◌≡◌, List, [], ◌∷◌, Option, None, Some, Result, IfOk}
 use Rattle.std.specs.List.{Contains}
 use Rattle.bay_connection.specs.Talk.{Indication, Talk, Terms, tells, indications}
@@ -14,8 +15,8 @@ use Rattle.bay_device.specs.declared.event.Event.TheVariants.{Open, Recv, Close,
 use Rattle.bay_device.specs.declared.event.Step.{Step}
 use Rattle.bay_device.specs.declared.fault.StepFault.{StepFault}
 
--- A PDU that was heard asks for the operate, and a PDU that is sent, its response, has a success as
--- the result of that variable.
+-- A PDU that was heard asks for the operate, and one of those that are sent, read as its response,
+-- has a success as the result of that variable.
 pub record IsReplied (now a : ℕ) (names : Bay) (heard : List Indication) (sent : List (List ℕ))
     (command : Command) : Type 0 where
   pub terms : Terms
@@ -44,7 +45,7 @@ AreRepliedAt now (Measure k field value) names talks step = step.commands ≡ []
 AreRepliedAt now Scan names talks step = step.commands ≡ []
 
 -- The commands of a step are the operates that are accepted in what the event and the answer tell,
--- in their order, one for each and no other; and each comes with its own response.
+-- in their order, one for each and no other; and each comes with a response that accepts it.
 pub record AreOperates (now : ℕ) (event : Event) (names : Bay) (talks : List (Option Talk))
     (step : Step) : Type 0 where
   pub operated : step.commands ≡ operates_in (told_step now event names talks step)

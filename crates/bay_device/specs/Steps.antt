@@ -1,9 +1,9 @@
 -- What a step and a run come to: there are choices with which they are the outcome.
-use Rattle.std.specs.Prelude.{ℕ, ◌≡◌, List, [], ◌∷◌, drop, get_or, length, Option, Some, None, Result, Ok, Err}
+use Rattle.std.specs.Prelude.{ℕ, ◌≡◌, List, [], ◌∷◌, Option, Some, None, Result, Ok, Err}
 use Rattle.bay_connection.specs.Talk.{Talk, indications, left_by}
 use Rattle.bay_device.specs.Device.{State}
 use Rattle.bay_device.specs.Hearing.{after_indications}
-use Rattle.bay_device.specs.Outcomes.{Outcome, connection_at, nothing_done, outcome, outcomes, place_of, recv_done, recv_outcome}
+use Rattle.bay_device.specs.Outcomes.{Outcome, connection_at, nothing_done, outcome, place_of, recv_done, recv_outcome}
 use Rattle.bay_device.specs.declared.event.Event.{Event}
 use Rattle.bay_device.specs.declared.event.Event.TheVariants.{Open, Recv, Close, Contact, Input, Measure, Scan}
 use Rattle.bay_device.specs.declared.event.Sent.{Sent}
@@ -67,20 +67,14 @@ IsWithoutOctets (Input k value) = Unit {0}
 IsWithoutOctets (Measure k field value) = Unit {0}
 IsWithoutOctets Scan = Unit {0}
 
--- This is so of each event of a list, one after the other with a choice for each: of its moment, of
--- it, of the device before it and of its answer.
-abbrev pub EachEvent : (ℕ → Event → State → Result Step StepFault → Type 0) → List (Option ℕ)
-    → List (ℕ × Event) → State → Type 0
-EachEvent P choices [] s = Unit {0}
-EachEvent P choices (e ∷ es) s =
-    let o = outcome (get_or choices 0 None) e.0 e.1 s in
-    P e.0 e.1 s o.answer × EachEvent P (drop 1 choices) es o.after
-
--- A list of events is answered so, and leaves this: there are choices, one for each event, with
--- which that is their outcome.
-pub record AllSteps (events : List (ℕ × Event)) (old : State)
-    (answers : List (Result Step StepFault)) (new : State) : Type 0 where
-  pub choices : List (Option ℕ)
-  pub each : length choices ≡ length events
-  pub answered : answers ≡ (outcomes choices events old).answers
-  pub left : new ≡ (outcomes choices events old).after
+-- A list of events is answered so, one after the other, and leaves this; and each of them does what
+-- is said of it: of its moment, of it, of the device before it, of its answer and of the device
+-- after it.
+abbrev pub EachStep : (ℕ → Event → State → Result Step StepFault → State → Type 0)
+    → List (ℕ × Event) → State → List (Result Step StepFault) → State → Type 0
+EachStep Does [] old [] new = new ≡ old
+EachStep Does [] old (answer ∷ answers) new = ⊥
+EachStep Does (e ∷ es) old [] new = ⊥
+EachStep Does (e ∷ es) old (answer ∷ answers) new =
+    (next : State) × Steps e.0 e.1 old answer next × Does e.0 e.1 old answer next
+    × EachStep Does es next answers new

@@ -1,5 +1,5 @@
 // The device that is handed out: one bay, stepped by events.
-ghost use Rattle.std.specs.Prelude.{◌≡◌, ◌+◌, ◌<◌, ◌≤◌, ℕ, [], List, Option, None, Some, false, All, length, slice_get, option_map, position, replicate, IfOk, IfSome, IsSome, OnErr, is_none, is_some};
+ghost use Rattle.std.specs.Prelude.{◌≡◌, ◌+◌, ◌<◌, ◌≤◌, [], None, Some, All, length, slice_get, option_map, position, replicate, IfOk, IfSome, IsSome, OnErr, is_none, is_some};
 ghost use Rattle.bay_control.specs.Backing.{AreBacked};
 ghost use Rattle.bay_services.specs.Accepted.{AreNamedAlike};
 ghost use Rattle.bay_services.specs.Bay.{Bay};
@@ -8,18 +8,18 @@ ghost use Rattle.bay_transport.specs.Feeding.{IsGoing};
 ghost use Rattle.il_check.specs.Program.{Checked};
 ghost use Rattle.il_image.specs.Images.{image_octets};
 ghost use Rattle.il_image.specs.declared.opcode.Version.TheVariants.{Two};
-ghost use Rattle.bay_device.specs.Commands.{AllCommanded, AreCommanded, IsSingle};
+ghost use Rattle.bay_device.specs.Commands.{CommandedAt, IsSingle};
 ghost use Rattle.bay_device.specs.Device.{bay_of};
-ghost use Rattle.bay_device.specs.Entries.{IsIdle, Leading, entries_all};
-ghost use Rattle.bay_device.specs.Fresh.{AllFresh, Came, IsFresh, Past};
+ghost use Rattle.bay_device.specs.Entries.{Leading};
+ghost use Rattle.bay_device.specs.Fresh.{FreshAt};
 ghost use Rattle.bay_device.specs.LookUps.{switch_place, input_place, meter_place, enabled_of};
-ghost use Rattle.bay_device.specs.Meaning.{AllMean, Halting, HaltsAt, MeansAt, Runs, is_refused};
+ghost use Rattle.bay_device.specs.Meaning.{HaltsAt, MeansAt, Runs};
 ghost use Rattle.bay_device.specs.Operates.{AllOperate, AreOperates};
 ghost use Rattle.bay_device.specs.Outcomes.{without_connection, connection_at, event_outcome, outcome, recv_after};
 ghost use Rattle.bay_device.specs.Outcomes as spec;
 ghost use Rattle.bay_device.specs.Report.{IsReport};
 ghost use Rattle.bay_device.specs.StateView.{state_view};
-ghost use Rattle.bay_device.specs.Steps.{IsOutcome, Hears, IsWithoutOctets, Receives, Steps};
+ghost use Rattle.bay_device.specs.Steps.{EachStep, IsOutcome, Hears, IsWithoutOctets, Receives, Steps};
 ghost use Rattle.bay_device.specs.Told.{AreTalks, Telling, told_all};
 ghost use Rattle.bay_device.specs.declared.event.Event.TheVariants.{Open, Recv, Close, Contact, Input, Measure, Scan};
 
@@ -260,7 +260,7 @@ impl Device {
     // The program runs once.
     fn scan(&mut self, now: u64) -> Result<Step, StepFault>
         ensures gives { IsOutcome (event_outcome None now Scan self.old) result self.new }
-        ensures halts { HaltsAt now Scan self.old }
+        ensures halts { HaltsAt now Scan self.old result self.new }
     {
         let ended = self.state.advance(now);
         let steps = self.state.scan(now);
@@ -283,7 +283,7 @@ impl Device {
     // Does one event at a moment.
     fn do_event(&mut self, now: u64, event: Event<'_>) -> Result<Step, StepFault>
         ensures steps { Steps now event.entry self.old result self.new }
-        ensures halts { is_refused now self.old ≡ false → HaltsAt now event.entry self.old }
+        ensures halts { HaltsAt now event.entry self.old result self.new }
     {
         if now > LAST_MOMENT {
             return Err(StepFault::MomentTooLarge);
@@ -324,17 +324,16 @@ impl Device {
         ensures sure { IsWithoutOctets event.entry
             → IsOutcome (outcome None now event.entry self.old) result self.new }
         // Each command is one that the interlocking releases, on a fresh scan, while no switch is
-        // operating, and comes with its reply.
-        ensures commanded { IfOk result (AreCommanded now self.old) }
+        // operating, and something is sent with it.
+        ensures commanded { CommandedAt now event.entry self.old result self.new }
         // They are the operates that are accepted in what the octets of the event and of its
-        // answer tell, in their order, each with its own response.
+        // answer tell, in their order. What is sent answers what was heard in the same order.
         ensures operates { (names : Bay) → AreNamedAlike names (bay_of self.old)
             → AreTalks self.old.connections
             → IfOk result (AreOperates now event.entry names self.old.connections) }
         // Behind them is a scan that is not too old, since which the process has not changed,
         // among the events since load.
-        ensures fresh { (past : List Past) → Came past self.old
-            → IsFresh now self.old.scan_max_age_ms past result }
+        ensures fresh { FreshAt now event.entry self.old result self.new }
         // There is one at most, on a device whose switches take some time, as load makes it; and
         // that stays.
         ensures single { AreTimed self.old.controls.controls → IsSingle result }
@@ -345,11 +344,12 @@ impl Device {
         ensures tells { (names : Bay) → AreNamedAlike names (bay_of self.old)
             → AreTalks self.old.connections
             → Telling names now event.entry self.old result self.new }
-        // A scan halts without a trap within the budget,
-        ensures halts { is_refused now self.old ≡ false → HaltsAt now event.entry self.old }
-        // and on a device that runs a text it does what the text means.
+        // A scan halts without a trap, in the steps that are answered, which are within the budget;
+        ensures halts { HaltsAt now event.entry self.old result self.new }
+        // and a device that runs a text then holds what the text means, and goes on to run it.
         ensures means { (c : Checked) → Runs c self.old
-            → MeansAt c now event.entry self.old × Runs c self.new }
+            → MeansAt c now event.entry self.old result self.new }
+        ensures runs { (c : Checked) → Runs c self.old → Runs c self.new }
     {
         self.has_places();
         self.do_event(now, event)
@@ -361,41 +361,37 @@ impl Device {
         &mut self,
         events: &[(u64, Event<'_>)],
     ) -> Result<Vec<Result<Step, StepFault>>, AllocError>
-        // There are choices with which the answers and the device are the outcome, and each scan
-        // halts without a trap within the budget;
-        ensures ok { IfOk result (λ answers. Halting events.now self.old answers.items self.new) }
+        // The events are steps one after the other, with these answers, and each scan halts without
+        // a trap, in the steps that are answered, which are within the budget;
+        ensures ok { IfOk result
+            (λ answers. EachStep HaltsAt events.now self.old answers.items self.new) }
         ensures err { OnErr result (self.new ≡ self.old) }
         // each command is one that the interlocking releases, on a fresh scan, while no switch is
-        // operating, and comes with its reply, whatever the choices;
-        ensures commanded { (choices : List (Option ℕ)) → AllCommanded choices events.now self.old }
+        // operating, and something is sent with it;
+        ensures commanded { IfOk result
+            (λ answers. EachStep CommandedAt events.now self.old answers.items self.new) }
         // behind it is a scan that is not too old, since which the process has not changed, among
-        // the events since load, whatever the choices;
-        ensures fresh { (past : List Past) → Came past self.old → (choices : List (Option ℕ))
-            → AllFresh past choices events.now self.old }
+        // the events since load;
+        ensures fresh { IfOk result
+            (λ answers. EachStep FreshAt events.now self.old answers.items self.new) }
         // there is one at most for each event, on a device whose switches take some time, as load
         // makes it;
         ensures single { IfOk result
             (λ answers. AreTimed self.old.controls.controls → All IsSingle answers.items) }
         ensures timed { AreTimed self.old.controls.controls → AreTimed self.new.controls.controls }
-        // and on a device that runs a text the tree then holds what the text means, whatever the
-        // choices.
-        ensures means { (c : Checked) → Runs c self.old → (choices : List (Option ℕ))
-            → AllMean c choices events.now self.old }
+        // and after each scan a device that runs a text holds what the text means.
+        ensures means { (c : Checked) → Runs c self.old → IfOk result
+            (λ answers. EachStep (MeansAt c) events.now self.old answers.items self.new) }
         ensures runs { (c : Checked) → Runs c self.old → Runs c self.new }
-        // From no selection on each accepted operate of an SBO switch is backed by a select,
-        // whatever the choices.
-        ensures backed { self.old.controls.selection ≡ None → (choices : List (Option ℕ))
-            → AreBacked self.old.controls.controls (entries_all choices events.now self.old) }
-        // On a device as load made it the octets of the events and of the answers tell so.
-        ensures told { IfOk result
-            (λ answers. IsIdle self.old
-            → AreBacked self.old.controls.controls
+        // From no selection on, as load leaves a device, each operate of an SBO switch that is
+        // accepted in what the octets of the events and of the answers tell is backed by a select.
+        ensures backed { self.old.controls.selection ≡ None → AreTalks self.old.connections
+            → IfOk result (λ answers. AreBacked self.old.controls.controls
             (told_all (bay_of self.old) self.old.connections events.now answers.items)) }
-        // The commands are the operates that are accepted in what they tell, each with its own
-        // response.
-        ensures operates { IfOk result
-            (λ answers. IsIdle self.old
-            → AllOperate (bay_of self.old) self.old.connections events.now answers.items) }
+        // The commands are the operates that are accepted there, in their order.
+        ensures operates { AreTalks self.old.connections → IfOk result
+            (λ answers. AllOperate (bay_of self.old) self.old.connections events.now
+            answers.items) }
     {
         self.has_places();
         let mut answers = Vec::with_capacity(self.alloc, events.len())?;

@@ -1,7 +1,7 @@
 // Why texts and images are not loaded, and why an event is refused.
-ghost use Rattle.std.specs.Prelude.{◌≡◌};
+ghost use Rattle.std.specs.Prelude.{◌≡◌, IsSome};
 ghost use Rattle.bay_device.specs.Code.{step_code_of};
-ghost use Rattle.bay_device.specs.Load.{bay_refusal, text_refusal, check_refusal, compile_refusal, image_refusal, verify_refusal};
+ghost use Rattle.bay_device.specs.Load.{fault_of, bay_refusal, text_refusal, check_refusal, compile_refusal, image_refusal, verify_refusal};
 ghost use Rattle.bay_device.specs.declared.fault.LoadFault.TheVariants.{OutOfMemory};
 
 use bay_config::fault::BayFault;
@@ -25,13 +25,24 @@ pub enum LoadFault {
     OutOfMemory,
 }
 
+/// Returns the refusal with a number, which every fault but a lack of memory has, at a line.
+fn refused(code: Option<u8>, line: usize) -> LoadFault
+    requires { IsSome code }
+    ensures { result ≡ fault_of code line }
+{
+    match code {
+        Some(code) => LoadFault::Refused { code, line },
+        None => unreachable!(),
+    }
+}
+
 impl From<BayFault> for LoadFault {
     ghost from_gives = { λ fault e. e ≡ bay_refusal fault };
 
     fn from(fault: BayFault) -> LoadFault {
-        match fault.code() {
-            Some(code) => LoadFault::Refused { code, line: 0 },
-            None => LoadFault::OutOfMemory,
+        match fault {
+            BayFault::OutOfMemory => LoadFault::OutOfMemory,
+            _ => refused(fault.code(), 0),
         }
     }
 }
@@ -40,12 +51,9 @@ impl From<TextFault> for LoadFault {
     ghost from_gives = { λ fault e. e ≡ text_refusal fault };
 
     fn from(fault: TextFault) -> LoadFault {
-        match fault.code() {
-            Some(code) => LoadFault::Refused {
-                code,
-                line: fault.line(),
-            },
-            None => LoadFault::OutOfMemory,
+        match fault {
+            TextFault::OutOfMemory => LoadFault::OutOfMemory,
+            _ => refused(fault.code(), fault.line()),
         }
     }
 }
@@ -54,12 +62,9 @@ impl From<CheckFault> for LoadFault {
     ghost from_gives = { λ fault e. e ≡ check_refusal fault };
 
     fn from(fault: CheckFault) -> LoadFault {
-        match fault.code() {
-            Some(code) => LoadFault::Refused {
-                code,
-                line: fault.line(),
-            },
-            None => LoadFault::OutOfMemory,
+        match fault {
+            CheckFault::OutOfMemory => LoadFault::OutOfMemory,
+            _ => refused(fault.code(), fault.line()),
         }
     }
 }
@@ -68,9 +73,9 @@ impl From<CompileFault> for LoadFault {
     ghost from_gives = { λ fault e. e ≡ compile_refusal fault };
 
     fn from(fault: CompileFault) -> LoadFault {
-        match fault.code() {
-            Some(code) => LoadFault::Refused { code, line: 0 },
-            None => LoadFault::OutOfMemory,
+        match fault {
+            CompileFault::OutOfMemory => LoadFault::OutOfMemory,
+            _ => refused(fault.code(), 0),
         }
     }
 }
@@ -79,9 +84,9 @@ impl From<ImageFault> for LoadFault {
     ghost from_gives = { λ fault e. e ≡ image_refusal fault };
 
     fn from(fault: ImageFault) -> LoadFault {
-        match fault.code() {
-            Some(code) => LoadFault::Refused { code, line: 0 },
-            None => LoadFault::OutOfMemory,
+        match fault {
+            ImageFault::OutOfMemory => LoadFault::OutOfMemory,
+            _ => refused(fault.code(), 0),
         }
     }
 }
@@ -90,9 +95,9 @@ impl From<VerifyFault> for LoadFault {
     ghost from_gives = { λ fault e. e ≡ verify_refusal fault };
 
     fn from(fault: VerifyFault) -> LoadFault {
-        match fault.code() {
-            Some(code) => LoadFault::Refused { code, line: 0 },
-            None => LoadFault::OutOfMemory,
+        match fault {
+            VerifyFault::OutOfMemory => LoadFault::OutOfMemory,
+            _ => refused(fault.code(), 0),
         }
     }
 }

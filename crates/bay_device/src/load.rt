@@ -21,8 +21,7 @@ ghost use Rattle.il_verify.specs.Verdicts.{IsVerified};
 ghost use Rattle.il_verify.specs.declared.fault.VerifyFault.{VerifyFault};
 ghost use Rattle.bay_device.specs.Accepts.{IsRight};
 ghost use Rattle.bay_device.specs.Entries.{IsIdle};
-ghost use Rattle.bay_device.specs.Fresh.{IsLoaded};
-ghost use Rattle.bay_device.specs.Load.{initial_device, checked_in, of_compiled, of_checked, of_program, of_bay, verify_refusal, Loads, LoadsImage, LoadsRead};
+ghost use Rattle.bay_device.specs.Load.{IsCompiled, IsLoaded, initial_device, checked_in, of_compiled, of_checked, of_program, of_bay, verify_refusal, Loads, LoadsImage, LoadsRead};
 ghost use Rattle.bay_device.specs.BoundBay.{IsBoundBay};
 ghost use Rattle.bay_device.specs.Meaning.{Runs};
 ghost use Rattle.bay_device.specs.StateView.{state_view};
@@ -279,9 +278,11 @@ pub fn load(alloc: Global, bay: &str, logic: &str) -> Result<Device, LoadFault>
     ensures runs { IfOk result
         (λ device. (c : Checked) × (checked_in (bay_of bay.now) (program_of logic.now) ≡ Ok c)
         × Runs c device) }
-    // No event was done: nothing is selected, and no association is open; each switch that can be
+    // It is the device of the bay file and of the image to which the text is compiled, before its
+    // first event: nothing is selected, and no association is open; each switch that can be
     // operated takes some time.
-    ensures loaded { IfOk result IsLoaded }
+    ensures loaded { IfOk result
+        (IsLoaded (bay_of bay.now) (IsCompiled (program_of logic.now))) }
     ensures idle { IfOk result IsIdle }
     ensures timed { IfOk result (λ device. AreTimed device.controls.controls) }
 {
@@ -318,9 +319,11 @@ pub fn load_image(alloc: Global, bay: &str, image: &[u8]) -> Result<Device, Load
         (λ device. Loads (bay_of bay.now) (image_spelled image.now) (Ok device)) }
     ensures refused { IfErr result
         (λ e. e ≢ OutOfMemory → Loads (bay_of bay.now) (image_spelled image.now) (Err e)) }
-    // No event was done: nothing is selected, and no association is open; each switch that can be
-    // operated takes some time.
-    ensures loaded { IfOk result IsLoaded }
+    // It is the device of the bay file and of the image that the octets spell, before its first
+    // event: nothing is selected, and no association is open; each switch that can be operated
+    // takes some time.
+    ensures loaded { IfOk result
+        (IsLoaded (bay_of bay.now) (λ _ program. image_spelled image.now ≡ Ok program)) }
     ensures idle { IfOk result IsIdle }
     ensures timed { IfOk result (λ device. AreTimed device.controls.controls) }
 {

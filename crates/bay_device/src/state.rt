@@ -16,8 +16,10 @@ use bay_process::values::{ToldValues, Truths};
 use bay_services::bay::ServedBay;
 use il_scan::machine::Machine;
 
-/// The state of a device, as loading makes it and steps change it. No part of it hands out an
-/// allocator or can grow, so it does not allocate in a step.
+/// The state of a device, as loading makes it and steps change it. Its methods are given no
+/// allocator, and no part of it lends one, or a call that takes memory: lists, texts, the tree and
+/// the machine lend slices and values alone, and the controls have a fixed size. So a contact, an
+/// input, a measured value and a scan take no memory.
 #[derive(Drop)]
 pub struct DeviceState {
     /// The bay as its clients see it.

@@ -182,7 +182,7 @@ impl DeviceState {
         ensures steps { (connections : List (Option Talk))
             → result ≡ (ran_at now (state_view connections self.old)).steps }
         ensures halts { (connections : List (Option Talk))
-            → Halts now (state_view connections self.old) }
+            → Halts now (state_view connections self.old) result (state_view connections self.new) }
     {
         let steps = run_program(
             &mut self.machine,

@@ -1,7 +1,7 @@
 use Rattle.bay_config.specs.Bay.{bay_of}
 use Rattle.il_text.specs.Reading.{program_of}
 use Rattle.bay_device.proofs.AcceptLemmas.{accepted-ok, refused-err}
-use Rattle.bay_device.proofs.IdleLemmas.{loaded-idle, text-loaded, text-timed}
+use Rattle.bay_device.proofs.IdleLemmas.{loaded-idle, loaded-timed, text-loaded}
 use Rattle.bay_device.proofs.TravelLemmas.{bay-travels}
 use Rattle.bay_device.proofs.load.load.Goals as goal
 
@@ -19,9 +19,8 @@ returns-clause-loaded c =
     c.load_texts.ensures.device
 
 pub returns-clause-idle : goal.returns-clause-idle
-returns-clause-idle c = loaded-idle c.load_texts.result (returns-clause-loaded c)
+returns-clause-idle c = loaded-idle _ _ c.load_texts.result (returns-clause-loaded c)
 
 pub returns-clause-timed : goal.returns-clause-timed
 returns-clause-timed c =
-    text-timed (bay_of c.args.bay.now) (program_of c.args.logic.now) c.load_texts.result
-    (bay-travels c.args.bay.now) c.load_texts.ensures.device
+    loaded-timed _ _ c.load_texts.result (bay-travels c.args.bay.now) (returns-clause-loaded c)

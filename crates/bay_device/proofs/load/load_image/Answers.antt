@@ -1,19 +1,18 @@
+use Rattle.bay_config.specs.Bay.{bay_of}
 use Rattle.il_image.specs.Decoding.{image_spelled}
-use Rattle.bay_device.proofs.IdleLemmas.{image-loaded, image-timed, loaded-idle}
+use Rattle.bay_device.proofs.IdleLemmas.{image-loaded, loaded-idle, loaded-timed}
 use Rattle.bay_device.proofs.TravelLemmas.{bay-travels}
 use Rattle.bay_device.proofs.load.load_image.Goals as goal
 
 pub returns-clause-loaded : goal.returns-clause-loaded
 returns-clause-loaded c =
-    image-loaded c.in_ok-boxed.boxed.value (image_spelled c.args.image.now) c.load_octets.result
+    image-loaded (bay_of c.args.bay.now) c.in_ok-boxed.boxed.value (image_spelled c.args.image.now)
+    c.load_octets.result (rw c.in_ok-boxed.ensures.ok c.in_ok-read.ensures.read)
     c.load_octets.ensures.ok
 
 pub returns-clause-idle : goal.returns-clause-idle
-returns-clause-idle c = loaded-idle c.load_octets.result (returns-clause-loaded c)
+returns-clause-idle c = loaded-idle _ _ c.load_octets.result (returns-clause-loaded c)
 
 pub returns-clause-timed : goal.returns-clause-timed
 returns-clause-timed c =
-    image-timed c.in_ok-boxed.boxed.value (image_spelled c.args.image.now) c.load_octets.result
-    (rw c.in_ok-boxed.ensures.ok
-    (bay-travels c.args.bay.now c.in_ok-read.read c.in_ok-read.ensures.read))
-    c.load_octets.ensures.ok
+    loaded-timed _ _ c.load_octets.result (bay-travels c.args.bay.now) (returns-clause-loaded c)

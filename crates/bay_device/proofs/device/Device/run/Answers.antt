@@ -1,46 +1,23 @@
-use Rattle.std.proofs.Common.{◌≡◌, ◌≤◌, ◌<◌, ◌+◌, ◌∷◌, [], ℕ, List, length, drop, get_or, Result, subst, sym, arith}
+use Rattle.std.proofs.Common.{◌≡◌, ◌≤◌, ◌<◌, ◌+◌, ◌∷◌, [], ℕ, List, length, drop, get_or, refl, arith}
 use Rattle.std.proofs.Math.ListN.{drop_of_length-le}
 use Rattle.std.proofs.lemmas.Grind.{common_steps}
-use Rattle.std.specs.List.{AllByRecursion}
 use Rattle.bay_services.specs.Released.{AreTimed}
-use Rattle.bay_services.proofs.ReleaseLemmas.{all-of}
 use Rattle.bay_device.specs.Commands.{IsSingle}
-use Rattle.bay_device.specs.Device.{State}
+use Rattle.bay_device.specs.Device.{State, bay_of}
 use Rattle.bay_device.specs.Meaning.{Runs}
-use Rattle.bay_device.specs.declared.event.Step.{Step}
-use Rattle.bay_device.specs.declared.fault.StepFault.{StepFault}
 use Rattle.bay_device.specs.declared.event.Event.{Event}
 use Rattle.bay_device.specs.declared.event.Event.TheVariants.{Open}
-use Rattle.bay_device.proofs.CommandLemmas.{all-commanded, all-single, step-timed}
-use Rattle.bay_device.proofs.EntryLemmas.{all-are-backed}
-use Rattle.bay_device.proofs.FreshLemmas.{all-fresh}
-use Rattle.bay_device.proofs.MeaningLemmas.{all-mean, runs-still}
-use Rattle.bay_device.proofs.OperateLemmas.{all-operate-idle}
-use Rattle.bay_device.proofs.RunLemmas.{kept-all, leads-none, leads-step, runs-all}
-use Rattle.bay_device.proofs.ToldLemmas.{told-backed}
+use Rattle.bay_device.proofs.CommandLemmas.{step-commanded, step-single}
+use Rattle.bay_device.proofs.FreshLemmas.{step-fresh}
+use Rattle.bay_device.proofs.MeaningLemmas.{means-step}
+use Rattle.bay_device.proofs.RunLemmas.{each-answer, each-does, each-so, goes-all, goes-none, goes-step, tells, tells-backed}
 use Rattle.bay_device.proofs.device.Device.run.Goals as goal
-
-pub returns-in_err-answers-clause-means : goal.returns-in_err-answers-clause-means
-returns-in_err-answers-clause-means c program runs choices =
-    all-mean program choices c.args.events.now c.args.self.now runs
-
-pub returns-in_err-answers-clause-commanded : goal.returns-in_err-answers-clause-commanded
-returns-in_err-answers-clause-commanded c choices =
-    all-commanded choices c.args.events.now c.args.self.now
-
-pub returns-in_err-answers-clause-backed : goal.returns-in_err-answers-clause-backed
-returns-in_err-answers-clause-backed c none choices =
-    all-are-backed choices c.args.events.now c.args.self.now c.has_places.ensures none
-
-pub returns-in_err-answers-clause-fresh : goal.returns-in_err-answers-clause-fresh
-returns-in_err-answers-clause-fresh c past came choices =
-    all-fresh past choices c.args.events.now c.args.self.now came
 
 pub loop-now-init : goal.loop-now-init
 loop-now-init c = record {
   counted = c.in_ok-answers.ensures.len;
   room = omega (arith, c.in_ok-answers.ensures.capacity);
-  leads = rw c.in_ok-answers.ensures.items (leads-none c.args.events.now c.args.self.now);
+  goes = rw c.in_ok-answers.ensures.items (goes-none c.args.events.now c.args.self.now);
 }
 
 rest-more : (events : List (ℕ × Event)) (i : ℕ) (d : ℕ × Event) → i < length events
@@ -57,10 +34,10 @@ loop-now-preserved c =
     record {
       counted = omega (arith, room.len, c.loop-now.invariant.counted);
       room = omega (arith, room.capacity, c.loop-now.invariant.room);
-      leads = rw room.items (leads-step events c.args.self.now c.loop-now.answers.items e
-          (drop (i + 1) events) c.loop-now.self i
-          c.step-answer.result c.step-answer.new.self (rw here at c.loop-now.invariant.leads)
-          c.step-answer.ensures.steps c.step-answer.ensures.halts);
+      goes = rw room.items (goes-step events c.args.self.now c.loop-now.answers.items e
+          (drop (i + 1) events) c.loop-now.self c.step-answer.result c.step-answer.new.self
+          (rw here at c.loop-now.invariant.goes) c.step-answer.ensures.steps
+          c.step-answer.ensures.halts);
     }
 
 pub returns-clause-ok : goal.returns-clause-ok
@@ -68,55 +45,51 @@ returns-clause-ok c =
     let events = c.args.events.now in
     let past : length events ≤ c.loop-now.now-index = omega (arith, c.loop-now-test.false) in
     let none : drop c.loop-now.now-index events ≡ [] = drop_of_length-le events past in
-    let all : c.loop-now.now-index ≡ length events = omega (arith, c.loop-now.auto.now-index-end) in
-    runs-all events c.args.self.now c.loop-now.answers.items c.loop-now.self c.loop-now.now-index
-    all (rw none at c.loop-now.invariant.leads)
+    goes-all events c.args.self.now c.loop-now.answers.items c.loop-now.self
+    (rw none at c.loop-now.invariant.goes)
 
 pub returns-clause-means : goal.returns-clause-means
-returns-clause-means c program runs choices =
-    all-mean program choices c.args.events.now c.args.self.now runs
+returns-clause-means c program runs =
+    (each-does _ (Runs program) (means-step program) c.args.events.now c.args.self.now
+    c.loop-now.answers.items c.loop-now.self runs (returns-clause-ok c)).0
 
 pub returns-clause-runs : goal.returns-clause-runs
 returns-clause-runs c program runs =
-    let done = returns-clause-ok c in
-    subst (Runs program) (sym done.steps.left)
-    (kept-all (Runs program) (λ choice now event s r. runs-still program s r now choice event)
-    done.steps.choices c.args.events.now c.args.self.now runs)
+    (each-does _ (Runs program) (means-step program) c.args.events.now c.args.self.now
+    c.loop-now.answers.items c.loop-now.self runs (returns-clause-ok c)).1
 
 pub returns-clause-commanded : goal.returns-clause-commanded
-returns-clause-commanded c choices = all-commanded choices c.args.events.now c.args.self.now
+returns-clause-commanded c =
+    each-so _ step-commanded c.args.events.now c.args.self.now c.loop-now.answers.items
+    c.loop-now.self (returns-clause-ok c)
+
+pub returns-clause-fresh : goal.returns-clause-fresh
+returns-clause-fresh c =
+    each-so _ step-fresh c.args.events.now c.args.self.now c.loop-now.answers.items c.loop-now.self
+    (returns-clause-ok c)
 
 pub returns-clause-single : goal.returns-clause-single
 returns-clause-single c timed =
-    let done = returns-clause-ok c in
-    let each = all-single done.steps.choices c.args.events.now c.args.self.now timed in
-    all-of IsSingle c.loop-now.answers.items
-    (subst (λ (rs : List (Result Step StepFault)). AllByRecursion IsSingle rs)
-    (sym done.steps.answered) each)
+    each-answer IsSingle c.args.events.now c.args.self.now c.loop-now.answers.items
+    c.loop-now.self
+    (each-does _ (λ (s : State). AreTimed s.controls.controls) step-single c.args.events.now
+    c.args.self.now c.loop-now.answers.items c.loop-now.self timed (returns-clause-ok c)).0
 
 pub returns-clause-timed : goal.returns-clause-timed
 returns-clause-timed c timed =
-    let done = returns-clause-ok c in
-    let IsSo = λ (s : State). AreTimed s.controls.controls in
-    subst IsSo (sym done.steps.left)
-    (kept-all IsSo step-timed done.steps.choices c.args.events.now c.args.self.now timed)
-
-pub returns-clause-backed : goal.returns-clause-backed
-returns-clause-backed c none choices =
-    all-are-backed choices c.args.events.now c.args.self.now c.has_places.ensures none
-
-pub returns-clause-told : goal.returns-clause-told
-returns-clause-told c idle =
-    let done = returns-clause-ok c in
-    told-backed done.steps.choices c.args.events.now c.args.self.now c.loop-now.answers.items
-    c.has_places.ensures idle done.steps.answered
-
-pub returns-clause-fresh : goal.returns-clause-fresh
-returns-clause-fresh c past came choices =
-    all-fresh past choices c.args.events.now c.args.self.now came
+    (each-does _ (λ (s : State). AreTimed s.controls.controls) step-single c.args.events.now
+    c.args.self.now c.loop-now.answers.items c.loop-now.self timed (returns-clause-ok c)).1
 
 pub returns-clause-operates : goal.returns-clause-operates
-returns-clause-operates c idle =
-    let done = returns-clause-ok c in
-    all-operate-idle done.steps.choices c.args.events.now c.args.self.now c.loop-now.answers.items
-    idle done.steps.answered
+returns-clause-operates c sized =
+    (tells _ (bay_of c.args.self.now) c.args.events.now c.args.self.now c.loop-now.answers.items
+    c.loop-now.self c.has_places.ensures (record { domain = refl; switches = refl; names = refl })
+    sized (returns-clause-ok c)).operates
+
+pub returns-clause-backed : goal.returns-clause-backed
+returns-clause-backed c none sized =
+    tells-backed (bay_of c.args.self.now) c.args.events.now c.args.self.now
+    c.loop-now.answers.items c.loop-now.self none
+    (tells _ (bay_of c.args.self.now) c.args.events.now c.args.self.now c.loop-now.answers.items
+    c.loop-now.self c.has_places.ensures (record { domain = refl; switches = refl; names = refl })
+    sized (returns-clause-ok c))

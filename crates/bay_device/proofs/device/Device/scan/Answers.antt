@@ -47,9 +47,13 @@ returns-clause-gives c =
     })
 
 pub returns-clause-halts : goal.returns-clause-halts
-returns-clause-halts c =
+returns-clause-halts c is on_time =
     let now = c.args.now in
     let cs = c.self.inside.connections.value in
-    subst (λ (t : State). Halts now (device_at now t)) c.self.view_is
-    (subst (Halts now) (rw c.deref_mut.ensures.value at c.advance-ended.ensures.after cs)
-    (rw c.deref_mut-2.ensures.value at c.scan-steps.ensures.halts cs))
+    let new : State = state_view cs c.scan-steps.new.self in
+    let h : Halts now (device_at now c.args.self.now) c.scan-steps.result new =
+    subst (λ (t : State). Halts now (device_at now t) c.scan-steps.result new) c.self.view_is
+    (subst (λ (t : State). Halts now t c.scan-steps.result new)
+    (rw c.deref_mut.ensures.value at c.advance-ended.ensures.after cs)
+    (rw c.deref_mut-2.ensures.value at c.scan-steps.ensures.halts cs)) in
+    record { halts = h.halts; within = h.within }

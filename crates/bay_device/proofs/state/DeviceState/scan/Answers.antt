@@ -65,4 +65,4 @@ returns-clause-halts c connections =
     let did = rw (c.as_slice.ensures, c.as_slice-2.ensures) at c.run_program-steps.ensures in
     let read = inputs-named connections d d.bay.switches d.meters d.reads refl refl refl in
     halted connections d c.args.now _ read m c.run_program-steps.result
-    (outputs_of m.image.points m.slots) did
+    (outputs_of m.image.points m.slots) did _ refl
