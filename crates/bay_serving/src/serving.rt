@@ -76,6 +76,20 @@ fn serve_line<L: Link>(
     }
 }
 
+/// Whether a turn, with or without a line, left nothing to do at once.
+fn is_idle<L: Link>(
+    link: &mut BusyLink<L>,
+    process: &mut Option<Process<L>>,
+    had_line: bool,
+) -> bool
+    ensures link { link.new.link ≡ link.old.link }
+    ensures process { process.new ≡ process.old }
+{
+    let was_link_busy = link.was_busy();
+    let was_process_busy = was_busy(process);
+    !was_link_busy && !was_process_busy && !had_line
+}
+
 /// Tries a turn and prints what it reports, and then attends to the process.
 fn try_turn<L: Link, H: Host<L>, W: Sink>(
     server: &mut Server,
@@ -98,8 +112,7 @@ fn try_turn<L: Link, H: Host<L>, W: Sink>(
             let device = server.device();
             tell_turn(writer, device, moment, &turn)?;
             attend_process(process, device, moment, &turn, writer)?;
-            let is_busy = was_busy(process);
-            let was_idle = !link.was_busy() && !is_busy && line.is_none();
+            let was_idle = is_idle(link, process, line.is_some());
             Ok(Tried::Done { was_idle })
         }
         Err(fault) => {

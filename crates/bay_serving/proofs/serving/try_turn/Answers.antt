@@ -54,12 +54,12 @@ returns-in_err-attend_process-in-Ok g c =
     c.now-clock.ensures c.in-Ok.ensures.ok c.in_ok-tell_turn-in-Ok.ensures
     c.in_err-attend_process-in-Ok.ensures)
 
-pub returns-after-not-is_busy : goal.returns-after-not-is_busy
-returns-after-not-is_busy g c =
+pub returns-in_ok-attend_process-in-Ok : goal.returns-in_ok-attend_process-in-Ok
+returns-in_ok-attend_process-in-Ok g c =
     let now : c.max-moment.result ≡ moment_at c.now-clock.result c.args.server.now =
     search rules in (
       c.in_ok-attend_process-in-Ok.field-0,
-      rw (c.was_busy.ensures, c.was_busy-is_busy.ensures)
+      rw (c.is_idle-was_idle.ensures.link, c.is_idle-was_idle.ensures.process)
           (turn-goes (λ busy. busy.link) g.L.Link.does g.L.Link.failures g.H.Host.does
           g.W.Sink.contents g.W.Sink.does _ _ _ _ _ _ _ _ _ _ _ _ _ _ _ _ _ _ _ c.octets_of.ensures
           now
