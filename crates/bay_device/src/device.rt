@@ -457,6 +457,20 @@ impl Device {
         self.state.input_place(name)
     }
 
+    /// Returns the name of the input at an index, as it is spelled in the bay file.
+    pub fn input_name(&self, input: usize) -> Option<&str>
+        ensures { option_map (λ name. name.now) result ≡ slice_get self.now.inputs input }
+    {
+        self.state.input_name(input)
+    }
+
+    /// Returns the index of the first input that is TRUE, if one is.
+    pub fn first_true_input(&self) -> Option<usize>
+        ensures { result ≡ position (λ value. value) self.now.input_values }
+    {
+        self.state.input_values.first_true()
+    }
+
     /// Returns the number of meters in the bay.
     pub fn meter_count(&self) -> usize
         ensures { result ≡ length self.now.meters }

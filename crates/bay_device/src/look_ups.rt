@@ -36,6 +36,16 @@ impl DeviceState {
         self.tables.inputs.place_of(self.inputs.as_slice(), name)
     }
 
+    /// Returns the name of the input at an index, as it is spelled in the bay file.
+    pub fn input_name(&self, input: usize) -> Option<&str>
+        ensures { option_map (λ name. name.now) result ≡ slice_get self.now.inputs input }
+    {
+        match self.inputs.as_slice().get(input) {
+            Some(name) => Some(name.as_str()),
+            None => None,
+        }
+    }
+
     /// Returns the index of the meter with this id, ignoring the case of its letters.
     pub fn meter_place(&self, id: &str) -> Option<usize>
         ensures { (connections : List (Option Talk))

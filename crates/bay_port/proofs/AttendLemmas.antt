@@ -9,7 +9,7 @@ use Rattle.bay_serve.specs.Calls.{Call, Closes, ReadOutcome, Octets, Silence, Re
 use Rattle.bay_port.specs.Fit.{is_waiting, is_wrong}
 use Rattle.bay_port.specs.Ports.{PortData, bare}
 use Rattle.bay_device.specs.Device.{State}
-use Rattle.bay_port.specs.Sound.{first_sound}
+use Rattle.bay_port.specs.Sound.{is_forgotten}
 use Rattle.bay_port.specs.Telling.{fits_in}
 use Rattle.bay_port.specs.declared.news.News.{News}
 use Rattle.bay_port.specs.declared.news.News.TheVariants.{Closed}
@@ -323,11 +323,11 @@ module _ {L : Type 0} (step : L → Call → L → Type 0) where
 
     -- a process that has gone
     pub attends-leaving : before.standing ≡ Leaving
-        → after ≡ (left_in (is_none (first_sound s)) before).port
+        → after ≡ (left_in (is_forgotten s) before).port
         → Attends step (λ script. attendance text s script before) old old after None
     attends-leaving leaving is =
         attends-as (λ script. attendance text s script before)
-        (λ script. left_in (is_none (first_sound s)) before) old old after None
+        (λ script. left_in (is_forgotten s) before) old old after None
         (λ script. rw leaving refl)
         (record {
           script = record { accepted = None; taken = None; heard = Silence };

@@ -1,14 +1,15 @@
 -- Lemmas on what holds of the port of a process.
-use Rattle.std.proofs.Common.{◌≡◌, ◌≢◌, ℕ, zero, suc, ◌+◌, ◌<◌, Bool, true, false, List, [], ◌∷◌, ◌++◌, length, take, drop, is_none, is_some, Option, None, Some, option_and_then, nat_le, Result, Ok, Err, refl, sym, ap, ◌∙◌, subst, arith, append_assoc, append-nil, take-append-drop}
+use Rattle.std.proofs.Common.{◌≡◌, ◌≢◌, ℕ, zero, suc, ◌+◌, ◌<◌, Bool, true, false, List, [], ◌∷◌, ◌++◌, length, take, drop, is_none, is_some, All, codes, Option, None, Some, nat_le, Result, Ok, Err, refl, sym, ap, ◌∙◌, subst, arith, append_assoc, append-nil, take-append-drop}
+use Rattle.core.specs.List.{position_from}
 use Rattle.bay_tree.specs.declared.row.Row.{Row}
 use Rattle.bay_nodes.specs.declared.switch.Switch.{Switch}
 use Rattle.bay_device.specs.Device.{State}
 use Rattle.bay_lines.specs.Fronts.{Front, Waiting, Overlong, Whole, front}
 use Rattle.bay_port.specs.Attending.{Attended, Part, Script, attendance, attended_here, behind, line_part, closed_or_kept, attended_as, left_in, offer_part, offered_of, on_heard, read_by, taken_in, talk_part, told_to}
-use Rattle.bay_port.specs.Fit.{bad_line, bad_or_none, is_told, is_waiting, is_wrong, line_or_none}
-use Rattle.bay_port.specs.Laws.{AreBad, IsReadable, IsSilent, TellsInOrder, taken_of}
+use Rattle.bay_port.specs.Fit.{forgetting_line, is_told, is_waiting, is_wrong, line_or_none, said_or_none}
+use Rattle.bay_port.specs.Laws.{AreBad, AreFalse, IsReadable, IsSilent, TellsInOrder, taken_of}
 use Rattle.bay_port.specs.Ports.{PortData, bare, taken_as, taken_front}
-use Rattle.bay_port.specs.Sound.{first_sound, sound_from, tells_bad}
+use Rattle.bay_port.specs.Sound.{first_on, first_on_name, first_sound, is_forgotten, sound_from, tells_bad}
 use Rattle.bay_port.specs.Telling.{fits_in}
 use Rattle.bay_port.specs.declared.news.News.TheVariants.{Closed}
 use Rattle.bay_port.specs.declared.news.Parting.{Parting}
@@ -38,19 +39,21 @@ some-right line found e = by_test (is_told line) refl
         subst (λ l. refusal_at (Some l) false ≡ None) same (told-right line is)
     by_test false is = let none : None ≡ Some found = rw is at e in absurd cc
 
-bad-right : (id found : List ℕ) → bad_or_none id ≡ Some found
+said-right : (front name back found : List ℕ) → said_or_none front name back ≡ Some found
     → refusal_at (Some found) false ≡ None
-bad-right id found e = by-room (nat_le (length (bad_line id)) 256) refl
+said-right front name back found e = by-room (nat_le (length (front ++ name ++ back)) 256) refl
   where
-    by-room : (v : Bool) → nat_le (length (bad_line id)) 256 ≡ v
+    by-room : (v : Bool) → nat_le (length (front ++ name ++ back)) 256 ≡ v
         → refusal_at (Some found) false ≡ None
-    by-room true is = some-right (bad_line id) found (rw is at e)
+    by-room true is = some-right (front ++ name ++ back) found (rw is at e)
     by-room false is = let none : None ≡ Some found = rw is at e in absurd cc
 
-sound-right : (o : Option (List ℕ)) (found : List ℕ)
-    → option_and_then bad_or_none o ≡ Some found → refusal_at (Some found) false ≡ None
-sound-right None found e = absurd cc
-sound-right (Some id) found e = bad-right id found e
+forgetting-right : (id name : Option (List ℕ)) (found : List ℕ)
+    → forgetting_line id name ≡ Some found → refusal_at (Some found) false ≡ None
+forgetting-right None None found e = absurd cc
+forgetting-right None (Some name) found e =
+    said-right (codes "0 input ") name (codes " 0") found e
+forgetting-right (Some id) name found e = said-right (codes "0 contact ") id (codes " 3") found e
 
 front-right : (f : Front) (p : PortData) (found : List ℕ)
     → (taken_front f p).line ≡ Some found → refusal_at (Some found) false ≡ None
@@ -61,7 +64,8 @@ front-right (Whole line rest) p found e = some-right line found e
 taken-right : (standing : Presence) (s : State) (p : PortData) (found : List ℕ)
     → (taken_as standing s p).line ≡ Some found → refusal_at (Some found) false ≡ None
 taken-right Away s p found e = absurd cc
-taken-right Leaving s p found e = sound-right (first_sound s) found e
+taken-right Leaving s p found e =
+    forgetting-right (first_sound s) (first_on_name s) found e
 taken-right Here s p found e = front-right (front p.kept) p found e
 
 pub is-readable : (s : State) (p : PortData) → IsReadable s p
@@ -91,6 +95,22 @@ are-bad : (s : State) → is_none (first_sound s) ≡ true → AreBad s
 are-bad s e k lt =
     let here : 0 + k + 1 ≡ k + 1 = omega arith in
     ap (λ n. tells_bad n s.rows) (sym here) ∙ all-bad s.rows 0 s.switches e k lt
+
+all-false : (i : ℕ) (values : List Bool)
+    → is_none (position_from (λ value. value) i values) ≡ true
+    → All (λ value. value ≡ false) values
+all-false i [] e = tt
+all-false i (true ∷ values) e = absurd cc
+all-false i (false ∷ values) e = (refl, all-false (suc i) values e)
+
+are-forgotten : (s : State) → is_forgotten s ≡ true → AreBad s × AreFalse s
+are-forgotten s e = by-sound (is_none (first_sound s)) refl (is_none (first_on s)) refl
+  where
+    by-sound : (a : Bool) → is_none (first_sound s) ≡ a → (b : Bool) → is_none (first_on s) ≡ b
+        → AreBad s × AreFalse s
+    by-sound true bad true off = (are-bad s bad, all-false 0 s.input_values off)
+    by-sound true bad false off = let none : false ≡ true = rw (bad, off) at e in absurd cc
+    by-sound false bad b off = let none : false ≡ true = rw bad at e in absurd cc
 
 closed-bare : (r : Result PortData Parting) (calls : List Call) (why : Parting)
     → (closed_or_kept r calls).news ≡ Some (Closed why)
@@ -125,7 +145,7 @@ is-silent text s script p = record {
   lines = λ leaving. ap (λ standing. (taken_as standing s p).line) leaving;
   calls = λ leaving. ap (λ standing. (attended_as standing text s script p).calls) leaving;
   ends = λ leaving other.
-      are-bad s (left-bad (is_none (first_sound s)) p leaving
+      are-forgotten s (left-bad (is_forgotten s) p leaving
       (λ e. other (ap (λ standing. (attended_as standing text s script p).port.standing) leaving
       ∙ e)));
 }

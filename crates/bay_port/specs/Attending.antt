@@ -1,11 +1,11 @@
 -- What is done with the connection of the process behind a turn: what it is told, and what it
 -- sends.
-use Rattle.std.specs.Prelude.{◌≡◌, ℕ, Bool, true, false, List, [], ◌∷◌, ◌++◌, drop, is_none, Option, None, Some, Result, Ok, Err, if◌then◌else◌}
+use Rattle.std.specs.Prelude.{◌≡◌, ℕ, Bool, true, false, List, [], ◌∷◌, ◌++◌, drop, Option, None, Some, Result, Ok, Err, if◌then◌else◌}
 use Rattle.bay_device.specs.Device.{State}
 use Rattle.bay_lines.specs.Fronts.{front}
 use Rattle.bay_port.specs.Fit.{is_waiting, is_wrong}
 use Rattle.bay_port.specs.Ports.{PortData, bare}
-use Rattle.bay_port.specs.Sound.{first_sound}
+use Rattle.bay_port.specs.Sound.{is_forgotten}
 use Rattle.bay_port.specs.Telling.{fits_in}
 use Rattle.bay_port.specs.declared.news.News.{News}
 use Rattle.bay_port.specs.declared.news.News.TheVariants.{Opened, Closed}
@@ -110,14 +110,14 @@ taken_in (Some false) p = record { port = p; news = None; calls = Accepts 1 (Som
 taken_in (Some true) p =
     record { port = bare Here; news = Some Opened; calls = Accepts 1 (Some true) ∷ [] }
 
--- once each switch is bad another process may come
+-- once each switch is bad and each input FALSE another process may come
 abbrev pub left_in : Bool → PortData → Attended
-left_in all_bad p =
-    record { port = if all_bad then bare Away else p; news = None; calls = [] }
+left_in forgotten p =
+    record { port = if forgotten then bare Away else p; news = None; calls = [] }
 
 abbrev pub attended_as : Presence → List ℕ → State → Script → PortData → Attended
 attended_as Away text s script p = taken_in script.accepted p
-attended_as Leaving text s script p = left_in (is_none (first_sound s)) p
+attended_as Leaving text s script p = left_in (is_forgotten s) p
 attended_as Here text s script p = attended_here (talk_part text (script.taken, script.heard) p)
 
 -- What is done behind a turn that told this text, by the device after it.

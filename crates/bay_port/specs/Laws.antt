@@ -1,10 +1,10 @@
 -- What holds of the port of a process, turn after turn.
-use Rattle.std.specs.Prelude.{◌≡◌, ◌≢◌, ℕ, ◌<◌, true, false, List, [], ◌∷◌, ◌++◌, length, take, None, Some, option_and_then}
+use Rattle.std.specs.Prelude.{◌≡◌, ◌≢◌, ℕ, ◌<◌, true, false, All, List, [], ◌∷◌, ◌++◌, length, take, None, Some}
 use Rattle.bay_device.specs.Device.{State}
 use Rattle.bay_port.specs.Attending.{Script, attendance}
-use Rattle.bay_port.specs.Fit.{bad_or_none}
+use Rattle.bay_port.specs.Fit.{forgetting_line}
 use Rattle.bay_port.specs.Ports.{PortData, bare, taken_line}
-use Rattle.bay_port.specs.Sound.{first_sound, is_bad}
+use Rattle.bay_port.specs.Sound.{first_on_name, first_sound, is_bad}
 use Rattle.bay_port.specs.declared.news.News.TheVariants.{Closed}
 use Rattle.bay_port.specs.declared.news.Parting.{Parting}
 use Rattle.bay_port.specs.declared.port.Presence.TheVariants.{Leaving}
@@ -15,15 +15,21 @@ use Rattle.bay_serve.specs.Served.{refusal_at}
 abbrev pub AreBad : State → Type 0
 AreBad s = (k : ℕ) → k < length s.switches → is_bad s k ≡ true
 
+-- each input is FALSE
+abbrev pub AreFalse : State → Type 0
+AreFalse s = All (λ value. value ≡ false) s.input_values
+
 -- Behind a closing nothing is kept. Then a turn has no line of the port but that the first switch
--- which is not bad is so; the link is not asked; and that ends only where each switch is bad.
+-- which is not bad is so, or, where each is bad, that the first input which is TRUE is FALSE; the
+-- link is not asked; and that ends only where each switch is bad and each input FALSE.
 pub record IsSilent (text : List ℕ) (s : State) (script : Script) (p : PortData) : Type 0 where
   pub closed : (why : Parting) → (attendance text s script p).news ≡ Some (Closed why)
       → (attendance text s script p).port ≡ bare Leaving
   pub lines : p.standing ≡ Leaving
-      → (taken_line s p).line ≡ option_and_then bad_or_none (first_sound s)
+      → (taken_line s p).line ≡ forgetting_line (first_sound s) (first_on_name s)
   pub calls : p.standing ≡ Leaving → (attendance text s script p).calls ≡ []
-  pub ends : p.standing ≡ Leaving → (attendance text s script p).port.standing ≢ Leaving → AreBad s
+  pub ends : p.standing ≡ Leaving → (attendance text s script p).port.standing ≢ Leaving
+      → AreBad s × AreFalse s
 
 -- a line that the port has is not refused
 abbrev pub IsReadable : State → PortData → Type 0

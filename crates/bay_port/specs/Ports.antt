@@ -1,9 +1,9 @@
 -- What is kept of the process, and the line that a turn takes of it.
-use Rattle.std.specs.Prelude.{ℕ, Bool, true, false, List, [], Option, None, option_and_then}
+use Rattle.std.specs.Prelude.{ℕ, Bool, true, false, List, [], Option, None}
 use Rattle.bay_device.specs.Device.{State}
 use Rattle.bay_lines.specs.Fronts.{Front, Waiting, Overlong, Whole, front}
-use Rattle.bay_port.specs.Fit.{bad_or_none, line_or_none}
-use Rattle.bay_port.specs.Sound.{first_sound}
+use Rattle.bay_port.specs.Fit.{forgetting_line, line_or_none}
+use Rattle.bay_port.specs.Sound.{first_on_name, first_sound}
 use Rattle.bay_port.specs.declared.port.Presence.{Presence}
 use Rattle.bay_port.specs.declared.port.Presence.TheVariants.{Away, Leaving, Here}
 
@@ -41,10 +41,12 @@ taken_front (Whole line rest) p =
 
 abbrev pub taken_as : Presence → State → PortData → Taken
 taken_as Away s p = nothing_of p
-taken_as Leaving s p = record { line = option_and_then bad_or_none (first_sound s); port = p }
+taken_as Leaving s p =
+    record { line = forgetting_line (first_sound s) (first_on_name s); port = p }
 taken_as Here s p = taken_front (front p.kept) p
 
 -- The line that the port has for a turn: of a process that is there the next that it has sent; of
--- one that has gone, that the first switch is bad which is not.
+-- one that has gone, that the first switch is bad which is not, or else that the first input is
+-- FALSE which is TRUE.
 abbrev pub taken_line : State → PortData → Taken
 taken_line s p = taken_as p.standing s p

@@ -1,5 +1,6 @@
--- Which switches are bad, as their controls tell it (IEC 61850-7-4: CSWI, Pos).
-use Rattle.std.specs.Prelude.{ℕ, ◌+◌, Bool, List, [], ◌∷◌, codes, Option, None, Some, if◌then◌else◌}
+-- What still holds of what a process has told: switches that are not bad, as their controls tell
+-- it (IEC 61850-7-4: CSWI, Pos), and inputs that are TRUE.
+use Rattle.std.specs.Prelude.{ℕ, ◌+◌, Bool, ◌&&◌, List, [], ◌∷◌, codes, position, slice_get, Option, None, Some, is_none, option_and_then, if◌then◌else◌}
 use Rattle.bay_tree.specs.Rows.{leaf_of}
 use Rattle.bay_tree.specs.declared.row.Row.{Row}
 use Rattle.bay_tree.specs.declared.leaf.Dbpos.TheVariants.{Bad}
@@ -30,3 +31,14 @@ sound_from rows k (switch ∷ switches) =
 
 abbrev pub first_sound : State → Option (List ℕ)
 first_sound s = sound_from s.rows 0 s.switches
+
+-- the place of the first input that is TRUE, and its name
+abbrev pub first_on : State → Option ℕ
+first_on s = position (λ value. value) s.input_values
+
+abbrev pub first_on_name : State → Option (List ℕ)
+first_on_name s = option_and_then (slice_get s.inputs) (first_on s)
+
+-- each switch is bad, and each input FALSE
+abbrev pub is_forgotten : State → Bool
+is_forgotten s = is_none (first_sound s) && is_none (first_on s)

@@ -1,13 +1,13 @@
 // What is done with the connection of the process behind a turn.
-ghost use Rattle.std.specs.Prelude.{◌≡◌, is_none};
+ghost use Rattle.std.specs.Prelude.{◌≡◌};
 ghost use Rattle.bay_serve.specs.Calls.{Called};
 ghost use Rattle.bay_port.specs.Attending.{Attends, Does, attendance, left_in, taken_in, talk_part};
-ghost use Rattle.bay_port.specs.Sound.{first_sound};
+ghost use Rattle.bay_port.specs.Sound as spec;
 ghost use Rattle.bay_port.specs.Telling.{told_text};
 
 use crate::news::{News, Parting};
 use crate::port::{PROCESS, Port, Presence};
-use crate::sound::first_sound;
+use crate::sound::is_forgotten;
 use bay_device::device::Device;
 use bay_serve::link::Link;
 use bay_serve::told::Turn;
@@ -45,11 +45,11 @@ fn accept<L: Link>(port: &mut Port, link: &mut L) -> Option<News>
     }
 }
 
-/// Allows another process to come once every switch is bad.
+/// Allows another process to come once every switch is bad and every input FALSE.
 fn leave(port: &mut Port, device: &Device)
-    ensures { port.new ≡ (left_in (is_none (first_sound device.now)) port.old).port }
+    ensures { port.new ≡ (left_in (spec.is_forgotten device.now) port.old).port }
 {
-    if first_sound(device).is_none() {
+    if is_forgotten(device) {
         port.stand(Presence::Away);
     }
 }
@@ -60,7 +60,8 @@ fn leave(port: &mut Port, device: &Device)
 /// A waiting connection is accepted. A connected process is told the turn's refusal and commands,
 /// each line as it is printed; what is waiting is offered once; and it is read once if no whole
 /// line is kept. The connection is closed at its end, for an invalid line, for a full queue, and if
-/// a read or a write fails. After that, none is accepted before every switch is bad.
+/// a read or a write fails. After that, none is accepted before every switch is bad and every input
+/// FALSE.
 pub fn attend<L: Link>(
     port: &mut Port,
     link: &mut L,

@@ -1,7 +1,7 @@
 // The line that a turn can take.
-ghost use Rattle.std.specs.Prelude.{◌≡◌, ◌≤◌, length, option_and_then, option_map};
+ghost use Rattle.std.specs.Prelude.{◌≡◌, ◌≤◌, length, option_map};
 ghost use Rattle.bay_lines.specs.Fronts.{front};
-ghost use Rattle.bay_port.specs.Fit.{bad_or_none, is_waiting, is_wrong, line_or_none, line_if};
+ghost use Rattle.bay_port.specs.Fit.{forgetting_line, is_waiting, is_wrong, line_or_none, line_if, said_or_none};
 ghost use Rattle.bay_port.specs.Fit as spec;
 
 use arrayvec::ArrayVec;
@@ -40,31 +40,33 @@ pub fn put_line(line: &mut Line, text: &[u8]) -> bool
     line.try_extend_from_slice(text).is_ok()
 }
 
-/// Sets the line that reports that the switch with this id is bad. Returns false if that is not a
-/// valid line.
-fn put_bad(line: &mut Line, id: &str) -> bool
-    ensures { line_if result line.new.items ≡ bad_or_none id.now }
+/// Sets a line of three parts. Returns false if that is not a valid line.
+fn put_said(line: &mut Line, front: &[u8], name: &str, back: &[u8]) -> bool
+    ensures { line_if result line.new.items ≡ said_or_none front.now name.now back.now }
 {
     line.clear();
-    let _ = line.try_extend_from_slice(b"0 contact ");
-    if line.try_extend_from_slice(id.as_bytes()).is_err() {
+    if line.try_extend_from_slice(front).is_err() {
         return false;
     }
-    if line.try_extend_from_slice(b" 3").is_err() {
+    if line.try_extend_from_slice(name.as_bytes()).is_err() {
+        return false;
+    }
+    if line.try_extend_from_slice(back).is_err() {
         return false;
     }
     is_told(line.as_slice())
 }
 
-/// Sets the line that reports that a switch is bad. Returns false without a switch, or if that is
-/// not a valid line.
-pub fn put_bad_line(line: &mut Line, id: Option<&str>) -> bool
+/// Sets the line that reports that a switch is bad or, without a switch, that an input is FALSE.
+/// Returns false without either, or if that is not a valid line.
+pub fn put_forgetting_line(line: &mut Line, id: Option<&str>, input: Option<&str>) -> bool
     ensures { line_if result line.new.items
-        ≡ option_and_then bad_or_none (option_map (λ s. s.now) id.entry) }
+        ≡ forgetting_line (option_map (λ s. s.now) id.entry) (option_map (λ s. s.now) input.entry) }
 {
-    match id {
-        Some(id) => put_bad(line, id),
-        None => false,
+    match (id, input) {
+        (Some(id), _) => put_said(line, b"0 contact ", id, b" 3"),
+        (None, Some(name)) => put_said(line, b"0 input ", name, b" 0"),
+        (None, None) => false,
     }
 }
 

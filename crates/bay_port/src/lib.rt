@@ -2,8 +2,8 @@
 //
 // Handed out: `port` (whether a process is there, what it has sent and what is still to be told to
 // it), `attending` (what is done with its connection behind a turn), `news` (what is told of it).
-// Inside: `fit` finds a line that a turn can take, `sound` a switch that is not yet known to be
-// bad, and `telling` puts the lines of a turn into the queue.
+// Inside: `fit` finds a line that a turn can take, `sound` a switch or an input of which what a
+// process told still holds, and `telling` puts the lines of a turn into the queue.
 #![tactic(auto)]
 
 pub mod attending;

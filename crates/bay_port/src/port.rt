@@ -8,9 +8,9 @@ ghost use Rattle.bay_lines.specs.Fronts.{front};
 ghost use Rattle.bay_port.specs.Ports as spec;
 ghost use Rattle.bay_port.specs.Telling.{told_text};
 
-use crate::fit::{Line, is_waiting_in_front, is_wrong_in_front, put_bad_line, put_line};
+use crate::fit::{Line, is_waiting_in_front, is_wrong_in_front, put_forgetting_line, put_line};
 use crate::news::Parting;
-use crate::sound::first_sound;
+use crate::sound::{first_on_name, first_sound};
 use crate::telling::{Queue, put_told};
 use bay_device::device::Device;
 use bay_lines::front::{Found, line_in_front};
@@ -34,7 +34,7 @@ pub const PROCESS: u16 = 1;
 pub enum Presence {
     /// It is not connected, and may come.
     Away,
-    /// It has gone, and some switches may not be bad yet.
+    /// It has gone; some switches may not be bad yet, and some inputs not FALSE.
     Leaving,
     /// It is connected.
     Here,
@@ -79,7 +79,7 @@ impl Port {
         self.standing
     }
 
-    /// Whether the process has gone and some switches may not be bad yet.
+    /// Whether the process has gone, and some switches may not be bad or some inputs not FALSE yet.
     pub fn is_leaving(&self) -> bool
         ensures { result ≡ spec.is_leaving self.now.standing }
     {
@@ -124,7 +124,9 @@ impl Port {
     {
         match self.standing {
             Presence::Away => false,
-            Presence::Leaving => put_bad_line(line, first_sound(device)),
+            Presence::Leaving => {
+                put_forgetting_line(line, first_sound(device), first_on_name(device))
+            }
             Presence::Here => self.take_front(line),
         }
     }

@@ -1,4 +1,5 @@
-// Which switches are bad, as their controls tell it.
+// What still holds of what a process has told: switches that are not bad, as their controls tell it,
+// and inputs that are TRUE.
 ghost use Rattle.std.specs.Prelude.{◌≡◌, ◌+◌, [], codes, option_copied, option_map};
 ghost use Rattle.bay_nodes.specs.Names.{position_names};
 ghost use Rattle.bay_nodes.specs.Node.{node_name};
@@ -53,6 +54,23 @@ fn tells_bad(tree: &Tree, number: usize) -> bool
     ensures { result ≡ spec.tells_bad number tree.now }
 {
     is_bad_at(tree, name_of(number).as_str())
+}
+
+/// Returns the name of the first input that is TRUE.
+pub fn first_on_name(device: &Device) -> Option<&str>
+    ensures { option_map (λ name. name.now) result ≡ spec.first_on_name device.now }
+{
+    match device.first_true_input() {
+        Some(input) => device.input_name(input),
+        None => None,
+    }
+}
+
+/// Whether each switch is bad, and each input FALSE.
+pub fn is_forgotten(device: &Device) -> bool
+    ensures { result ≡ spec.is_forgotten device.now }
+{
+    first_sound(device).is_none() && device.first_true_input().is_none()
 }
 
 /// Returns the id of the first switch that is not bad.

@@ -1,5 +1,5 @@
 // Values that are never more or fewer than there were at first.
-ghost use Rattle.std.specs.Prelude.{◌≡◌, ◌<◌, length, slice_get, slice_set, Some};
+ghost use Rattle.std.specs.Prelude.{◌≡◌, ◌<◌, length, position, slice_get, slice_set, Some};
 ghost use Rattle.bay_process.specs.Values as spec;
 ghost use Rattle.bay_process.specs.Told.{told_at};
 
@@ -40,6 +40,13 @@ impl Truths {
         ensures { result ≡ slice_get self.now place }
     {
         self.values.as_slice().get(place).copied()
+    }
+
+    /// Returns the index of the first value that is TRUE, if one is.
+    pub fn first_true(&self) -> Option<usize>
+        ensures { result ≡ position (λ value. value) self.now }
+    {
+        self.values.iter().position(|value| *value)
     }
 
     /// Sets the value at an index.
