@@ -5,9 +5,10 @@ use bay_serve::link::{Arrival, Link, LinkFault};
 
 /// A link that records whether its calls may have left something that can be done without waiting:
 /// a connection was accepted, a read filled its room, a client's end was seen, a connection was
-/// closed, or a call failed. A read that did not fill its room has emptied the socket, and a write
-/// has been given everything that is waiting: after them there is something to do only once a
-/// socket is ready.
+/// closed, or a read or a write failed. A read that did not fill its room has emptied the socket,
+/// and a write has been given everything that is waiting: after them there is something to do only
+/// once a socket is ready. So it is after a connection could not be accepted, for example for want
+/// of descriptors.
 #[derive(Drop)]
 pub struct BusyLink<L> {
     link: L,
@@ -42,7 +43,7 @@ impl<L: Link> Link for BusyLink<L> {
 
     fn accept(&mut self, a: u16) -> Result<bool, LinkFault> {
         let answer = self.link.accept(a);
-        self.is_busy |= answer != Ok(false);
+        self.is_busy |= answer == Ok(true);
         answer
     }
 
