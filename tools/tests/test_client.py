@@ -15,7 +15,7 @@ from session.client import told
 from session.files import BadFile, bay_at, program_at, tables_of, text_of
 from session.mms import BITS, BOOLEAN, INTEGER, TEXT, Data
 from session.sockets import port_of, seconds_of
-from tests.loopback import needs_loopback
+from tests.loopback import needs_loopback, needs_waiting
 from tests.tool import Tools
 
 ACCEPT = stream.item(0x0E, stream.item(0xC1, element(0x31, element(0xA2, element(
@@ -136,6 +136,7 @@ class Hostile(Tools):
                          'port .* of 127.0.0.1: a connection request is not answered: is it the '
                          'port of the clients')
 
+    @needs_waiting
     def test_a_server_that_takes_nobody(self):
         with socket.create_server(('127.0.0.1', 0)) as server:
             found = self.call_tool('client', '--timeout', '0.5', server.getsockname()[1], 'browse')

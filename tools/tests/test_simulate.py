@@ -10,7 +10,7 @@ import unittest
 TOOLS = pathlib.Path(__file__).resolve().parent.parent
 sys.path.insert(0, str(TOOLS))
 from session.served import Running, free_port
-from tests.loopback import needs_loopback
+from tests.loopback import needs_loopback, needs_waiting
 from tests.tool import Tools
 
 BAY = '''[bay]
@@ -142,6 +142,7 @@ class Waiting(Tools):
         run.run.send_signal(signal.SIGINT)
         self.assertEqual(run.run.wait(10), 0)
 
+    @needs_waiting
     def test_a_second_process_waits(self):
         with socket.create_server(('127.0.0.1', 0)) as server:
             run = self.running(server.getsockname()[1])
