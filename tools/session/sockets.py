@@ -29,6 +29,14 @@ def seconds_of(text: str) -> float:
     return within(text, 86_400, 'seconds')
 
 
+def patience_of(text: str) -> float:
+    """A time in seconds that is not 0, for an option."""
+    value = seconds_of(text)
+    if value == 0:
+        raise argparse.ArgumentTypeError('0 seconds are no time')
+    return value
+
+
 def millis_of(text: str) -> float:
     """A time in milliseconds, from 0 to a day, for an option."""
     return within(text, 86_400_000, 'milliseconds')

@@ -120,6 +120,7 @@ class Outputs(Tools):
     def words(self):
         return [sys.executable, '-B', TOOLS / 'scl', self.file('bay', BAY)]
 
+    @unittest.skipUnless(pathlib.Path('/dev/full').exists(), 'this system has no /dev/full')
     def test_a_full_disk(self):
         with open('/dev/full', 'w') as full:
             done = subprocess.run(self.words(), stdout=full, stderr=subprocess.PIPE, text=True)
