@@ -19,10 +19,12 @@ ALL = {SWITCH: [0, 1, 2, 3], INPUT: [0, 1], MEASURE: [0]}  # the values of a thi
 
 @dataclass
 class Thing:
-    """A switch, an input or a measure, and the values that it goes through."""
+    """A switch, an input or a measure, and the values that it goes through; `is_told` is whether a
+    look or an option named them."""
     name: str
     kind: str
     values: list
+    is_told: bool = False
 
     @property
     def key(self) -> tuple[str, str]:
@@ -45,8 +47,9 @@ class Thing:
         return self.kind == INPUT and self.values == [0, 1]
 
     def is_restricted(self) -> bool:
-        """Whether it goes through fewer values than it can have. Of a measure nobody tries all."""
-        return self.kind != MEASURE and len(self.values) < len(ALL[self.kind])
+        """Whether it goes through fewer values than it can have. Of a measure nobody tries all: the
+        values that matter are to be told."""
+        return not self.is_told if self.kind == MEASURE else len(self.values) < len(ALL[self.kind])
 
 
 @dataclass
@@ -105,7 +108,7 @@ def bay_of(file: dict, texts: tuple, program: Program, looks: dict, named: set) 
     `looks` has the values of things that are not the usual ones."""
     bay = Bay(file, *texts, program)
     for thing in all_things(file):
-        thing.values = looks.get(thing.key, thing.values)
+        thing.values, thing.is_told = looks.get(thing.key, thing.values), thing.key in looks
         reads = program.reads_switch if thing.kind == SWITCH else program.reads
         if reads(thing.name) or thing.key in looks or thing.key in named:
             bay.things.append(thing)

@@ -218,13 +218,15 @@ class Audits(unittest.TestCase):
 
     def test_statuses_and_verdicts(self):
         for rules, status, told in (
-                ('always QA1 open\n', 0, 'PASSED: the rule holds.'),
+                ('look M1_AA 0\nalways QA1 open\n', 0, 'PASSED: the rule holds.'),
+                ('always QA1 open\n', 4,
+                 'NOT ALL WAS TRIED: the rule holds; M1_AA was tried only 0.'),
                 ('# nothing\n', 4, 'NOTHING AUDITED: there are no rules.'),
-                ('always QA1 open\nnever QA1 open when M1_AA 7\n', 4,
+                ('look M1_AA 0\nalways QA1 open\nnever QA1 open when M1_AA 7\n', 4,
                  'NOT ALL WAS TRIED: of 2 rules 1 never applies.'),
                 ('never QA1 open\nalways QA1 open when M1_AA 7\n', 1,
                  'NOT PASSED: of 2 rules 1 broken, and 1 never applies.'),
-                ('look QA1 off\nalways QA1 open\n', 4,
+                ('look QA1 off\nlook M1_AA 0|5\nalways QA1 open\n', 4,
                  'NOT ALL WAS TRIED: the rule holds; QA1 was tried only off.'),
                 ('look M1_AA 0|5\nalways QA1 open\n', 0, 'PASSED: the rule holds.')):
             found = audited(rules)
@@ -332,7 +334,7 @@ class Pictures(unittest.TestCase):
 
     def test_the_report_is_whole(self):
         files = {'Rules': ('rules <&>', b'always QA1 open')}
-        page = Report(audited('always QA1 open'), files, __file__, 0).page()
+        page = Report(audited('look M1_AA 0\nalways QA1 open'), files, __file__, 0).page()
         for told in ('PASSED: the rule holds', 'rules &lt;&amp;&gt;', '1970-01-01 00:00:00 UTC',
                      'timers are not audited', 'QA1 off and VT_DEAD', 'Signature', 'SPARE'):
             self.assertIn(told, page)
