@@ -54,9 +54,16 @@ class Audit:
         """The exit status: a rule is broken, or not all was tried or asked, or all holds."""
         if any(it.broken for it in self.findings):
             return FOUND
-        is_whole = self.findings and not self.bay.restricted() and not any(
-            it.note or not it.looked for it in self.findings)
-        return DONE if is_whole else PARTLY
+        is_whole = self.findings and all(it.looked for it in self.findings)
+        return DONE if is_whole and not self.untried() else PARTLY
+
+    def untried(self) -> list[str]:
+        """What was not tried, in words."""
+        found = [f'{it.name} was tried only {"|".join(it.words())}' for it in self.bay.restricted()]
+        found += [it.note for it in self.findings if it.note]
+        untold = self.bay.program.untold
+        return found + [f'the end of {name} was not tried: its time is no number of the text'
+                        for name in untold]
 
     def verdict(self) -> str:
         """The result in a sentence."""
@@ -72,9 +79,7 @@ class Audit:
             return 'NOTHING AUDITED: there are no rules.'
         told = f'of {counted(count, "rule")} {never}' if never else (
             f'all {count} rules hold' if count > 1 else 'the rule holds')
-        rest = [f'{it.name} was tried only {"|".join(it.words())}' for it in self.bay.restricted()]
-        rest += [it.note for it in self.findings if it.note]
-        return f'NOT ALL WAS TRIED: {"; ".join([told, *rest])}.'
+        return f'NOT ALL WAS TRIED: {"; ".join([told, *self.untried()])}.'
 
     def has_times(self) -> bool:
         return any(it.rule.since for it in self.findings)

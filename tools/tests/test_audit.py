@@ -232,6 +232,13 @@ class Audits(unittest.TestCase):
             found = audited(rules)
             self.assertEqual((found.status(), found.verdict()), (status, told))
 
+    def test_a_timer_whose_time_is_not_in_the_text(self):
+        logic = LOGIC.replace('T#5s', 'delay').replace('t1 : TON;', 't1 : TON;\ndelay : TIME;')
+        found = audited('look M1_AA 0\nalways QA1 open\n', logic=logic)
+        self.assertEqual((found.status(), found.verdict()), (
+            4, 'NOT ALL WAS TRIED: the rule holds; the end of t1 was not tried: its time is no '
+            'number of the text.'))
+
     def test_a_pause_that_is_too_short(self):
         for pause in (1, 4999, 5000):
             with self.assertRaisesRegex(CalledWrong, f'--pause {pause}: it must be more than'):
