@@ -149,9 +149,9 @@ def draw_parts(bay, table: list, width: float) -> list[str]:
 def finished(picture, bay, table, blocks, heading, key='') -> str:
     """A picture with its legend and its notes."""
     notes = notes_of(bay, blocks_of(bay, table))
-    draw_legend(picture, len(table), notes)
-    ends = [block.x + block.width() + 10 for block in blocks]
-    widest = max([room(note, 11) + 24 for note in notes] + ends + [560])
+    far = draw_legend(picture, len(table), notes)
+    ends = [far] + [block.x + block.width() + 10 for block in blocks]
+    widest = max([room(note, 11) + 24 for note in notes] + ends)
     return picture.page(math.ceil(widest), picture.y + 8, heading or 'Releases', TOLD, key=key)
 
 
@@ -208,7 +208,8 @@ def draw_cell(picture, block, place, at, told) -> None:
     picture.text(x + block.cell / 2 - 1, y + 15, shown, 11, 'middle', ink)
 
 
-def draw_legend(picture, count, notes) -> None:
+def draw_legend(picture, count, notes) -> float:
+    """What the colours mean, and the notes; how far to the right it comes."""
     y = picture.y + 10
     picture.text(12, y + 10, f'Of {count:,}', 11, fill=FAINT)
     x = LEFT
@@ -216,8 +217,10 @@ def draw_legend(picture, count, notes) -> None:
         picture.box(x, y, 20, 12, fill, GRID)
         picture.text(x + 26, y + 10, told, 11)
         x += 26 + room(told, 11) + 16
-    picture.text(x, y + 10, 'empty: it does not matter', 11, fill=FAINT)
+    last = 'empty: it does not matter'
+    picture.text(x, y + 10, last, 11, fill=FAINT)
     picture.y = y + 26
     for note in notes:
         picture.text(12, picture.y + 8, note, 11)
         picture.y += 18
+    return x + room(last, 11) + 12
