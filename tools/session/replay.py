@@ -215,6 +215,8 @@ class NotLoaded(Failed):
 def replayed(octets: bytes | None, bayctl, report=None) -> tuple[str, int]:
     """What bayctl prints for a scenario: the report in a file, or a run of the program."""
     if report:
+        if str(report) == '-' and sys.stdin is None:
+            raise Failed('standard input: it is closed')
         found = sys.stdin.buffer.read() if str(report) == '-' else octets_of(report)
         return found.decode('utf-8', 'backslashreplace'), 0
     try:
