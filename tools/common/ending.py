@@ -39,6 +39,10 @@ class Parser(argparse.ArgumentParser):
         super().__init__(description=description, allow_abbrev=False,
                          formatter_class=argparse.RawDescriptionHelpFormatter, **more)
 
+    def print_help(self, file=None) -> None:
+        """Prints the help; where that can't be written the tool says so."""
+        print(self.format_help(), end='', file=file or sys.stdout, flush=True)
+
     def error(self, message: str) -> None:
         complain(f'{message} (see --help)')
         sys.exit(CALLED_WRONG)
@@ -83,7 +87,7 @@ def ends(main: Callable[[], int | None]) -> None:
 def status_of(main: Callable[[], int | None]) -> int:
     """Runs a tool; what it says and its status where that fails."""
     try:
-        status = main() or DONE
+        status = status_in(main)
         sys.stdout.flush()
         return status
     except Failed as error:
@@ -102,6 +106,14 @@ def status_of(main: Callable[[], int | None]) -> int:
         complain(f'a fault of this tool itself: {type(error).__name__}: {error} (with '
                  'TOOLS_TRACEBACK=1 it tells where)')
         return flushed(UNREACHED)
+
+
+def status_in(main: Callable[[], int | None]) -> int:
+    """The status of a tool, also where its options end it."""
+    try:
+        return main() or DONE
+    except SystemExit as end:
+        return end.code or DONE
 
 
 def flushed(status: int) -> int:

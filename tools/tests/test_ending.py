@@ -124,8 +124,11 @@ class Outputs(Tools):
     def test_a_full_disk(self):
         with open('/dev/full', 'w') as full:
             done = subprocess.run(self.words(), stdout=full, stderr=subprocess.PIPE, text=True)
-        self.assertEqual((done.returncode, done.stderr),
-                         (3, 'scl: standard output: No space left on device\n'))
+            help_of_it = subprocess.run([*self.words(), '--help'], stdout=full,
+                                        stderr=subprocess.PIPE, text=True)
+        for it in (done, help_of_it):
+            self.assertEqual((it.returncode, it.stderr),
+                             (3, 'scl: standard output: No space left on device\n'))
 
     def test_a_closed_output(self):
         run = subprocess.Popen(self.words(), stdout=subprocess.PIPE, stderr=subprocess.PIPE)

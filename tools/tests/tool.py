@@ -81,10 +81,7 @@ class Tools(unittest.TestCase):
         with streams, environment, contextlib.chdir(self.folder):
             time.tzset()
             show_plainly()
-            try:
-                status = status_of(main)
-            except SystemExit as end:
-                status = end.code or 0
+            status = status_of(main)
         time.tzset()
         for one in (out, error):
             one.flush()
