@@ -99,7 +99,7 @@ def shown(checks, page):
     """What a page has and is told, and two operates."""
     checks.wants('the page of the panel', page.text, 0,
                  [f'data-switch="{it}"' for it in ('QA1', 'QB1', 'QC1')], 0)
-    state = page.until(lambda it: it['switches'] and all(
+    state = page.until(lambda it: positions(it).get('QA1') == 'closed' and all(
         'must be' in it['switches'][1][way]['why'] for way in ('open', 'close')))
     checks.wants('why not, on the panel', json.dumps(state['switches'][1]), 0,
                  ['QA1 is closed and must be open', '"quality": "good"'], 0)
