@@ -18,7 +18,7 @@ IDENTIFY = stream.wrapped(stream.data_tsdu(mms.request_octets(1, 0x82)))
 PAGE = stream.wrapped(stream.data_tsdu(mms.names_request(1, 'E05')))
 PAUSE = 0.010  # the longest rest of an idle server, in seconds
 TRIES = 5
-BUSY = 0.25  # of a processor: far more than an idle server takes
+BUSY = 0.4  # of a processor: far more than an idle server takes
 
 
 def connected(port: int) -> socket.socket:
