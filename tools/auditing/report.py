@@ -55,8 +55,8 @@ def sum_of(octets) -> str:
 
 
 def version() -> str:
-    """The tool's version: the newest day of CHANGELOG.md, and a sum of its files."""
-    day = re.search(r'^## (\S+)', CHANGES.read_text(encoding='utf-8'), re.M)
+    """The tool's version: the newest of CHANGELOG.md, and a sum of its files."""
+    day = re.search(r'^## (\d\S*)', CHANGES.read_text(encoding='utf-8'), re.M)
     paths = [TOOLS / 'audit', *sorted(path for name in FOLDERS
                                       for path in (TOOLS / name).glob('*.py'))]
     found = sum_of(b''.join(path.read_bytes() for path in paths))
