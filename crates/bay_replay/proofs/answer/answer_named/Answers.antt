@@ -1,19 +1,16 @@
-use Rattle.std.proofs.Common.{refl, sym, ap₂, ◌∙◌}
+use Rattle.std.proofs.Common.{refl, ap₂}
 use Rattle.bay_replay.specs.LineAnswers.{Replaying, heard, unread}
 use Rattle.bay_replay.proofs.AnswerLemmas.{Does-same, memory-said}
-use Rattle.bay_trace.proofs.PlacingLemmas.{took, took-not}
 use Rattle.bay_trace.specs.Placing.{placed_event}
 use Rattle.bay_trace.specs.TraceView.{named_view}
 use Rattle.bay_replay.proofs.answer.answer_named.Goals as goal
 
-pub returns-then-is_err : goal.returns-then-is_err
-returns-then-is_err g c =
+pub returns-in-Err : goal.returns-in-Err
+returns-in-Err g c =
     let event = named_view c.args.event in
     let r : Replaying = record { device = c.args.device.now; room = c.args.octets.now.room } in
     let is =
-    memory-said c.args.moment event r
-    (took-not event _ _ c.take_octets.result (sym c.is_err.ensures.value ∙ c.if-is_err.true)
-    c.take_octets.ensures) in
+    memory-said c.args.moment event r c.in-Err.ensures in
     record {
       choice = unread;
       text = rw is c.put.ensures;
@@ -21,8 +18,8 @@ returns-then-is_err g c =
       left_is = λ e. absurd cc;
     }
 
-pub returns : goal.returns
-returns g c =
+pub returns-in-Ok : goal.returns-in-Ok
+returns-in-Ok g c =
     let event = named_view c.args.event in
     let r : Replaying = record { device = c.args.device.now; room = c.args.octets.now.room } in
     let done =
@@ -30,9 +27,7 @@ returns g c =
     c.placed_event-event.result
     (placed_event r.device event) r.device c.answer_event.new.writer c.answer_event.new.device
     c.placed_event-event.ensures c.answer_event.ensures in
-    let room =
-    took event _ _ c.take_octets.result (sym c.is_err.ensures.value ∙ c.if-is_err.false)
-    c.take_octets.ensures in
+    let room = c.in-Ok.ensures in
     record {
       choice = heard done.choice;
       text = done.text;
