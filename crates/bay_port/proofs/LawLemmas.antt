@@ -1,6 +1,8 @@
 -- Lemmas on what holds of the port of a process.
 use Rattle.std.proofs.Common.{◌≡◌, ◌≢◌, ℕ, zero, suc, ◌+◌, ◌<◌, Bool, true, false, List, [], ◌∷◌, ◌++◌, length, take, drop, is_none, is_some, All, codes, Option, None, Some, nat_le, Result, Ok, Err, refl, sym, ap, ◌∙◌, subst, arith, append_assoc, append-nil, take-append-drop}
-use Rattle.core.specs.List.{position_from}
+use Rattle.std.proofs.lemmas.Iterator.Adapters.{position_from-zero}
+use Rattle.std.proofs.lemmas.List.Elements.{All-cons, All-nil}
+use Rattle.std.specs.List.{position_from}
 use Rattle.bay_tree.specs.declared.row.Row.{Row}
 use Rattle.bay_nodes.specs.declared.switch.Switch.{Switch}
 use Rattle.bay_device.specs.Device.{State}
@@ -99,16 +101,19 @@ are-bad s e k lt =
 all-false : (i : ℕ) (values : List Bool)
     → is_none (position_from (λ value. value) i values) ≡ true
     → All (λ value. value ≡ false) values
-all-false i [] e = tt
+all-false i [] e = All-nil (λ value. value ≡ false)
 all-false i (true ∷ values) e = absurd cc
-all-false i (false ∷ values) e = (refl, all-false (suc i) values e)
+all-false i (false ∷ values) e =
+    All-cons (λ value. value ≡ false) false values refl (all-false (i + 1) values e)
 
 are-forgotten : (s : State) → is_forgotten s ≡ true → AreBad s × AreFalse s
 are-forgotten s e = by-sound (is_none (first_sound s)) refl (is_none (first_on s)) refl
   where
     by-sound : (a : Bool) → is_none (first_sound s) ≡ a → (b : Bool) → is_none (first_on s) ≡ b
         → AreBad s × AreFalse s
-    by-sound true bad true off = (are-bad s bad, all-false 0 s.input_values off)
+    by-sound true bad true off =
+        let none = sym (ap is_none (position_from-zero (λ value. value) s.input_values)) ∙ off in
+        (are-bad s bad, all-false 0 s.input_values none)
     by-sound true bad false off = let none : false ≡ true = rw (bad, off) at e in absurd cc
     by-sound false bad b off = let none : false ≡ true = rw bad at e in absurd cc
 
