@@ -57,7 +57,12 @@ fn check_pages(alloc: Global, tree: &Tree, words: &[&str], count: usize) -> Resu
         let before = name_at(words, at.wrapping_sub(1));
         let next = check_page(&tree.names_after(alloc, before, count)?, words, at, count)?;
         let octets = before.map(|name| name.as_bytes());
-        let same = check_page(&tree.names_after_octets(alloc, octets, count)?, words, at, count)?;
+        let same = check_page(
+            &tree.names_after_octets(alloc, octets, count)?,
+            words,
+            at,
+            count,
+        )?;
         check(same == next)?;
         at = next;
     }
