@@ -2,3 +2,4 @@ pub mod AnswerLemmas
 pub mod LoadLemmas
 pub mod PartLemmas
 pub mod ProgressLemmas
+pub mod ReadLemmas

@@ -8,7 +8,8 @@ use Rattle.bay_replay.specs.LineAnswers.{Choice, Replaying, line_answer}
 use Rattle.bay_report.specs.Load.{load_of}
 use Rattle.bay_replay.specs.Scenario.{ScenarioParts, scenario_of, scenario_limit}
 use Rattle.bay_report.specs.TextLines.{lines_of}
-use Rattle.bay_io.specs.Watched.{Writing}
+use Rattle.bay_io.specs.Input.{IsEnded, octets_of}
+use Rattle.bay_io.specs.Watched.{Reading, Writing}
 use Rattle.bay_io.specs.declared.outbox.WriteFault.{WriteFault}
 use Rattle.bay_trace.specs.Trace.{trace_line_of}
 use Rattle.bay_device.specs.declared.fault.LoadFault.{LoadFault}
@@ -71,18 +72,27 @@ IsReplay input has_failed text status =
     MatchBool has_failed ((text ≡ codes "fault 121\n") × (status ≡ 3))
     (ReadReport input text status)
 
--- a scenario was replayed from a reader to a writer: by at most 16,777,217 reads, and the writes
--- and flushes that led to a last state of the writer. That the reader failed is told exactly where
--- one of these reads failed, and a fault is answered exactly where a write or a flush failed, or a
--- write took nothing
-pub record Replays {R W : Type 0} (remaining : R → Option (List ℕ))
-    (does : R → ReadCall → R → Type 0) (contents : W → Option (List ℕ))
-    (asks : W → WriteCall → W → Type 0) (reader : R) (writer : W) (result : Result ℕ WriteFault)
-    : Type 0 where
-  pub end : R
-  pub has_read_failed : Bool
-  pub reads : AskedFew does read_failed (scenario_limit + 1) reader false end has_read_failed
+-- What a reader gave was replayed to a writer: a scenario is what at most 16,777,217 reads gave, in
+-- their order, up to the end. That the reader failed is told exactly where one of these reads
+-- failed, or one had before.
+pub record ReplaysReads {R W : Type 0} (does : R → ReadCall → R → Type 0)
+    (contents : W → Option (List ℕ)) (asks : W → WriteCall → W → Type 0) (old new : Reading R)
+    (before after : Writing W) (result : Result ℕ WriteFault) : Type 0 where
+  pub reads : AskedFew does read_failed (scenario_limit + 1) old.inner old.has_failed new.inner
+      new.has_failed
+  pub ended : new.has_failed ≡ false → IsEnded reads.asked.calls
+      ⊎ (scenario_limit < length (octets_of reads.asked.calls))
+  pub prints : Prints contents asks
+      (IsReplay (Some (octets_of reads.asked.calls)) new.has_failed) before after result
+
+-- So it was from a source to a sink, which are not used before. A fault is answered exactly where a
+-- write or a flush failed, or a write took nothing.
+pub record Replays {R W : Type 0} (does : R → ReadCall → R → Type 0)
+    (contents : W → Option (List ℕ)) (asks : W → WriteCall → W → Type 0) (reader : R) (writer : W)
+    (result : Result ℕ WriteFault) : Type 0 where
+  pub end : Reading R
   pub last : Writing W
-  pub prints : Prints contents asks (IsReplay (remaining reader) has_read_failed)
+  pub replays : ReplaysReads does contents asks
+      (record { inner = reader; reads = 0; has_failed = false }) end
       (record { inner = writer; has_failed = false; is_flushed = false; pending = [] }) last result
-  pub fault : is_err result ≡ some_call write_failed prints.asked.calls
+  pub fault : is_err result ≡ some_call write_failed replays.prints.asked.calls

@@ -1,7 +1,6 @@
 // Reads a scenario, replays it, and writes its report.
 ghost use Rattle.std.specs.Prelude.{◌+◌, ◌≤◌, length};
-ghost use Rattle.bay_io.specs.Calls.{AskedFew, read_failed};
-ghost use Rattle.bay_replay.specs.Replay.{DeviceReport, LoadsReport, IsReport, IsReplay, Replays};
+ghost use Rattle.bay_replay.specs.Replay.{DeviceReport, LoadsReport, IsReport, IsReplay, Replays, ReplaysReads};
 ghost use Rattle.bay_report.specs.Report.{Prints};
 ghost use Rattle.bay_replay.specs.Scenario.{scenario_limit};
 ghost use Rattle.bay_report.specs.TextLines.{lines_of};
@@ -104,9 +103,9 @@ pub fn replay_watched<R: Source, W: Sink>(
         (IsReplay (R.remaining reader.old.inner) reader.new.has_failed) writer.old writer.new
         result }
     ensures reads { reader.new.reads ≤ reader.old.reads + scenario_limit + 1 }
-    // What the reader was asked.
-    ensures asked { AskedFew R.does read_failed (scenario_limit + 1) reader.old.inner
-        reader.old.has_failed reader.new.inner reader.new.has_failed }
+    // The scenario is what the reader gave in these reads.
+    ensures given { ReplaysReads R.does W.contents W.does reader.old reader.new writer.old
+        writer.new result }
 {
     match read_all(alloc, reader, SCENARIO_LIMIT) {
         Ok(input) => replay_scenario(alloc, input.as_slice(), writer),
@@ -121,7 +120,7 @@ pub fn replay_run<R: Source + Drop, W: Sink + Drop>(
     reader: R,
     writer: W,
 ) -> Result<u8, WriteFault>
-    ensures { Replays R.remaining R.does W.contents W.does reader writer result }
+    ensures { Replays R.does W.contents W.does reader writer result }
 {
     let mut reader = WatchedReader::new(reader);
     let mut writer = WatchedWriter::new(writer);

@@ -4,14 +4,10 @@ use Rattle.bay_replay.proofs.replay.replay_run.Goals as goal
 
 pub returns : goal.returns
 returns g c =
-    let printed =
-    rw (c.new-reader.ensures, c.new-writer.ensures) at c.replay_watched.ensures.printed
-    in
+    let given = rw (c.new-reader.ensures, c.new-writer.ensures) at c.replay_watched.ensures.given in
     record {
-      end = c.replay_watched.new.reader.inner;
-      has_read_failed = c.replay_watched.new.reader.has_failed;
-      reads = rw c.new-reader.ensures at c.replay_watched.ensures.asked;
+      end = c.replay_watched.new.reader;
       last = c.replay_watched.new.writer;
-      prints = printed;
-      fault = Prints-fault _ _ _ printed refl;
+      replays = given;
+      fault = Prints-fault _ _ _ given.prints refl;
     }
