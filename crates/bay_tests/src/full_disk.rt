@@ -109,13 +109,13 @@ impl Files for FullDisk<'_> {
 
 const NAME: &str = "full_disk.il";
 
-const BESIDE: &str = "full_disk.il.part";
+const BESIDE: &str = "full_disk.il.part0";
 
 #[test]
 fn a_failed_write_leaves_no_file(rt: HostRuntime) -> Result<(), Fail> {
     let disk = FullDisk { host: &rt };
     let mut files = SystemFiles::new(&disk);
-    let written = files.write(NAME, BESIDE, b"octets");
+    let written = files.write(rt.alloc(), NAME, 0, b"octets");
     assert!(rt; matches!(written, Err(FileFault::Failed)));
     assert!(rt; rt.metadata(NAME).is_err() && rt.metadata(BESIDE).is_err());
     Ok(())
@@ -124,7 +124,7 @@ fn a_failed_write_leaves_no_file(rt: HostRuntime) -> Result<(), Fail> {
 #[test]
 fn a_write_leaves_its_file(rt: HostRuntime) -> Result<(), Fail> {
     let mut files = SystemFiles::new(&rt);
-    let written = files.write(NAME, BESIDE, b"octets");
+    let written = files.write(rt.alloc(), NAME, 0, b"octets");
     let is_there = rt.metadata(NAME).is_ok() && rt.metadata(BESIDE).is_err();
     rt.remove_file(NAME)?;
     assert!(rt; matches!(written, Ok(true)) && is_there);
