@@ -2,7 +2,7 @@
 import re
 from collections.abc import Iterator
 
-from common import CRATES, text_of
+from shared import CRATES, text_of
 
 TEXTS = ('bay', 'frame', 'logic', 'trace')
 

@@ -3,13 +3,13 @@ import collections
 import sys
 from collections.abc import Callable
 
-import common
+import shared
 
 
 def refuse_each(name: str, run: Callable, outcome: Callable) -> tuple[int, collections.Counter]:
     """Refuses each allocation of a run in turn: how many there are, and how often each outcome is
     seen. It ends the script where a run has no outcome that it may have."""
-    allocations = common.allocations(run(FAIL_SHOW='1').stderr)
+    allocations = shared.allocations(run(FAIL_SHOW='1').stderr)
     seen = collections.Counter()
     for at in range(1, allocations + 1):
         done = run(FAIL_AT=str(at))

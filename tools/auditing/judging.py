@@ -1,27 +1,40 @@
-"""What is found of each rule, and what is released in each combination once timers have run out."""
+"""What is found of each rule: what bayctl proves of it, and what trying it shows; and what is
+released in each combination that was tried, once timers have run out."""
 import itertools
+import random
 import sys
 import time
 from collections.abc import Iterator
 from dataclasses import dataclass, field
 
-from common.ending import DONE, FOUND, PARTLY, CalledWrong, Failed
+from bay.conditions import TooLarge, Variable, condition
+from common.ending import CalledWrong, Failed
 from common.texts import counted, raised
-from session.conditions import TooLarge, Variable, condition
 
+from . import answers
+from .answers import Answer, Proof
+from .proving import Shown, conditions, shown
+from .replaying import scans_of, scenarios, timed_scenarios, timed_trace_of, trace_of
 from .things import SWITCH, WAYS
-from .replaying import (LARGEST, LATEST, scans_of, timed_scenarios, timed_trace_of, trace_of,
-                        whole_scenario)
 
 PAIRS = 200_000  # most pairs of combinations that a rule with a time is tried with
+USUAL, SAMPLED = 65_536, 16_384  # combinations that are all tried; of more so many, if any need be
+WHOLE = 1_048_576  # and all of these where nothing is proved, or the table is asked for
+DERIVED = 262_144  # combinations from which conditions are derived
 
 
 @dataclass
 class Finding:
-    """What was found of a rule: in how many combinations it applies and is broken, the first of
-    these, `after` how many milliseconds, and the lines that lead there. `note` tells where not
-    all ways were tried."""
+    """What was found of a rule. `proof` is bayctl's answer, None where it gives none,
+    `can_apply` whether the rule's condition is ever true, and `shown` the replay of a case that
+    breaks the rule. Of the trial: in how many combinations it applies and is broken, the first of
+    these, `after` how many milliseconds, and the lines that lead there; `is_tried` is whether it
+    was tried at all, and `note` tells where not all ways were."""
     rule: object
+    proof: Proof | None = None
+    can_apply: bool = True
+    shown: Shown | None = None
+    is_tried: bool = False
     looked: int = 0
     broken: int = 0
     first: tuple = ()
@@ -30,7 +43,24 @@ class Finding:
     note: str = ''
 
     def verdict(self) -> str:
-        return 'BROKEN' if self.broken else 'holds' if self.looked else 'never applies'
+        """BROKEN, PROVED, OPEN, TRIED, or that it never applies."""
+        answer = self.proof.verdict if self.proof else ''
+        if self.broken or answer == answers.BROKEN:
+            return 'BROKEN'
+        if answer == answers.HOLDS:
+            return 'PROVED' if self.can_apply else 'never applies'
+        if answer in (answers.OPEN, answers.MANY):
+            return 'OPEN'
+        return 'TRIED' if self.looked else 'never applies'
+
+    def is_settled(self) -> bool:
+        """Whether bayctl decides it, so that it need not be tried."""
+        return self.proof is not None and self.proof.verdict in (answers.HOLDS, answers.BROKEN)
+
+    def is_doubted(self) -> bool:
+        """Whether a replay speaks against what bayctl proves."""
+        holds = self.proof is not None and self.proof.verdict == answers.HOLDS
+        return holds and self.broken > 0 or self.shown is not None and not self.shown.is_so
 
     def breaks(self, combination, after, lines) -> None:
         self.broken += 1
@@ -40,49 +70,23 @@ class Finding:
 
 @dataclass
 class Audit:
-    """All that was found. `table` has each combination with what is released in it once timers
-    have run out; `scans` counts the scans, at `offsets` after each combination is reached; `kept`
-    has what was derived of it."""
+    """All that was found. `answer` is what bayctl proves, or None. `table` has each combination
+    that was tried, with what is released in it once timers have run out; `scans` counts the scans,
+    at `offsets` after each combination is reached; `kept` has what was derived of it."""
     bay: object
     findings: list
+    answer: Answer | None
     table: list
     offsets: list
     scans: int
     kept: dict = field(default_factory=dict)
 
-    def status(self) -> int:
-        """The exit status: a rule is broken, or not all was tried or asked, or all holds."""
-        if any(it.broken for it in self.findings):
-            return FOUND
-        is_whole = self.findings and all(it.looked for it in self.findings)
-        return DONE if is_whole and not self.untried() else PARTLY
-
-    def untried(self) -> list[str]:
-        """What was not tried, in words."""
-        found = [f'{it.name} was tried only {"|".join(it.words())}' for it in self.bay.restricted()]
-        found += [it.note for it in self.findings if it.note]
-        untold = self.bay.program.untold
-        return found + [f'the end of {name} was not tried: its time is no number of the text'
-                        for name in untold]
-
-    def verdict(self) -> str:
-        """The result in a sentence."""
-        count, idle = len(self.findings), [it for it in self.findings if not it.looked]
-        broken = sum(it.broken > 0 for it in self.findings)
-        never = f'{len(idle)} never {"applies" if len(idle) == 1 else "apply"}' if idle else ''
-        if self.status() == DONE:
-            return f'PASSED: all {count} rules hold.' if count > 1 else 'PASSED: the rule holds.'
-        if broken:
-            more = f', and {never}' if never else ''
-            return f'NOT PASSED: of {counted(count, "rule")} {broken} broken{more}.'
-        if not count:
-            return 'NOTHING AUDITED: there are no rules.'
-        told = f'of {counted(count, "rule")} {never}' if never else (
-            f'all {count} rules hold' if count > 1 else 'the rule holds')
-        return f'NOT ALL WAS TRIED: {"; ".join([told, *self.untried()])}.'
-
     def has_times(self) -> bool:
         return any(it.rule.since for it in self.findings)
+
+    def is_whole(self) -> bool:
+        """Whether each combination was tried."""
+        return len(self.table) == self.bay.count()
 
 
 def offsets_of(program, rules: list, pause: int | None) -> list[int]:
@@ -115,24 +119,52 @@ class Progress:
             sys.__stderr__.flush()
 
 
-def audit(bay, rules: list, bayctl, pause: int | None = None) -> Audit:
-    """Goes through all combinations, and through those of rules with a time once more for each."""
+def audit(bay, rules: list, bayctl, pause: int | None = None, answer: Answer | None = None,
+          is_table_asked: bool = False) -> Audit:
+    """What bayctl answered on the rules, and what trying shows of those that it does not settle."""
     offsets = offsets_of(bay.program, rules, pause)
-    findings, table = [Finding(rule) for rule in rules], []
-    octets, progress = whole_scenario(bay, offsets), Progress(bay.count())
-    tell_size(bay, octets, offsets)
-    scans = scans_of(bayctl, octets)
-    for place, combination in enumerate(bay.combinations()):
-        seen = several(scans, len(offsets))
-        for finding in findings:
-            judge(finding, bay, place, combination, offsets, seen)
-        table.append((combination, seen[-1]))
-        progress.step()
-    found = Audit(bay, findings, table, offsets, len(table) * len(offsets))
+    findings = [Finding(rule, answer and answer.of_line(rule.line), rule.can_apply())
+                for rule in rules]
+    if answer and not all(it.proof for it in findings):
+        missing = next(it.rule.line for it in findings if not it.proof)
+        raise Failed(f'bayctl audit says nothing of the rule of line {missing}')
     for finding in findings:
-        if finding.rule.since:
-            found.scans += judge_times(finding, bay, bayctl, offsets)
+        if finding.proof and finding.proof.verdict == answers.BROKEN:
+            finding.shown = shown(bay, finding.rule, finding.proof.case, bayctl)
+    chosen = chosen_of(bay, findings, answer is None or is_table_asked)
+    found = Audit(bay, findings, answer, [], offsets, 0)
+    tell_size(bay, len(chosen), offsets)
+    go_through(found, chosen, bayctl)
+    for finding in findings:
+        if finding.rule.since and chosen:
+            found.scans += judge_times(finding, bay, chosen, bayctl, offsets)
     return found
+
+
+def chosen_of(bay, findings: list, is_asked: bool) -> list[tuple]:
+    """The combinations that are tried: all of the usual number; of more some, spread over all, if
+    a rule is not settled without, or all where it is asked for."""
+    count = bay.count()
+    if count <= (WHOLE if is_asked else USUAL):
+        return list(bay.combinations())
+    if not is_asked and all(it.is_settled() for it in findings):
+        return []
+    places = sorted(random.Random(1).sample(range(count), SAMPLED))
+    return [bay.combination_at(place) for place in places]
+
+
+def go_through(found: Audit, chosen: list[tuple], bayctl) -> None:
+    """Tries each combination, each reached from the one before it."""
+    progress = Progress(len(chosen))
+    for part, octets in scenarios(found.bay, chosen, found.offsets):
+        scans = scans_of(bayctl, octets)
+        for place, combination in enumerate(part):
+            seen = several(scans, len(found.offsets))
+            for finding in found.findings:
+                judge(finding, found.bay, part, place, found.offsets, seen)
+            found.table.append((combination, seen[-1]))
+            progress.step()
+    found.scans += len(chosen) * len(found.offsets)
 
 
 def several(scans: Iterator, count: int) -> list:
@@ -143,25 +175,22 @@ def several(scans: Iterator, count: int) -> list:
     return seen
 
 
-def tell_size(bay, octets, offsets) -> None:
-    """Tells what it takes, and ends where that is too much."""
+def tell_size(bay, chosen: int, offsets: list[int]) -> None:
+    """Tells what is tried."""
     switches = sum(thing.kind == SWITCH for thing in bay.things)
     told = f'{counted(switches, "switch", "switches")}, '
     told += f'{counted(len(bay.things) - switches, "other")}: '
     told += counted(bay.count(), 'combination')
-    if bay.count() * offsets[-1] > LATEST:
-        raise Failed(f'{told} of {offsets[-1]:,} ms each, more than a trace has times for: hold '
-                     'some with --switches or --inputs, or give a shorter --pause')
-    if not octets:
-        raise Failed(f'{told}, more than one scenario of {LARGEST:,} octets has room for: hold '
-                     'some with --switches or --inputs')
-    print(f'{told}, a scenario of {len(octets):,} octets', file=sys.stderr)
+    more = '' if chosen == bay.count() else f', of which {chosen:,} are tried'
+    print(f'{told}{more}, with {counted(len(offsets), "scan")} each', file=sys.stderr)
 
 
-def judge(finding, bay, place, combination, offsets, seen) -> None:
-    """Counts a combination for a rule: `never` is to hold at each scan, `always` at the last. Of a
-    rule with a time only what may never be is asked here, where its condition does not hold."""
-    rule, state = finding.rule, bay.state(combination)
+def judge(finding, bay, part: list, place: int, offsets, seen) -> None:
+    """Counts the combination at a place, which was reached by those before it, for a rule: `never`
+    is to hold at each scan, `always` at the last. Of a rule with a time only what may never be is
+    asked here, where its condition does not hold."""
+    rule, combination = finding.rule, part[place]
+    state, finding.is_tried = bay.state(combination), True
     if not rule.condition(state):
         return
     if rule.since and (rule.wanted or rule.since.condition(state)):
@@ -170,8 +199,7 @@ def judge(finding, bay, place, combination, offsets, seen) -> None:
     asked = list(zip(offsets, seen))[-1:] if rule.wanted else zip(offsets, seen)
     after = next((offset for offset, releases in asked if rule.breaks(releases)), None)
     if after is not None:
-        lines = [] if finding.broken else trace_of(
-            bay, itertools.islice(bay.combinations(), place + 1), offsets)
+        lines = [] if finding.broken else trace_of(bay, part[:place + 1], offsets)
         finding.breaks(combination, after, lines)
 
 
@@ -186,11 +214,11 @@ def befores_of(bay, rule, combination) -> Iterator[tuple]:
             yield before
 
 
-def pairs_of(bay, finding: Finding) -> list[tuple]:
+def pairs_of(bay, finding: Finding, chosen: list[tuple]) -> list[tuple]:
     """Each combination in which a rule applies and its condition holds, behind each of those from
     which that can begin; where these are too many, behind those that differ least."""
     rule, found = finding.rule, []
-    for combination in bay.combinations():
+    for combination in chosen:
         state = bay.state(combination)
         if rule.condition(state) and rule.since.condition(state):
             found.append((combination, list(befores_of(bay, rule, combination))))
@@ -209,11 +237,11 @@ def differs(one: tuple, other: tuple) -> int:
     return sum(a != b for a, b in zip(one, other))
 
 
-def judge_times(finding, bay, bayctl, offsets) -> int:
+def judge_times(finding, bay, chosen: list[tuple], bayctl, offsets) -> int:
     """Counts the combinations in which a rule's condition begins to hold; how many scans that
     took."""
     rule, count, last, worst = finding.rule, 0, None, None
-    pairs = pairs_of(bay, finding)
+    pairs = pairs_of(bay, finding, chosen)
     progress = Progress(len(pairs))
     for part, octets in timed_scenarios(bay, pairs, offsets):
         scans = scans_of(bayctl, octets)
@@ -237,28 +265,31 @@ def judge_times(finding, bay, bayctl, offsets) -> int:
 def shortest(audit: Audit, finding: Finding, bayctl) -> list:
     """The lines of one combination that breaks a rule; where it does so only after others, the
     lines up to it."""
+    if finding.shown:
+        return finding.shown.lines
     bay, rule = audit.bay, finding.rule
     alone = list(trace_of(bay, [finding.first], audit.offsets))
     again = Finding(rule)
     seen = list(scans_of(bayctl, bay.scenario(alone)))
-    judge(again, bay, 0, finding.first, audit.offsets, seen)
+    judge(again, bay, [finding.first], 0, audit.offsets, seen)
     return alone if again.broken else finding.lines
 
+
+# ---- conditions of releases
 
 def variables_of(bay) -> list:
     return [Variable(thing.name, tuple(thing.words()), thing.is_truth()) for thing in bay.things]
 
 
-def conditions(bay, table: list, holds) -> dict:
-    """The least condition of something, by each switch and way: of `holds` of the switch's name,
-    the way, the state and what is released. None where it is too large."""
+def tried_conditions(bay, table: list, holds) -> dict:
+    """The least condition of something in a table of all combinations, by each switch and way: of
+    `holds` of the switch's name, the way, the state and what is released. None where it is too
+    large."""
     found, progress = {}, Progress(len(bay.switches()) * len(WAYS))
-    places = [[thing.values.index(value) for thing, value in zip(bay.things, combination)]
-              for combination, _ in table]
     for name in bay.switches():
         for way in range(len(WAYS)):
-            truths = {tuple(at): holds(raised(name), way, combination, releases)
-                      for at, (combination, releases) in zip(places, table)}
+            truths = ''.join('1' if holds(raised(name), way, combination, releases) else '0'
+                             for combination, releases in table)
             try:
                 found[name, way] = condition(variables_of(bay), truths)
             except TooLarge:
@@ -268,18 +299,31 @@ def conditions(bay, table: list, holds) -> dict:
 
 
 def released(audit: Audit) -> dict:
-    """The least condition of each release."""
+    """The least condition of each release: by the cases that bayctl proves, or by what was tried;
+    none where that was not whole, or is too much."""
     if 'released' not in audit.kept:
-        audit.kept['released'] = conditions(audit.bay, audit.table,
-                                            lambda name, way, _, seen: seen[name][way])
+        audit.kept['released'] = found_released(audit)
     return audit.kept['released']
 
 
-def uncovered(audit: Audit) -> dict:
+def found_released(audit: Audit) -> dict:
+    if audit.answer:
+        return conditions(audit.answer, audit.bay.file)
+    if not is_derived(audit):
+        return {(name, way): None for name in audit.bay.switches() for way in range(len(WAYS))}
+    return tried_conditions(audit.bay, audit.table, lambda name, way, _, seen: seen[name][way])
+
+
+def is_derived(audit: Audit) -> bool:
+    """Whether conditions can be derived of what was tried."""
+    return audit.is_whole() and len(audit.table) <= DERIVED
+
+
+def uncovered(audit: Audit) -> dict | None:
     """The least condition under which something is released that no rule asks for; and how often,
-    by each switch and way."""
+    by each switch and way. None where not all was tried."""
     if 'uncovered' not in audit.kept:
-        audit.kept['uncovered'] = found_uncovered(audit)
+        audit.kept['uncovered'] = found_uncovered(audit) if is_derived(audit) else None
     return audit.kept['uncovered']
 
 
@@ -294,6 +338,6 @@ def found_uncovered(audit: Audit) -> dict:
         counts[name, way] = counts.get((name, way), 0) + is_so
         return is_so
 
-    found = conditions(audit.bay, audit.table, is_bare)
+    found = tried_conditions(audit.bay, audit.table, is_bare)
     return {key: (counts[raised(key[0]), key[1]], it) for key, it in found.items()
             if counts[raised(key[0]), key[1]]}

@@ -5,12 +5,12 @@ import math
 from dataclasses import dataclass
 
 from common.texts import raised
-from session.picture import FAINT, FREE, GRID, INK, Picture, room
+from picture.svg import FAINT, FREE, GRID, INK, Picture, room
 
 from .things import SWITCH, WAYS
 
 SOME, NONE = '#cfe6d0', '#ffffff'
-LEFT, CELL, ROW, APART, HEAD = 130, 46, 24, 14, 10  # HEAD is the size of what stands above columns
+LEFT, CELL, ROW, APART = 130, 46, 24, 14
 
 
 def write_table(bay, table: list, path) -> None:
@@ -61,10 +61,10 @@ def blocks_of(bay, table: list) -> list[Block]:
     masks, count = masks_of(bay, table), len(WAYS) * len(bay.switches())
     blocks = [block_of(thing, place, table, masks, count) for place, thing in enumerate(bay.things)]
     blocks = [block for block in blocks if block.depends]
-    widest = max((room(looked_told(column), HEAD) for block in blocks for column in block.columns),
+    widest = max((room(f'{column.looked:,}') for block in blocks for column in block.columns),
                  default=0)
     for block in blocks:
-        block.cell = max(CELL, widest + 8)
+        block.cell = max(CELL, widest + 10)
     return blocks
 
 
@@ -151,15 +151,16 @@ def finished(picture, bay, table, blocks, heading, key='') -> str:
     notes = notes_of(bay, blocks_of(bay, table))
     far = draw_legend(picture, len(table), notes)
     ends = [far] + [block.x + block.width() + 10 for block in blocks]
-    widest = max([room(note, 11) + 24 for note in notes] + ends)
+    widest = max([room(note) + 24 for note in notes] + ends)
     return picture.page(math.ceil(widest), picture.y + 8, heading or 'Releases', TOLD, key=key)
 
 
 def draw_band(picture, bay, table, blocks, band, is_first) -> None:
     """The releases over some of the blocks; below the first band only those that depend on one."""
-    longest = max([room(column.told, 11) for block in band for column in block.columns] + [24])
+    longest = max([room(told) for block in band for column in block.columns
+                   for told in (column.told, looked_told(column))] + [24])
     name_y = picture.y + 24
-    picture.y += 24 + longest + 34
+    picture.y += 24 + longest + 22
     for block in band:
         draw_head(picture, block, block.x, name_y, picture.y)
     for place, name in enumerate(bay.switches()):
@@ -170,7 +171,7 @@ def draw_band(picture, bay, table, blocks, band, is_first) -> None:
                 if is_first and not any(at in block.depends for block in blocks):
                     is_free = bool(table) and table[0][1][raised(name)][way]
                     told = 'always' if is_free else 'never'
-                    picture.text(LEFT + 4, picture.y - ROW + 16, told, 11)
+                    picture.text(LEFT + 4, picture.y - ROW + 16, told)
             picture.y += 8
 
 
@@ -179,15 +180,15 @@ def draw_head(picture, block, x, y, top) -> None:
     picture.text(x, y, block.thing.name, 12, weight='bold')
     for at, column in enumerate(block.columns):
         middle = x + block.cell * at + block.cell / 2
-        picture.upward(middle + 3, top - 26, column.told)
-        picture.text(middle - 1, top - 8, looked_told(column), HEAD, 'middle', FAINT)
+        picture.upward(middle - 4, top - 8, column.told)
+        picture.upward(middle + 12, top - 8, looked_told(column), FAINT)
 
 
 def draw_row(picture, name, way, at, band) -> None:
     """One release over a band."""
     y = picture.y
     picture.text(12, y + 16, name if way == 0 else '', 13, weight='bold')
-    picture.text(LEFT - 10, y + 16, WAYS[way], 11, 'end', INK)
+    picture.text(LEFT - 10, y + 16, WAYS[way], anchor='end')
     for block in band:
         if at in block.depends:
             for place, column in enumerate(block.columns):
@@ -205,22 +206,22 @@ def draw_cell(picture, block, place, at, told) -> None:
     picture.box(x, y, block.cell - 2, ROW - 2, fill, GRID, tip)
     ink = '#ffffff' if fill == FREE else INK if count else FAINT
     shown = f'{count:,}' if count else '–'
-    picture.text(x + block.cell / 2 - 1, y + 15, shown, 11, 'middle', ink)
+    picture.text(x + block.cell / 2 - 1, y + 15, shown, anchor='middle', fill=ink)
 
 
 def draw_legend(picture, count, notes) -> float:
     """What the colours mean, and the notes; how far to the right it comes."""
     y = picture.y + 10
-    picture.text(12, y + 10, f'Of {count:,}', 11, fill=FAINT)
+    picture.text(12, y + 10, f'Of {count:,}', fill=FAINT)
     x = LEFT
     for fill, told in ((FREE, 'released in all'), (SOME, 'in so many'), (NONE, 'in none')):
         picture.box(x, y, 20, 12, fill, GRID)
-        picture.text(x + 26, y + 10, told, 11)
-        x += 26 + room(told, 11) + 16
+        picture.text(x + 26, y + 10, told)
+        x += 26 + room(told) + 16
     last = 'empty: it does not matter'
-    picture.text(x, y + 10, last, 11, fill=FAINT)
+    picture.text(x, y + 10, last, fill=FAINT)
     picture.y = y + 26
     for note in notes:
-        picture.text(12, picture.y + 8, note, 11)
+        picture.text(12, picture.y + 8, note)
         picture.y += 18
-    return x + room(last, 11) + 12
+    return x + room(last) + 12

@@ -3,7 +3,7 @@ from dataclasses import dataclass, field
 
 from common.texts import raised
 from diagnosis import lines
-from diagnosis.words import STORES, TIMERS
+from diagnosis.language import STORES, TIMERS
 
 POSITION = ('_POS', '_OPEN', '_CLOSED')
 

@@ -7,7 +7,7 @@ from collections.abc import Iterator
 
 from common.ending import Failed
 from common.texts import raised
-from session.replay import NotLoaded, not_run
+from report.replay import NotLoaded, not_run
 
 LARGEST, SHORTEST = 16_777_216, 30  # octets of a scenario, and of the lines of a combination
 LATEST = 4_294_967_295_999  # the last moment that a trace can have
@@ -45,12 +45,14 @@ def timed_trace_of(bay, pairs, offsets) -> Iterator:
         last, moment = combination, moment + offsets[-1]
 
 
-def whole_scenario(bay, offsets: list[int]) -> bytes:
-    """The octets that go through all combinations, or none where there is no room for them."""
-    if bay.count() * SHORTEST > LARGEST or bay.count() * offsets[-1] > LATEST:
-        return b''
-    octets = bay.scenario(trace_of(bay, bay.combinations(), offsets))
-    return octets if len(octets) <= LARGEST else b''
+def scenarios(bay, chosen: list[tuple], offsets: list[int]) -> Iterator[tuple[list, bytes]]:
+    """The octets that go through combinations, in as many scenarios as that takes: each begins
+    anew."""
+    size = LARGEST // (2 * SHORTEST * (len(bay.things) + len(offsets)))
+    size = max(min(size, LATEST // offsets[-1]), 1)
+    for at in range(0, len(chosen), size):
+        part = chosen[at:at + size]
+        yield part, bay.scenario(trace_of(bay, part, offsets))
 
 
 def timed_scenarios(bay, pairs, offsets) -> Iterator:

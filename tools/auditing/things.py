@@ -4,14 +4,14 @@ import math
 from collections.abc import Iterator
 from dataclasses import dataclass, field
 
+from bay.rules import INPUT, MEASURE, SWITCH
+from common.positions import POSITIONS
 from common.texts import raised
-from diagnosis.words import FIELDS
-from session.joined import scenario_of
-from session.rules import INPUT, MEASURE, POSITIONS, SWITCH
+from diagnosis.language import FIELDS
+from report.joined import scenario_of
 
 from .reads import Program
 
-NAMES = [name.lower() for name in POSITIONS]
 WAYS = ('open', 'close')
 VERBS = {SWITCH: 'contact', INPUT: 'input', MEASURE: 'measure'}
 ALL = {SWITCH: [0, 1, 2, 3], INPUT: [0, 1], MEASURE: [0]}  # the values of a thing by itself
@@ -37,7 +37,7 @@ class Thing:
         return f'{moment} {VERBS[self.kind]} {subject} {value}'
 
     def told(self, value) -> str:
-        return NAMES[value] if self.kind == SWITCH else str(value)
+        return POSITIONS[value] if self.kind == SWITCH else str(value)
 
     def words(self) -> list:
         """Its values in words."""
@@ -64,11 +64,19 @@ class Bay:
     things: list = field(default_factory=list)
     unread: list = field(default_factory=list)
 
-    def combinations(self):
+    def combinations(self) -> Iterator[tuple]:
         return itertools.product(*(thing.values for thing in self.things))
 
     def count(self) -> int:
         return math.prod(len(thing.values) for thing in self.things)
+
+    def combination_at(self, place: int) -> tuple:
+        """The combination at a place, in their order."""
+        found = []
+        for thing in reversed(self.things):
+            place, at = divmod(place, len(thing.values))
+            found.append(thing.values[at])
+        return tuple(reversed(found))
 
     def state(self, combination) -> dict:
         return {thing.key: value for thing, value in zip(self.things, combination)}

@@ -3,9 +3,9 @@ check has the name of the wrong behaviour that it refuses."""
 import contextlib
 import subprocess
 
-from session import mms, stream
-from session.client import Client
-from session.served import Server, free_port
+from wire import mms, stream
+from wire.client import Client
+from wire.served import Server, free_port
 
 LEAST, MOST = 256, 65_000  # octets of a PDU
 FRAME = ('PROGRAM P\nVAR_EXTERNAL\nQA1_OPEN, QA1_ENA_OPN, QA1_ENA_CLS : BOOL;\nEND_VAR\n{}'

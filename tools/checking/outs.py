@@ -7,8 +7,8 @@ import socket
 import stat
 import tempfile
 
+from .command_lines import NOBODY, printed
 from .limits import LOGIC, bay
-from .words import NOBODY, printed
 
 MODES = (0o600, 0o644, 0o444)
 

@@ -7,7 +7,7 @@ import secrets
 import sys
 import time
 
-from session.served import PATIENCE, Running, Server, Simulator
+from wire.served import PATIENCE, Running, Server, Simulator
 
 TOOLS = pathlib.Path(__file__).resolve().parent.parent
 SERVED = TOOLS.parent / 'examples' / 'served'
@@ -16,7 +16,7 @@ SERVED = TOOLS.parent / 'examples' / 'served'
 class Page:
     """A page of a panel: what it has, the states that it is sent, and what it asks."""
 
-    def __init__(self, port):
+    def __init__(self, port) -> None:
         self.port, self.name = port, secrets.token_hex(8)
         self.text = self.ask('GET', '/')
         self.token = re.search(r'data-token="([^"]+)"', self.text)[1]
@@ -24,26 +24,26 @@ class Page:
         self.connection.request('GET', f'/events?{self.name}')
         self.answer = self.connection.getresponse()
 
-    def __enter__(self):
+    def __enter__(self) -> 'Page':
         return self
 
-    def __exit__(self, *error):
+    def __exit__(self, *error) -> None:
         self.connection.close()
 
-    def ask(self, verb, path, body=None, heads=()):
+    def ask(self, verb, path, body=None, heads=()) -> str:
         connection = http.client.HTTPConnection('127.0.0.1', self.port, timeout=PATIENCE)
         connection.request(verb, path, body, dict(heads))
         text = connection.getresponse().read().decode()
         connection.close()
         return text
 
-    def asks(self, verb, switch, way):
+    def asks(self, verb, switch, way) -> str:
         """What a control is answered, in words."""
         body = json.dumps({'switch': switch, 'way': way, 'page': self.name})
         found = json.loads(self.ask('POST', f'/{verb}', body, {'X-Panel': self.token}))
         return f'{"good" if found["good"] else "refused"}: {found["told"]}'
 
-    def until(self, test):
+    def until(self, test) -> dict:
         """The first state that it is sent from now on of which something is so."""
         end = time.monotonic() + PATIENCE
         while time.monotonic() < end:
@@ -55,11 +55,11 @@ class Page:
         raise TimeoutError('the panel does not tell it')
 
 
-def positions(state):
+def positions(state) -> dict:
     return {it['id']: it['position'] for it in state['switches']}
 
 
-def operated(page, switch, way):
+def operated(page, switch, way) -> str:
     """An operate to its end, in words."""
     said = [page.asks('select', switch, way), page.asks('operate', switch, way)]
     done = {'open': 'open', 'close': 'closed'}[way]
@@ -67,12 +67,12 @@ def operated(page, switch, way):
     return '\n'.join([*said, state['last']['told']])
 
 
-def gear(server):
+def gear(server) -> Simulator:
     return Simulator(SERVED / 'bay.toml', server, '--at', 'QA1=closed', '--at', 'QB1=closed',
                      '--set', 'SPRING=1', '--travel', '300')
 
 
-def panel(checks):
+def panel(checks) -> None:
     """The panel of the example that is served."""
     bay, logic = SERVED / 'bay.toml', SERVED / 'logic.il'
     with Server(checks.bayctl, bay, logic, with_process=True) as server:
@@ -88,14 +88,14 @@ def panel(checks):
             with gear(server), Page(int(found[1])) as page:
                 page.until(lambda it: positions(it).get('QC1') == 'open')
                 checks.wants('the panel, with the process again', operated(page, 'QA1', 'open'), 0,
-                             ['open QA1 has ended: done'], 0)
+                             ['operate QA1 open has ended: done'], 0)
                 server.kill()
                 state = page.until(lambda it: not it['connected'])
                 checks.wants('the panel without a server', state['told'], 0, ['the server closed'],
                              0)
 
 
-def shown(checks, page):
+def shown(checks, page) -> None:
     """What a page has and is told, and two operates."""
     checks.wants('the page of the panel', page.text, 0,
                  [f'data-switch="{it}"' for it in ('QA1', 'QB1', 'QC1')], 0)
@@ -107,12 +107,13 @@ def shown(checks, page):
                  + page.asks('cancel', 'QA1', 'open'), 0, ['select QA1: done', 'cancel QA1: done'],
                  0)
     checks.wants('the breaker, by the panel', operated(page, 'QA1', 'open'), 0,
-                 ['good: select QA1: done', 'the command is given', 'open QA1 has ended: done'], 0)
+                 ['good: select QA1: done', 'the command is given',
+                  'operate QA1 open has ended: done'], 0)
     checks.wants('the disconnector, by the panel', operated(page, 'QB1', 'open'), 0,
-                 ['good: select QB1: done', 'operate QB1 off has ended: done'], 0)
+                 ['good: select QB1: done', 'operate QB1 open has ended: done'], 0)
 
 
-def gone(checks, page):
+def gone(checks, page) -> None:
     """The process is gone: all is bad, and an operate is refused."""
     page.until(lambda it: set(positions(it).values()) == {'bad'})
     said = page.asks('select', 'QB1', 'close') + page.asks('operate', 'QB1', 'close')

@@ -9,8 +9,8 @@ import subprocess
 import threading
 import time
 
-from session import mms, stream
-from session.served import PATIENCE, Server, free_port, until, value
+from wire import mms, stream
+from wire.served import PATIENCE, Server, free_port, until, value
 
 SERVED = pathlib.Path(__file__).resolve().parent.parent.parent / 'examples' / 'served'
 BAY, LOGIC, TRACE = SERVED / 'bay.toml', SERVED / 'logic.il', SERVED / 'trace'
@@ -52,11 +52,11 @@ def took(do, *words) -> float:
 def rests_in(server: Server, do, *words) -> int:
     """How often a server rests during a call: how often it gave up its processor. It is the least
     of some tries, since another load of the machine may have octets come late."""
-    def given():
+    def given() -> int:
         with open(f'/proc/{server.run.pid}/status', encoding='utf-8') as file:
             return int(re.search(r'^voluntary_ctxt_switches:\s*(\d+)', file.read(), re.M)[1])
 
-    def tried():
+    def tried() -> int:
         before = given()
         do(*words)
         return given() - before
@@ -73,7 +73,7 @@ def answered(client, request: bytes, count: int) -> None:
 
 def processor_seconds(server: Server) -> float:
     """The processor's seconds that a server takes within one second."""
-    def taken():
+    def taken() -> int:
         with open(f'/proc/{server.run.pid}/stat', encoding='utf-8') as file:
             return sum(map(int, file.read().rpartition(')')[2].split()[11:13]))
 
@@ -179,7 +179,7 @@ def turns(checks) -> None:
     """An idle server takes its turns: a hundred of them within two seconds, and not at once."""
     words = [checks.bayctl, 'serve', '--bay', BAY, '--logic', LOGIC, '--turns', '100', '--port']
 
-    def served():
+    def served() -> None:
         with contextlib.suppress(subprocess.TimeoutExpired):
             subprocess.run([*words, str(free_port())], stdout=subprocess.DEVNULL, timeout=5)
 

@@ -5,13 +5,14 @@ import socket
 import struct
 import threading
 import time
+from collections.abc import Iterator
 
-from session.client import Client
-from session.files import bay_at
-from session.same_bay import compared
-from session.served import Server, until, value
-from session.words import Bay
+from bay.files import bay_at
+from bay.names import Names
 from tests.test_capture import ACK, CLIENT, FIN, SERVER, SYN, segment
+from wire.client import Client
+from wire.same_bay import compared
+from wire.served import Server, until, value
 
 SERVED = pathlib.Path(__file__).resolve().parent.parent.parent / 'examples' / 'served'
 BAY, LOGIC, TRACE = SERVED / 'bay.toml', SERVED / 'logic.il', SERVED / 'trace'
@@ -20,13 +21,13 @@ BAY, LOGIC, TRACE = SERVED / 'bay.toml', SERVED / 'logic.il', SERVED / 'trace'
 class Tap:
     """A port between a client and a server, which notes what goes through."""
 
-    def __init__(self, port):
+    def __init__(self, port) -> None:
         self.port, self.seen = port, []
         self.listener = socket.create_server(('127.0.0.1', 0))
         self.own = self.listener.getsockname()[1]
         threading.Thread(target=self.pass_on, daemon=True).start()
 
-    def pass_on(self):
+    def pass_on(self) -> None:
         client, _ = self.listener.accept()
         server = socket.create_connection(('127.0.0.1', self.port))
         self.note(0, SYN, b'')
@@ -39,16 +40,16 @@ class Tap:
             way.join()
         self.note(0, FIN, b'')
 
-    def note(self, side, flags, octets):
+    def note(self, side, flags, octets) -> None:
         self.seen.append((time.time(), side, flags, octets))
 
-    def one_way(self, side, source, target):
+    def one_way(self, side, source, target) -> None:
         while piece := source.recv(65536):
             self.note(side, ACK, piece)
             target.sendall(piece)
         target.shutdown(socket.SHUT_WR)
 
-    def packets(self, is_torn):
+    def packets(self, is_torn) -> Iterator:
         """The packets of what went through; where they are torn, each comes in two parts, the later
         one first, and both once more."""
         numbers = [1001, 5001]
@@ -60,7 +61,7 @@ class Tap:
             for at, part in parts if is_torn and octets else [(number, octets)]:
                 yield moment, segment(*ends, at, flags, part)
 
-    def capture(self, is_torn):
+    def capture(self, is_torn) -> bytes:
         """What went through, as a capture of tcpdump."""
         out = struct.pack('<IHHiIII', 0xA1B2C3D4, 2, 4, 0, 0, 65535, 101)
         for moment, packet in self.packets(is_torn):
@@ -69,7 +70,7 @@ class Tap:
         return out
 
 
-def sessions(checks):
+def sessions(checks) -> None:
     """A session is told and drawn by what its client sent, and by a capture of it."""
     with Server(checks.bayctl, BAY, LOGIC, '--trace', TRACE) as server:
         watching = server.client()
@@ -83,16 +84,16 @@ def sessions(checks):
     joined = checks.file('joined', checks.run('join', BAY, LOGIC, TRACE, sent)[0])
     asked = ['--bayctl', checks.bayctl]
     checks.wants('what a client sent, joined and told', *checks.run('explain', joined, *asked),
-                 ['UTC', 'QA1 is closed', 'operate QA1: done', 'command: QA1 off'], 0)
+                 ['UTC', 'QA1 is closed', 'operate QA1: done', 'command: open QA1'], 0)
     checks.wants('what a client sent, drawn', *drawn(checks, joined, *asked),
-                 ['UTC', 'operate QA1 off', 'command QA1 off at'], 0)
+                 ['UTC', 'operate QA1 open', 'command: open QA1 at'], 0)
     until(lambda: tap.seen[-1][2] == FIN, 'the client is gone')
     for is_torn in (False, True):
         captured(checks, checks.file('session.pcap', tap.capture(is_torn)))
     same_bays(checks)
 
 
-def another_bay(checks, server):
+def another_bay(checks, server) -> None:
     """Nothing is operated with the file of another bay: its first two switches changed places."""
     head, one, two, *rest = re.split(r'(?m)^(?=\[\[)', BAY.read_text())
     bay = checks.file('another.toml', head + two + one + ''.join(rest))
@@ -102,28 +103,28 @@ def another_bay(checks, server):
                   'nothing is operated without --anyway'])
 
 
-def same_bays(checks):
+def same_bays(checks) -> None:
     """The server of each example says the bay of its file."""
     logic = checks.file('none.il', 'PROGRAM P\nEND_PROGRAM\n')
     for path in sorted(SERVED.parent.glob('*/bay.toml')):
         text, file = bay_at(path)
         with Server(checks.bayctl, path, logic) as server:
             server.client().close()
-            client = Client('127.0.0.1', server.port, Bay(text))
+            client = Client('127.0.0.1', server.port, Names(text))
             found = compared(client, file).lines()
             client.close()
         checks.wants(f'the bay of {path.parent.name}', '\n'.join(found) or 'the same', 0,
                      ['the same'], 0)
 
 
-def drawn(checks, *words):
+def drawn(checks, *words) -> tuple:
     """The picture that a timeline draws, or what it says where it draws none."""
     out = checks.folder / 'drawn.svg'
     said, status = checks.run('timeline', *words, '--out', out)
     return said + (out.read_text() if status == 0 else ''), status
 
 
-def captured(checks, path):
+def captured(checks, path) -> None:
     """A capture is told, replayed and drawn."""
     bay, more = ['--bay', BAY], ['--replay', LOGIC, '--trace', TRACE, '--bayctl', checks.bayctl]
     checks.wants('a capture, told', *checks.run('explain', path, *bay),
@@ -133,9 +134,9 @@ def captured(checks, path):
     changed = checks.file('changed.il', LOGIC.read_text().replace('LD TRUE', 'LD FALSE'))
     more[1] = changed
     checks.wants('a capture, replayed with another program',
-                 *checks.run('explain', path, *bay, *more), ['of the server is otherwise'], 1)
+                 *checks.run('explain', path, *bay, *more), ['of the server differs'], 1)
     checks.wants('a capture, drawn', *drawn(checks, path, *bay),
-                 ['UTC', 'operate QA1 off', 'Client 1'], 0)
+                 ['UTC', 'operate QA1 open', 'Client 1'], 0)
     more[1] = LOGIC
     checks.wants('a capture, drawn with its switches', *drawn(checks, path, *bay, *more),
-                 ['command QA1 off at', 'QB1 closed from'], 0)
+                 ['command: open QA1 at', 'QB1 closed from'], 0)

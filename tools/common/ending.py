@@ -1,10 +1,11 @@
 """How a tool ends: with an exit status of one table, and with an error in one line on standard
 error, `tool: what: why`."""
 import argparse
+import contextlib
 import os
 import pathlib
 import sys
-from collections.abc import Callable
+from collections.abc import Callable, Iterator
 
 from .texts import escaped
 
@@ -14,12 +15,13 @@ STATUSES = {
     FOUND: 'refused, broken or different',
     CALLED_WRONG: 'the command line is wrong',
     UNREACHED: 'something can\'t be read, written or reached',
-    PARTLY: 'not all was tried or asked',
+    PARTLY: 'not all was proved, tried or asked',
     INTERRUPTED: 'it was interrupted'}
 # The statuses that each tool ends with, beside 130.
 OF_TOOLS = {'audit': (0, 1, 2, 3, 4), 'client': (0, 1, 2, 3), 'diagnose': (0, 1, 2, 3),
-            'explain': (0, 1, 2, 3), 'join': (0, 2, 3), 'panel': (0, 2, 3), 'scl': (0, 2, 3),
-            'simulate': (0, 2, 3), 'timeline': (0, 1, 2, 3)}
+            'explain': (0, 1, 2, 3), 'figures': (0, 2, 3), 'join': (0, 2, 3),
+            'panel': (0, 2, 3), 'scl': (0, 2, 3), 'simulate': (0, 2, 3),
+            'timeline': (0, 1, 2, 3), 'trace': (0, 2, 3)}
 
 
 class Failed(Exception):
@@ -48,6 +50,19 @@ class Parser(argparse.ArgumentParser):
         sys.exit(CALLED_WRONG)
 
 
+class Unwritten(Exception):
+    """The output can't be written; the cause is the error."""
+
+
+@contextlib.contextmanager
+def writing() -> Iterator[None]:
+    """What is done here is written to the output."""
+    try:
+        yield
+    except OSError as error:
+        raise Unwritten from error
+
+
 class Shown:
     """A stream to which control characters go escaped."""
 
@@ -55,15 +70,27 @@ class Shown:
         self.stream = stream
 
     def write(self, text: str) -> int:
-        return self.stream.write(escaped(text))
+        with writing():
+            return self.stream.write(escaped(text))
 
-    def __getattr__(self, name):
+    def flush(self) -> None:
+        with writing():
+            self.stream.flush()
+
+    def write_octets(self, octets: bytes) -> None:
+        """Writes octets as they are."""
+        with writing():
+            self.stream.buffer.write(octets)
+            self.stream.flush()
+
+    def __getattr__(self, name) -> object:
         return getattr(self.stream, name)
 
 
 def complain(told: str) -> None:
-    """One line on standard error."""
-    print(f'{pathlib.Path(sys.argv[0]).name}: {told}', file=sys.stderr, flush=True)
+    """One line on standard error, where that can be written."""
+    with contextlib.suppress(Unwritten, OSError):
+        print(f'{pathlib.Path(sys.argv[0]).name}: {told}', file=sys.stderr, flush=True)
 
 
 def show_plainly() -> None:
@@ -95,11 +122,11 @@ def status_of(main: Callable[[], int | None]) -> int:
         return flushed(error.status)
     except KeyboardInterrupt:
         return flushed(INTERRUPTED)
-    except BrokenPipeError:
-        return without_output()
+    except Unwritten as error:
+        return without_output(error.__cause__)
     except OSError as error:
         complain(told_of(error))
-        return flushed(UNREACHED) if error.filename else without_output()
+        return flushed(UNREACHED)
     except Exception as error:
         if os.environ.get('TOOLS_TRACEBACK'):
             raise
@@ -120,17 +147,24 @@ def flushed(status: int) -> int:
     """Writes what is left, as far as that can be."""
     try:
         sys.stdout.flush()
-    except OSError:
-        without_output()
+    except Unwritten:
+        stop_output()
     return status
 
 
-def without_output() -> int:
-    """Nobody reads the output, or it can't be written: what is left goes nowhere."""
-    os.dup2(os.open(os.devnull, os.O_WRONLY), 1)
+def without_output(error: OSError) -> int:
+    """The output can't be written, or nobody reads it, of which nothing is said."""
+    stop_output()
+    if not isinstance(error, BrokenPipeError):
+        complain(f'standard output: {error.strerror or error}')
     return UNREACHED
+
+
+def stop_output() -> None:
+    """What is left of the output goes nowhere."""
+    os.dup2(os.open(os.devnull, os.O_WRONLY), 1)
 
 
 def told_of(error: OSError) -> str:
     """Which file it was, and why."""
-    return f'{error.filename or "standard output"}: {error.strerror or error}'
+    return f'{error.filename}: {error.strerror}' if error.filename else str(error.strerror or error)

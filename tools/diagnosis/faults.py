@@ -15,7 +15,7 @@ class Fault:
     mend: str
 
 
-def faults():
+def faults() -> dict[int, Fault]:
     """Each fault of the page by its number. A cause and a mend that stand alone are those of the
     entries behind them that have none, up to the next heading."""
     found, shared = {}, ('', '')

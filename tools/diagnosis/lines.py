@@ -1,9 +1,9 @@
 """A program line by line: what each line is, and why one can't stand where it does."""
 from dataclasses import dataclass, field
 
+from .language import ALONE, COMBINES, JUMPS, LOADS, OPERATORS, RETURNS, STORES, TIMERS, TYPES
 from .place import Place, near
 from .tokens import Token, is_operator, lines_of
-from .words import ALONE, COMBINES, JUMPS, LOADS, OPERATORS, RETURNS, STORES, TIMERS, TYPES
 
 DEEPEST, LONGEST = 16, 4000
 BLOCKS = {'VAR_INPUT', 'VAR_OUTPUT', 'VAR_IN_OUT', 'VAR_GLOBAL', 'VAR_TEMP', 'VAR_ACCESS',
@@ -63,18 +63,18 @@ class Reader:
         first = tokens[0]
         if self.state == 'done':
             raise Misplaced(
-                f'nothing but comments may stand behind END_PROGRAM, which is line {self.ended}',
+                f'only comments may follow END_PROGRAM, which is line {self.ended}',
                 first)
         if self.state == 'start':
             return self.heading(tokens)
         if first.means('END_PROGRAM'):
             return self.end(number, tokens)
         if first.means('PROGRAM'):
-            raise Misplaced('a text has one program, which begins at its first line', first)
+            raise Misplaced('a file has one program, which begins at its first line', first)
         if first.means('VAR', 'VAR_EXTERNAL', 'END_VAR'):
             return self.frame(number, tokens)
         if first.upper in BLOCKS and len(tokens) == 1:
-            raise Misplaced(f'{first.text} is no block of this language', first, (),
+            raise Misplaced(f'{first.text} is not a block of this language', first, (),
                             'declare points of the bay in VAR_EXTERNAL, and variables in VAR')
         if self.state == 'block':
             return self.declare(number, tokens)
@@ -89,16 +89,17 @@ class Reader:
     def named(self, tokens, what) -> None:
         """One name, and nothing behind it."""
         if len(tokens) < 2:
-            raise Misplaced(f'{what} wants a name behind it', tokens[0])
+            raise Misplaced(f'{what} needs a name after it', tokens[0])
         if tokens[1].kind != 'name':
-            raise Misplaced(f'{tokens[1].text} is no name' + reserved_told(tokens[1]), tokens[1])
+            raise Misplaced(f'{tokens[1].text} can\'t be a name{reserved_told(tokens[1])}',
+                            tokens[1])
         self.nothing(tokens[2:], f'{what} and its name')
 
     def nothing(self, rest, what) -> None:
         if rest:
-            told = f'nothing may stand behind {what} on its line'
+            told = f'nothing may follow {what} on its line'
             if rest[0].text == ';':
-                told += ': no ; ends an instruction'
+                told += ': an instruction has no ; at its end'
             elif is_operator(rest[0]):
                 told += ': each instruction has a line of its own'
             raise Misplaced(told, rest[0])
@@ -107,10 +108,10 @@ class Reader:
         self.nothing(tokens[1:], 'END_PROGRAM')
         if self.open:
             raise Misplaced('a parenthesis is still open', tokens[0],
-                            [(line, 'which was opened here') for line in self.open[-1:]])
+                            [(line, 'it was opened here') for line in self.open[-1:]])
         if self.state == 'block':
             raise Misplaced('END_VAR is missing', tokens[0],
-                            [(self.block[1], 'of the block that begins here')])
+                            [(self.block[1], 'the block begins here')])
         self.state, self.ended = 'done', number
 
     def frame(self, number, tokens) -> None:
@@ -118,22 +119,22 @@ class Reader:
         self.nothing(tokens[1:], first.text)
         if first.means('END_VAR'):
             if self.state != 'block':
-                raise Misplaced('no block is open that END_VAR could end', first)
+                raise Misplaced('END_VAR has no block to end', first)
             self.state = 'head'
             return
         if self.state == 'block':
-            raise Misplaced('END_VAR is missing before it', first,
-                            [(self.block[1], 'of the block that begins here')])
+            raise Misplaced('END_VAR is missing before this line', first,
+                            [(self.block[1], 'the block begins here')])
         if self.state == 'body':
-            raise Misplaced('declarations stand before the first instruction', first,
-                            [(self.began, 'which is here')])
+            raise Misplaced('declarations must come before the first instruction', first,
+                            [(self.began, 'the first instruction is here')])
         self.state, self.block = 'block', (first.upper, number)
 
     def declare(self, number, tokens) -> None:
         """name {, name} : type [:= literal] ;"""
         is_named = len(tokens) > 1 and tokens[1].text in (':', ',')
         if is_operator(tokens[0]) and not is_named:
-            raise Misplaced(f'{tokens[0].text} stands in a block of declarations: END_VAR is '
+            raise Misplaced(f'{tokens[0].text} is in a block of declarations: END_VAR is '
                             'missing', tokens[0], [(self.block[1], 'the block begins here')])
         names, at = [], 0
         while True:
@@ -149,37 +150,37 @@ class Reader:
         self.declarations += [Declaration(name, number, self.block[0], kind, initial)
                               for name in names]
 
-    def no_name(self, tokens, at):
+    def no_name(self, tokens, at) -> Misplaced:
         """Why no name of a variable stands here."""
         if at >= len(tokens):
-            return Misplaced('a name is wanted behind the comma', tokens[-1])
+            return Misplaced('a name must follow the comma', tokens[-1])
         if tokens[at].kind == 'word':
-            return Misplaced(f'{tokens[at].text} is a word of the language, so no variable can '
+            return Misplaced(f'{tokens[at].text} is a reserved word, so no variable can '
                              'have that name', tokens[at])
-        return Misplaced('a name is wanted here', tokens[at])
+        return Misplaced('there must be a name here', tokens[at])
 
     def tail(self, rest, before) -> tuple:
         if not rest or rest[0].text != ':':
-            told = 'a : is wanted, and then a type'
+            told = 'a : and a type must follow the name'
             if rest and rest[0].text == ':=':
-                told = 'the value of a variable stands behind its type'
+                told = 'the type of a variable comes before its value'
             raise Misplaced(told, rest[0] if rest else before)
         if len(rest) < 2 or not rest[1].means(*TYPES, *TIMERS):
-            known = f'{rest[1].text} is no type here: ' if len(rest) > 1 else 'a type is wanted: '
-            raise Misplaced(known + 'BOOL, INT, DINT, LINT, TIME, TON and TOF are',
+            known = f'{rest[1].text} is not a type' if len(rest) > 1 else 'the type is missing'
+            raise Misplaced(known + ': it can be BOOL, INT, DINT, LINT, TIME, TON or TOF',
                             rest[1] if len(rest) > 1 else rest[0])
         kind, initial, at = rest[1].upper, None, 2
         if len(rest) > 2 and rest[2].text == ':=':
             if kind in TIMERS:
-                raise Misplaced('a timer has no initial value', rest[2])
+                raise Misplaced('a timer can\'t have an initial value', rest[2])
             if len(rest) < 4 or rest[3].kind != 'literal':
-                raise Misplaced('a literal is wanted behind :=',
+                raise Misplaced('a literal must follow :=',
                                 rest[3] if len(rest) > 3 else rest[2])
             initial, at = rest[3], 4
         if initial and self.block[0] == 'VAR_EXTERNAL':
-            raise Misplaced('a point of the bay has no initial value', rest[2])
+            raise Misplaced('a point of the bay can\'t have an initial value', rest[2])
         if at >= len(rest) or rest[at].text != ';':
-            raise Misplaced('the ; is missing' if at >= len(rest) else 'a ; is wanted here',
+            raise Misplaced('the ; is missing' if at >= len(rest) else 'there must be a ; here',
                             rest[min(at, len(rest) - 1)])
         if len(rest) > at + 1:
             raise Misplaced('each declaration has a line of its own', rest[at + 1])
@@ -197,44 +198,44 @@ class Reader:
         if tokens:
             self.instruction(number, tokens)
 
-    def no_operator(self, tokens):
+    def no_operator(self, tokens) -> Misplaced:
         first = tokens[0]
         if any(token.means(*TYPES, *TIMERS) for token in tokens[1:]):
-            return Misplaced('a declaration stands between VAR and END_VAR, before the first '
+            return Misplaced('a declaration must be between VAR and END_VAR, before the first '
                              'instruction', first)
         if len(tokens) > 1 and tokens[1].text == '(':
-            return Misplaced(f'{first.text} is no operator: a timer is called by CAL, as '
+            return Misplaced(f'{first.text} is not an operator: a timer is called by CAL, as '
                              f'CAL {first.text}(IN := a, PT := T#5s)', first)
         if len(tokens) > 1 and tokens[1].text == ':':
-            return Misplaced('behind a label an instruction may stand, and nothing else', tokens[2])
-        return Misplaced(f'{first.text} is no operator{near(first.text, OPERATORS)} (behind a '
-                         'label a : is wanted)', first)
+            return Misplaced('only an instruction may follow a label', tokens[2])
+        return Misplaced(f'{first.text} is not an operator{near(first.text, OPERATORS)} (a '
+                         'label has a : after it)', first)
 
-    def label(self, number, tokens):
+    def label(self, number, tokens) -> list[Token]:
         if self.open:
-            raise Misplaced('no label may stand within a parenthesis', tokens[0],
-                            [(self.open[-1], 'which was opened here')])
+            raise Misplaced('a label can\'t be inside a parenthesis', tokens[0],
+                            [(self.open[-1], 'it was opened here')])
         self.items.append(Item('label', number, tokens[0]))
         if len(tokens) > 2 and tokens[2].text == ')':
-            raise Misplaced('a ) stands alone on its line', tokens[2])
+            raise Misplaced('a ) must be alone on its line', tokens[2])
         return tokens[2:]
 
     def instruction(self, number, tokens) -> None:
         first, rest = tokens[0], tokens[1:]
         if first.text != ')' and not is_operator(first):
-            raise Misplaced(f'a line begins with an operator or a label, and not with {first.text}',
+            raise Misplaced(f'a line must begin with an operator or a label, not with {first.text}',
                             first)
         if self.open and first.means('CAL', *JUMPS, *RETURNS):
-            raise Misplaced(f'{first.text} can\'t stand within a parenthesis', first,
-                            [(self.open[-1], 'which was opened here')])
+            raise Misplaced(f'{first.text} can\'t be inside a parenthesis', first,
+                            [(self.open[-1], 'it was opened here')])
         last = self.items[-1] if self.open else None
         if last and last.verb == '(' and not last.operand and not first.means(*LOADS):
-            raise Misplaced('a parenthesis begins with LD or LDN, or with an operand behind its (',
+            raise Misplaced('a parenthesis begins with LD or LDN, or with an operand after its (',
                             first, [(self.open[-1], 'it was opened here')])
         if first.text == ')':
             self.nothing(rest, ')')
             if not self.open:
-                raise Misplaced('no parenthesis is open', first)
+                raise Misplaced('there is no open parenthesis', first)
             self.open.pop()
             self.items.append(Item(')', number, first))
         elif first.means(*COMBINES) and rest and rest[0].text == '(':
@@ -261,7 +262,7 @@ class Reader:
             return self.call(number, first, rest)
         operand = self.operand(rest, first)
         if first.means(*STORES) and operand[0].kind == 'literal':
-            raise Misplaced(f'{first.text} wants a variable, and not a literal', operand[0])
+            raise Misplaced(f'{first.text} needs a variable, not a literal', operand[0])
         return Item(first.upper, number, first, operand)
 
     def operand(self, tokens, before, may_miss=False) -> list:
@@ -269,22 +270,23 @@ class Reader:
         if not tokens:
             if may_miss:
                 return []
-            raise Misplaced(f'{before.text} wants an operand', before)
+            raise Misplaced(f'{before.text} needs an operand', before)
         if tokens[0].means('NOT') and before.upper in NEGATED:
-            raise Misplaced('NOT is an operator of its own, and no operand', tokens[0], (),
-                            f'write {before.text}N in the place of {before.text} NOT')
+            raise Misplaced('NOT is an operator, and can\'t be part of an operand', tokens[0], (),
+                            f'write {before.text}N instead of {before.text} NOT')
         if tokens[0].kind not in ('literal', 'name'):
-            raise Misplaced(f'{tokens[0].text} is no operand' + reserved_told(tokens[0]), tokens[0])
+            raise Misplaced(f'{tokens[0].text} can\'t be an operand{reserved_told(tokens[0])}',
+                            tokens[0])
         size = 1
         if len(tokens) > 1 and tokens[1].text == '.':
             if tokens[0].kind == 'literal':
-                raise Misplaced('numbers have no fractions here', tokens[1])
+                raise Misplaced('a number can\'t have a fraction', tokens[1])
             if len(tokens) > 2 and tokens[2].upper in ('IN', 'PT'):
                 name = tokens[0].text
                 raise Misplaced(f'{name}.{tokens[2].text} is an input of a timer', tokens[2], (),
-                                f'give it by CAL {name}(IN := a, PT := T#5s)')
+                                f'set it by CAL {name}(IN := a, PT := T#5s)')
             if len(tokens) < 3 or tokens[2].upper not in ('Q', 'ET'):
-                raise Misplaced('.Q or .ET is wanted, the outputs of a timer',
+                raise Misplaced('only .Q or .ET may follow the name of a timer',
                                 tokens[min(2, len(tokens) - 1)])
             size = 3
         self.nothing(tokens[size:], f'{before.text} and its operand')
@@ -293,9 +295,9 @@ class Reader:
     def call(self, number, first, rest) -> 'Item':
         """name ( [IN := operand] [, PT := operand] )"""
         if not rest or rest[0].kind != 'name':
-            raise Misplaced('CAL wants the name of a timer', rest[0] if rest else first)
+            raise Misplaced('CAL needs the name of a timer', rest[0] if rest else first)
         if len(rest) < 3 or rest[1].text != '(' or rest[-1].text != ')':
-            raise Misplaced('CAL wants its timer\'s inputs in parentheses on one line, as '
+            raise Misplaced('CAL needs the timer\'s inputs in parentheses on the same line, as '
                             'CAL t1(IN := a, PT := T#5s)', rest[-1])
         item, inside, part = Item('CAL', number, first, rest[:1]), rest[2:-1], []
         for token in [*inside, Token('mark', ',', rest[-1].start)] if inside else []:
@@ -311,18 +313,18 @@ class Reader:
 
     def argument(self, part, behind) -> tuple:
         if not part or part[0].upper not in ('IN', 'PT'):
-            raise Misplaced('IN := or PT := is wanted', part[0] if part else behind)
+            raise Misplaced('each input is given as IN := or PT :=', part[0] if part else behind)
         if len(part) < 2 or part[1].text != ':=':
-            raise Misplaced(':= is wanted behind ' + part[0].text,
+            raise Misplaced(f':= must follow {part[0].text}',
                             part[1] if len(part) > 1 else part[0])
         return part[0], self.operand(part[2:], part[1])
 
 
-def reserved_told(token):
-    return ': it is a word of the language' if token.kind == 'word' else ''
+def reserved_told(token) -> str:
+    return ': it is a reserved word' if token.kind == 'word' else ''
 
 
-def placed(text, line):
+def placed(text, line) -> Place | None:
     """Why the line of a program can't be read or can't stand there, or None where it is not
     found."""
     reader = Reader(text)
@@ -341,17 +343,16 @@ def placed(text, line):
     return None
 
 
-def ending_told(reader):
+def ending_told(reader) -> tuple:
     """What is missing at the end of a text."""
     if reader.state == 'start':
-        return 'the text is empty: a program begins with PROGRAM and its name', ''
+        return 'the file is empty: a program begins with PROGRAM and its name', ''
     if reader.open:
-        return ('the text ends here with a parenthesis open, which was opened at line '
-                f'{reader.open[-1]}', '')
+        return f'the file ends here, and the parenthesis of line {reader.open[-1]} is open', ''
     if reader.state == 'block':
-        return ('the text ends here: END_VAR is missing, of the block at line '
-                f'{reader.block[1]}, and END_PROGRAM', '')
-    return 'the text ends here: END_PROGRAM is missing', ''
+        return ('the file ends here: END_PROGRAM is missing, and END_VAR of the block at line '
+                f'{reader.block[1]}', '')
+    return 'the file ends here: END_PROGRAM is missing', ''
 
 
 def read(text) -> 'Reader':

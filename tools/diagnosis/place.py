@@ -19,7 +19,7 @@ class Place:
     mend: str = ''
 
 
-def shown(text_line, number, start=None, end=None, width=88):
+def shown(text_line, number, start=None, end=None, width=88) -> list[str]:
     """A line with its number, and a mark under the offending part; of a long line the piece around
     it."""
     text_line = text_line.rstrip('\r\n').expandtabs(1)
@@ -32,7 +32,7 @@ def shown(text_line, number, start=None, end=None, width=88):
     return lines
 
 
-def near(name, names):
+def near(name, names) -> str:
     """A name that is like another, to ask whether it was meant: as it is written there, since the
     keys of a bay file are in lower case."""
     written = {raised(other): other for other in names}

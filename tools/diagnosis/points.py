@@ -2,8 +2,8 @@
 suggested: that would release the wrong one."""
 from common.texts import raised
 
+from .language import FIELDS
 from .place import near
-from .words import FIELDS
 
 KINDS = {'_POS': 'switch', '_OPEN': 'switch', '_CLOSED': 'switch', '_ENA_OPN': 'switch',
          '_ENA_CLS': 'switch', **{f'_{field}': 'meter' for field in FIELDS}}

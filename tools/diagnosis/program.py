@@ -2,11 +2,11 @@
 size once it is compiled."""
 from dataclasses import dataclass, field
 
+from .language import COMBINES, CONVERTS, JUMPS, LOADS, NUMBERS, RETURNS, STORES, TIMERS, TYPES
 from .lines import read
 from .place import Place, near
 from .points import meant
 from .tokens import Literal, Token
-from .words import COMBINES, CONVERTS, JUMPS, LOADS, NUMBERS, RETURNS, STORES, TIMERS, TYPES
 
 BOOLEAN = {'AND', 'OR', 'XOR', 'ANDN', 'ORN', 'XORN', '&', '&N'}
 ARITHMETIC = {'ADD', 'SUB', 'MUL', 'DIV', 'MOD'}
@@ -61,13 +61,13 @@ class Checker:
         and no other name is meant."""
         kind, _ = (self.points or {}).get(token.upper, (None, False))
         if kind:
-            self.note(70, line, f'{token.text} is a point of the bay, and not declared', token, (),
+            self.note(70, line, f'{token.text} is a point of the bay, but not declared', token, (),
                       f'add it to VAR_EXTERNAL: {token.text} : {kind};')
         else:
             told = f'{token.text} is not declared{meant(token.upper, self.names, self.points)}'
             self.note(70, line, told, token)
 
-    def all(self):
+    def all(self) -> list[Fault]:
         for declaration in self.program.declarations:
             self.declare(declaration)
         for item in self.program.items:
@@ -84,11 +84,11 @@ class Checker:
                       [(self.names[name].line, 'the first time here')])
         writable = self.external(it) if it.scope == 'VAR_EXTERNAL' else True
         if it.initial and not fits(it.kind, it.initial.literal):
-            self.note(72, line, f'{it.initial.text} is no value of type {it.kind}', it.initial)
+            self.note(72, line, f'{it.initial.text} is not a value of type {it.kind}', it.initial)
         self.names.setdefault(name, Named(it.kind, writable, line))
         self.count(it)
 
-    def external(self, it):
+    def external(self, it) -> bool:
         """Notes what is wrong with the name of a point, and tells whether it may be written."""
         if self.points is None:
             return True
@@ -99,7 +99,7 @@ class Checker:
                       it.name)
         elif kind != it.kind:
             self.note(72, it.line,
-                      f'the point {it.name.text} is of type {kind}, and {it.kind} stands here',
+                      f'the point {it.name.text} is {a_kind(kind)}, but declared as {it.kind}',
                       it.name)
         return writable
 
@@ -107,28 +107,28 @@ class Checker:
         kinds = [named.kind in TIMERS for named in self.names.values()]
         slots, timers = kinds.count(False), kinds.count(True)
         if slots > SLOTS or timers > MOST_TIMERS:
-            told = f'{timers} timers, {MOST_TIMERS} are the most'
+            told = f'{timers} timers, but at most {MOST_TIMERS} are allowed'
             if slots > SLOTS:
-                told = f'{slots} externals and variables, {SLOTS} are the most'
+                told = f'{slots} externals and variables, but at most {SLOTS} are allowed'
             self.note(79, it.line, f'with {it.name.text} there are {told}', it.name)
 
     def name_label(self, item) -> None:
         name = item.token.upper
         if name in self.labels:
-            self.note(71, item.line, f'the label {item.token.text} stands twice', item.token,
+            self.note(71, item.line, f'the label {item.token.text} is defined twice', item.token,
                       [(self.labels[name], 'the first time here')])
         self.labels.setdefault(name, item.line)
         count = sum(other.verb == 'label' and other.line <= item.line
                     for other in self.program.items)
         if count > LABELS:
-            self.note(79, item.line, f'this is the {count}th label, and {LABELS} are the most',
-                      item.token)
+            told = f'this is the {count}th label, but at most {LABELS} are allowed'
+            self.note(79, item.line, told, item.token)
 
-    def item(self, item):
+    def item(self, item) -> None:
         if item.verb == 'label':
             return self.at_label(item)
         if not self.result.reached:
-            self.note(76, item.line, 'no way leads here', item.token,
+            self.note(76, item.line, 'this line can\'t be reached', item.token,
                       [(self.result.gone, 'because this line always jumps away')])
         if item.verb == '(':
             return self.open(item)
@@ -141,19 +141,25 @@ class Checker:
                    None) or {'NOT': self.invert, 'CAL': self.call}.get(verb, self.convert)
         act(item)
 
-    def unset(self, item):
+    def unset(self, item) -> bool:
         """Notes the use of a result that is not set."""
         if self.result.kind is None and self.result.reached:
-            self.note(73, item.line,
-                      f'{item.token.text} uses the result, which is not set: {self.result.since}',
-                      item.token)
+            told = f'{item.token.text} uses the current result, which is not set'
+            self.note(73, item.line, f'{told}: {self.result.since}', item.token)
         return self.result.kind is None
 
     def wrong(self, item, told, token=None) -> None:
         if self.result.reached:
             self.note(72, item.line, told, token or item.token)
 
-    def operand(self, item, tokens):
+    def but_result(self) -> str:
+        return but('the result', self.result.kind)
+
+    def differs(self, told, kind) -> str:
+        """That the result and an operand have different types."""
+        return f'the result is {a_kind(self.result.kind)}{but(told, kind)}'
+
+    def operand(self, item, tokens) -> str | Literal | None:
         """The type of an operand, or the literal of a number without a type; None where it is no
         operand."""
         first = tokens[0]
@@ -168,7 +174,7 @@ class Checker:
             self.wrong(item, f'{first.text} is a timer: {first.text}.Q is a BOOL and '
                        f'{first.text}.ET a TIME', first)
         if not timer and len(tokens) == 3:
-            self.wrong(item, f'{first.text} is {named.kind} and no timer (declared at line '
+            self.wrong(item, f'{first.text} is a {named.kind}, not a timer (declared at line '
                        f'{named.line})', first)
         if timer != (len(tokens) == 3):
             return None
@@ -179,9 +185,9 @@ class Checker:
         if isinstance(kind, Literal):
             kind = own_type(kind)
         if item.verb == 'LDN' and kind not in (None, 'BOOL'):
-            self.wrong(item, f'only a BOOL is negated, and {text_of(item.operand)} is {kind}',
+            self.wrong(item, f'only a BOOL can be negated{but(text_of(item.operand), kind)}',
                        item.operand[0])
-        since = f'{item.token.text} at line {item.line} loads nothing that is known'
+        since = f'{item.token.text} at line {item.line} loads something unknown'
         self.result = Result(kind, since, self.result.reached, self.result.gone)
 
     def store(self, item) -> None:
@@ -196,17 +202,15 @@ class Checker:
         if kind is None:
             return
         if item.verb != 'ST' and kind != 'BOOL':
-            self.wrong(item, f'{item.verb} wants a BOOL, and {text_of(item.operand)} is {kind}',
-                       target)
+            self.wrong(item, f'{item.verb} needs a BOOL{but(text_of(item.operand), kind)}', target)
         elif not self.unset(item) and self.result.kind != kind:
-            told = f'the result is {self.result.kind}, and {text_of(item.operand)} is {kind}'
-            self.wrong(item, told, target)
+            self.wrong(item, self.differs(text_of(item.operand), kind), target)
 
     def combine(self, item) -> None:
         kind = self.operand(item, item.operand)
         first = item.operand[0]
         if item.verb in ('DIV', 'MOD') and (first.kind != 'literal' or first.literal.value == 0):
-            told = f'{text_of(item.operand)} is no literal'
+            told = f'{text_of(item.operand)} is not a literal'
             told = 'zero can\'t be a divisor' if first.kind == 'literal' else told
             self.note(78, item.line, told, first)
         self.join(item, item.verb, kind, text_of(item.operand), first)
@@ -216,31 +220,30 @@ class Checker:
         is known."""
         wanted = wanted_by(verb)
         if self.result.kind and not takes(verb, self.result.kind):
-            self.wrong(item, f'{item.token.text} wants a result of {wanted}, and the result is '
-                       f'{self.result.kind}')
+            self.wrong(item, f'{item.token.text} needs {wanted}{self.but_result()}')
         elif isinstance(kind, Literal):
             if self.result.kind and not fits(self.result.kind, kind):
-                self.wrong(item, f'{told} is no value of type {self.result.kind}, which the '
+                self.wrong(item, f'{told} is not a value of type {self.result.kind}, which the '
                            'result has', token)
             elif not self.result.kind and not any(takes(verb, other) and fits(other, kind)
                                                   for other in TYPES):
-                self.wrong(item, f'{item.token.text} wants {wanted}, and {told} is none', token)
+                self.wrong(item, f'{item.token.text} needs {wanted}, but {told} is none', token)
         elif kind and not takes(verb, kind):
-            self.wrong(item, f'{item.token.text} wants {wanted}, and {told} is {kind}', token)
+            self.wrong(item, f'{item.token.text} needs {wanted}{but(told, kind)}', token)
         elif kind and self.result.kind and kind != self.result.kind:
-            self.wrong(item, f'the result is {self.result.kind}, and {told} is {kind}', token)
+            self.wrong(item, self.differs(told, kind), token)
         self.unset(item)
         if self.result.kind and verb not in BOOLEAN | ARITHMETIC:
             self.result = Result('BOOL', '', self.result.reached, self.result.gone)
 
     def invert(self, item) -> None:
         if not self.unset(item) and self.result.kind != 'BOOL':
-            self.wrong(item, f'NOT wants a BOOL, and the result is {self.result.kind}')
+            self.wrong(item, f'NOT needs a BOOL{self.but_result()}')
 
     def convert(self, item) -> None:
         wants, gives = CONVERTS[item.verb]
         if not self.unset(item) and self.result.kind != wants:
-            self.wrong(item, f'{item.verb} wants {wants}, and the result is {self.result.kind}')
+            self.wrong(item, f'{item.verb} needs {a_kind(wants)}{self.but_result()}')
         self.result = Result(gives, '', self.result.reached, self.result.gone)
 
     def jump(self, item) -> None:
@@ -249,7 +252,8 @@ class Checker:
             self.note(75, item.line,
                       f'there is no label {name.text}{near(name.upper, self.labels)}', name)
         elif label <= item.line:
-            self.note(74, item.line, f'the label {name.text} stands above', name, [(label, 'here')])
+            self.note(74, item.line, f'the label {name.text} is above this line', name,
+                      [(label, 'here')])
         elif self.result.reached:
             self.arrivals.setdefault(name.upper, []).append((item.line, self.result.kind))
         self.go(item)
@@ -263,7 +267,7 @@ class Checker:
             self.result = Result(self.result.kind, self.result.since, False,
                                  item.line if self.result.reached else self.result.gone)
         elif not self.unset(item) and self.result.kind != 'BOOL':
-            self.wrong(item, f'{item.verb} wants a BOOL, and the result is {self.result.kind}')
+            self.wrong(item, f'{item.verb} needs a BOOL{self.but_result()}')
 
     def call(self, item) -> None:
         name = item.operand[0]
@@ -276,17 +280,18 @@ class Checker:
         for word, operand in item.arguments:
             kind, wanted = self.operand(item, operand), {'IN': 'BOOL', 'PT': 'TIME'}[word.upper]
             if kind and not (fits(wanted, kind) if isinstance(kind, Literal) else kind == wanted):
-                told = 'a number' if isinstance(kind, Literal) else kind
-                self.wrong(item, f'{word.text} wants {wanted}, and {text_of(operand)} is {told}',
+                kind = 'number' if isinstance(kind, Literal) else kind
+                self.wrong(item, f'{word.text} needs {a_kind(wanted)}{but(text_of(operand), kind)}',
                            operand[0])
-        self.result = Result(None, f'CAL at line {item.line} leaves it so', self.result.reached,
+        self.result = Result(None, f'CAL at line {item.line} leaves it unset', self.result.reached,
                              self.result.gone)
 
     def open(self, item) -> None:
         if item.token.means('DIV', 'MOD'):
-            self.note(78, item.line, 'what a parenthesis gives is no literal', item.token)
+            self.note(78, item.line, 'the result of a parenthesis is not a literal', item.token)
         self.outer.append((self.result, item))
-        self.result = Result(None, 'a parenthesis begins so', self.result.reached, self.result.gone)
+        self.result = Result(None, 'a parenthesis begins without one', self.result.reached,
+                             self.result.gone)
         if item.operand:
             inner = type(item)('LD', item.line, item.token, item.operand)
             self.load(inner)
@@ -296,12 +301,12 @@ class Checker:
         inner, (outer, opened) = self.result, self.outer.pop()
         self.result = outer
         if inner.kind is None and inner.reached:
-            self.note(73, item.line, f'what the parenthesis of line {opened.line} gives is not '
+            self.note(73, item.line, f'the result of the parenthesis of line {opened.line} is not '
                       f'set: {inner.since}', item.token)
         began = type(item)(')', item.line, opened.token)
         at = len(self.faults)
         self.join(began, opened.token.upper, inner.kind,
-                  f'what the parenthesis of line {opened.line} gives', item.token)
+                  f'the result of the parenthesis of line {opened.line}', item.token)
         for fault in self.faults[at:]:
             fault.token = item.token
 
@@ -316,20 +321,30 @@ class Checker:
         told = ', '.join(f'{kind or "nothing"} {way}' for way, kind in kinds)
         one = {kind for _, kind in kinds}
         kind = one.pop() if len(one) == 1 else None
-        self.result = Result(kind, f'at the label {item.token.text} of line {item.line} ways with '
+        self.result = Result(kind, f'at the label {item.token.text} of line {item.line} paths with '
                              f'different results meet, {told}')
 
 
-def wanted_by(verb):
+def wanted_by(verb) -> str:
     """The types on which an operator works, in words."""
     if verb in BOOLEAN:
-        return 'BOOL'
+        return 'a BOOL'
     if verb in ARITHMETIC:
-        return 'INT, DINT or LINT'
-    return 'any type' if verb in ('EQ', 'NE') else 'INT, DINT, LINT or TIME'
+        return 'an INT, DINT or LINT'
+    return 'any type' if verb in ('EQ', 'NE') else 'an INT, DINT, LINT or TIME'
 
 
-def takes(verb, kind):
+def a_kind(kind: str) -> str:
+    """A type with its article."""
+    return f'{"an" if kind == "INT" else "a"} {kind}'
+
+
+def but(told: str, kind: str) -> str:
+    """What something is, where something else is needed."""
+    return f', but {told} is {a_kind(kind)}'
+
+
+def takes(verb, kind) -> bool:
     """Whether an operator works on a type."""
     if verb in BOOLEAN:
         return kind == 'BOOL'
@@ -338,7 +353,7 @@ def takes(verb, kind):
     return verb in ('EQ', 'NE') or kind != 'BOOL'
 
 
-def fits(kind, literal):
+def fits(kind, literal) -> bool:
     """Whether a literal is a value of a type."""
     if literal.kind:
         return literal.kind == kind
@@ -347,11 +362,11 @@ def fits(kind, literal):
     return kind in NUMBERS and -2 ** (NUMBERS[kind] - 1) <= literal.value < 2 ** (NUMBERS[kind] - 1)
 
 
-def own_type(literal):
+def own_type(literal) -> str:
     return next(kind for kind in NUMBERS if fits(kind, literal))
 
 
-def text_of(tokens):
+def text_of(tokens) -> str:
     return ''.join(token.text for token in tokens)
 
 
@@ -367,7 +382,7 @@ def placed(faults, code, line) -> Place | None:
                 None)
 
 
-def size_told(text):
+def size_told(text) -> str:
     """What makes a compiled program long: octets of its code by what they are for, roughly."""
     program = read(text)
     sizes = {'parentheses': 0, 'calls of timers': 0, 'jumps and returns': 0,
@@ -382,10 +397,11 @@ def size_told(text):
                if it.kind not in TIMERS)
     parts = [f'{count:,} for {what}' for what, count in sizes.items() if count]
     told = ', '.join([*parts, f'{held:,} for what is declared'])
-    return f'some {sum(sizes.values()) + held:,} octets, and {LARGEST:,} are the most: {told}'
+    whole = sum(sizes.values()) + held
+    return f'some {whole:,} octets, but at most {LARGEST:,} are allowed: {told}'
 
 
-def octets_of(item):
+def octets_of(item) -> int:
     """The octets of an instruction, but for its operators' widths: those of its operands, and of
     what is done with them."""
     loads = [operand for _, operand in item.arguments]
@@ -401,7 +417,7 @@ def octets_of(item):
     return size + extra.get(item.verb, 2 if wide else 1)
 
 
-def operand_size(tokens):
+def operand_size(tokens) -> int:
     literal = tokens[0].literal
     if literal is None:
         return 3

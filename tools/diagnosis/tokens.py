@@ -5,7 +5,7 @@ from dataclasses import dataclass
 
 from common.texts import raised
 
-from .words import NUMBERS, OPERATORS, RESERVED
+from .language import NUMBERS, OPERATORS, RESERVED
 
 TOKEN = re.compile(
     r'[ \t]+|(?P<word>[A-Za-z0-9_](?:[A-Za-z0-9_#]|(?<=#)[+-])*'
@@ -36,7 +36,7 @@ class Token:
     mend: str = ''
 
     @property
-    def end(self):
+    def end(self) -> int:
         return self.start + len(self.text)
 
     @property
@@ -100,19 +100,19 @@ def tokens_of(line) -> Iterator:
 def odd_told(character) -> tuple[str, str]:
     """Why no token begins with a character, and the remedy."""
     if character == '\ufeff':
-        return ('a byte order mark stands here, which a program may not have',
+        return ('a program can\'t have a byte order mark',
                 'save the file as UTF-8 without a byte order mark')
     if character == '\r':
-        return ('a carriage return stands here without a line feed behind it',
+        return ('a carriage return has no line feed after it',
                 'save the file with lines that end with LF or CR LF')
     if ord(character) > 126 or ord(character) < 32:
-        return (f'the character {character!r} (U+{ord(character):04X}) is not of ASCII, and no '
-                'comment is round it', 'write it with characters of ASCII, or in a comment')
+        told = f'the character {character!r} (U+{ord(character):04X}) is not ASCII'
+        return f'{told}, so it may only be in a comment', 'use ASCII, or put it in a comment'
     if character in '+-':
-        told = 'a sign stands directly before the first digit of a number'
-        return told, 'take out what stands between the sign and the digit'
-    mend = 'write a comment between (* and *)' if character == '/' else 'take it out'
-    return f'no token begins with {character!r}', mend
+        told = 'a sign must be directly before the first digit of a number'
+        return told, 'remove what is between the sign and the digit'
+    mend = 'write a comment between (* and *)' if character == '/' else 'remove it'
+    return f'nothing can begin with {character!r} here', mend
 
 
 def word_token(text, start) -> 'Token':
@@ -122,7 +122,7 @@ def word_token(text, start) -> 'Token':
             return Token('literal', text, start, literal=Literal('BOOL', int(upper == 'TRUE')))
         if upper in RESERVED:
             return Token('word', text, start)
-        told = f'this name has {len(text)} characters, and 64 are the most'
+        told = f'this name has {len(text)} characters, but may have at most 64'
         told = told if len(text) > 64 else ''
         return Token('bad' if told else 'name', text, start, told)
     kind, held = literal_of(upper)
@@ -139,7 +139,7 @@ def literal_of(text) -> tuple:
     if hash_mark and before in ('BOOL', *NUMBERS):
         if after in ('TRUE', 'FALSE'):
             if before != 'BOOL':
-                return 'far', f'{after} is no {before}'
+                return 'far', f'{after} is not a value of {before}'
             return 'literal', Literal('BOOL', int(after == 'TRUE'))
         return in_range(before, number_of(after))
     return in_range(None, number_of(text))
@@ -152,7 +152,7 @@ def in_range(kind, value) -> tuple:
     bits = NUMBERS.get(kind or 'LINT')
     least, most = (0, 1) if kind == 'BOOL' else (-2 ** (bits - 1), 2 ** (bits - 1) - 1)
     if not least <= value <= most:
-        shown = f'{value:,}' if abs(value) < 10 ** 30 else 'a number of so many digits'
+        shown = f'{value:,}' if abs(value) < 10 ** 30 else 'a number with that many digits'
         told = f'{shown} is not from {least:,} to {most:,}'
         return 'far', told + (f', the values of {kind}' if kind else '')
     return 'literal', Literal(kind, value)
@@ -162,18 +162,18 @@ def number_of(text) -> int | str:
     """The value of a number with a base or a sign, or what is wrong with it."""
     before, hash_mark, digits = text.partition('#')
     if hash_mark and before not in ('2', '8', '16'):
-        lead = f'{before} can\'t stand before #' if before else 'nothing stands before #'
-        return f'{lead}: 2, 8, 16, BOOL, INT, DINT, LINT, T and TIME can'
+        lead = f'{before} can\'t be before #' if before else 'nothing is before #'
+        return f'{lead}: it can be 2, 8, 16, BOOL, INT, DINT, LINT, T or TIME'
     base = int(before) if hash_mark else 10
     sign = '' if hash_mark else text[:1] if text[:1] in '+-' else ''
     digits = digits if hash_mark else text.removeprefix(sign) if sign else text
     if hash_mark and digits[:1] in ('+', '-'):
-        return 'a number with a base has no sign'
+        return 'a number with a base can\'t have a sign'
     odd = next((c for c in digits if c != '_' and c not in DIGITS[base]), None)
     if odd is not None:
-        return f'{odd} is no digit of a number of base {base}'
+        return f'{odd} is not a digit of base {base}'
     if not digits or digits[0] == '_' or digits[-1] == '_' or '__' in digits:
-        told = 'a single _ may stand between two digits, and nowhere else'
+        told = '_ may only be single, and between two digits'
         return told if digits else 'there is no digit'
     value = digits.replace('_', '').lstrip('0') or '0'
     return int(value[:LONG], base) * (-1 if sign == '-' else 1)
@@ -186,14 +186,14 @@ def duration_of(text) -> tuple:
         part = re.match(r'(_?)(\d+(?:_\d+)*)([A-Z]*)', rest)
         place = next((n for n, (unit, _) in enumerate(UNITS) if part and unit == part[3]), None)
         if place is None:
-            return 'bad', f'{rest} is no number with a unit: d, h, m, s or ms'
+            return 'bad', f'{rest} is not a number with a unit: d, h, m, s or ms'
         if part[1] and not parts or place <= last:
-            told = 'the units of a duration fall, and none comes twice: d, h, m, s, ms'
+            told = 'the units of a duration must be in the order d, h, m, s, ms, each at most once'
             return 'bad', told if parts else 'a duration begins with a digit'
         total += int(part[2].replace('_', '').lstrip('0')[:LONG] or '0') * UNITS[place][1]
         last, rest, parts = place, rest[part.end():], parts + 1
     if not parts:
-        return 'bad', 'a duration has a number with a unit, as T#500ms'
+        return 'bad', 'a duration needs a number with a unit, as T#500ms'
     if total > LONGEST:
         return 'far', f'{total:,} ms are more than {LONGEST:,}, some 24 days'
     return 'literal', Literal('TIME', total)

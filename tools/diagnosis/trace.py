@@ -5,11 +5,11 @@ import re
 from collections.abc import Iterator
 from dataclasses import dataclass
 
+from bay.files import MARKED
 from common.texts import raised
-from session.files import MARKED
 
+from .language import FIELDS
 from .place import near
-from .words import FIELDS
 
 LATEST, PLACES = 4_294_967_295_999, 8
 VALUES = {'contact': r'[0-3]', 'input': r'[01]', 'measure': r'-?[0-9]+'}
@@ -17,8 +17,8 @@ WHAT = {'contact': 'a position from 0 to 3', 'input': '0 or 1', 'measure': 'a wh
 FORMS = {'contact': 'MS contact ID 0..3', 'input': 'MS input NAME 0|1',
          'measure': 'MS measure ID FIELD VALUE'}
 REPLAYED = {'scan': 'MS scan', 'open': 'MS open A', 'recv': 'MS recv A HEX', 'close': 'MS close A'}
-ALONE = {'scan': 'a server scans by itself in each turn', 'open': 'clients come over the port',
-         'recv': 'what clients send comes over the port', 'close': 'clients go by themselves'}
+ALONE = {'scan': 'a server scans by itself in each turn', 'open': 'clients connect to the port',
+         'recv': 'clients send to the port', 'close': 'clients close their connections'}
 KINDS = {'contact': 'switch', 'input': 'input', 'measure': 'meter'}
 
 
@@ -47,11 +47,11 @@ class Known:
         try:
             words = octets.decode('utf-8').split(' ')
         except UnicodeDecodeError as error:
-            return 120, f'octet {octets[error.start]:02X} is no UTF-8'
+            return 120, f'byte {octets[error.start]:02X} is not UTF-8'
         if words[0].startswith('\ufeff'):
             return 120, f'the trace {MARKED}'
         if not re.fullmatch(r'0*[0-9]{1,20}', words[0], re.ASCII) or number_of(words[0]) >= 2 ** 64:
-            return 120, f'a time in milliseconds is wanted first, and not {shown(words[0])}'
+            return 120, f'a line begins with a time in milliseconds, not with {shown(words[0])}'
         verb = words[1] if len(words) > 1 else ''
         found = self.form(verb, words[2:])
         if found or not self.is_replay:
@@ -66,25 +66,25 @@ class Known:
             return self.form_of_replay(verb, rest)
         if verb not in FORMS:
             told = near(verb, [*FORMS, *REPLAYED]) if verb else ''
-            return 120, f'contact, input or measure is wanted, and not {shown(verb)}{told}'
+            return 120, f'contact, input or measure must follow the time, not {shown(verb)}{told}'
         value = rest[-1] if rest else ''
         if len(rest) != len(FORMS[verb].split(' ')) - 2 or '' in rest:
-            return 120, f'it is not of the form {FORMS[verb]}, with single spaces'
+            return 120, f'the form is {FORMS[verb]}, with single spaces'
         if verb == 'measure' and rest[1] not in FIELDS:
             return 120, field_told(rest[1])
         if not re.fullmatch(VALUES[verb], value, re.ASCII):
-            return 120, f'{WHAT[verb]} is wanted, and not {shown(value)}'
+            return 120, f'the value must be {WHAT[verb]}, not {shown(value)}'
         if verb == 'measure' and not -2 ** 31 <= number_of(value) < 2 ** 31:
-            return 120, f'{shown(value)} has no room in 32 bits with sign'
+            return 120, f'{shown(value)} does not fit into 32 bits with sign'
         return None
 
     def form_of_replay(self, verb: str, rest: list[str]) -> tuple[int, str] | None:
         if len(rest) != len(REPLAYED[verb].split(' ')) - 2 or '' in rest:
-            return 120, f'it is not of the form {REPLAYED[verb]}, with single spaces'
+            return 120, f'the form is {REPLAYED[verb]}, with single spaces'
         if rest and not re.fullmatch('[0-9]+', rest[0], re.ASCII):
-            return 120, f'a number of an association is wanted, and not {shown(rest[0])}'
+            return 120, f'the association must be a number, not {shown(rest[0])}'
         if verb == 'recv' and not re.fullmatch('(?:[0-9a-fA-F]{2})+', rest[1]):
-            return 120, 'two hexadecimal digits for each octet are wanted, and one octet at least'
+            return 120, 'the octets must be two hexadecimal digits each, and at least one'
         return None
 
     def refused(self, verb: str, rest: list[str]) -> tuple[int, str] | None:
@@ -93,7 +93,9 @@ class Known:
         if name in self.names[verb]:
             return None
         other = next((what for what, names in self.names.items() if name in names), None)
-        more = f'; {other} tells of it' if other else near(name, self.names[verb])
+        more = near(name, self.names[verb])
+        if other:
+            more = f'; {rest[0]} is its {KINDS[other]}: write {other}'
         return 113, f'the bay has no {KINDS[verb]} {rest[0]}{more}'
 
     def replayed(self, moment: int, verb: str, rest: list[str]) -> tuple[int, str] | None:
@@ -101,12 +103,12 @@ class Known:
         if moment > LATEST:
             return 114, f'the time is past {LATEST:,}: are these microseconds?'
         if moment < self.last:
-            return 110, f'the time goes back: {self.last} was before it'
+            return 110, f'the time goes back: the line before it has {self.last}'
         place = number_of(rest[0]) if verb in ('open', 'recv', 'close') else 0
         if verb in FORMS and (found := self.refused(verb, rest)):
             return found
         if verb in ('open', 'recv', 'close') and not 1 <= place <= PLACES:
-            return 111, f'there is no association {place}: 1 to {PLACES} are'
+            return 111, f'there is no association {place}: they are 1 to {PLACES}'
         if verb in ('recv', 'close') and place not in self.open:
             return 111, f'association {place} is not open'
         if verb == 'open' and place in self.open:
@@ -125,8 +127,8 @@ def number_of(digits: str) -> int:
 
 def field_told(word: str) -> str:
     if raised(word) in FIELDS:
-        return f'fields are written in upper case: {raised(word)}'
-    return f'{shown(word)} is no field: {", ".join(FIELDS)} are'
+        return f'fields must be in upper case: {raised(word)}'
+    return f'{shown(word)} is not a field: {", ".join(FIELDS)} are'
 
 
 def shown(word: str) -> str:

@@ -2,9 +2,9 @@
 import time
 
 from common.ending import Failed
-from session import words
-from session.client import Refused
-from session.control import STATUS_ONLY, Control
+from wire import words
+from wire.client import Refused
+from wire.control import STATUS_ONLY, Control
 
 WAYS = {'open': False, 'close': True}
 ENDS = {'open': 'open', 'close': 'closed'}
@@ -69,11 +69,11 @@ class Operator:
         self.watcher.state['last'] = {**answer(is_good, told), 'number': last['number'] + 1}
         self.watcher.event(told, 'control' if is_good else 'refused')
 
-    def outcome(self, outcome):
+    def outcome(self, outcome) -> dict:
         """The words of an outcome; of a refusal with a cause those of its report."""
         return answer(outcome.is_good, outcome.words or self.refusal or 'refused')
 
-    def select(self, switch, way, page):
+    def select(self, switch, way, page) -> dict:
         state = self.watcher.state['control']
         if state:
             return answer(False, f'{state["switch"]} is {state["stage"]} by this panel')
@@ -89,7 +89,7 @@ class Operator:
             self.set(control, 'selected', way, page)
         return found
 
-    def operate(self, switch, way, page):
+    def operate(self, switch, way, page) -> dict:
         state = self.watcher.state['control']
         if state != {'switch': switch, 'way': way, 'stage': 'selected', 'page': page}:
             return answer(False, f'{switch} is not selected by this page')
@@ -102,16 +102,16 @@ class Operator:
         entry = next(it for it in self.watcher.file['switch'] if it['id'] == switch)
         self.end = time.monotonic() + entry.get('travel_ms', 0) / 1000 + MARGIN
         self.set(control, 'moving', way, page)
-        return answer(True, f'{way} {switch}: the command is given')
+        return answer(True, f'operate {switch} {way}: the command is given')
 
-    def cancel(self, switch, way, page):
+    def cancel(self, switch, way, page) -> dict:
         state = self.watcher.state['control']
         if not state or state['switch'] != switch or state['stage'] != 'selected':
             return answer(False, f'{switch} is not selected by this panel')
         control, way = self.control, state['way']
         self.set(None)
         if not control.is_selected_first():
-            return answer(True, f'{way} {switch}: given up')
+            return answer(True, f'operate {switch} {way}: given up')
         return self.outcome(control.cancel(WAYS[way]))
 
     def said(self, said) -> None:
@@ -130,7 +130,7 @@ class Operator:
         if not state:
             return
         switch = next(it for it in found if it['id'] == state['switch'])
-        told, is_late = f'{state["way"]} {state["switch"]}', time.monotonic() > self.end
+        told, is_late = f'operate {state["switch"]} {state["way"]}', time.monotonic() > self.end
         if state['stage'] == 'selected':
             if self.control.is_selected_first() and not switch['selected']:
                 self.finish(False, f'{told}: the selection has run out')

@@ -1,15 +1,17 @@
 """Why a switch may not be opened or closed: what is missing of the least condition under which the
 program releases it (tools/audit), as far as a client sees it."""
+from auditing.proving import Derived
+from bay.conditions import Condition
+from bay.names import UNIT
+from common.positions import POSITIONS
 from common.texts import raised
-from session.conditions import Condition
 
-POSITIONS = {'intermediate': 'intermediate', 'off': 'open', 'on': 'closed', 'bad': 'bad'}
 STILL = 'the program does not release it'
 
 
 class Seen:
-    """What a client sees of a bay: positions in the words of rules and measured values, by names in
-    upper case. Inputs are shown to no client, and may have the name of a switch."""
+    """What a client sees of a bay: positions and measured values, by names in upper case. Inputs
+    are shown to no client, and may have the name of a switch."""
 
     def __init__(self, positions: dict[str, str], measures: dict[str, int]) -> None:
         self.positions = positions
@@ -17,7 +19,8 @@ class Seen:
 
     def value(self, variable) -> str | None:
         is_position = set(variable.values) <= set(POSITIONS)
-        return (self.positions if is_position else self.measures).get(raised(variable.name))
+        value = (self.positions if is_position else self.measures).get(raised(variable.name))
+        return value if value is None else variable.word_of(value)
 
     def missing(self, product: list) -> tuple[list[str], list[str]]:
         """What of a product does not hold, and what of it nobody sees here, in words."""
@@ -31,38 +34,49 @@ class Seen:
         return broken, unseen
 
 
-def fact_told(variable, value, allowed):
+def fact_told(variable, value, allowed) -> str:
     """A fact that is wanted, with what is so."""
     lead, named = 'be', allowed
     if 2 * len(allowed) > len(variable.values):
         lead, named = 'not be', [word for word in variable.values if word not in allowed]
-    wanted = f'{lead} {" or ".join(POSITIONS.get(word, word) for word in named)}'
-    return f'{variable.name} is {POSITIONS.get(value, value)} and must {wanted}'
+    unit = '' if set(variable.values) <= set(POSITIONS) else f' {UNIT}'
+    return f'{variable.name} is {value}{unit} and must {lead} {" or ".join(named)}'
 
 
-def input_told(variable, allowed):
+def input_told(variable, allowed) -> str:
     """An input that is wanted."""
     return f'input {variable.name} must be {" or ".join(allowed)}'
 
 
-def unseen_told(unseen):
+def unseen_told(unseen) -> str:
     """Inputs that are wanted too."""
     return f' (not seen here: {", ".join(unseen)})' if unseen else ''
 
 
-def why_not(condition: Condition | None, seen: Seen) -> str:
+def products_of(condition: Condition | Derived) -> list[tuple]:
+    """The products of a condition, each with the variables and timers on which it hangs."""
+    if isinstance(condition, Condition):
+        return [(product, ()) for product in condition.facts]
+    return products_of(condition.condition) + [
+        (product, kept) for kept, other in condition.hanging for product in other.facts]
+
+
+def why_not(condition: Condition | Derived | None, seen: Seen) -> str:
     """Why something is not released: of the products the one of which the least is missing, as far
     as it is seen, and one of which only inputs can be missing, which clients do not see."""
     if condition is None:
         return STILL
-    if not condition.facts:
+    products = products_of(condition)
+    if not products:
         return 'the program never releases it'
-    found = [seen.missing(product) for product in condition.facts]
-    visible = [it for it in found if it[0]]
-    hidden = [it for it in found if not it[0] and it[1]]
+    found = [(*seen.missing(product), kept) for product, kept in products]
+    for broken, unseen, kept in found:
+        if kept and not broken and not unseen:
+            return f'{STILL} yet: it hangs on {", ".join(kept)}'
+    visible, hidden = [it for it in found if it[0]], [it for it in found if not it[0] and it[1]]
     told = []
     if visible:
-        broken, unseen = min(visible, key=lambda it: (len(it[0]), len(it[1])))
+        broken, unseen, _ = min(visible, key=lambda it: (len(it[0]), len(it[1])))
         told.append('; '.join(broken) + ('' if hidden else unseen_told(unseen)))
     if hidden:
         unseen = min(hidden, key=lambda it: len(it[1]))[1]

@@ -6,23 +6,31 @@ import queue
 import threading
 import time
 
+from bay.names import Names
+from common import moments
 from common.ending import Failed
 from common.texts import raised
-from diagnosis.words import FIELDS
-from session import moments, words
-from session.client import Client, Lost
-from session.mms import Failure
-from session.same_bay import compared
-from session.sockets import unconnected
+from diagnosis.language import FIELDS
+from wire import mms, words
+from wire.client import Client, Lost
+from wire.mms import Failure
+from wire.same_bay import compared
+from wire.sockets import unconnected
 
 from .reasons import Seen, why_not
 
 READ = ('CSWI', 'MMXU')  # the nodes of which nothing may be missing
 OTHER = 'the server has another bay than the bay file'
 EVERY, AGAIN, KEPT = 0.25, 1.0, 200  # seconds between two reads, and two attempts; events kept
-RULE_WORDS = {'00': 'intermediate', '01': 'off', '10': 'on', '11': 'bad'}
 LOST = (Failed, OSError, ValueError, LookupError, TypeError, AttributeError)
 PARTING = 1  # seconds for the end of the association
+# The values that are read, with the types of their parts.
+POSITION = {'stVal': mms.BITS, 'q': mms.BITS, 't': mms.TIME}
+POSITIONS = POSITION | {'stSeld': mms.BOOLEAN}, POSITION
+MEASURED = {'mag': {'i': mms.INTEGER}, 'q': mms.BITS, 't': mms.TIME}
+PHASE = {'cVal': {'mag': {'i': mms.INTEGER}}, 'q': mms.BITS, 't': mms.TIME}
+METER = {**dict.fromkeys(('TotW', 'TotVAr', 'Hz'), MEASURED),
+         'A': dict.fromkeys(('phsA', 'phsB', 'phsC'), PHASE)}
 
 
 def now() -> int:
@@ -103,7 +111,7 @@ class Watcher:
                 self.client.close()
 
     def connect(self) -> None:
-        client = Client(self.host, self.port, words.Bay(self.text), on_report=lambda told: None)
+        client = Client(self.host, self.port, Names(self.text), on_report=lambda told: None)
         client.on_said = self.said
         held = compared(client, self.file)
         if any(node.startswith(READ) for node in held.absent):
@@ -142,7 +150,7 @@ class Watcher:
         for act in self.on_said:
             act(said)
 
-    def read_once(self):
+    def read_once(self) -> bool:
         """Reads all, and tells whether something has changed."""
         with self.lock:
             before = json.dumps(self.state), len(self.events), self.events and self.events[-1]
@@ -168,7 +176,7 @@ class Watcher:
 
     def explain(self, found, measures) -> None:
         """Says why something may not be done."""
-        seen = Seen({raised(it['id']): it['word'] for it in found},
+        seen = Seen({raised(it['id']): it['position'] for it in found},
                     {raised(it['name']): it['value'] for it in measures})
         for it in found:
             for way, name in enumerate(('open', 'close')):
@@ -213,12 +221,16 @@ def may_told(old: dict, new: dict) -> list[str]:
         f'may no longer be {" or ".join(lost)}'] * bool(lost)
 
 
-def switch_of(switch, position, opened, closed):
+def switch_of(switch, position, opened, closed) -> dict:
     """A switch as it was read."""
+    wanted = any(words.fits(shape, position) for shape in POSITIONS) and all(
+        words.fits(mms.BOOLEAN, it) for it in (opened, closed))
+    if not wanted:
+        raise Lost(f'the server gives {switch["id"]} values of another type')
     value, quality, moment, *selected = (part.value for part in position.value)
     validity = words.VALIDITIES[quality[:2]]
     return {'id': switch['id'], 'kind': switch['kind'], 'control': switch['control'],
-            'word': RULE_WORDS[value], 'position': words.POSITIONS[value], 'quality': validity,
+            'position': words.POSITIONS[value], 'quality': validity,
             'moment': moment if isinstance(moment, int) else 0,
             'time': time_told(moment) if isinstance(moment, int) and moment else '',
             'selected': bool(selected and selected[0]),
@@ -229,8 +241,10 @@ def time_told(moment: int) -> str:
     return stamp(moment) if moments.is_clock(moment) else moments.told(moment)
 
 
-def measures_of(meter, value):
+def measures_of(meter, value) -> list:
     """The measured values of a meter."""
+    if not words.fits(METER, value):
+        raise Lost(f'the server gives {meter["id"]} values of another type')
     *plain, phases = value.value
     found = [(part.value[0].value[0].value, part.value[1].value) for part in plain]
     found += [(part.value[0].value[0].value[0].value, part.value[1].value)

@@ -8,7 +8,7 @@ import re
 import secrets
 import time
 
-from session.moments import zone_told
+from common.moments import zone_told
 
 FOLDER = pathlib.Path(__file__).resolve().parent
 BEAT, LARGEST = 2, 4096  # seconds between two signs of life, and octets of a request

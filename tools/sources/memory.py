@@ -1,7 +1,7 @@
 """Where a source makes want of memory, in place of handing on what std or a library answered."""
 import dataclasses
 
-from sources.tokens import Token, end_of_group, place_of, running_tokens
+from sources.lexer import Token, end_of_group, place_of, running_tokens
 
 # What stands for want of memory in an answer or in what is printed.
 WORDS = ("AllocError", "AllocFailed", "OutOfMemory", "NO_MEMORY")

@@ -2,7 +2,7 @@
 import socket
 import unittest
 
-from session.sockets import is_taken
+from wire.sockets import is_taken
 
 
 def has_loopback() -> bool:

@@ -8,13 +8,13 @@ from unittest import mock
 
 TOOLS = pathlib.Path(__file__).resolve().parent.parent
 sys.path.insert(0, str(TOOLS))
-from auditing import judging, matrix, reads
+from auditing import judging, matrix, reads, replaying, verdicts
+from auditing.page import Report
 from auditing.things import bay_of, keys_of
-from auditing.report import Report
-from common.ending import CalledWrong, Failed
-from session.picture import room
-from session.rules import (INPUT, MEASURE, SWITCH, BadOption, BadRule, Look, held, looked_at,
-                           read_looks, read_rules, time_of, value_of)
+from bay.rules import (INPUT, MEASURE, SWITCH, BadOption, BadRule, Look, held, looked_at,
+                       read_looks, read_rules, time_of, value_of)
+from common.ending import CalledWrong
+from picture.svg import SMALL
 from tests.tool import Tools
 
 FILE = {'bay': {'domain': 'E1', 'vendor': 'V', 'model': 'M', 'revision': '1'},
@@ -86,23 +86,24 @@ class Held(Interlocking):
         return found
 
 
-def audited(rules, time=5000, logic=LOGIC, kind=Interlocking, pause=None, file=FILE, given=()):
+def audited(rules, time=5000, logic=LOGIC, kind=Interlocking, pause=None, file=FILE, given=(),
+            answer=None, is_table_asked=False):
     found, known = reads.read(logic), keys_of(file)
     read = read_rules(rules, known)
     named = {key for rule in read for key in rule.names}
     looks = looked_at(read_looks(rules), known) | looked_at(list(given), known)
     bay = bay_of(file, ('bay', logic), found, looks, named)
     with mock.patch('auditing.judging.scans_of', kind(time).scans), \
-            mock.patch('sys.stderr'):
-        return judging.audit(bay, read, None, pause)
+            mock.patch('auditing.proving.scans_of', kind(time).scans), mock.patch('sys.stderr'):
+        return judging.audit(bay, read, None, pause, answer, is_table_asked)
 
 
-def verdicts(rules, time=5000):
+def told_of(rules, time=5000):
     return [it.verdict() for it in audited(rules, time).findings]
 
 
 UNTIL = 'never QC1 close until VT_DEAD for 5s\n'
-AFTER = 'always QC1 close after VT_DEAD for 5s when QA1 off\n'
+AFTER = 'always QC1 close after VT_DEAD for 5s when QA1 open\n'
 
 
 class Programs(unittest.TestCase):
@@ -152,37 +153,47 @@ class Values(unittest.TestCase):
         return looked_at(read_looks(text), self.KNOWN)
 
     def test_words(self):
-        self.assertEqual([value_of(SWITCH, it) for it in ('off', 'ON', 'TRUE', '1')],
-                         [1, 2, None, None])
-        self.assertEqual([value_of(INPUT, it) for it in ('0', '1', 'TRUE', 'false', 'off', '2')],
+        self.assertEqual([value_of(SWITCH, it) for it in ('open', 'CLOSED', 'off', 'ON', '1')],
+                         [1, 2, 1, 2, None])
+        self.assertEqual([value_of(INPUT, it) for it in ('0', '1', 'TRUE', 'false', 'on', '2')],
                          [0, 1, 1, 0, None, None])
         self.assertEqual([value_of(MEASURE, it) for it in ('-5', '007', '2147483648', '9' * 5000,
-                                                           'off')], [-5, 7, None, None, None])
+                                                           'open')], [-5, 7, None, None, None])
 
     def test_an_input_has_no_position(self):
-        with self.assertRaisesRegex(BadRule, 'line 1: off is no value of the input SPARE'):
-            self.looks('look SPARE off')
-        with self.assertRaisesRegex(BadOption, '--inputs SPARE=off: off is no value of the input'):
-            looked_at(held('--inputs', 'SPARE=off', INPUT), self.KNOWN)
-        with self.assertRaisesRegex(BadRule, 'off is no value of the input'):
-            read_rules('never QC1 close when SPARE off', self.KNOWN)
+        with self.assertRaisesRegex(BadRule, 'line 1: open is not a value of the input SPARE'):
+            self.looks('look SPARE open')
+        with self.assertRaisesRegex(BadOption, 'SPARE=open: open is not a value of the input'):
+            looked_at(held('--inputs', 'SPARE=open', INPUT), self.KNOWN)
+        with self.assertRaisesRegex(BadRule, 'open is not a value of the input'):
+            read_rules('never QC1 close when SPARE open', self.KNOWN)
+
+    def test_only_an_input_stands_alone(self):
+        self.assertEqual(read_rules('never QC1 close when SPARE', self.KNOWN)[0].names,
+                         {(INPUT, 'SPARE')})
+        for name, kind in (('M1_AA', MEASURE), ('QA1', SWITCH)):
+            with self.assertRaisesRegex(BadRule, f'the end is not a value of the {kind} {name}'):
+                read_rules(f'never QC1 close when {name}', self.KNOWN)
+
+    def test_blanks_between_values(self):
+        self.assertEqual(self.looks('look QA1 open | closed |bad'), {(SWITCH, 'QA1'): [1, 2, 3]})
 
     def test_a_switch_has_no_truth(self):
-        with self.assertRaisesRegex(BadRule, 'TRUE is no value of the switch QA1'):
+        with self.assertRaisesRegex(BadRule, 'TRUE is not a value of the switch QA1'):
             self.looks('look QA1 TRUE')
 
     def test_a_second_look_of_a_name(self):
-        with self.assertRaisesRegex(BadRule, 'line 2: QA1 stands in line 1 already'):
-            self.looks('look QA1 off\nlook qa1 on')
+        with self.assertRaisesRegex(BadRule, 'line 2: QA1 is in line 1 already'):
+            self.looks('look QA1 open\nlook qa1 on')
 
     def test_a_value_that_is_given_twice(self):
-        with self.assertRaisesRegex(BadRule, 'FALSE stands twice'):
+        with self.assertRaisesRegex(BadRule, 'FALSE is given twice'):
             self.looks('look SPARE 0|FALSE')
 
     def test_options_are_for_things_of_their_kind(self):
-        for option, text, told in (('--inputs', 'QA1=off', 'QA1 is a switch'),
-                                   ('--switches', 'QA1=offf', 'offf is no value of the switch'),
-                                   ('--switches', 'QA1', 'NAME=VALUE|VALUE is wanted'),
+        for option, text, told in (('--inputs', 'QA1=open', 'QA1 is a switch'),
+                                   ('--switches', 'QA1=openn', 'openn is not a value of the'),
+                                   ('--switches', 'QA1', 'the form is NAME=VALUE|VALUE'),
                                    ('--measures', 'M9_AA=0', 'M9_AA is not in the bay')):
             kind = {'--inputs': INPUT, '--switches': SWITCH, '--measures': MEASURE}[option]
             with self.assertRaisesRegex(BadOption, re.escape(f'{option} {text}: {told}')):
@@ -191,11 +202,11 @@ class Values(unittest.TestCase):
     def test_a_switch_and_an_input_of_one_name(self):
         file = {**FILE, 'input': [{'name': 'QA1'}, {'name': 'VT_DEAD'}]}
         logic = LOGIC.replace('QA1_OPEN, ', 'QA1_OPEN, QA1, ').replace('LD t1.Q', 'LD QA1')
-        read = read_rules('never QC1 close when QA1 not off and QA1\n', keys_of(file))
+        read = read_rules('never QC1 close when QA1 not open and QA1\n', keys_of(file))
         self.assertEqual(read[0].names, {(SWITCH, 'QA1'), (INPUT, 'QA1')})
-        found = audited('never QC1 close when QA1 not off and QA1\n', file=file, logic=logic)
+        found = audited('never QC1 close when QA1 not open and QA1\n', file=file, logic=logic)
         self.assertEqual((found.bay.count(), found.findings[0].looked), (16, 6))
-        looks = looked_at([Look('QA1', ['off'], 'line 1'), Look('QA1', ['1'], 'line 2')],
+        looks = looked_at([Look('QA1', ['open'], 'line 1'), Look('QA1', ['1'], 'line 2')],
                           keys_of(file))
         self.assertEqual(looks, {(SWITCH, 'QA1'): [1], (INPUT, 'QA1'): [1]})
 
@@ -211,42 +222,45 @@ class Audits(unittest.TestCase):
         self.assertEqual((found.bay.count(), found.findings[0].looked), (16, 8))
 
     def test_rules(self):
-        self.assertEqual(verdicts('always QA1 open\nnever QC1 close when not VT_DEAD\n'
-                                  'always QC1 close when VT_DEAD and QA1 off\n'), ['holds'] * 3)
-        self.assertEqual(verdicts('never QA1 open\nalways QC1 close\n'), ['BROKEN'] * 2)
-        self.assertEqual(verdicts('never QA1 open when M1_AA 7\n'), ['never applies'])
+        self.assertEqual(told_of('always QA1 open\nnever QC1 close when not VT_DEAD\n'
+                                  'always QC1 close when VT_DEAD and QA1 open\n'), ['TRIED'] * 3)
+        self.assertEqual(told_of('never QA1 open\nalways QC1 close\n'), ['BROKEN'] * 2)
+        self.assertEqual(told_of('never QA1 open when M1_AA 7\n'), ['never applies'])
 
     def test_statuses_and_verdicts(self):
+        limit = 'TRIED UNDER A RESTRICTION: the rule holds in what was tried; tried with M1_AA '
         for rules, status, told in (
-                ('look M1_AA 0\nalways QA1 open\n', 0, 'PASSED: the rule holds.'),
-                ('always QA1 open\n', 4,
-                 'NOT ALL WAS TRIED: the rule holds; M1_AA was tried only 0.'),
+                ('look M1_AA 0\nalways QA1 open\n', 0, limit + 'only 0.'),
+                ('always QA1 open\n', 4, 'NOT ALL WAS PROVED OR TRIED: the rule holds in what was '
+                 'tried; M1_AA was tried only 0.'),
                 ('# nothing\n', 4, 'NOTHING AUDITED: there are no rules.'),
                 ('look M1_AA 0\nalways QA1 open\nnever QA1 open when M1_AA 7\n', 4,
-                 'NOT ALL WAS TRIED: of 2 rules 1 never applies.'),
+                 'NOT ALL WAS PROVED OR TRIED: of 2 rules 1 tried without a break, 1 never '
+                 'applied.'),
                 ('never QA1 open\nalways QA1 open when M1_AA 7\n', 1,
-                 'NOT PASSED: of 2 rules 1 broken, and 1 never applies.'),
-                ('look QA1 off\nlook M1_AA 0|5\nalways QA1 open\n', 4,
-                 'NOT ALL WAS TRIED: the rule holds; QA1 was tried only off.'),
-                ('look M1_AA 0|5\nalways QA1 open\n', 0, 'PASSED: the rule holds.')):
+                 'NOT PASSED: of 2 rules 1 broken, 1 never applied.'),
+                ('look QA1 open\nlook M1_AA 0|5\nalways QA1 open\n', 4,
+                 'NOT ALL WAS PROVED OR TRIED: the rule holds in what was tried; QA1 was tried '
+                 'only open.'),
+                ('look M1_AA 0|5\nalways QA1 open\n', 0, limit + 'only 0|5.')):
             found = audited(rules)
-            self.assertEqual((found.status(), found.verdict()), (status, told))
+            self.assertEqual((verdicts.status(found), verdicts.verdict(found)), (status, told))
 
     def test_a_timer_whose_time_is_not_in_the_text(self):
         logic = LOGIC.replace('T#5s', 'delay').replace('t1 : TON;', 't1 : TON;\ndelay : TIME;')
         found = audited('look M1_AA 0\nalways QA1 open\n', logic=logic)
-        self.assertEqual((found.status(), found.verdict()), (
-            4, 'NOT ALL WAS TRIED: the rule holds; the end of t1 was not tried: its time is no '
-            'number of the text.'))
+        self.assertEqual((verdicts.status(found), verdicts.verdict(found)), (
+            4, 'NOT ALL WAS PROVED OR TRIED: the rule holds in what was tried; the end of t1 was '
+            'not tried: its time is not a number of the text.'))
 
     def test_a_pause_that_is_too_short(self):
         for pause in (1, 4999, 5000):
             with self.assertRaisesRegex(CalledWrong, f'--pause {pause}: it must be more than'):
                 audited(AFTER, pause=pause)
-        self.assertEqual(audited(AFTER, pause=5001).findings[0].verdict(), 'holds')
+        self.assertEqual(audited(AFTER, pause=5001).findings[0].verdict(), 'TRIED')
 
     def test_each_state_before_is_tried(self):
-        rule = 'never QC1 close until VT_DEAD for 5s when QA1 off\n'
+        rule = 'never QC1 close until VT_DEAD for 5s when QA1 open\n'
         found, = audited(rule, kind=Held).findings
         self.assertEqual(found.verdict(), 'BROKEN')
         self.assertIn('contact QA1 2', '\n'.join(found.lines))
@@ -255,9 +269,9 @@ class Audits(unittest.TestCase):
 
     def test_too_many_states_before(self):
         with mock.patch('auditing.judging.PAIRS', 3):
-            found = audited('never QC1 close until VT_DEAD for 5s when QA1 off\n')
-        self.assertIn('the rule of line 1 was tried from', found.verdict())
-        self.assertEqual(found.status(), 4)
+            found = audited('never QC1 close until VT_DEAD for 5s when QA1 open\n')
+        self.assertIn('the rule of line 1 was tried from', verdicts.verdict(found))
+        self.assertEqual(verdicts.status(found), 4)
 
     def test_a_line_that_parts_a_scenario_in_a_comment(self):
         bay = audited('always QA1 open', logic='(* a\n%%\n*)\n' + LOGIC).bay
@@ -271,29 +285,44 @@ class Audits(unittest.TestCase):
 
     def test_the_times_of_rules_are_looked_at(self):
         plain = LOGIC.replace('    CAL t1(IN := VT_DEAD, PT := T#5s)\n', '')
-        for time, verdict in ((4999, 'BROKEN'), (5000, 'holds')):
+        for time, verdict in ((4999, 'BROKEN'), (5000, 'TRIED')):
             found = audited(UNTIL, time, plain)
             self.assertEqual((found.offsets[1:3], found.findings[0].verdict()),
                              ([4999, 5000], verdict))
 
     def test_a_time_that_is_kept(self):
-        self.assertEqual(verdicts(UNTIL + AFTER), ['holds', 'holds'])
+        self.assertEqual(told_of(UNTIL + AFTER), ['TRIED', 'TRIED'])
 
     def test_a_time_that_is_too_short(self):
         for time in (0, 1, 4999):
-            self.assertEqual(verdicts(UNTIL + AFTER, time), ['BROKEN', 'holds'], time)
+            self.assertEqual(told_of(UNTIL + AFTER, time), ['BROKEN', 'TRIED'], time)
 
     def test_a_time_that_is_too_long(self):
         for time in (5001, 6000, 60_000):
-            self.assertEqual(verdicts(UNTIL + AFTER, time), ['holds', 'BROKEN'], time)
+            self.assertEqual(told_of(UNTIL + AFTER, time), ['TRIED', 'BROKEN'], time)
 
-    def test_times_that_are_too_long(self):
-        rule = 'never QC1 close until VT_DEAD for 24d\n'
-        with self.assertRaisesRegex(Failed, 'more than a trace has times for'):
-            audited('look M1_AA ' + '|'.join(map(str, range(600))) + '\n' + rule)
+    def test_what_has_no_room_in_one_scenario(self):
+        rules, whole = UNTIL + AFTER, []
+        for latest in (replaying.LATEST, 130_000):
+            with mock.patch('auditing.replaying.LATEST', latest):
+                found = audited(rules)
+            whole.append((found.table, [(it.looked, it.broken) for it in found.findings]))
+        self.assertEqual(*whole)
+
+    def test_too_many_combinations(self):
+        rules = 'look M1_AA ' + '|'.join(map(str, range(600))) + '\nalways QA1 open\n'
+        with mock.patch.multiple('auditing.judging', WHOLE=1000, SAMPLED=50):
+            found = audited(rules)
+        self.assertEqual((len(found.table), found.bay.count()), (50, 4800))
+        self.assertIn('50 of 4,800 combinations were tried', verdicts.verdict(found))
+        self.assertEqual((verdicts.status(found), judging.uncovered(found)), (4, None))
+        places = range(0, 4800, 7)
+        whole = list(found.bay.combinations())
+        self.assertEqual([found.bay.combination_at(it) for it in places],
+                         [whole[it] for it in places])
 
     def test_a_condition_that_never_begins(self):
-        self.assertEqual(verdicts('always QC1 close after VT_DEAD or not VT_DEAD for 5s\n'),
+        self.assertEqual(told_of('always QC1 close after VT_DEAD or not VT_DEAD for 5s\n'),
                          ['never applies'])
 
     def test_the_scenario_that_breaks_a_time(self):
@@ -307,7 +336,7 @@ class Audits(unittest.TestCase):
         found = judging.uncovered(audited('never QC1 close when not VT_DEAD\n'))
         told = {key: (count, it.told()) for key, (count, it) in found.items()}
         self.assertEqual(told, {('QA1', 0): (8, 'always'),
-                                ('QC1', 1): (1, 'QA1 off and VT_DEAD')})
+                                ('QC1', 1): (1, 'QA1 open and VT_DEAD')})
         self.assertEqual(judging.uncovered(audited('always QA1 open\n' + AFTER)), {})
 
 
@@ -317,7 +346,7 @@ class Pictures(unittest.TestCase):
         blocks = matrix.blocks_of(found.bay, found.table)
         told = {block.thing.name: [(it.told, it.looked, it.counts) for it in block.columns]
                 for block in blocks}
-        self.assertEqual(told['QA1'], [('not off', 6, [6, 0, 0, 0]), ('off', 2, [2, 0, 0, 1])])
+        self.assertEqual(told['QA1'], [('not open', 6, [6, 0, 0, 0]), ('open', 2, [2, 0, 0, 1])])
         self.assertEqual(told['VT_DEAD'], [('0', 4, [4, 0, 0, 0]), ('1', 4, [4, 0, 0, 1])])
         self.assertEqual(blocks[0].depends, {3})
 
@@ -329,8 +358,17 @@ class Pictures(unittest.TestCase):
     def test_heads_of_columns_do_not_touch(self):
         found = audited('always QA1 open')
         with mock.patch('auditing.matrix.looked_told', lambda column: 'of 99,999,999'):
-            for block in matrix.blocks_of(found.bay, found.table):
-                self.assertLess(room('of 99,999,999', matrix.HEAD), block.cell)
+            drawn = ET.fromstring(matrix.draw(found.bay, found.table))
+        heads = [it.get('transform') for it in drawn.iter() if 'rotate' in it.get('transform', '')]
+        places = sorted(float(re.search(r'\((\S+)', it)[1]) for it in heads)
+        self.assertEqual(len(places), 8)
+        self.assertTrue(all(after - it >= SMALL for it, after in zip(places, places[1:])))
+
+    def test_letters_are_not_small(self):
+        found = audited('always QA1 open')
+        drawn = ET.fromstring(matrix.draw(found.bay, found.table, 'Bay'))
+        sizes = [float(it.get('font-size')) for it in drawn.iter() if it.get('font-size')]
+        self.assertEqual(min(sizes), SMALL)
 
     def test_each_band_is_a_picture_of_the_page(self):
         found = audited('always QA1 open')
@@ -342,17 +380,18 @@ class Pictures(unittest.TestCase):
     def test_the_report_is_whole(self):
         files = {'Rules': ('rules <&>', b'always QA1 open')}
         page = Report(audited('look M1_AA 0\nalways QA1 open'), files, __file__, 0).page()
-        for told in ('PASSED: the rule holds', 'rules &lt;&amp;&gt;', '1970-01-01 00:00:00 UTC',
-                     'timers are not audited', 'QA1 off and VT_DEAD', 'Signature', 'SPARE'):
+        for told in ('the rule holds in what was tried', 'rules &lt;&amp;&gt;',
+                     '1970-01-01 00:00:00 UTC', 'how long they run is not audited',
+                     'QA1 open and VT_DEAD', 'Signature', 'SPARE'):
             self.assertIn(told, page)
         self.assertIsNone(re.search(r'(src|href)=', page), 'it needs no other file')
-        self.assertLess(page.index('Signatures'), page.index('What was looked at'))
+        self.assertLess(page.index('Signatures'), page.index('what was tried</h2>'))
         timed = Report(audited(UNTIL), files, __file__, 0).page()
-        self.assertNotIn('timers are not audited', timed)
+        self.assertNotIn('is not audited', timed)
 
     def test_a_report_of_what_is_broken(self):
         page = Report(audited('never QA1 open\n'), {}, __file__, 0).page()
-        self.assertIn('NOT PASSED: of 1 rule 1 broken.', page)
+        self.assertIn('NOT PASSED: the rule is broken.', page)
         self.assertIn('first by QA1 intermediate', page)
 
 
@@ -373,14 +412,14 @@ class Asked(Tools):
             self.assertEqual((found.out, found.status), ('', 3))
 
     def test_an_option_that_is_wrong_names_itself(self):
-        found = self.call_tool('audit', *self.words(), '--switches', 'QA1=offf')
-        self.assertEqual(found.error, 'audit: --switches QA1=offf: offf is no value of the switch '
-                         'QA1: intermediate, off, on or bad is wanted\n')
+        found = self.call_tool('audit', *self.words(), '--switches', 'QA1=openn')
+        self.assertEqual(found.error, 'audit: --switches QA1=openn: openn is not a value of the '
+                         'switch QA1: it can be intermediate, open, closed or bad\n')
         self.assertEqual(found.status, 2)
 
     def test_rules_that_can_not_be_read(self):
         found = self.call_tool('audit', *self.words('never QX open\n'))
-        self.assertIn('rules: line 1: QX is no switch of the bay', found.error)
+        self.assertIn('rules: line 1: QX is not a switch of the bay', found.error)
         self.assertEqual((found.out, found.status), ('', 3))
         marked = self.call_tool('audit', *self.words('\ufeffnever QX open\n'))
         self.assertEqual(marked.error, found.error)
@@ -390,8 +429,10 @@ class Asked(Tools):
             self.file(name, '')
         scans = 'instructions=0 depth=0 budget=0\n' + '0 scan steps=0 QA1=10\n' * 2
         found = self.call_tool('audit', *self.words(), '--bayctl', self.bayctl(scans))
-        self.assertEqual((found.out.splitlines()[0], found.status),
-                         ('holds in 1 combination: always QA1 open', 0))
+        self.assertEqual((found.out.splitlines()[:3], found.status), (
+            ['NOTHING IS PROVED: this bayctl has no command `audit`, so all is tried.',
+             'TRIED: always QA1 open',
+             '    not proved; tried in 1 combination, no break found'], 0))
         self.assertEqual([path.name for path in self.folder.glob('broken*')],
                          ['broken_x.scenario'])
 

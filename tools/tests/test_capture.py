@@ -9,15 +9,15 @@ import unittest
 
 TOOLS = pathlib.Path(__file__).resolve().parent.parent
 sys.path.insert(0, str(TOOLS))
-from session import mms, stream
-from session.ber import element, number
-from session.capture import Capture
-from session.conversation import Conversation
-from session.history import History
-from session.joined import BadTrace, lines_of, sent_of, trace_of
-from session.packets import BadCapture, Packet, packets, segment_in
-from session.words import Bay
+from bay.names import Names
+from report.history import History
+from report.joined import BadTrace, lines_of, sent_of, trace_of
 from tests.tool import Tools
+from wire import mms, stream
+from wire.ber import element, number
+from wire.capture import Capture
+from wire.conversation import Conversation
+from wire.packets import BadCapture, Packet, packets, segment_in
 
 CLIENT, SERVER = (b'\x0a\x00\x00\x01', 49152), (b'\x0a\x00\x00\x02', 102)
 SYN, ACK, FIN = 0x02, 0x10, 0x01
@@ -115,6 +115,16 @@ class Captures(unittest.TestCase):
         events = Capture(pcap([*found[:2], found[3], answer])).events()
         self.assertEqual([event.moment for event in events], [1_000_000, *[1_000_002] * 2,
                                                               1_000_003])
+
+    def test_a_beginning_that_is_missing(self):
+        found = session()
+        answer = segment(SERVER, CLIENT, 5000, SYN | ACK, b'', 1001)
+        client, _, kinds = said(pcap([answer, *found[3:]]))
+        self.assertEqual((client, kinds), (b'56789', ['open', 'gap', 'client', 'server', 'close']))
+        asked = segment(CLIENT, SERVER, 1001, ACK, b'01234', 5001)
+        late = segment(SERVER, CLIENT, 5003, ACK, b'cd')
+        _, server, kinds = said(pcap([found[0], asked, late]))
+        self.assertEqual((server, kinds), (b'cd', ['open', 'client', 'gap', 'server']))
 
     def test_the_end_of_a_way_is_no_octet(self):
         found = [*session(), segment(SERVER, CLIENT, 5005, ACK, b'', 1012)]
@@ -275,16 +285,16 @@ class Talks(Tools):
         whole = b''.join(self.told)
         for pieces in ([whole], self.told, [whole[:9], whole[9:]], [whole[:-9], whole[-9:]]):
             events = Capture(self.capture(pieces)).events()
-            history = History.of_capture(self.FILE, Bay(), events)
+            history = History.of_capture(self.FILE, Names(), events)
             self.assertEqual([told for _, told in history.refusals],
-                             ['client 10.0.0.1: operate CSWI1 on: position reached (5)'])
+                             ['client 10.0.0.1: operate CSWI1 close: position reached (5)'])
 
     def test_a_lane_for_each_address(self):
-        self.assertEqual(list(History.of_capture(self.FILE, Bay(), Capture(pcap(
+        self.assertEqual(list(History.of_capture(self.FILE, Names(), Capture(pcap(
             session() + session(9000))).events()).clients), ['10.0.0.1'])
 
     def test_an_invoke_id_that_is_used_twice(self):
-        talk = Conversation(Bay())
+        talk = Conversation(Names())
         for name in ('D/A$ST$x', 'D/B$ST$y'):
             talk.asks_mms(mms.read_request(7, [name]))
         answer = element(0xA1, number(2, 7), element(0xA4, element(0xA1, number(0x80, 10))))
@@ -310,7 +320,7 @@ class Talks(Tools):
             for _ in range(chance.randint(1, 8)):
                 octets[chance.randrange(24, len(octets))] = chance.randrange(256)
             events = Capture(bytes(octets)).events()
-            History.of_capture(self.FILE, Bay(), events)
+            History.of_capture(self.FILE, Names(), events)
 
 
 if __name__ == '__main__':

@@ -9,14 +9,15 @@ import unittest
 
 TOOLS = pathlib.Path(__file__).resolve().parent.parent
 sys.path.insert(0, str(TOOLS))
-from session import mms, stream, words
-from session.ber import element, number
-from session.client import told
-from session.files import BadFile, bay_at, program_at, tables_of, text_of
-from session.mms import BITS, BOOLEAN, INTEGER, TEXT, Data
-from session.sockets import port_of, seconds_of
+from bay.names import Names
+from bay.files import BadFile, bay_at, program_at, tables_of, text_of
 from tests.loopback import needs_loopback, needs_waiting
 from tests.tool import Tools
+from wire import mms, stream
+from wire.ber import Unreadable, element, integer, number
+from wire.client import told
+from wire.mms import BITS, BOOLEAN, INTEGER, TEXT, Data
+from wire.sockets import port_of, seconds_of
 
 ACCEPT = stream.item(0x0E, stream.item(0xC1, element(0x31, element(0xA2, element(
     0x61, element(0x30, number(2, 1), element(0xA0, element(0x61, element(0xBE, element(
@@ -44,13 +45,21 @@ class Files(unittest.TestCase):
                 program_at(file.name)
 
     def test_other_octets(self):
-        for octets, told_of_it in ((b'\xff', 'octet FF of line 1 is no UTF-8'),
+        for octets, told_of_it in ((b'\xff', 'byte FF of line 1 is not UTF-8'),
                                    ('a'.encode('utf-16'), 'it is UTF-16: save it as UTF-8')):
             with tempfile.NamedTemporaryFile() as file:
                 file.write(octets)
                 file.flush()
-                with self.assertRaisesRegex(BadFile, f'it is no bay file: {told_of_it}'):
+                with self.assertRaisesRegex(BadFile, f'be read as a bay file: {told_of_it}'):
                     bay_at(file.name)
+
+
+class Octets(unittest.TestCase):
+    def test_integers(self):
+        self.assertEqual(integer(b'\x00' + b'\xff' * 8), 2 ** 64 - 1)
+        for octets in (b'', b'\x01' + bytes(9), bytes(5000)):
+            with self.assertRaises(Unreadable):
+                integer(octets)
 
 
 class Options(unittest.TestCase):
@@ -60,7 +69,7 @@ class Options(unittest.TestCase):
             with self.assertRaisesRegex(Exception, 'is not a port'):
                 port_of(text)
         for text in ('-1', 'nan', 'inf', '1e9', 'x'):
-            with self.assertRaisesRegex(Exception, 'is no number of seconds'):
+            with self.assertRaisesRegex(Exception, 'is not a number of seconds'):
                 seconds_of(text)
 
 
@@ -309,7 +318,7 @@ class Words(unittest.TestCase):
                          '48 54 54 50 2F 31 2E 31 20 34 30 30 .. (\'HTTP/1.1 400\')')
 
     def test_names_of_switches(self):
-        bay = words.Bay('[bay]\ndomain = "D"\n[[switch]]\nid = "QS1"\nkind = "breaker"\n'
+        bay = Names('[bay]\ndomain = "D"\n[[switch]]\nid = "QS1"\nkind = "breaker"\n'
                         'travel_ms = 70\n')
         self.assertEqual((bay.node('qs1'), bay.node('q\u017f1'), bay.node('cswi1'),
                           bay.node('CSWI\u0661')), ('CSWI1', None, 'CSWI1', None))

@@ -7,21 +7,17 @@ import unittest
 
 TOOLS = pathlib.Path(__file__).resolve().parent.parent
 sys.path.insert(0, str(TOOLS))
-from session.conditions import (Products, TooLarge, Variable, cells, condition, fewest, matters,
-                                table_of)
+from bay.conditions import Products, TooLarge, Variable, cells, condition, fewest, reduced
 
-POSITIONS = ('intermediate', 'off', 'on', 'bad')
+POSITIONS = ('intermediate', 'open', 'closed', 'bad')
 QA1, QB1, QC1 = (Variable(name, POSITIONS) for name in ('QA1', 'QB1', 'QC1'))
 ES, LR = (Variable(name, ('0', '1'), True) for name in ('ES', 'LR'))
 
 
 def table(variables, test):
-    """What holds, of each combination of words."""
-    found = {}
-    for places in itertools.product(*(range(len(v.values)) for v in variables)):
-        words = {v.name: v.values[place] for v, place in zip(variables, places)}
-        found[places] = test(words)
-    return found
+    """What holds of each combination of words, as 1 or 0."""
+    return ''.join('1' if test({v.name: word for v, word in zip(variables, words)}) else '0'
+                   for words in itertools.product(*(v.values for v in variables)))
 
 
 def told(variables, test):
@@ -31,22 +27,22 @@ def told(variables, test):
 class Conditions(unittest.TestCase):
     def test_words(self):
         both = [QA1, QC1, ES]
-        self.assertEqual(told(both, lambda w: w['QA1'] == 'off' and w['QC1'] == 'off'),
-                         'QA1 off and QC1 off')
+        self.assertEqual(told(both, lambda w: w['QA1'] == 'open' and w['QC1'] == 'open'),
+                         'QA1 open and QC1 open')
         self.assertEqual(told(both, lambda w: w['QA1'] != 'bad'), 'QA1 not bad')
         self.assertEqual(told(both, lambda w: w['ES'] == '0'), 'not ES')
-        self.assertEqual(told(both, lambda w: w['QA1'] in ('off', 'on')), 'QA1 off|on')
+        self.assertEqual(told(both, lambda w: w['QA1'] in ('open', 'closed')), 'QA1 open|closed')
         self.assertEqual(told(both, lambda w: True), 'always')
         self.assertEqual(told(both, lambda w: False), 'never')
 
     def test_two_products(self):
-        found = told([QA1, QB1, ES], lambda w: (w['QA1'] == 'off' and w['QB1'] == 'off')
+        found = told([QA1, QB1, ES], lambda w: (w['QA1'] == 'open' and w['QB1'] == 'open')
                      or w['ES'] == '1')
-        self.assertEqual(found, 'ES or QA1 off and QB1 off')
+        self.assertEqual(found, 'ES or QA1 open and QB1 open')
 
     def test_what_does_not_matter(self):
-        holds = table([QA1, QB1, ES], lambda w: w['QB1'] == 'on')
-        self.assertEqual(matters([QA1, QB1, ES], holds), [1])
+        holds = table([QA1, QB1, ES], lambda w: w['QB1'] == 'closed')
+        self.assertEqual(reduced([4, 4, 2], holds), ([1], '0010'))
 
     def test_an_exclusive_or(self):
         found = condition([ES, LR], table([ES, LR], lambda w: w['ES'] != w['LR']))
@@ -86,9 +82,19 @@ class Conditions(unittest.TestCase):
             found |= part
         return found
 
-    def test_the_table_has_the_first_variable_slowest(self):
-        holds = {(0, 0): True, (0, 1): False, (1, 0): False, (1, 1): True}
-        self.assertEqual(table_of([2, 2], holds, [0, 1]), 0b1001)
+    def test_what_is_reduced_is_the_same(self):
+        chance = random.Random(4)
+        for _ in range(100):
+            sizes = [chance.choice((2, 3, 4)) for _ in range(4)]
+            needed = sorted(chance.sample(range(4), chance.randrange(5)))
+            of = {}
+            truths = ''.join(of.setdefault(tuple(it[at] for at in needed), chance.choice('01'))
+                             for it in itertools.product(*map(range, sizes)))
+            places, left = reduced(sizes, truths)
+            self.assertLessEqual(set(places), set(needed))
+            kept = [it for it in itertools.product(*map(range, sizes))
+                    if all(not it[at] for at in range(4) if at not in places)]
+            self.assertEqual(left, ''.join(of[tuple(it[at] for at in needed)] for it in kept))
 
     def test_too_large(self):
         chance = random.Random(3)

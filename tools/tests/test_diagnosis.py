@@ -8,8 +8,9 @@ from hashlib import sha256
 
 TOOLS = pathlib.Path(__file__).resolve().parent.parent
 sys.path.insert(0, str(TOOLS))
-from diagnosis import bay, lines, program, tokens, trace
-from diagnosis.warnings import warnings
+from diagnosis import bay_file, lines, program, tokens, trace
+from diagnosis.depends import Flow
+from diagnosis.warnings import Proved, warnings
 from tests.tool import Tools
 
 EXAMPLES = sorted((TOOLS.parent / 'examples').glob('*/bay.toml'))
@@ -45,12 +46,13 @@ def line_told(text, is_replay=False):
 
 def first_told(text):
     """Why a bay file is refused: the number, the words and the remedy."""
-    found = bay.refusals(text if isinstance(text, bytes) else text.encode())
+    found = bay_file.refusals(text if isinstance(text, bytes) else text.encode())
     return (found[0].code, found[0].place.told, found[0].place.mend) if found else None
 
 
-def warned(text, file=FILE):
-    found = warnings(text, bay.bay_points(file.encode()), tomllib.loads(file))
+def warned(text, file=FILE, proved=None):
+    points = bay_file.bay_points(file.encode())
+    found = warnings(text, points, tomllib.loads(file), proved)
     return [it.told for it in found]
 
 
@@ -58,13 +60,13 @@ class Names(Tools):
     """A name that is unknown: no other switch is ever suggested."""
 
     def told(self, name):
-        points = bay.bay_points(FILE.encode())
+        points = bay_file.bay_points(FILE.encode())
         fault = program.faults_of(ASKED.format(name), points)[0]
         return fault.told, fault.mend
 
     def test_a_point_that_was_forgotten(self):
         told, mend = self.told('QC9_ENA_CLS')
-        self.assertEqual(told, 'QC9_ENA_CLS is a point of the bay, and not declared')
+        self.assertEqual(told, 'QC9_ENA_CLS is a point of the bay, but not declared')
         self.assertEqual(mend, 'add it to VAR_EXTERNAL: QC9_ENA_CLS : BOOL;')
 
     def test_a_switch_that_is_not_there(self):
@@ -77,7 +79,7 @@ class Names(Tools):
 
     def test_an_external_that_is_not_there(self):
         text = ASKED.format('QC2_ENA_CLS').replace('    QC2', '    QC7_ENA_CLS, QC2', 1)
-        fault = program.faults_of(text, bay.bay_points(FILE.encode()))[0]
+        fault = program.faults_of(text, bay_file.bay_points(FILE.encode()))[0]
         self.assertEqual(fault.told,
                          'the bay has no point QC7_ENA_CLS: the bay has no switch QC7')
 
@@ -98,7 +100,7 @@ class Names(Tools):
 class Warnings(unittest.TestCase):
     def test_a_point_that_is_hidden(self):
         text = ASKED.replace('END_VAR', 'END_VAR\nVAR\n    QC9_ENA_CLS : BOOL;\nEND_VAR')
-        self.assertIn('QC9_ENA_CLS hides the point QC9_ENA_CLS of the bay: what is stored in it '
+        self.assertIn('QC9_ENA_CLS hides the point QC9_ENA_CLS of the bay: what you store in it '
                       'reaches no switch', warned(text.format('QC9_ENA_CLS')))
 
     def test_a_comment_within_a_comment(self):
@@ -113,8 +115,55 @@ class Warnings(unittest.TestCase):
         for told in ('the point QC2_POS is never used', 'kept is never read',
                      'the timer t1 is never called', 'QC9 can never be closed: no line writes '
                      'QC9_ENA_CLS', 'the point QC2_ENA_CLS is never used',
-                     'no line asks for the position of QC9', 'no line asks for the input ES'):
+                     'no line reads the position of QC9', 'no line reads the input ES'):
             self.assertIn(told, found)
+
+    HEAD = ('PROGRAM p\nVAR_EXTERNAL\nQC2_OPEN, QC9_OPEN, ES, QC2_ENA_CLS : BOOL;\nEND_VAR\n'
+            'VAR\na, no : BOOL;\nt1 : TON;\nEND_VAR\n{}\nEND_PROGRAM\n')
+
+    def flow(self, *body):
+        return Flow(lines.read(self.HEAD.format('\n'.join(body))))
+
+    def test_what_outputs_depend_on(self):
+        for body, names in (
+                (('LD QC2_OPEN', 'ST a', 'LD a', 'AND ES', 'ST QC2_ENA_CLS'), {'QC2_OPEN', 'ES'}),
+                (('CAL t1(IN := ES)', 'LD t1.Q', 'ST QC2_ENA_CLS'), {'ES'}),
+                (('LD QC2_OPEN', 'OR( ES', 'AND QC9_OPEN', ')', 'ST QC2_ENA_CLS'),
+                 {'QC2_OPEN', 'ES', 'QC9_OPEN'}),
+                (('LD ES', 'JMPC x', 'LD TRUE', 'ST QC2_ENA_CLS', 'x:'), {'ES'}),
+                (('LD ES', 'AND FALSE', 'ST QC2_ENA_CLS', 'LD QC9_OPEN', 'ST a'), set()),
+                (('LD ES', 'JMPC x', 'LD QC2_OPEN', 'x: ST QC2_ENA_CLS'), {'QC2_OPEN', 'ES'})):
+            found = self.flow(*body).behind({'QC2_ENA_CLS'})
+            self.assertEqual(found & {'QC2_OPEN', 'QC9_OPEN', 'ES'}, names, body)
+
+    def test_outputs_that_are_never_true(self):
+        for body, is_never in (
+                (('LD FALSE', 'ST QC2_ENA_CLS'), True), (('LD ES', 'ST QC2_ENA_CLS'), False),
+                (('LD no', 'AND ES', 'ST QC2_ENA_CLS'), True),
+                (('LD ES', 'ANDN TRUE', 'ST QC2_ENA_CLS'), True),
+                (('LD ES', 'R QC2_ENA_CLS'), True), (('LD FALSE', 'STN QC2_ENA_CLS'), False),
+                (('LD FALSE', 'ST QC2_ENA_CLS', 'LD ES', 'S QC2_ENA_CLS'), False),
+                (('LD ES', 'AND( FALSE', ')', 'ST QC2_ENA_CLS'), True),
+                (('LD ES', 'JMPC x', 'LD FALSE', 'x: ST QC2_ENA_CLS'), False)):
+            self.assertEqual(self.flow(*body).is_never_true('QC2_ENA_CLS'), is_never, body)
+
+    def test_releases_that_are_never_given_and_points_of_no_use(self):
+        file = FILE + '[[input]]\nname = "ES"\n'
+        text = self.HEAD.format('LD FALSE\nST QC2_ENA_CLS\nLD ES\nST a\nLD QC2_OPEN\nST a')
+        found = warned(text, file)
+        for told in ('QC2 can never be closed: only FALSE is stored in QC2_ENA_CLS',
+                     'no release depends on ES', 'no release depends on QC2_OPEN',
+                     'QC9 can never be opened: no line writes QC9_ENA_OPN'):
+            self.assertIn(told, found)
+        text = self.HEAD.format('LD QC2_OPEN\nAND ES\nST QC2_ENA_CLS')
+        self.assertNotIn('no release depends on ES', warned(text, file))
+        proved = Proved({('QC2', 'closed')}, {'QC2_OPEN'}, set())
+        found = warned(text, file, proved)
+        self.assertIn('QC2 can never be closed: QC2_ENA_CLS is never TRUE (proved)', found)
+        self.assertIn('no release depends on ES (proved)', found)
+        text = self.HEAD.format('CAL t1(IN := ES)\nLD t1.Q\nST QC2_ENA_CLS')
+        self.assertNotIn('no release depends on ES (proved)',
+                         warned(text, file, Proved(set(), set(), {'T1'})))
 
     def test_the_examples_are_warned_of_nothing_but_points(self):
         for path in EXAMPLES:
@@ -127,47 +176,48 @@ class Bays(unittest.TestCase):
     def test_the_remedy_of_each_mistake(self):
         two = FILE.replace('[[switch]]', '[switch]')
         for text, code, told, mend in (
-                (FILE.partition('[[')[0] + '[switch]\nid = "QA1"\n', 53, '[[switch]] is wanted',
+                (FILE.partition('[[')[0] + '[switch]\nid = "QA1"\n', 53,
+                 'switch must be a list of tables', 'write [[switch]] for each switch'),
+                (two, 50, 'the section [switch] is given twice',
                  'write [[switch]] for each switch'),
-                (two, 50, 'the section [switch] stands twice', 'write [[switch]] for each switch'),
-                (FILE + '[bay]\n', 50, 'the section [bay] stands twice', 'leave one of them out'),
+                (FILE + '[bay]\n', 50, 'the section [bay] is given twice', 'remove one of them'),
                 (FILE.replace('"V"', '"V'), 50, 'this quote is not closed', 'put a quote'),
-                (FILE.replace('[bay]', '// a comment\n[bay]'), 50, 'no key begins with //',
+                (FILE.replace('[bay]', '// a comment\n[bay]'), 50, 'a key can\'t begin with //',
                  'begin a comment with #'),
                 (FILE.replace('\n', '\r'), 50, 'a carriage return', 'LF or CR LF'),
                 (FILE.encode('utf-16'), 50, 'it is UTF-16', 'save the file as UTF-8'),
                 (FILE.replace('"direct"', '"SBO-enhanced"'), 53,
-                 '"SBO-enhanced" is to be in lower case', 'write control = "sbo-enhanced"')):
+                 '"SBO-enhanced" must be in lower case', 'write control = "sbo-enhanced"')):
             found = first_told(text)
             self.assertEqual(found[0], code, told)
             self.assertIn(told, found[1])
             self.assertIn(mend, found[2])
 
     def test_the_column_at_which_a_quote_opens(self):
-        found, = bay.refusals(FILE.replace('"V"', '"V').encode())
+        found, = bay_file.refusals(FILE.replace('"V"', '"V').encode())
         self.assertEqual((found.place.line, found.place.start), (3, 9))
-        self.assertEqual(bay.open_quote('a = "b\\"" # "'), None)
-        self.assertEqual(bay.open_quote('a = \'b\' "c'), 8)
+        self.assertEqual(bay_file.open_quote('a = "b\\"" # "'), None)
+        self.assertEqual(bay_file.open_quote('a = \'b\' "c'), 8)
 
     def test_more_than_the_first(self):
         text = FILE.replace('"direct"', '"Status"').replace('"1"', '1')
-        self.assertEqual([it.code for it in bay.refusals(text.encode())], [53, 53, 53])
-        self.assertEqual([it.code for it in bay.refusals(FILE.replace(
+        self.assertEqual([it.code for it in bay_file.refusals(text.encode())], [53, 53, 53])
+        self.assertEqual([it.code for it in bay_file.refusals(FILE.replace(
             'control = "direct"\n', '').encode())], [51, 51])
 
     def test_numbers_and_lists_past_all_limits(self):
         for value in ('9' * 5000, '[' * 3000 + ']' * 3000):
             text = FILE.replace('1000', value)
-            self.assertEqual(bay.refusals(text.encode())[0].code, 50)
+            self.assertEqual(bay_file.refusals(text.encode())[0].code, 50)
 
     def test_two_points_of_one_name(self):
         found = first_told(FILE.replace('QC9', 'qc2'))
-        self.assertEqual(found[1], 'two points are called QC2_POS: of switch 1 (QC2) and of switch '
-                         '2 (qc2)')
+        self.assertEqual(found[1], 'switch 1 (QC2) and switch 2 (qc2) would both have a point '
+                         'QC2_POS')
 
     def test_the_examples(self):
         for path in EXAMPLES:
-            self.assertEqual(bay.refusals(path.read_bytes()), [])
+            self.assertEqual(bay_file.refusals(path.read_bytes()), [])
 
 
 class Programs(unittest.TestCase):
@@ -177,7 +227,7 @@ class Programs(unittest.TestCase):
     def test_a_reserved_word_as_a_variable(self):
         for names in ('r : BOOL;', 'a, R : BOOL;', 's, b : INT;', 'ton : TON;'):
             told = self.told(HEAD.format(names), 3)
-            self.assertIn('is a word of the language, so no variable can have that name', told)
+            self.assertIn('is a reserved word, so no variable can have that name', told)
 
     def test_an_instruction_in_a_block(self):
         self.assertIn('END_VAR is missing', self.told(HEAD.format('LD a'), 3))
@@ -189,12 +239,12 @@ class Programs(unittest.TestCase):
     def test_the_remedy_of_each_mistake(self):
         head = HEAD.format('a, b : BOOL;')
         for line, told, mend in (
-                ('AND NOT a', 'NOT is an operator of its own', 'write ANDN in the place of AND'),
-                ('LD NOT a', 'NOT is an operator of its own', 'write LDN in the place of LD'),
-                ('ST t1.IN', 't1.IN is an input of a timer', 'give it by CAL t1(IN := a'),
-                ('VAR_INPUT', 'VAR_INPUT is no block', 'points of the bay in VAR_EXTERNAL'),
-                ('// a', 'no token begins with', 'write a comment between (* and *)'),
-                ('LD \u00e9', 'is not of ASCII', 'or in a comment')):
+                ('AND NOT a', 'NOT is an operator', 'write ANDN instead of AND'),
+                ('LD NOT a', 'NOT is an operator', 'write LDN instead of LD'),
+                ('ST t1.IN', 't1.IN is an input of a timer', 'set it by CAL t1(IN := a'),
+                ('VAR_INPUT', 'VAR_INPUT is not a block', 'points of the bay in VAR_EXTERNAL'),
+                ('// a', 'nothing can begin with', 'write a comment between (* and *)'),
+                ('LD \u00e9', 'is not ASCII', 'put it in a comment')):
             found = lines.placed(head + line + '\nEND_PROGRAM\n', 5)
             self.assertIn(told, found.told)
             self.assertIn(mend, found.mend)
@@ -211,7 +261,7 @@ class Programs(unittest.TestCase):
         self.assertEqual(tokens.word_token('0' * 5000 + '7', 0).literal.value, 7)
 
     def test_what_stands_before_a_hash(self):
-        self.assertIn('3 can\'t stand before #', tokens.number_of('3#1'))
+        self.assertIn('3 can\'t be before #', tokens.number_of('3#1'))
 
     def test_more_than_the_first(self):
         text = HEAD.format('a : BOOL;') + '    LD c\n    ST d\nEND_PROGRAM\n'
@@ -259,7 +309,7 @@ class Traces(unittest.TestCase):
         self.assertEqual(line_told('1 contact QB1 1\n'),
                          [(1, 113, 'the bay has no switch QB1; is QA1 meant?')])
         self.assertEqual(line_told('1 input QA1 1\n'),
-                         [(1, 113, 'the bay has no input QA1; contact tells of it')])
+                         [(1, 113, 'the bay has no input QA1; QA1 is its switch: write contact')])
 
     def test_forms(self):
         bad = ['contact QA1 1', '-1 contact QA1 1', '1  contact QA1 1', '1 contact QA1 4', ' ',
@@ -311,10 +361,10 @@ class Asked(Tools):
         logic = self.file('logic', 'PROGRAM p\n    ST\nEND_PROGRAM\n')
         words = ['--bay', self.file('bay', FILE), '--logic', logic, '--bayctl']
         found = self.call_tool('diagnose', *words, self.bayctl('load refused 61 line 2\n', 1))
-        self.assertIn('ST wants an operand', found.out)
+        self.assertIn('ST needs an operand', found.out)
         self.assertNotIn('Usually', found.out)
         found = self.call_tool('diagnose', *words, self.bayctl('load refused 61 line 1\n', 1))
-        self.assertIn('this tool does not find what is wrong', found.out)
+        self.assertIn('this tool does not find the fault', found.out)
         self.assertIn('Usually', found.out)
 
     def test_further_faults(self):
@@ -325,9 +375,10 @@ class Asked(Tools):
 
     def test_what_can_not_be_read(self):
         found = self.call_tool('diagnose', '--bay', 'none', '--bayctl',
-                               self.bayctl('fault 121\n', 3))
+                               self.bayctl('fault 121\n', 3,
+                                           'bayctl: fault 121: none: there is no such file\n'))
         self.assertEqual((found.out, found.error, found.status),
-                         ('', 'diagnose: none: No such file or directory (121)\n', 3))
+                         ('', 'diagnose: none: there is no such file (121)\n', 3))
 
 
 if __name__ == '__main__':

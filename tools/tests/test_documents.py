@@ -6,10 +6,11 @@ import unittest
 from diagnosis.faults import faults
 
 TOP = pathlib.Path(__file__).resolve().parent.parent.parent
-PAGES = [TOP / 'README.md', TOP / 'CHANGELOG.md', *sorted(TOP.glob('docs/*.md')),
+PAGES = [*sorted(TOP.glob('*.md')), *sorted(TOP.glob('docs/*.md')),
          *sorted(TOP.glob('examples/*/README.md')), *sorted(TOP.glob('bench/*.md'))]
 LINK = re.compile(r'\]\(([^)\s]+)\)')
 NAMED = re.compile(r'`?\b((?:docs|tools|bench|examples|crates)/[\w./-]*\w)')
+DEFINED = re.compile(r'\[`(\w+)`\]\(([^)#\s]*crates/[^)\s]+)\)')
 MADE = re.compile(r'/out\b|/NAME\b')  # what a build or the reader makes
 
 
@@ -39,6 +40,14 @@ class Documents(unittest.TestCase):
                 if not MADE.search(name):
                     self.assertTrue((TOP / name).exists(), f'{page.name}: {name}')
 
+    def test_names_that_lead_to_a_source_stand_there(self):
+        found = [(page, name, link) for page in PAGES
+                 for name, link in DEFINED.findall(page.read_text(encoding='utf-8'))]
+        self.assertGreater(len(found), 9)
+        for page, name, link in found:
+            source = (page.parent / link).read_text(encoding='utf-8')
+            self.assertRegex(source, rf'\b{name}\b', f'{page.name}: {link}')
+
     def test_tables(self):
         for page in PAGES:
             for block in page.read_text(encoding='utf-8').split('\n\n'):
@@ -51,6 +60,15 @@ class Documents(unittest.TestCase):
         quoted = [re.findall(r'^> (.*)$', page.read_text(encoding='utf-8'), re.MULTILINE)
                   for page in (TOP / 'README.md', TOP / 'docs' / 'PROVED.md')]
         self.assertEqual(*[' '.join(lines) for lines in quoted])
+
+    def test_version(self):
+        """The newest version of CHANGELOG is what the program and its cases say."""
+        def found(path, pattern):
+            return re.search(pattern, (TOP / path).read_text(encoding='utf-8'), re.MULTILINE)[1]
+        said = {found('CHANGELOG.md', r'^## (\S+)'),
+                found('crates/bay_words/src/command.rt', r'const VERSION: &str = "([^"]*)"'),
+                found('crates/bayctl_cases/stdin', r'^bayctl (\d\S*)$')}
+        self.assertEqual(len(said), 1, said)
 
     def test_faults(self):
         for fault in faults().values():

@@ -1,5 +1,6 @@
 """How tools end: one table of statuses, errors in one line, and no traceback whatever they are
 given."""
+import io
 import pathlib
 import re
 import signal
@@ -8,10 +9,11 @@ import sys
 import time
 import unittest
 import xml.etree.ElementTree as ET
+from unittest import mock
 
 TOOLS = pathlib.Path(__file__).resolve().parent.parent
 sys.path.insert(0, str(TOOLS))
-from common.ending import OF_TOOLS, STATUSES
+from common.ending import OF_TOOLS, STATUSES, status_of
 from common.texts import counted, escaped, in_line, raised
 from tests.tool import Tools
 
@@ -94,7 +96,8 @@ class Statuses(Tools):
     def test_files_that_are_not_there(self):
         for tool, words in self.words(BAY, '').items():
             if tool == 'diagnose':
-                words[-1] = self.bayctl('fault 121\n', 3)
+                words[-1] = self.bayctl('fault 121\n', 3,
+                                        'bayctl: fault 121: none: No such file or directory\n')
             words = ['none' if str(word).endswith(('/bay', '/scenario')) else word
                      for word in words]
             found = self.call_tool(tool, *words)
@@ -112,6 +115,18 @@ class Statuses(Tools):
             self.assertEqual((found.status, found.out), (3, ''), tool)
             self.assertIn('none: No such file or directory; `rt run` in crates/bayctl builds',
                           found.error)
+
+
+class Errors(unittest.TestCase):
+    def test_an_error_of_another_thing_than_the_output(self):
+        def main():
+            raise TimeoutError('timed out')
+
+        told = io.StringIO()
+        with mock.patch('sys.stderr', told), mock.patch('common.ending.stop_output') as stop:
+            self.assertEqual(status_of(main), 3)
+        self.assertTrue(told.getvalue().endswith(': timed out\n'))
+        stop.assert_not_called()
 
 
 class Outputs(Tools):
@@ -170,6 +185,14 @@ class Scenarios(Tools):
         report = self.file('report', LOADED + 'fault memory\n')
         self.assertEqual(self.call_tool('explain', '--report', report).status, 1)
 
+    def test_a_report_that_begins_otherwise(self):
+        for tool in ('explain', 'timeline'):
+            scenario = self.file('scenario', f'{BAY}%%\n{LOGIC}%%\n0 scan\n')
+            report = self.file('report', 'a\nb\nc\n')
+            found = self.call_tool(tool, scenario, '--report', report)
+            self.assertEqual((found.status, found.error), (
+                3, f'{tool}: the report begins with no line of a load: a\n'))
+
     def test_moments_that_are_too_large(self):
         for moment in ('253402300800000', '4294967296000', '18446744073709551615'):
             for tool in ('explain', 'timeline'):
@@ -190,6 +213,7 @@ class Scenarios(Tools):
         self.assertEqual(self.told('timeline', trace, '').error, '')
         text = (self.folder / 'timeline.svg').read_text()
         self.assertIn('>2026-11-19<', text)
+        self.assertEqual(min(map(float, re.findall(r'font-size="([^"]+)"', text))), 12)
         said = self.told('explain', trace, '').out
         self.assertEqual([line[:10] for line in said.splitlines() if line.startswith('2026')],
                          ['2026-11-18', '2026-11-19'])

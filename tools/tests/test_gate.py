@@ -16,7 +16,8 @@ class Gate(unittest.TestCase):
         some lines."""
         with tempfile.TemporaryDirectory() as folder:
             top = pathlib.Path(folder)
-            for name, (status, lines) in {'tools/memory_check': (0, ''), **printed}.items():
+            silent = {'tools/figures': (0, ''), 'tools/memory_check': (0, '')}
+            for name, (status, lines) in {**silent, **printed}.items():
                 path = top / name
                 path.parent.mkdir(parents=True, exist_ok=True)
                 path.write_text(f'#!/bin/sh\nprintf "{lines}"\nexit {status}\n')

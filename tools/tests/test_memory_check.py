@@ -5,7 +5,7 @@ import unittest
 
 TOOLS = pathlib.Path(__file__).resolve().parent.parent
 sys.path.insert(0, str(TOOLS))
-from sources import memory, tokens
+from sources import lexer, memory
 
 CRATES = TOOLS.parent / 'crates'
 LACK = 'return Err(AllocError);'
@@ -156,7 +156,7 @@ ghost use X.{AllocError};
         self.assertEqual([], memory.findings('a/src/lib.rt', source))
 
     def test_tokens_have_their_lines(self) -> None:
-        found = tokens.running_tokens('fn a() {}\n// b\n\'x\' "two\nlines" c')
+        found = lexer.running_tokens('fn a() {}\n// b\n\'x\' "two\nlines" c')
         self.assertEqual([('fn', 1), ('\'x\'', 3), ('"two\nlines"', 3), ('c', 4)],
                          [(it.text, it.line) for it in found if it.text not in 'a(){}'])
 

@@ -8,12 +8,13 @@ from unittest import mock
 
 TOOLS = pathlib.Path(__file__).resolve().parent.parent
 sys.path.insert(0, str(TOOLS))
-from session import moments, stream
-from session.capture import Event
-from session.history import History
-from session.joined import BadTrace, lines_of, merged, read_lines, renumbered
-from session.words import Bay
+from bay.names import Names
+from common import moments
+from report.history import History
+from report.joined import BadTrace, lines_of, merged, read_lines, renumbered
 from tests.tool import Tools
+from wire import stream
+from wire.capture import Event
 
 DAY = 1_795_000_000_000
 REQUEST = stream.connection_request()
@@ -93,7 +94,7 @@ class Joined(Tools):
             paths[2].write_text(text)
             done = self.call_tool('join', *paths)
             self.assertEqual((done.out, done.status), ('', 3))
-            self.assertIn('trace: line 1 is no line of a trace', done.error)
+            self.assertIn('trace: line 1 is not a line of a trace', done.error)
 
     def test_a_line_that_parts_a_scenario(self):
         paths = [self.file('bay', 'a = 1\n'), self.file('logic', '(*\n%%\r\n*)\n'),
@@ -110,7 +111,7 @@ class Histories(unittest.TestCase):
                 'input': [{'name': 'ES'}]}
         events = [Event(DAY, 1, 'open'), Event(DAY + 5, 1, 'client', REQUEST),
                   Event(DAY + 9, 1, 'close')]
-        history = History.of_capture(file, Bay(), events)
+        history = History.of_capture(file, Names(), events)
         self.assertEqual((history.switches, history.inputs, history.warnings()), ({}, {}, []))
         client = history.clients[1]
         self.assertEqual(client.open.changes, [(DAY, True), (DAY + 9, False)])

@@ -3,6 +3,7 @@ import http.client
 import json
 import pathlib
 import queue
+import re
 import signal
 import socket
 import subprocess
@@ -15,23 +16,24 @@ from unittest import mock
 
 TOOLS = pathlib.Path(__file__).resolve().parent.parent
 sys.path.insert(0, str(TOOLS))
+from bay.conditions import Condition, Variable
 from live.operating import Operator
-from live.single_line import BadOrder, draw, order_of, usual_order
 from live.reasons import Seen, why_not
+from live.single_line import BadOrder, draw, order_of, usual_order
 from live.watch import Watcher, may_told, measures_of, switch_of
 from live.web import Pages
-from session.ber import element
-from session.conditions import Condition, Variable
-from session.control import Outcome
-from session.conversation import Said
-from session.mms import BITS, BOOLEAN, INTEGER, STRUCTURE, TIME, Data, octets_of
-from session.served import until
 from tests.loopback import needs_loopback
 from tests.test_audit import FILE
 from tests.test_client import Bay, served
 from tests.tool import Tools
+from wire.ber import element
+from wire.client import Lost
+from wire.control import Outcome
+from wire.conversation import Said
+from wire.mms import BITS, BOOLEAN, INTEGER, STRUCTURE, TIME, Data, octets_of
+from wire.served import until
 
-QA1, QC1 = (Variable(name, ('intermediate', 'off', 'on', 'bad')) for name in ('QA1', 'QC1'))
+QA1, QC1 = (Variable(name, ('intermediate', 'open', 'closed', 'bad')) for name in ('QA1', 'QC1'))
 KEY = Variable('KEY', ('0', '1'), True)
 SWITCHES = [{'id': name, 'kind': kind, 'control': 'sbo'} for name, kind in (
     ('QA1', 'breaker'), ('QB1', 'disconnector'), ('QB2', 'disconnector'), ('QB9', 'disconnector'),
@@ -44,40 +46,40 @@ def reason(*products, **positions):
 
 class Reasons(unittest.TestCase):
     def test_what_is_missing(self):
-        both = [(QA1, ['off']), (QC1, ['off'])]
-        self.assertEqual(reason(both, QA1='on', QC1='off'), 'QA1 is closed and must be open')
-        self.assertEqual(reason(both, QA1='on', QC1='bad'),
+        both = [(QA1, ['open']), (QC1, ['open'])]
+        self.assertEqual(reason(both, QA1='closed', QC1='open'), 'QA1 is closed and must be open')
+        self.assertEqual(reason(both, QA1='closed', QC1='bad'),
                          'QA1 is closed and must be open; QC1 is bad and must be open')
 
     def test_the_product_of_which_the_least_is_missing(self):
-        found = reason([(QA1, ['off']), (QC1, ['off'])], [(QC1, ['off', 'on'])], QA1='on',
-                       QC1='intermediate')
+        found = reason([(QA1, ['open']), (QC1, ['open'])], [(QC1, ['open', 'closed'])],
+                       QA1='closed', QC1='intermediate')
         self.assertEqual(found, 'QC1 is intermediate and must be open or closed')
 
     def test_what_must_not_be(self):
-        self.assertEqual(reason([(QA1, ['intermediate', 'on', 'bad'])], QA1='off'),
+        self.assertEqual(reason([(QA1, ['intermediate', 'closed', 'bad'])], QA1='open'),
                          'QA1 is open and must not be open')
 
     def test_inputs(self):
-        self.assertEqual(reason([(KEY, ['1'])], [(QA1, ['off'])], QA1='on'),
+        self.assertEqual(reason([(KEY, ['1'])], [(QA1, ['open'])], QA1='closed'),
                          'QA1 is closed and must be open, or input KEY must be 1 (not seen here)')
-        self.assertEqual(reason([(QA1, ['off']), (KEY, ['0'])], QA1='off'),
+        self.assertEqual(reason([(QA1, ['open']), (KEY, ['0'])], QA1='open'),
                          'input KEY must be 0 (not seen here)')
-        self.assertEqual(reason([(QA1, ['off']), (KEY, ['0'])], QA1='on'),
+        self.assertEqual(reason([(QA1, ['open']), (KEY, ['0'])], QA1='closed'),
                          'QA1 is closed and must be open (not seen here: input KEY must be 0)')
 
     def test_measures(self):
         current = Variable('M1_AA', ('0', '5'))
         found = why_not(Condition([[]], facts=[[(current, ['0'])]]), Seen({}, {'M1_AA': 212}))
-        self.assertEqual(found, 'M1_AA is 212 and must be 0')
+        self.assertEqual(found, 'M1_AA is 212 in the unit of the process and must be 0')
 
     def test_an_input_with_the_name_of_a_switch(self):
         key = Variable('QA1', ('0', '1'), True)
-        self.assertEqual(reason([(key, ['1']), (QA1, ['off'])], QA1='off'),
+        self.assertEqual(reason([(key, ['1']), (QA1, ['open'])], QA1='open'),
                          'input QA1 must be 1 (not seen here)')
 
     def test_nothing_is_missing(self):
-        self.assertIn('a timer may still run', reason([(QA1, ['off'])], QA1='off'))
+        self.assertIn('a timer may still run', reason([(QA1, ['open'])], QA1='open'))
         self.assertEqual(why_not(Condition([]), Seen({}, {})), 'the program never releases it')
         self.assertEqual(why_not(None, Seen({}, {})), 'the program does not release it')
 
@@ -106,6 +108,15 @@ class Pictures(unittest.TestCase):
                                 and it.get('aria-label') for it in drawn))
             self.assertEqual(f'0 0 {root.get("width")} {root.get("height")}', root.get('viewBox'))
 
+    def test_a_picture_with_two_busbars_fits_a_phone(self):
+        self.assertNotIn('wide', draw(usual_order(SWITCHES)))
+        self.assertIn('wide', draw(order_of(SWITCHES, 'QB1|QB2|QB9,QA1,QC1,QC9')))
+
+    def test_long_names_side_by_side_do_not_meet(self):
+        switches = [{'id': f'Q{"B" * 14}{n}', 'kind': 'disconnector'} for n in (1, 2)]
+        first, second = re.findall(r'class="id" x="(\d+)', draw(usual_order(switches)))
+        self.assertGreaterEqual(int(second) - int(first), 16 * 11)
+
     def test_no_busbar_is_broken_where_a_lead_crosses(self):
         self.assertNotIn('gap', draw(usual_order(SWITCHES)))
 
@@ -118,6 +129,11 @@ class Values(unittest.TestCase):
         self.assertEqual((found['position'], found['quality'], found['selected'], found['time']),
                          ('closed', 'invalid', True, '5 ms'))
         self.assertEqual((found['open'], found['close']), ({'free': True}, {'free': False}))
+        odd = Data(STRUCTURE, [Data(INTEGER, 1)])
+        for words in ((odd, Data(BOOLEAN, True), Data(BOOLEAN, True)),
+                      (position, odd, Data(BOOLEAN, True)), (position, Data(BOOLEAN, True), odd)):
+            with self.assertRaisesRegex(Lost, 'QA1 values of another type'):
+                switch_of(SWITCHES[0], *words)
 
     def test_a_meter(self):
         good = Data(BITS, '0' * 13)
@@ -132,6 +148,9 @@ class Values(unittest.TestCase):
         self.assertEqual({it['name']: it['value'] for it in found},
                          {'M1_TOTW': 1, 'M1_TOTVAR': 2, 'M1_HZ': 3, 'M1_AA': 4, 'M1_AB': 5,
                           'M1_AC': 6})
+        three[0].value[0] = Data(STRUCTURE, [Data(STRUCTURE, [])])
+        with self.assertRaisesRegex(Lost, 'M1 values of another type'):
+            measures_of({'id': 'M1'}, Data(STRUCTURE, [*three, Data(STRUCTURE, phases)]))
 
 
 class Switch:
@@ -184,13 +203,13 @@ class Operating(unittest.TestCase):
     def test_to_the_end(self):
         self.assertEqual(self.act('select'), (True, 'select QA1: said'))
         self.assertEqual(self.watcher.state['control']['stage'], 'selected')
-        self.assertEqual(self.act('operate'), (True, 'open QA1: the command is given'))
+        self.assertEqual(self.act('operate'), (True, 'operate QA1 open: the command is given'))
         self.reads('intermediate', False)
         self.assertEqual(self.watcher.state['control']['stage'], 'moving')
         self.reads('open', False)
         self.assertIsNone(self.watcher.state['control'])
         self.assertEqual(self.watcher.state['last'],
-                         {'good': True, 'told': 'open QA1 has ended: done', 'number': 1})
+                         {'good': True, 'told': 'operate QA1 open has ended: done', 'number': 1})
 
     def test_nothing_is_operated_without_its_select(self):
         self.assertFalse(self.act('operate')[0])
@@ -258,7 +277,7 @@ class Operating(unittest.TestCase):
         self.assertIsNotNone(self.watcher.state['control'])
         self.reads('closed', False)
         self.assertEqual(self.watcher.state['last']['told'],
-                         'open QA1: the selection has run out')
+                         'operate QA1 open: the selection has run out')
 
     def test_an_end_that_is_told(self):
         self.kind.enhanced = True
@@ -266,7 +285,7 @@ class Operating(unittest.TestCase):
         self.act('operate')
         self.reads('open', False)
         self.assertIsNotNone(self.watcher.state['control'])
-        self.watcher.said(Said('ended', '', ['it has ended'], None, 'QA1', 'off', False))
+        self.watcher.said(Said('ended', '', ['it has ended'], None, 'QA1', 'open', False))
         self.assertEqual(self.watcher.state['last'],
                          {'good': False, 'told': 'it has ended', 'number': 1})
 
@@ -276,7 +295,7 @@ class Operating(unittest.TestCase):
         self.operator.end = 0
         self.reads('intermediate', False)
         self.assertEqual(self.watcher.state['last']['told'],
-                         'open QA1: it is intermediate, and its time is over')
+                         'operate QA1 open: it is intermediate, and its time is over')
 
     def test_a_connection_that_is_lost(self):
         self.act('select')

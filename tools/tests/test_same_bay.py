@@ -6,21 +6,20 @@ from pathlib import Path
 
 TOOLS = Path(__file__).resolve().parent.parent
 sys.path.insert(0, str(TOOLS))
+from bay.names import Names
+from bay.scl import MODELS
 from live.operating import Operator
 from live.watch import Watcher
-from session import mms, stream
-from session.ber import element, number
-from session.client import Client
-from session.conversation import Conversation
-from session.mms import BITS, BOOLEAN, INTEGER, STRUCTURE, TEXT, TIME, UNSIGNED, Data
-from session.same_bay import Comparison, compared
-from session.scl import MODELS
-from session.words import Bay
 from tests.loopback import needs_loopback
 from tests.test_capture import ACK, CLIENT, SERVER, pcap, segment
-from tests.test_client import Bay as Server
-from tests.test_client import respond, served
+from tests.test_client import Bay as Server, respond, served
 from tests.tool import Tools
+from wire import mms, stream
+from wire.ber import element, number
+from wire.client import Client
+from wire.conversation import Conversation
+from wire.mms import BITS, BOOLEAN, INTEGER, STRUCTURE, TEXT, TIME, UNSIGNED, Data
+from wire.same_bay import Comparison, compared
 
 HEAD = '[bay]\ndomain = "B1"\nvendor = "V"\nmodel = "M"\nrevision = "1"\n'
 QA1, QB1, QB2, QC1 = (
@@ -101,7 +100,7 @@ def differing(text, file=FILE):
     """How a server of one bay differs from another bay's file, and what it was asked."""
     asked = Server(Model(text))
     with served(asked) as server:
-        client = Client(*server.getsockname(), Bay(file))
+        client = Client(*server.getsockname(), Names(file))
         found = compared(client, tomllib.loads(file)).lines()
         client.close()
     return found, asked.requests
@@ -153,7 +152,7 @@ class Differences(unittest.TestCase):
         model = Model(FILE)
         model.rows['LLN0$DC'].value[0].value.append(Data(TEXT, 'more'))
         with served(Server(model)) as server:
-            client = Client(*server.getsockname(), Bay(FILE))
+            client = Client(*server.getsockname(), Names(FILE))
             found = compared(client, tomllib.loads(FILE)).lines()
             client.close()
         self.assertEqual(found, ['the server\'s LLN0$DC has other parts'])
@@ -274,7 +273,7 @@ class Captures(Tools):
         self.assertEqual(again.error.splitlines()[:2], found.error.splitlines())
 
     def held(self, *octets):
-        held = Comparison(Bay(FILE), tomllib.loads(FILE))
+        held = Comparison(Names(FILE), tomllib.loads(FILE))
         conversation = Conversation(held.bay)
         conversation.on_answer = held.hears
         for request, answer in octets:

@@ -7,10 +7,10 @@ import xml.etree.ElementTree as ET
 
 TOOLS = pathlib.Path(__file__).resolve().parent.parent
 sys.path.insert(0, str(TOOLS))
-from session import scl
-from session.scl import NAMESPACE, Reader, Writer, text_of
-from session.words import CONTROL_NODES, NODES, nodes_of
+from bay import scl
+from bay.scl import NAMESPACE, Reader, Writer, text_of
 from tests.tool import Tools
+from wire.words import CONTROL_NODES, NODES, nodes_of
 
 BAYS = sorted((TOOLS.parent / 'examples').glob('*/bay.toml'))
 ORDER = {  # IEC 61850-6: the children of an element, in their order

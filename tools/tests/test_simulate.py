@@ -9,9 +9,9 @@ import unittest
 
 TOOLS = pathlib.Path(__file__).resolve().parent.parent
 sys.path.insert(0, str(TOOLS))
-from session.served import Running, free_port
 from tests.loopback import needs_loopback, needs_waiting
 from tests.tool import Tools
+from wire.served import Running, free_port
 
 BAY = '''[bay]
 domain = "E1"
@@ -88,9 +88,9 @@ class Simulated(unittest.TestCase):
         file.close()
         self.out.seek(0)
         said = self.out.read()
-        for told in ("not sent: 'FOO' is no field", 'not sent: a whole number is wanted, and not '
-                     "'3.5'", 'not sent: \'9999999999\' has no room', '2 is none of 0, 1',
-                     'up is none of open, off, close, on'):
+        for told in ("not sent: 'FOO' is not a field", 'the value must be a whole number, not '
+                     "'3.5'", 'not sent: \'9999999999\' does not fit', '2 is none of 0, 1',
+                     'up is none of open, close'):
             self.assertIn(told, said)
 
     def test_odd_lines_of_the_server(self):

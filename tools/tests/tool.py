@@ -54,10 +54,11 @@ class Tools(unittest.TestCase):
         path.write_bytes(text.encode() if isinstance(text, str) else text)
         return path
 
-    def bayctl(self, printed: str, status: int = 0) -> pathlib.Path:
-        """A program that prints this, whatever it is asked."""
+    def bayctl(self, printed: str, status: int = 0, logged: str = '') -> pathlib.Path:
+        """A program that prints and logs this, whatever it is asked."""
         path = self.file('bayctl', f'#!{sys.executable}\nimport sys\nsys.stdin.buffer.read()\n'
-                         f'sys.stdout.write({printed!r})\nsys.exit({status})\n')
+                         f'sys.stdout.write({printed!r})\nsys.stderr.write({logged!r})\n'
+                         f'sys.exit({status})\n')
         path.chmod(0o755)
         return path
 

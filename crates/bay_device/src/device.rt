@@ -37,6 +37,7 @@ use bay_connection::connection::Connection;
 use bay_tree::leaf::Dbpos;
 use bay_tree::tree::Tree;
 use il_image::encode::encode;
+use il_verify::verify::Verified;
 use std::alloc::{AllocError, Global};
 use std::marker::Model;
 
@@ -91,6 +92,13 @@ impl Device {
         ensures { IsReport self.now.machine.image result }
     {
         report_of(self.state.machine.verified())
+    }
+
+    /// Returns the verified program, read-only.
+    pub fn verified(&self) -> &Verified
+        ensures { result.now ≡ self.now.machine.image }
+    {
+        self.state.machine.verified()
     }
 
     /// Returns the octets of the program's image, in version 2 of the format.

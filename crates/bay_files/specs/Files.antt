@@ -26,6 +26,12 @@ ReadsBoth reads files bay program (Err fault) =
     reads files bay (Err fault)
     ⊎ ((octets : List ℕ) × reads files bay (Ok octets) × reads files program (Err fault))
 
+-- the file of this name could not be read, which is the one or the other
+abbrev pub FailsNamed : {F : Type 0} → FileReads F → F → List ℕ → List ℕ → List ℕ → ReadFault
+    → Type 0
+FailsNamed reads files bay program name fault =
+    ((name ≡ bay) ⊎ (name ≡ program)) × reads files name (Err fault)
+
 -- a file was read that may have been named; without a name there is nothing in it
 abbrev pub ReadsNamed : {F : Type 0} → FileReads F → F
     → Option (List ℕ) → Result (List ℕ) ReadFault → Type 0

@@ -1,7 +1,7 @@
 // The files that a command reads and writes, by their names.
 ghost use Rattle.std.specs.Prelude.{◌≡◌, ℕ, List, Bool, Option, None, Some, Result, Ok, Err, IfOk, IfErr, OnOk};
 ghost use Rattle.bay_io.specs.declared.input.ReadFault.{ReadFault};
-ghost use Rattle.bay_files.specs.Files.{ReadsBoth, WritesWhole};
+ghost use Rattle.bay_files.specs.Files.{FailsNamed, ReadsBoth, WritesWhole};
 ghost use Rattle.bay_files.specs.declared.files.FileFault.{FileFault};
 
 use bay_io::input::{ReadFault, read_all};
@@ -84,6 +84,55 @@ pub struct BothFiles {
     pub program: Vec<u8>,
 }
 
+/// A file that could not be read, and why.
+#[derive(Debug, Drop)]
+pub struct Unread<'a> {
+    pub name: &'a str,
+    pub fault: ReadFault,
+}
+
+/// Reads a file, and says which it was if that fails.
+pub fn read_file<'a, F: FileSystem>(
+    alloc: Global,
+    files: &F,
+    name: &'a str,
+) -> Result<Vec<u8>, Unread<'a>>
+    ensures ok { IfOk result (λ octets. F.reads files.now name.entry.now (Ok octets.items)) }
+    ensures err { IfErr result (λ unread. F.reads files.now name.entry.now (Err unread.fault)) }
+    ensures named { IfErr result (λ unread. unread.name.now ≡ name.entry.now) }
+{
+    match files.read(alloc, name) {
+        Ok(octets) => Ok(octets),
+        Err(fault) => Err(Unread { name, fault }),
+    }
+}
+
+/// Reads the two files of a command: the bay file first, then the program. Says which of them could
+/// not be read.
+pub fn read_files<'a, F: FileSystem>(
+    alloc: Global,
+    files: &F,
+    bay: &'a str,
+    program: &'a str,
+) -> Result<BothFiles, Unread<'a>>
+    ensures ok { IfOk result
+        (λ both. ReadsBoth F.reads files.now bay.entry.now program.entry.now
+        (Ok (record { bay = both.bay.items; program = both.program.items }))) }
+    ensures err { IfErr result
+        (λ unread. ReadsBoth F.reads files.now bay.entry.now program.entry.now (Err unread.fault)) }
+    ensures named { IfErr result
+        (λ unread. FailsNamed F.reads files.now bay.entry.now program.entry.now unread.name.now
+        unread.fault) }
+{
+    match read_file(alloc, files, bay) {
+        Ok(bay) => match read_file(alloc, files, program) {
+            Ok(program) => Ok(BothFiles { bay, program }),
+            Err(unread) => Err(unread),
+        },
+        Err(unread) => Err(unread),
+    }
+}
+
 /// Reads the two files of a command: the bay file first, then the program.
 pub fn read_both<F: FileSystem>(
     alloc: Global,
@@ -97,9 +146,10 @@ pub fn read_both<F: FileSystem>(
     ensures err { IfErr result
         (λ fault. ReadsBoth F.reads files.now bay.now program.now (Err fault)) }
 {
-    let bay = files.read(alloc, bay)?;
-    let program = files.read(alloc, program)?;
-    Ok(BothFiles { bay, program })
+    match read_files(alloc, files, bay, program) {
+        Ok(both) => Ok(both),
+        Err(unread) => Err(unread.fault),
+    }
 }
 
 /// The files of the system that the program runs on.
@@ -119,7 +169,7 @@ fn read_fault(error: &io::Error) -> ReadFault {
     if error.kind() == ErrorKind::OutOfMemory {
         ReadFault::OutOfMemory
     } else {
-        ReadFault::Failed
+        ReadFault::Failed(error.kind())
     }
 }
 

@@ -3,7 +3,7 @@ use Rattle.std.proofs.Common.{◌≡◌, ◌≢◌, ℕ, Bool, true, false, cond
 use Rattle.std.proofs.lemmas.Bool.{ne_eqb}
 use Rattle.std.specs.Io.KnownBytes.{Appends, Keeps}
 use Rattle.std.proofs.KnownBytes.{Appends-nil, Appends-trans, Appends-kept}
-use Rattle.bay_io.specs.Calls.{Asked, WriteCall, write_failed}
+use Rattle.bay_io.specs.Calls.{Asked, Unlogged, WriteCall, write_failed}
 use Rattle.bay_io.specs.Sent.{Sends, SendsPart, Puts}
 use Rattle.bay_io.specs.Watched.{Watching, Writing}
 use Rattle.bay_io.proofs.AskedLemmas.{Asked-none, Asked-then}
@@ -134,6 +134,7 @@ module _ {W : Type 0} {contents : W → Option (List ℕ)} {does : W → WriteCa
       (more.kept (put.kept e).1).0 ∙ (put.kept e).0,
       (more.kept (put.kept e).1).1,
     );
+    same_logs = more.same_logs ∙ put.same_logs;
   }
 
   pub Puts-as : {old new : Writing W} {text : List ℕ} (other : List ℕ) → text ≡ other
@@ -146,6 +147,7 @@ module _ {W : Type 0} {contents : W → Option (List ℕ)} {does : W → WriteCa
     asked = Asked-none w.inner w.has_failed;
     sent = by_failed w.has_failed;
     kept = λ e. (refl, e);
+    same_logs = refl;
   }
     where
       by_failed : (b : Bool)
@@ -162,9 +164,9 @@ module _ {W : Type 0} {contents : W → Option (List ℕ)} {does : W → WriteCa
       → OnErr r (SendsPart (contents old.inner) (contents new.inner) (old.pending ++ text))
       → OnOk r (new.pending ≡ []) → is_err r ≡ new.has_failed
       → (old.has_failed ≡ true → (new.inner ≡ old.inner) × (new.has_failed ≡ true))
-      → Asked does write_failed old.inner old.has_failed new.inner new.has_failed
-      → Puts contents does old text new
-  Puts-out {X} {E} old new text (Ok x) all part none failed kept asked =
+      → Asked (Unlogged does) write_failed old.inner old.has_failed new.inner new.has_failed
+      → new.logs ≡ old.logs → Puts contents does old text new
+  Puts-out {X} {E} old new text (Ok x) all part none failed kept asked logs =
       record {
         asked = asked;
         sent = subst (λ b. MatchBool b
@@ -175,8 +177,9 @@ module _ {W : Type 0} {contents : W → Option (List ℕ)} {does : W → WriteCa
             (sym none) (Sends-all (contents old.inner) (contents new.inner) (old.pending ++ text)
             all));
         kept = kept;
+        same_logs = logs;
       }
-  Puts-out {X} {E} old new text (Err e) all part none failed kept asked =
+  Puts-out {X} {E} old new text (Err e) all part none failed kept asked logs =
       record {
         asked = asked;
         sent = subst (λ b. MatchBool b
@@ -184,6 +187,7 @@ module _ {W : Type 0} {contents : W → Option (List ℕ)} {does : W → WriteCa
             (Sends (contents old.inner) (contents new.inner) (old.pending ++ text) new.pending))
             failed part;
         kept = kept;
+        same_logs = logs;
       }
 
   -- a text was kept in the buffer
@@ -192,6 +196,7 @@ module _ {W : Type 0} {contents : W → Option (List ℕ)} {does : W → WriteCa
         inner = sink.inner;
         has_failed = sink.has_failed;
         is_flushed = sink.is_flushed;
+        logs = sink.logs;
         pending = pending;
       } ≡ old
       → left ≡ cond kept (pending ++ text) pending → kept ≡ true
@@ -199,6 +204,7 @@ module _ {W : Type 0} {contents : W → Option (List ℕ)} {does : W → WriteCa
         inner = sink.inner;
         has_failed = sink.has_failed;
         is_flushed = sink.is_flushed;
+        logs = sink.logs;
         pending = left;
       })
   Puts-kept old sink pending text left true same e is =
@@ -206,11 +212,13 @@ module _ {W : Type 0} {contents : W → Option (List ℕ)} {does : W → WriteCa
         inner = sink.inner;
         has_failed = sink.has_failed;
         is_flushed = sink.is_flushed;
+        logs = sink.logs;
         pending = left;
       })) same (record {
         asked = Asked-none sink.inner sink.has_failed;
         sent = by_failed sink.has_failed;
         kept = λ f. (refl, f);
+        same_logs = refl;
       })
     where
       by_failed : (b : Bool)
@@ -227,33 +235,35 @@ module _ {W : Type 0} {contents : W → Option (List ℕ)} {does : W → WriteCa
       → OnOk r (Appends (contents old.inner) (contents mid.inner) old.pending)
       → OnOk r (mid.pending ≡ []) → is_err r ≡ mid.has_failed
       → (old.has_failed ≡ true → mid ≡ old)
-      → Asked does write_failed old.inner old.has_failed mid.inner mid.has_failed
+      → Asked (Unlogged does) write_failed old.inner old.has_failed mid.inner mid.has_failed
+      → mid.logs ≡ old.logs
       → is_ok r ≡ true → Puts contents does mid text new → Puts contents does old text new
-  Puts-after {X} {E} old mid new text (Ok x) all none failed kept asked is put =
+  Puts-after {X} {E} old mid new text (Ok x) all none failed kept asked logs is put =
       Puts-then (Puts-out {X = X} {E = E} old mid [] (Ok x)
       (subst (Appends (contents old.inner) (contents mid.inner)) (sym (append-nil old.pending)) all)
       tt none failed
       (λ e. (
         ap (λ (w : Writing W). w.inner) (kept e),
         ap (λ (w : Writing W). w.has_failed) (kept e) ∙ e,
-      )) asked) put
-  Puts-after {X} {E} old mid new text (Err e) all none failed kept asked is put = absurd cc
+      )) asked logs) put
+  Puts-after {X} {E} old mid new text (Err e) all none failed kept asked logs is put = absurd cc
 
   -- it could not be written out
   pub Puts-stuck : {X E : Type 0} (old mid : Writing W) (text : List ℕ) (r : Result X E)
       → OnErr r (SendsPart (contents old.inner) (contents mid.inner) old.pending)
       → is_err r ≡ mid.has_failed → (old.has_failed ≡ true → mid ≡ old)
-      → Asked does write_failed old.inner old.has_failed mid.inner mid.has_failed
+      → Asked (Unlogged does) write_failed old.inner old.has_failed mid.inner mid.has_failed
+      → mid.logs ≡ old.logs
       → is_ok r ≡ false → Puts contents does old text mid
-  Puts-stuck {X} {E} old mid text (Ok x) part failed kept asked is = absurd cc
-  Puts-stuck {X} {E} old mid text (Err e) part failed kept asked is =
+  Puts-stuck {X} {E} old mid text (Ok x) part failed kept asked logs is = absurd cc
+  Puts-stuck {X} {E} old mid text (Err e) part failed kept asked logs is =
       Puts-out {X = X} {E = E} old mid text (Err e) tt
       (SendsPart-more (contents old.inner) (contents mid.inner) old.pending text
       (old.pending ++ text) part refl) tt failed
       (λ f. (
         ap (λ (w : Writing W). w.inner) (kept f),
         ap (λ (w : Writing W). w.has_failed) (kept f) ∙ f,
-      )) asked
+      )) asked logs
 
 -- of a text, all but the rest was put into a writer
 pub record Rest {W : Type 0} (contents : W → Option (List ℕ)) (does : W → WriteCall → W → Type 0)

@@ -1,16 +1,21 @@
--- Calls that read and write, with what they gave; None stands for a failure.
-use Rattle.std.specs.Prelude.{◌≡◌, ℕ, ◌≤◌, ◌==◌, nat_lt, Bool, true, false, ◌&&◌, ◌||◌, not, List, [], ◌∷◌, length, take, Option, Some, None, is_none, Result, Ok, Err, is_ok}
+-- Calls that read, write and log, with what they gave; None stands for a failure.
+use Rattle.std.specs.Prelude.{◌≡◌, ℕ, ◌≤◌, ◌==◌, nat_lt, Bool, true, false, ◌&&◌, ◌||◌, not, List, [], ◌∷◌, ◌++◌, length, take, Option, Some, None, is_none, Result, Ok, Err, is_ok}
+use Rattle.std.specs.Fmt.{decimal}
 use Rattle.std.specs.Result.{result_ok}
+use Rattle.bay_io.specs.declared.calls.Part.{Part}
+use Rattle.bay_io.specs.declared.calls.Part.TheVariants.{Text, Number}
 
 -- how many octets there was room for, and those that came
 pub record ReadCall : Type 0 where
   pub room : ℕ
   pub came : Option (List ℕ)
 
--- the octets that were offered, and how many of them were taken; a flush, and whether it was done
+-- the octets that were offered, and how many of them were taken; a flush, and whether it was done;
+-- a line that was logged
 pub data WriteCall : Type 0 where
   Write : List ℕ → Option ℕ → WriteCall
   Flush : Bool → WriteCall
+  Log : List ℕ → WriteCall
 
 -- what came of a read, by its answer and what then stood in its room
 abbrev pub came_of : {E : Type 0} → Result ℕ E → List ℕ → Option (List ℕ)
@@ -26,17 +31,37 @@ writes octets answer = Write octets (result_ok answer)
 abbrev pub flushes : {X E : Type 0} → Result X E → WriteCall
 flushes answer = Flush (is_ok answer)
 
+-- a part of a line: a text, or a number's decimal digits
+abbrev pub part_text : Part → List ℕ
+part_text (Text text) = text.now
+part_text (Number number) = decimal number
+
+abbrev pub parts_text : List Part → List ℕ
+parts_text [] = []
+parts_text (part ∷ parts) = part_text part ++ parts_text parts
+
 -- ---- calls one after another
 
 -- a read failed
 abbrev pub read_failed : ReadCall → Bool
 read_failed call = is_none call.came
 
--- a write or a flush failed, or a write took nothing of what it was offered
+-- a write or a flush failed, or a write took nothing of what it was offered; no logging counts as
+-- failed
 abbrev pub write_failed : WriteCall → Bool
 write_failed (Write octets None) = true
 write_failed (Write octets (Some n)) = n == 0 && nat_lt 0 (length octets)
 write_failed (Flush done) = not done
+write_failed (Log line) = false
+
+-- a call that logs nothing
+abbrev pub is_log : WriteCall → Bool
+is_log (Write octets taken) = false
+is_log (Flush done) = false
+is_log (Log line) = true
+
+abbrev pub Unlogged : {S : Type 0} → (S → WriteCall → S → Type 0) → S → WriteCall → S → Type 0
+Unlogged does old call new = does old call new × (is_log call ≡ false)
 
 -- one of the calls is such
 abbrev pub some_call : {C : Type 0} → (C → Bool) → List C → Bool

@@ -8,7 +8,7 @@ use Rattle.bay_io.specs.declared.input.ReadFault.TheVariants.{TooLong, Failed, O
 abbrev pub failed_of : {A : Type 0} → Result A ReadFault → Bool
 failed_of (Ok octets) = false
 failed_of (Err TooLong) = false
-failed_of (Err Failed) = true
+failed_of (Err (Failed kind)) = true
 failed_of (Err OutOfMemory) = false
 
 -- the octets that reads gave, in their order
@@ -27,7 +27,7 @@ pub record IsEnded (calls : List ReadCall) : Type 0 where
 -- the end.
 abbrev pub FailsAs : ℕ → List ReadCall → ReadFault → Type 0
 FailsAs limit calls TooLong = limit < length (octets_of calls)
-FailsAs limit calls Failed = Unit {0}
+FailsAs limit calls (Failed kind) = Unit {0}
 FailsAs limit calls OutOfMemory = IsEnded calls × (length (octets_of calls) ≤ limit)
 
 -- What was asked of a source up to a limit, and what came of it: all that its reads gave, in their

@@ -1,8 +1,12 @@
--- What reached a writer.
-use Rattle.std.specs.Prelude.{◌≡◌, ℕ, true, false, List, [], ◌++◌, Option, Result, Ok, Err, MatchBool}
-use Rattle.std.specs.Io.KnownBytes.{Appends}
-use Rattle.bay_io.specs.Calls.{Asked, WriteCall, write_failed}
+-- What reached a writer, and what it logged.
+use Rattle.std.specs.Prelude.{◌≡◌, ℕ, ◌+◌, nat_le, Bool, true, false, List, [], ◌++◌, length, Option, Result, Ok, Err, MatchBool}
+use Rattle.std.specs.Io.KnownBytes.{Appends, Keeps}
+use Rattle.bay_io.specs.Calls.{Asked, WriteCall, Log, Unlogged, write_failed}
 use Rattle.bay_io.specs.Watched.{Writing}
+
+-- a buffer of 65,536 octets has room for these too
+abbrev pub has_room : List ℕ → List ℕ → Bool
+has_room pending text = nat_le (length pending + length text) 65536
 
 -- the writer took the front of what was given, and `left` is what it did not take
 pub record Sends (old new : Option (List ℕ)) (given left : List ℕ) : Type 0 where
@@ -17,14 +21,15 @@ pub record SendsPart (old new : Option (List ℕ)) (given : List ℕ) : Type 0 w
 
 -- a text was added to what a writer has pending: the writer took a front of both, and the rest is
 -- pending; or a write failed, then or before, and the writer took a front of both; and what the
--- writer was asked
+-- writer was asked, which logs nothing
 pub record Puts {W : Type 0} (contents : W → Option (List ℕ)) (does : W → WriteCall → W → Type 0)
     (old : Writing W) (text : List ℕ) (new : Writing W) : Type 0 where
-  pub asked : Asked does write_failed old.inner old.has_failed new.inner new.has_failed
+  pub asked : Asked (Unlogged does) write_failed old.inner old.has_failed new.inner new.has_failed
   pub sent : MatchBool new.has_failed
       (SendsPart (contents old.inner) (contents new.inner) (old.pending ++ text))
       (Sends (contents old.inner) (contents new.inner) (old.pending ++ text) new.pending)
   pub kept : old.has_failed ≡ true → (new.inner ≡ old.inner) × (new.has_failed ≡ true)
+  pub same_logs : new.logs ≡ old.logs
 
 -- a writer took all that was pending, and was flushed; or a write or the flush failed, then or
 -- before, and the writer took a front of it, which is nothing after a failure
@@ -37,8 +42,17 @@ Ends contents old new (Err e) =
     SendsPart (contents old.inner) (contents new.inner) old.pending
     × (old.has_failed ≡ true → new.inner ≡ old.inner) × (new.has_failed ≡ true)
 
--- and what the writer was asked
+-- and what the writer was asked, which logs nothing
 pub record Finishes {W X E : Type 0} (contents : W → Option (List ℕ))
     (does : W → WriteCall → W → Type 0) (old new : Writing W) (result : Result X E) : Type 0 where
   pub ends : Ends contents old new result
-  pub asked : Asked does write_failed old.inner old.has_failed new.inner new.has_failed
+  pub asked : Asked (Unlogged does) write_failed old.inner old.has_failed new.inner new.has_failed
+  pub same_logs : new.logs ≡ old.logs
+
+-- A line is logged where logging was started, by one call of the sink; else nothing happens. In
+-- neither case does anything else of the writer change.
+pub record Logs {W : Type 0} (contents : W → Option (List ℕ)) (does : W → WriteCall → W → Type 0)
+    (old : Writing W) (line : List ℕ) (new : Writing W) : Type 0 where
+  pub logged : MatchBool old.logs (does old.inner (Log line) new.inner) (new.inner ≡ old.inner)
+  pub rest : new ≡ record old { inner = new.inner }
+  pub kept : Keeps (contents old.inner) (contents new.inner)

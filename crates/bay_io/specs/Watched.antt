@@ -7,17 +7,20 @@ pub record Reading (R : Type 0) : Type 0 where
   pub reads : ℕ
   pub has_failed : Bool
 
--- a sink, whether a write or a flush has failed, and whether it was flushed since its last write
+-- a sink, whether a write or a flush has failed, whether it was flushed since its last write, and
+-- whether lines are logged
 pub record Watching (W : Type 0) : Type 0 where
   pub inner : W
   pub has_failed : Bool
   pub is_flushed : Bool
+  pub logs : Bool
 
 -- the same of a writer, with what is not yet written
 pub record Writing (W : Type 0) : Type 0 where
   pub inner : W
   pub has_failed : Bool
   pub is_flushed : Bool
+  pub logs : Bool
   pub pending : List ℕ
 
 -- a write fails, or takes nothing of what it is given

@@ -1,8 +1,8 @@
-// What is read and written, call by call.
+// What is read, written and logged, call by call.
 ghost use Rattle.std.specs.Prelude.{ℕ, List, length, Option, None};
 ghost use Rattle.std.specs.Io.{ReadsAtMost, WritesAtMost};
 ghost use Rattle.std.specs.Io.KnownBytes.{Keeps, ReadConsumes, WriteAppends};
-ghost use Rattle.bay_io.specs.Calls.{ReadCall, WriteCall, reads, writes, flushes};
+ghost use Rattle.bay_io.specs.Calls.{Log, ReadCall, WriteCall, flushes, parts_text, reads, writes};
 
 use std::io;
 use std::io::{Read, Write};
@@ -24,7 +24,15 @@ pub trait Source {
         ensures call { does self.old (reads (length room.old) result room.new) self.new };
 }
 
-/// A sink for octets, with a meaning like that of a `Source`.
+/// A part of a line.
+#[derive(Clone, Copy, Debug)]
+pub enum Part<'a> {
+    Text(&'a [u8]),
+    /// A number, in decimal digits.
+    Number(u64),
+}
+
+/// A sink for octets, with a meaning like that of a `Source`. It may have a log beside them.
 pub trait Sink {
     ghost contents: { Self → Option (List ℕ) } = { λ _. None };
 
@@ -40,6 +48,12 @@ pub trait Sink {
     fn flush_octets(&mut self) -> io::Result<()>
         ensures bytes { Keeps (contents self.old) (contents self.new) }
         ensures call { does self.old (flushes result) self.new };
+
+    /// Logs the line of these parts, the last of which ends with LF. A log that fails stops
+    /// nothing.
+    fn log_line(&mut self, parts: &[Part<'_>])
+        ensures bytes { Keeps (contents self.old) (contents self.new) }
+        ensures call { does self.old (Log (parts_text parts.now)) self.new };
 }
 
 impl<R: Read> Source for R {
@@ -60,4 +74,7 @@ impl<W: Write> Sink for W {
     fn flush_octets(&mut self) -> io::Result<()> {
         self.flush()
     }
+
+    /// A writer of std has no log.
+    fn log_line(&mut self, _parts: &[Part<'_>]) {}
 }

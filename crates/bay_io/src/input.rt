@@ -5,6 +5,7 @@ ghost use Rattle.bay_io.specs.Input.{ReadsAll, failed_of};
 use crate::calls::Source;
 use crate::reader::WatchedReader;
 use std::alloc::{AllocError, Global};
+use std::io::ErrorKind;
 use thiserror::Error;
 
 /// How many octets a single read asks for.
@@ -16,9 +17,9 @@ pub enum ReadFault {
     /// There are more octets than the limit.
     #[error("there are too many octets")]
     TooLong,
-    /// A read failed.
-    #[error("a read failed")]
-    Failed,
+    /// A read failed, as the system says.
+    #[error("a read failed: {0}")]
+    Failed(ErrorKind),
     #[error("out of memory")]
     OutOfMemory,
 }
@@ -54,7 +55,7 @@ pub fn read_all<R: Source>(
         reader.new.inner reader.new.has_failed result }
 {
     if reader.has_failed() {
-        return Err(ReadFault::Failed);
+        return Err(ReadFault::Failed(ErrorKind::Other));
     }
     let mut all = Vec::new(alloc);
     let mut count = 0;
@@ -75,7 +76,7 @@ pub fn read_all<R: Source>(
                 count += n;
                 kept = keep(&mut all, kept, &piece[..n]);
             }
-            Err(_) => return Err(ReadFault::Failed),
+            Err(error) => return Err(ReadFault::Failed(error.kind())),
         }
     }
     Err(ReadFault::TooLong)

@@ -1,6 +1,7 @@
 // Octets that are not yet written.
-ghost use Rattle.std.specs.Prelude.{◌≡◌, ◌+◌, ◌≤◌, ◌++◌, [], length, if◌then◌else◌};
+ghost use Rattle.std.specs.Prelude.{◌≡◌, ◌+◌, ◌≤◌, ◌++◌, [], length, take, drop, if◌then◌else◌};
 ghost use Rattle.std.specs.Fmt.{decimal};
+ghost use Rattle.bay_io.specs.Sent.{has_room};
 
 use arrayvec::ArrayVec;
 use itoa::Buffer;
@@ -32,6 +33,7 @@ fn keep_octets(pending: &mut ArrayVec<u8, ROOM>, text: &[u8])
 #[inline(always)]
 fn keep_short(pending: &mut ArrayVec<u8, ROOM>, text: &[u8]) -> bool
     requires { length pending.old.items ≤ 65536 }
+    ensures fits { result ≡ has_room pending.old.items text.now }
     ensures items { pending.new.items
         ≡ (if result then pending.old.items ++ text.now else pending.old.items) }
     ensures room { length pending.new.items ≤ 65536 }
@@ -79,7 +81,8 @@ impl Outbox {
     /// Adds a text if it fits in the buffer. Returns whether it fitted.
     #[inline(always)]
     pub fn keep(&mut self, text: &[u8]) -> bool
-        ensures { self.new ≡ (if result then self.old ++ text.now else self.old) }
+        ensures fits { result ≡ has_room self.old text.now }
+        ensures after { self.new ≡ (if result then self.old ++ text.now else self.old) }
     {
         self.pending.try_extend_from_slice(text).is_ok()
     }
@@ -87,7 +90,8 @@ impl Outbox {
     /// Adds the decimal digits of a number if they fit in the buffer. Returns whether they fitted.
     #[inline(always)]
     pub fn keep_number(&mut self, number: u64) -> bool
-        ensures { self.new ≡ (if result then self.old ++ decimal number else self.old) }
+        ensures fits { result ≡ has_room self.old (decimal number) }
+        ensures after { self.new ≡ (if result then self.old ++ decimal number else self.old) }
     {
         let digits = self.digits.format(number);
         keep_short(&mut self.pending, digits.as_bytes())
@@ -96,16 +100,38 @@ impl Outbox {
     /// Adds a text that is usually short, like the id of a switch, if it fits. Returns whether it
     /// fitted. Faster than `keep` for up to four octets.
     pub fn keep_short(&mut self, text: &[u8]) -> bool
-        ensures { self.new ≡ (if result then self.old ++ text.now else self.old) }
+        ensures fits { result ≡ has_room self.old text.now }
+        ensures after { self.new ≡ (if result then self.old ++ text.now else self.old) }
     {
         keep_short(&mut self.pending, text)
     }
 
     /// Returns the octets that were added.
     pub fn as_slice(&self) -> &[u8]
-        ensures { result.now ≡ self.now }
+        ensures octets { result.now ≡ self.now }
+        ensures within { length self.now ≤ 65536 }
     {
         self.pending.as_slice()
+    }
+
+    /// Removes all octets but the first `count`.
+    pub fn truncate(&mut self, count: usize)
+        ensures { self.new ≡ take count self.old }
+    {
+        self.pending.truncate(count);
+    }
+
+    /// Removes the first `count` octets.
+    pub fn drop_front(&mut self, count: usize)
+        requires { count ≤ length self.old }
+        ensures { self.new ≡ drop count self.old }
+    {
+        if count == 0 {
+            return;
+        }
+        let left = self.pending.len() - count;
+        self.pending.as_mut_slice().copy_within(count.., 0);
+        self.pending.truncate(left);
     }
 
     /// Removes all octets.

@@ -1,21 +1,23 @@
-// A sink that is watched: nothing but a write or a flush changes what is known of it.
-ghost use Rattle.std.specs.Prelude.{◌≡◌, ◌||◌, true, false, is_ok, is_err, if◌then◌else◌};
+// A sink that is watched: nothing but a write or a flush changes what is known of it, and nothing
+// is logged before logging is started.
+ghost use Rattle.std.specs.Prelude.{◌≡◌, ◌||◌, true, false, is_ok, is_err, if◌then◌else◌, MatchBool};
 ghost use Rattle.std.specs.Io.{WritesAtMost};
 ghost use Rattle.std.specs.Io.KnownBytes.{WriteAppends, Keeps};
-ghost use Rattle.bay_io.specs.Calls.{writes, flushes};
+ghost use Rattle.bay_io.specs.Calls.{Log, parts_text, writes, flushes};
 ghost use Rattle.bay_io.specs.Watched as spec;
 
-use crate::calls::Sink;
+use crate::calls::{Part, Sink};
 use std::io;
 use std::marker::Model;
 
-/// A sink that records two things: whether a write or a flush has failed, or a write accepted none
-/// of the octets it was given; and whether the sink was flushed since its last write.
+/// A sink that records whether a write or a flush has failed, or a write accepted none of the
+/// octets it was given; whether the sink was flushed since its last write; and whether it logs.
 #[derive(Drop)]
 pub struct Watched<W> {
     inner: W,
     has_failed: bool,
     is_flushed: bool,
+    logs: bool,
 }
 
 impl<W> Model for Watched<W> {
@@ -23,19 +25,52 @@ impl<W> Model for Watched<W> {
 
     ghost Value = { Watching W };
 
-    ghost view = { λ w. record { inner = w.inner; has_failed = w.has_failed; is_flushed = w.is_flushed } };
+    ghost view = { λ w. record {
+      inner = w.inner;
+      has_failed = w.has_failed;
+      is_flushed = w.is_flushed;
+      logs = w.logs;
+    } };
 }
 
 impl<W> Watched<W> {
-    /// Wraps a sink before its first write. It counts as not flushed.
+    /// Wraps a sink before its first write. It counts as not flushed, and does not log.
     pub fn new(inner: W) -> Self
-        ensures { result ≡ record { inner = inner; has_failed = false; is_flushed = false } }
+        ensures { result ≡ record {
+          inner = inner;
+          has_failed = false;
+          is_flushed = false;
+          logs = false;
+        } }
     {
         Watched {
             inner,
             has_failed: false,
             is_flushed: false,
+            logs: false,
         }
+    }
+
+    /// Returns the sink.
+    pub fn into_inner(self) -> W
+        ensures { result ≡ self.inner }
+    {
+        let Watched { inner, .. } = self;
+        inner
+    }
+
+    /// Starts the log: from now on lines are logged.
+    pub fn start_log(&mut self)
+        ensures { self.new ≡ record self.old { logs = true } }
+    {
+        self.logs = true;
+    }
+
+    /// Returns whether lines are logged.
+    pub fn is_logging(&self) -> bool
+        ensures { result ≡ self.now.logs }
+    {
+        self.logs
     }
 
     /// Returns whether a write or a flush has failed, or a write accepted none of the octets it was
@@ -75,6 +110,7 @@ impl<W: Sink> Watched<W> {
         ensures failed { self.new.has_failed
             ≡ (self.old.has_failed || spec.write_fails octets.now result) }
         ensures flushed { self.new.is_flushed ≡ false }
+        ensures logs { self.new.logs ≡ self.old.logs }
     {
         let outcome = self.inner.write_octets(octets);
         if write_fails(octets, &outcome) {
@@ -91,6 +127,7 @@ impl<W: Sink> Watched<W> {
         ensures failed { self.new.has_failed ≡ (self.old.has_failed || is_err result) }
         ensures flushed { self.new.is_flushed
             ≡ (if is_ok result then true else self.old.is_flushed) }
+        ensures logs { self.new.logs ≡ self.old.logs }
     {
         let outcome = self.inner.flush_octets();
         if outcome.is_ok() {
@@ -99,5 +136,18 @@ impl<W: Sink> Watched<W> {
             self.has_failed = true;
         }
         outcome
+    }
+
+    /// Logs the line of these parts, if the log was started.
+    pub fn log(&mut self, parts: &[Part<'_>])
+        ensures bytes { Keeps (W.contents self.old.inner) (W.contents self.new.inner) }
+        ensures call { MatchBool self.old.logs
+            (W.does self.old.inner (Log (parts_text parts.now)) self.new.inner)
+            (self.new.inner ≡ self.old.inner) }
+        ensures rest { self.new ≡ record self.old { inner = self.new.inner } }
+    {
+        if self.logs {
+            self.inner.log_line(parts);
+        }
     }
 }

@@ -4,10 +4,10 @@
 ghost use Rattle.std.specs.Prelude.{◌≡◌, [], true, false, is_err, OnOk, OnErr};
 ghost use Rattle.std.specs.Fmt.{decimal};
 ghost use Rattle.std.specs.Io.KnownBytes.{Appends, Keeps};
-ghost use Rattle.bay_io.specs.Calls.{Asked, write_failed};
-ghost use Rattle.bay_io.specs.Sent.{Finishes, Puts, SendsPart};
+ghost use Rattle.bay_io.specs.Calls.{Asked, Unlogged, parts_text, write_failed};
+ghost use Rattle.bay_io.specs.Sent.{Finishes, Logs, Puts, SendsPart};
 
-use crate::calls::Sink;
+use crate::calls::{Part, Sink};
 use crate::outbox::{Outbox, WriteFault};
 use crate::watched::Watched;
 use itoa::Buffer;
@@ -20,9 +20,10 @@ fn write_out<W: Sink>(sink: &mut Watched<W>, text: &[u8]) -> Result<(), WriteFau
     ensures err { OnErr result
         (SendsPart (W.contents sink.old.inner) (W.contents sink.new.inner) text.now) }
     ensures fault { is_err result ≡ sink.new.has_failed }
-    ensures asked { Asked W.does write_failed sink.old.inner sink.old.has_failed sink.new.inner
-        sink.new.has_failed }
+    ensures asked { Asked (Unlogged W.does) write_failed sink.old.inner sink.old.has_failed
+        sink.new.inner sink.new.has_failed }
     ensures kept { sink.old.has_failed ≡ true → sink.new ≡ sink.old }
+    ensures logs { sink.new.logs ≡ sink.old.logs }
 {
     if sink.has_failed() {
         return Err(WriteFault);
@@ -43,8 +44,9 @@ fn flush_out<W: Sink>(sink: &mut Watched<W>) -> Result<(), WriteFault>
     ensures kept { Keeps (W.contents sink.old.inner) (W.contents sink.new.inner) }
     ensures flushed { OnOk result (sink.new.is_flushed ≡ true) }
     ensures fault { is_err result ≡ sink.new.has_failed }
-    ensures asked { Asked W.does write_failed sink.old.inner sink.old.has_failed sink.new.inner
-        sink.new.has_failed }
+    ensures asked { Asked (Unlogged W.does) write_failed sink.old.inner sink.old.has_failed
+        sink.new.inner sink.new.has_failed }
+    ensures logs { sink.new.logs ≡ sink.old.logs }
 {
     if sink.has_failed() {
         return Err(WriteFault);
@@ -55,9 +57,10 @@ fn flush_out<W: Sink>(sink: &mut Watched<W>) -> Result<(), WriteFault>
     }
 }
 
-/// A writer with a buffer of 65,536 octets that records two things: whether a write or a flush has
-/// failed, or a write accepted none of the octets it was given; and whether the sink was flushed
-/// since its last write.
+/// A writer with a buffer of 65,536 octets that records whether a write or a flush has failed, or a
+/// write accepted none of the octets it was given; whether the sink was flushed since its last
+/// write; and whether it logs. A line of the log goes to the sink at once: it waits for nothing in
+/// the buffer.
 #[derive(Drop)]
 pub struct WatchedWriter<W> {
     sink: Watched<W>,
@@ -73,15 +76,21 @@ impl<W> Model for WatchedWriter<W> {
       inner = w.sink.inner;
       has_failed = w.sink.has_failed;
       is_flushed = w.sink.is_flushed;
+      logs = w.sink.logs;
       pending = w.outbox;
     } };
 }
 
 impl<W> WatchedWriter<W> {
-    /// Wraps a sink before its first write. It counts as not flushed.
+    /// Wraps a sink before its first write. It counts as not flushed, and does not log.
     pub fn new(inner: W) -> Self
-        ensures { result
-            ≡ record { inner = inner; has_failed = false; is_flushed = false; pending = [] } }
+        ensures { result ≡ record {
+          inner = inner;
+          has_failed = false;
+          is_flushed = false;
+          logs = false;
+          pending = [];
+        } }
     {
         WatchedWriter {
             sink: Watched::new(inner),
@@ -103,6 +112,28 @@ impl<W> WatchedWriter<W> {
     {
         self.sink.is_flushed()
     }
+
+    /// Returns the sink. What is in the buffer is lost.
+    pub fn into_inner(self) -> W
+        ensures { result ≡ self.inner }
+    {
+        let WatchedWriter { sink, .. } = self;
+        sink.into_inner()
+    }
+
+    /// Starts the log: from now on lines are logged.
+    pub fn start_log(&mut self)
+        ensures { self.new ≡ record self.old { logs = true } }
+    {
+        self.sink.start_log();
+    }
+
+    /// Returns whether lines are logged.
+    pub fn is_logging(&self) -> bool
+        ensures { result ≡ self.now.logs }
+    {
+        self.sink.is_logging()
+    }
 }
 
 impl<W: Sink> WatchedWriter<W> {
@@ -114,9 +145,10 @@ impl<W: Sink> WatchedWriter<W> {
             (SendsPart (W.contents self.old.inner) (W.contents self.new.inner) self.old.pending) }
         ensures empty { OnOk result (self.new.pending ≡ []) }
         ensures fault { is_err result ≡ self.new.has_failed }
-        ensures asked { Asked W.does write_failed self.old.inner self.old.has_failed self.new.inner
-            self.new.has_failed }
+        ensures asked { Asked (Unlogged W.does) write_failed self.old.inner self.old.has_failed
+            self.new.inner self.new.has_failed }
         ensures kept { self.old.has_failed ≡ true → self.new ≡ self.old }
+        ensures logs { self.new.logs ≡ self.old.logs }
     {
         write_out(&mut self.sink, self.outbox.as_slice())?;
         self.outbox.clear();
@@ -180,5 +212,12 @@ impl<W: Sink> WatchedWriter<W> {
     {
         self.write_pending()?;
         flush_out(&mut self.sink)
+    }
+
+    /// Logs the line of these parts, if the log was started. What is in the buffer stays there.
+    pub fn log(&mut self, parts: &[Part<'_>])
+        ensures { Logs W.contents W.does self.old (parts_text parts.now) self.new }
+    {
+        self.sink.log(parts);
     }
 }

@@ -2,8 +2,9 @@
 -- bytes is no whole line yet, more bytes than a line may have, or a line and what follows its end.
 -- `Cuttings` says how lines are taken while bytes arrive, and that nothing is lost: the lines
 -- taken, each with its end, and then what is kept, are all that arrived. `Room`: the room that is
--- taken at first.
+-- taken at first. `Shown`: a line as a log shows it.
 
 pub mod Cuttings
 pub mod Fronts
 pub mod Room
+pub mod Shown

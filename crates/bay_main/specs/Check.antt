@@ -1,27 +1,31 @@
--- What is printed for a load alone, and with which status.
-use Rattle.std.specs.Prelude.{◌≡◌, ℕ, List, Result, Ok, Err, ◌⊎◌}
+-- What is printed and logged for a load alone.
+use Rattle.std.specs.Prelude.{◌≡◌, ℕ, List, Option, Result, Ok, Err, ◌⊎◌}
 use Rattle.bay_device.specs.Device.{State}
 use Rattle.bay_device.specs.Report.{IsReport as IsReportOf}
 use Rattle.bay_device.specs.declared.report.Report.{Report}
-use Rattle.bay_report.specs.Load.{LoadsTo}
-use Rattle.bay_report.specs.declared.load.Form.{Form}
 use Rattle.bay_device.specs.declared.fault.LoadFault.{LoadFault}
 use Rattle.bay_device.specs.declared.fault.LoadFault.TheVariants.{OutOfMemory}
-use Rattle.bay_report.specs.Report.{Refuses, report_text}
+use Rattle.bay_io.specs.Calls.{WriteCall}
+use Rattle.bay_io.specs.Watched.{Writing}
+use Rattle.bay_io.specs.declared.outbox.WriteFault.{WriteFault}
+use Rattle.bay_report.specs.Load.{LoadsTo}
+use Rattle.bay_report.specs.LogLines.{LogsPrints, refused_line}
+use Rattle.bay_report.specs.declared.load.Form.{Form}
+use Rattle.bay_report.specs.Report.{IsLast, Prints, Refuses, report_text}
 
--- the text and the status of a device alone
-abbrev pub Accepts : State → List ℕ → ℕ → Type 0
-Accepts s text status =
-    (report : Report) × IsReportOf s.machine.image report × (text ≡ report_text report)
-    × (status ≡ 0)
+-- of a device the line of its load is printed; why a load is refused is logged and printed
+abbrev pub TellsLoad : {W : Type 0} → (W → Option (List ℕ)) → (W → WriteCall → W → Type 0)
+    → Result State LoadFault → Writing W → Writing W → Result ℕ WriteFault → Type 0
+TellsLoad contents asks (Ok s) old new answer =
+    (report : Report) × IsReportOf s.machine.image report
+    × Prints contents asks (IsLast (report_text report) 0) old new answer
+TellsLoad contents asks (Err fault) old new answer =
+    LogsPrints contents asks (refused_line fault) (Refuses fault) old new answer
 
--- the text and the status of a load alone
-abbrev pub LoadedReport : Result State LoadFault → List ℕ → ℕ → Type 0
-LoadedReport (Err fault) text status = Refuses fault text status
-LoadedReport (Ok device) text status = Accepts device text status
-
--- the text and the status of a bay file and a program or an image; their load may want memory
-abbrev pub CheckReport : List ℕ → Form → List ℕ → List ℕ → ℕ → Type 0
-CheckReport bay form program text status =
-    ((loaded : Result State LoadFault) × LoadsTo bay form program loaded
-    × LoadedReport loaded text status) ⊎ Refuses OutOfMemory text status
+-- a bay file and a program or an image are loaded, and that is told; their load may want memory
+pub record ChecksOctets {W : Type 0} (contents : W → Option (List ℕ))
+    (asks : W → WriteCall → W → Type 0) (bay : List ℕ) (form : Form) (program : List ℕ)
+    (old new : Writing W) (answer : Result ℕ WriteFault) : Type 0 where
+  pub loaded : Result State LoadFault
+  pub loads : LoadsTo bay form program loaded ⊎ (loaded ≡ Err OutOfMemory)
+  pub tells : TellsLoad contents asks loaded old new answer

@@ -1,6 +1,6 @@
 -- What the commands come to: what is printed, the exit status, and what becomes of files.
 use Rattle.bay_io.specs.Calls.{WriteCall}
-use Rattle.std.specs.Prelude.{◌≡◌, ℕ, Bool, true, false, List, codes, Option, None, Some, Result, Ok, Err, is_err, ◌⊎◌}
+use Rattle.std.specs.Prelude.{◌≡◌, ℕ, Bool, true, false, List, codes, Option, None, Some, Result, Ok, Err, is_err, ◌⊎◌, if◌then◌else◌}
 use Rattle.il_image.specs.Images.{image_octets}
 use Rattle.il_image.specs.declared.opcode.Version.TheVariants.{Two}
 use Rattle.bay_device.specs.Device.{State}
@@ -11,7 +11,7 @@ use Rattle.bay_device.specs.declared.fault.LoadFault.TheVariants.{OutOfMemory as
 use Rattle.bay_io.specs.Watched.{Reading, Writing}
 use Rattle.bay_io.specs.declared.input.ReadFault.{ReadFault}
 use Rattle.bay_io.specs.declared.outbox.WriteFault.{WriteFault}
-use Rattle.bay_files.specs.Files.{FileReads, FileWrites, FilesData, ReadsBoth, WritesWhole}
+use Rattle.bay_files.specs.Files.{FailsNamed, FileReads, FileWrites, FilesData, ReadsBoth, WritesWhole}
 use Rattle.bay_files.specs.declared.files.FileFault.{FileFault}
 use Rattle.bay_files.specs.declared.files.FileFault.TheVariants as unwritten
 use Rattle.bay_report.specs.declared.load.Form.{Form}
@@ -19,42 +19,57 @@ use Rattle.bay_report.specs.declared.load.Form.TheVariants as form
 use Rattle.bay_words.specs.Jobs.{task_in}
 use Rattle.bay_words.specs.declared.task.Program.{Program}
 use Rattle.bay_words.specs.declared.task.Program.TheVariants.{Logic, Image}
+use Rattle.bay_words.specs.declared.task.Asked.{Asked}
 use Rattle.bay_words.specs.declared.task.Task.{Task}
-use Rattle.bay_words.specs.declared.task.Task.TheVariants.{Check, Replay, Serve, Compile}
+use Rattle.bay_words.specs.declared.task.Task.TheVariants.{Check, Replay, Serve, Compile, Audit}
 use Rattle.bay_main.specs.declared.ending.Ended.{Ended}
 use Rattle.bay_main.specs.declared.ending.Ended.TheVariants.{Status, WriteFailed, Refused}
 use Rattle.bay_report.specs.Load.{load_of}
-use Rattle.bay_main.specs.Check.{CheckReport}
+use Rattle.bay_main.specs.Check.{ChecksOctets}
+use Rattle.bay_io.specs.Sent.{Logs}
+use Rattle.bay_report.specs.LogLines.{LogsPrints, LogsSome, TellsUnread, refused_line, unwritten_line}
 use Rattle.bay_report.specs.Report.{IsLast, Prints, Refuses, UnreadReport, report_text}
 use Rattle.bay_replay.specs.Replay.{IsReplay}
+use Rattle.bay_auditing.specs.Auditing.{Audits}
 use Rattle.bay_serving.specs.Serve.{ServesFiles}
 use Rattle.bay_serving.specs.Host.{HostCall}
 use Rattle.bay_serve.specs.Calls.{Call}
 
--- the text and the status of a check of what was read
-abbrev pub FilesReport : Form → Result FilesData ReadFault → List ℕ → ℕ → Type 0
-FilesReport form (Err fault) text status = UnreadReport fault text status
-FilesReport form (Ok both) text status = CheckReport both.bay form both.program text status
+-- what was read is checked
+abbrev pub ChecksRead : {F W : Type 0} → FileReads F → (W → Option (List ℕ))
+    → (W → WriteCall → W → Type 0) → Form → List ℕ → List ℕ → F → Result FilesData ReadFault
+    → Writing W → Writing W → Result ℕ WriteFault → Type 0
+ChecksRead reads contents asks form bay program files (Err fault) old new answer =
+    TellsUnread contents asks (λ name. FailsNamed reads files bay program name fault) fault old new
+    answer
+ChecksRead reads contents asks form bay program files (Ok both) old new answer =
+    ChecksOctets contents asks both.bay form both.program old new answer
 
 -- a check of a bay file and of a program or an image, by their names: both are read, and what they
--- load to is printed
+-- load to is told
 pub record Checks {F W : Type 0} (reads : FileReads F)
     (contents : W → Option (List ℕ)) (asks : W → WriteCall → W → Type 0) (form : Form)
     (bay program : List ℕ) (files : F)
     (old new : Writing W) (answer : Result ℕ WriteFault) : Type 0 where
   pub read : Result FilesData ReadFault
   pub is_read : ReadsBoth reads files bay program read
-  pub printed : Prints contents asks (FilesReport form read) old new answer
+  pub checks : ChecksRead reads contents asks form bay program files read old new answer
+
+-- that a file can't be written is logged, and answered
+abbrev pub Unwritten : {W : Type 0} → (W → Option (List ℕ)) → (W → WriteCall → W → Type 0)
+    → List ℕ → Writing W → Writing W → Result ℕ WriteFault → Type 0
+Unwritten contents asks out old new answer =
+    Logs contents asks old (unwritten_line out) new × (is_err answer ≡ true)
 
 -- how a file was written to which a program is compiled: whole; not at all; or there was no memory,
 -- which is told
 abbrev pub EndsWritten : {W : Type 0} → (W → Option (List ℕ)) → (W → WriteCall → W → Type 0)
-    → Option FileFault → Writing W
+    → List ℕ → Option FileFault → Writing W
     → Writing W → Result ℕ WriteFault → Type 0
-EndsWritten contents asks None old new answer = (new ≡ old) × (answer ≡ Ok 0)
-EndsWritten contents asks (Some unwritten.Failed) old new answer =
-    (new ≡ old) × (is_err answer ≡ true)
-EndsWritten contents asks (Some unwritten.OutOfMemory) old new answer =
+EndsWritten contents asks out None old new answer = (new ≡ old) × (answer ≡ Ok 0)
+EndsWritten contents asks out (Some unwritten.Failed) old new answer =
+    Unwritten contents asks out old new answer
+EndsWritten contents asks out (Some unwritten.OutOfMemory) old new answer =
     Prints contents asks (IsLast (codes "fault memory\n") 3) old new answer
 
 -- a command that has printed a load's line makes the image, and writes it to the file of this name;
@@ -66,7 +81,7 @@ abbrev pub WritesImage : {F W : Type 0} → FileWrites F
 WritesImage writes contents asks out s before after old new answer =
     ((fault : Option FileFault)
     × WritesWhole writes 100 0 out (image_octets Two s.machine.image) before after fault
-    × EndsWritten contents asks fault old new answer)
+    × EndsWritten contents asks out fault old new answer)
     ⊎ (Prints contents asks (IsLast (codes "fault memory\n") 3) old new answer × (after ≡ before))
 
 -- what follows a load's line: the image, where it was printed
@@ -90,43 +105,53 @@ pub record CompilesDevice {F W : Type 0} (writes : FileWrites F) (contents : W �
   pub printed : Prints contents asks (IsLast (report_text report) 0) old middle told
   pub goes_on : GoesOn writes contents asks out s before after middle new told answer
 
--- what was loaded is compiled; of a refused load the refusal is printed, and no file is touched
+-- what was loaded is compiled; why a load is refused is logged and printed, and no file is touched
 abbrev pub CompilesLoaded : {F W : Type 0} → FileWrites F
     → (W → Option (List ℕ)) → (W → WriteCall → W → Type 0) → List ℕ → Result State LoadFault → F → F
     → Writing W → Writing W
     → Result ℕ WriteFault → Type 0
 CompilesLoaded writes contents asks out (Err fault) before after old new answer =
-    Prints contents asks (Refuses fault) old new answer × (after ≡ before)
+    LogsPrints contents asks (refused_line fault) (Refuses fault) old new answer
+    × (after ≡ before)
 CompilesLoaded writes contents asks out (Ok s) before after old new answer =
     CompilesDevice writes contents asks out s before after old new answer
 
--- what was read is loaded and compiled; its load may want memory. Where it can't be read, that is
--- printed, and no file is touched
-abbrev pub CompilesRead : {F W : Type 0} → FileWrites F
-    → (W → Option (List ℕ)) → (W → WriteCall → W → Type 0) → List ℕ → Result FilesData ReadFault → F
+-- what was read is loaded and compiled; its load may want memory
+abbrev pub CompilesOctets : {F W : Type 0} → FileWrites F
+    → (W → Option (List ℕ)) → (W → WriteCall → W → Type 0) → List ℕ → FilesData → F
     → F → Writing W → Writing W
     → Result ℕ WriteFault → Type 0
-CompilesRead writes contents asks out (Err fault) before after old new answer =
-    Prints contents asks (UnreadReport fault) old new answer × (after ≡ before)
-CompilesRead writes contents asks out (Ok both) before after old new answer =
+CompilesOctets writes contents asks out both before after old new answer =
     (loaded : Result State LoadFault)
     × ((load_of both.bay both.program ≡ loaded) ⊎ (loaded ≡ Err wants_memory))
     × CompilesLoaded writes contents asks out loaded before after old new answer
 
+-- the same of what could be read. Where it can't be, that is told, and no file is touched
+abbrev pub CompilesRead : {F W : Type 0} → FileReads F → FileWrites F
+    → (W → Option (List ℕ)) → (W → WriteCall → W → Type 0) → List ℕ → List ℕ → List ℕ
+    → Result FilesData ReadFault → F
+    → F → Writing W → Writing W
+    → Result ℕ WriteFault → Type 0
+CompilesRead reads writes contents asks bay logic out (Err fault) before after old new answer =
+    TellsUnread contents asks (λ name. FailsNamed reads before bay logic name fault) fault old new
+    answer × (after ≡ before)
+CompilesRead reads writes contents asks bay logic out (Ok both) before after old new answer =
+    CompilesOctets writes contents asks out both before after old new answer
+
 -- a compilation of a bay file and a program to a file, by their names: both are read, loaded and
 -- compiled; where the file is one of the two, nothing is read, printed or touched, and the write
--- counts as failed
+-- counts as failed, which is logged
 abbrev pub Compiles : {F W : Type 0} → FileReads F
     → FileWrites F → (F → List ℕ → List ℕ → Bool → Type 0)
     → (W → Option (List ℕ)) → (W → WriteCall → W → Type 0) → List ℕ → List ℕ → List ℕ → F → F
     → Writing W → Writing W
     → Result ℕ WriteFault → Type 0
 Compiles reads writes same contents asks bay logic out before after old new answer =
-    ((same before out bay true ⊎ same before out logic true) × (new ≡ old) × (after ≡ before)
-    × (is_err answer ≡ true))
+    ((same before out bay true ⊎ same before out logic true) × (after ≡ before)
+    × Unwritten contents asks out old new answer)
     ⊎ (same before out bay false × same before out logic false
     × ((read : Result FilesData ReadFault) × ReadsBoth reads before bay logic read
-    × CompilesRead writes contents asks out read before after old new answer))
+    × CompilesRead reads writes contents asks bay logic out read before after old new answer))
 
 -- how a command ends by what it answers
 abbrev pub Ends : Result ℕ WriteFault → Ended → Type 0
@@ -147,6 +172,15 @@ form_of (Image name) = form.Image
 abbrev pub name_of : Program (List ℕ) → List ℕ
 name_of (Logic name) = name
 name_of (Image name) = name
+
+-- the log is started, if it is asked for
+abbrev pub logging : {W : Type 0} → Bool → Writing W → Writing W
+logging log writer = if log then record writer { logs = true } else writer
+
+-- the line of standard output that can't be written, where it can't
+abbrev pub unprinted_line : {W : Type 0} → Writing W → Option (List ℕ)
+unprinted_line writer =
+    if writer.has_failed then Some (unwritten_line (codes "standard output")) else None
 
 -- what a command works on: files, ports and a clock, a reader, and a writer
 pub record Around (F H R W : Type 0) : Type 0 where
@@ -173,23 +207,31 @@ module _ {F L H R W : Type 0} (reads : FileReads F)
       Compiles reads writes same contents asks bay logic out old.files new.files old.writer
       new.writer
       answer × (new.host ≡ old.host) × (new.reader ≡ old.reader)
+  DoesTask (Audit bay program rules) old new answer =
+      Audits reads contents asks bay (form_of program) (name_of program) rules old.files old.writer
+      new.writer answer × (new.files ≡ old.files) × (new.host ≡ old.host)
+      × (new.reader ≡ old.reader)
   DoesTask Replay old new answer =
       Prints contents asks (IsReplay (remaining old.reader.inner) new.reader.has_failed) old.writer
       new.writer answer × (new.files ≡ old.files) × (new.host ≡ old.host)
-  DoesTask (Serve bay program port turns trace process) old new answer =
+  DoesTask (Serve bay program port turns trace process tells) old new answer =
       ServesFiles step acts contents asks reads old.files
       (record { bay = bay; form = form_of program; program = name_of program; trace = trace })
-      (record { port = port; turns = turns; process = process }) old.host new.host old.writer
-      new.writer answer
+      (record { port = port; turns = turns; process = process; tells_releases = tells }) old.host
+      new.host old.writer new.writer answer
       × (new.files ≡ old.files) × (new.reader ≡ old.reader)
 
-  -- The words ask for a task, and it is done.
+  -- The words ask for a task, and it is done, with the log if they ask for it.
   pub record Obeyed (words : List (List ℕ)) (old new : Around F H R W) (ended : Ended)
       : Type 0 where
-    pub task : Task (List ℕ)
-    pub asked : task_in words ≡ Some task
+    pub asked : Asked (List ℕ)
+    pub is : task_in words ≡ Some asked
     pub answer : Result ℕ WriteFault
-    pub does : DoesTask task old new answer
+    pub done : Around F H R W
+    pub does : DoesTask asked.task
+        (record old { writer = logging asked.log old.writer }) done answer
+    pub logged : LogsSome contents asks done.writer (unprinted_line done.writer) new.writer
+    pub rest : new ≡ record done { writer = new.writer }
     pub ends : Ends answer ended
 
   -- The words ask for nothing that is done, and are refused: nothing is read, printed or touched.

@@ -1,27 +1,28 @@
 // What a command does, over files by their names, a reader and a writer.
 ghost use Rattle.std.specs.Prelude.{◌≡◌, map, Result, Ok};
 ghost use Rattle.bay_serve.specs.Calls.{Called};
-ghost use Rattle.bay_main.specs.Commands.{Checks, Compiles, CompilesDevice, CompilesRead, DoesTask, Obeys, WritesImage, name_of};
+ghost use Rattle.bay_main.specs.Commands.{Checks, Compiles, CompilesDevice, CompilesOctets, DoesTask, Obeys, Unwritten, WritesImage, logging, name_of, unprinted_line};
 ghost use Rattle.bay_main.specs.Commands as spec;
+ghost use Rattle.bay_report.specs.LogLines.{LogsSome};
 ghost use Rattle.bay_words.specs.JobView.{program_view, task_view};
 
 use crate::check::check_run;
 use crate::ending::Ended;
+use bay_auditing::audit_files::audit_files;
 use bay_device::device::Device;
-use bay_files::files::{BothFiles, FileFault, FileSystem, read_both, write_whole};
+use bay_files::files::{BothFiles, FileFault, FileSystem, read_files, write_whole};
 use bay_io::calls::{Sink, Source};
 use bay_io::outbox::WriteFault;
 use bay_io::reader::WatchedReader;
 use bay_io::writer::WatchedWriter;
 use bay_replay::replay::replay_watched;
 use bay_report::load::{Form, load_octets};
-use bay_report::output::{
-    CLEAN, FAULT, NO_MEMORY, write_refusal, write_report, write_text, write_unread,
-};
+use bay_report::log::{log_unwritten, tell_refusal, tell_unread};
+use bay_report::output::{CLEAN, FAULT, NO_MEMORY, write_report, write_text};
 use bay_serve::link::Link;
 use bay_serving::host::Host;
 use bay_serving::serve::{Named, Numbers, serve};
-use bay_words::task::{Program, Task};
+use bay_words::task::{Asked, Program, Task};
 use bay_words::words::{WordsFault, task_of};
 use std::alloc::{AllocError, Global};
 
@@ -38,7 +39,7 @@ fn check<F: FileSystem, W: Sink>(
         writer.new
         result }
 {
-    match read_both(alloc, files, bay, program) {
+    match read_files(alloc, files, bay, program) {
         Ok(both) => check_run(
             alloc,
             both.bay.as_slice(),
@@ -46,8 +47,16 @@ fn check<F: FileSystem, W: Sink>(
             both.program.as_slice(),
             writer,
         ),
-        Err(fault) => write_unread(fault, writer),
+        Err(unread) => tell_unread(writer, unread.name, unread.fault),
     }
+}
+
+/// Logs that a file can't be written, and answers that.
+fn fail_unwritten<W: Sink>(writer: &mut WatchedWriter<W>, out: &str) -> Result<u8, WriteFault>
+    ensures { Unwritten W.contents W.does out.now writer.old writer.new result }
+{
+    log_unwritten(writer, out);
+    Err(WriteFault)
 }
 
 /// Makes a device's image, and writes it to the file with this name.
@@ -69,7 +78,7 @@ fn write_image<F: FileSystem, W: Sink>(
     match write_whole(alloc, files, out, image.as_slice()) {
         Ok(()) => Ok(CLEAN),
         Err(FileFault::OutOfMemory) => write_text(writer, NO_MEMORY, FAULT),
-        Err(FileFault::Failed) => Err(WriteFault),
+        Err(FileFault::Failed) => fail_unwritten(writer, out),
     }
 }
 
@@ -97,13 +106,13 @@ fn compile_files<F: FileSystem, W: Sink>(
     files: &mut F,
     writer: &mut WatchedWriter<W>,
 ) -> Result<u8, WriteFault>
-    ensures { CompilesRead F.writes W.contents W.does out.now
-        (Ok (record { bay = both.now.bay.items; program = both.now.program.items })) files.old
+    ensures { CompilesOctets F.writes W.contents W.does out.now
+        (record { bay = both.now.bay.items; program = both.now.program.items }) files.old
         files.new writer.old writer.new result }
 {
     match load_octets(alloc, both.bay.as_slice(), both.program.as_slice()) {
         Ok(device) => compile_device(alloc, &device, out, files, writer),
-        Err(fault) => write_refusal(writer, fault),
+        Err(fault) => tell_refusal(writer, fault),
     }
 }
 
@@ -120,11 +129,11 @@ fn compile<F: FileSystem, W: Sink>(
         files.new writer.old writer.new result }
 {
     if files.is_same(alloc, out, bay) || files.is_same(alloc, out, logic) {
-        return Err(WriteFault);
+        return fail_unwritten(writer, out);
     }
-    match read_both(alloc, files, bay, logic) {
+    match read_files(alloc, files, bay, logic) {
         Ok(both) => compile_files(alloc, &both, out, files, writer),
-        Err(fault) => write_unread(fault, writer),
+        Err(unread) => tell_unread(writer, unread.name, unread.fault),
     }
 }
 
@@ -167,6 +176,7 @@ fn do_task<F: FileSystem, L: Link + Drop, H: Host<L>, R: Source, W: Sink>(
             turns,
             trace,
             process,
+            tells_releases,
         } => {
             let (form, program) = form_of(program);
             let named = Named {
@@ -179,16 +189,44 @@ fn do_task<F: FileSystem, L: Link + Drop, H: Host<L>, R: Source, W: Sink>(
                 port,
                 turns,
                 process,
+                tells_releases,
             };
             serve(alloc, named, files, host, numbers, writer)
         }
         Task::Compile { bay, logic, out } => compile(alloc, bay, logic, out, files, writer),
+        Task::Audit {
+            bay,
+            program,
+            rules,
+        } => {
+            let (form, program) = form_of(program);
+            audit_files(alloc, bay, form, program, rules, files, writer)
+        }
+    }
+}
+
+/// Starts the log, if it is asked for.
+fn start_log_if<W>(writer: &mut WatchedWriter<W>, log: bool)
+    ensures { writer.new ≡ logging log writer.old }
+{
+    if log {
+        writer.start_log();
+    }
+}
+
+/// Logs that standard output can't be written, if it can't.
+fn log_unprinted<W: Sink>(writer: &mut WatchedWriter<W>)
+    ensures { LogsSome W.contents W.does writer.old (unprinted_line writer.old) writer.new }
+{
+    if writer.has_failed() {
+        log_unwritten(writer, "standard output");
     }
 }
 
 /// Does what the words after the program's name ask for. A check and a compilation read files by
 /// their names, a replay reads from the reader, and a compilation writes a file. Serving reads
-/// files, and uses the ports and the clock of the host. What is printed goes to the writer.
+/// files, and uses the ports and the clock of the host. What is printed goes to the writer, and so
+/// does the log, if the words ask for it.
 pub fn obey<F: FileSystem, L: Link + Drop, H: Host<L>, R: Source, W: Sink>(
     alloc: Global,
     words: &[&str],
@@ -205,7 +243,12 @@ pub fn obey<F: FileSystem, L: Link + Drop, H: Host<L>, R: Source, W: Sink>(
         result }
 {
     match task_of(alloc, words) {
-        Ok(task) => Ended::of(do_task(alloc, task, files, host, reader, writer)),
+        Ok(Asked { task, log }) => {
+            start_log_if(writer, log);
+            let answer = do_task(alloc, task, files, host, reader, writer);
+            log_unprinted(writer);
+            Ended::of(answer)
+        }
         Err(WordsFault::OutOfMemory) => Ended::of(write_text(writer, NO_MEMORY, FAULT)),
         Err(WordsFault::Refused(text)) => Ended::Refused(text),
     }

@@ -7,7 +7,7 @@ use bay_serve::link::{Arrival, Link, LinkFault};
 use mio::Registry;
 use std::io;
 use std::io::{ErrorKind, Read, Write};
-use std::net::{Ipv4Addr, Net, SocketAddr, TcpListener, TcpStream};
+use std::net::{Ipv4Addr, Net, SocketAddr, SocketAddrV4, TcpListener, TcpStream};
 use std::time::{Clock, Instant};
 
 /// The number of seconds for which a connection may send nothing at all before it counts as failed.
@@ -106,18 +106,22 @@ impl<'a, C: Clock> TcpLink<'a, C> {
         self.failures
     }
 
-    /// Accepts a waiting connection. Its reads and writes do not block, and what is written is sent
-    /// at once.
-    fn accept_one(&self) -> io::Result<Peer> {
-        let (stream, _) = self.listener.accept()?;
+    /// Accepts a waiting connection, and returns it with the address of its client, which is one of
+    /// IPv4. Its reads and writes do not block, and what is written is sent at once.
+    fn accept_one(&self) -> io::Result<(Peer, SocketAddrV4)> {
+        let (stream, address) = self.listener.accept()?;
+        let SocketAddr::V4(from) = address else {
+            return Err(not_connected());
+        };
         stream.set_nonblocking(true)?;
         stream.set_nodelay(true)?;
         add_stream(&self.registry, &stream)?;
         let silent_since = Some(Instant::now(self.clock)?);
-        Ok(Peer {
+        let peer = Peer {
             stream,
             silent_since,
-        })
+        };
+        Ok((peer, from))
     }
 
     /// Whether a connection has been silent for too long since it was accepted.
@@ -149,13 +153,13 @@ impl<'a, C: Clock> TcpLink<'a, C> {
 impl<C: Clock> Link for TcpLink<'_, C> {
     ghost failures = { λ link. link.failures };
 
-    fn accept(&mut self, association: u16) -> Result<bool, LinkFault> {
+    fn accept(&mut self, association: u16) -> Result<Option<SocketAddrV4>, LinkFault> {
         match self.accept_one() {
-            Ok(peer) => {
+            Ok((peer, from)) => {
                 self.peers[association as usize - 1] = Some(peer);
-                Ok(true)
+                Ok(Some(from))
             }
-            Err(error) if would_wait(&error) => Ok(false),
+            Err(error) if would_wait(&error) => Ok(None),
             Err(_) => Err(self.failed()),
         }
     }

@@ -2,19 +2,20 @@
 use Rattle.std.proofs.Common.{◌≡◌, ℕ, ◌+◌, ◌==◌, ◌≤◌, nat_lt, nat_le, Bool, true, false, if◌then◌else◌, List, [], ◌∷◌, ◌++◌, length, take, Option, None, Some, Result, Ok, Err, refl, sym, ap, ◌∙◌, subst, arith}
 use Rattle.std.proofs.lemmas.Bool.Decides.{nat_tests}
 use Rattle.std.specs.List.{position}
+use Rattle.std.specs.declared.net.socket_addr.SocketAddrV4.{SocketAddrV4}
 use Rattle.bay_lines.specs.Fronts.{Overlong, Waiting, front, front_at, is_end}
 use Rattle.bay_serve.proofs.TalkLemmas.{Talks-append}
-use Rattle.bay_port.specs.Attending.{Attended, Attends, Does, Leads, Part, Script, attendance, attended_here, behind, line_part, left_in, offer_part, offered_of, on_taken, read_by, taken_in, talk_part, told_to}
-use Rattle.bay_serve.specs.Calls.{Call, Closes, ReadOutcome, Octets, Silence, Reads, Writes, Talks}
+use Rattle.bay_port.specs.Attending.{Attended, all_told, Attends, Does, Leads, Part, Script, attendance, attended_here, behind, line_part, left_in, offer_part, offered_of, on_taken, read_by, accepted_in, first_part, welcomed, talk_part, told_to}
+use Rattle.bay_serve.specs.Calls.{Call, Accepts, Closes, ReadOutcome, Octets, Silence, Reads, Writes, Talks}
 use Rattle.bay_port.specs.Fit.{is_waiting, is_wrong}
-use Rattle.bay_port.specs.Ports.{PortData, bare}
+use Rattle.bay_port.specs.Ports.{PortData, emptied}
 use Rattle.bay_device.specs.Device.{State}
 use Rattle.bay_port.specs.Sound.{is_forgotten}
 use Rattle.bay_port.specs.Telling.{fits_in}
 use Rattle.bay_port.specs.declared.news.News.{News}
-use Rattle.bay_port.specs.declared.news.News.TheVariants.{Closed}
+use Rattle.bay_port.specs.declared.news.News.TheVariants.{Opened, Closed}
 use Rattle.bay_port.specs.declared.news.Parting.{Parting}
-use Rattle.bay_port.specs.declared.port.Presence.TheVariants.{Leaving, Here}
+use Rattle.bay_port.specs.declared.port.Presence.TheVariants.{Away, Leaving, Here}
 
 -- ---- the parts
 
@@ -36,10 +37,10 @@ offered-some : (xs : List ℕ) (taken : Option ℕ) (p : PortData) → (length x
 offered-some [] taken p e = absurd cc
 offered-some (b ∷ bs) taken p e = refl
 
-told-calls : (text : List ℕ) (p : PortData) → (told_to text p).calls ≡ []
-told-calls text p = by-room (fits_in p.queue text) refl
+told-calls : (text : List ℕ) (s : State) (p : PortData) → (told_to text s p).calls ≡ []
+told-calls text s p = by-room (fits_in p.queue (all_told text s p)) refl
   where
-    by-room : (v : Bool) → fits_in p.queue text ≡ v → (told_to text p).calls ≡ []
+    by-room : (v : Bool) → fits_in p.queue (all_told text s p) ≡ v → (told_to text s p).calls ≡ []
     by-room true e = rw e refl
     by-room false e = rw e refl
 
@@ -113,12 +114,12 @@ module _ {L : Type 0} (step : L → Call → L → Type 0) where
   ran-out old new (Err w) calls after f why talks leads =
       record { talks = talks; leads = leads }
 
-  module _ (text : List ℕ) (old : L) (before told : PortData)
-      (answer : Result (Unit {0}) Parting) (tells : Leads (told_to text before).after told answer)
+  module _ (text : List ℕ) (s : State) (old : L) (before told : PortData)
+      (answer : Result (Unit {0}) Parting) (tells : Leads (told_to text s before).after told answer)
     where
-      ran-told : Ran old old (told_to text before) told answer
+      ran-told : Ran old old (told_to text s before) told answer
       ran-told = record {
-        talks = subst (λ cs. Talks step old cs old) (sym (told-calls text before)) refl;
+        talks = subst (λ cs. Talks step old cs old) (sym (told-calls text s before)) refl;
         leads = tells;
       }
 
@@ -130,36 +131,35 @@ module _ {L : Type 0} (step : L → Call → L → Type 0) where
       let b = behind a f in
       ran-out old new b.after b.calls after g why r1.talks r1.leads
 
-  module _ (text : List ℕ) (old : L) (before told : PortData) where
+  module _ (text : List ℕ) (s : State) (old : L) (before told : PortData) where
     -- it could not be told
-    pub talks-untold : (why : Parting) → Leads (told_to text before).after told (Err why)
-        → Does step (talk_part text) old old before told (Err why)
+    pub talks-untold : (why : Parting) → Leads (told_to text s before).after told (Err why)
+        → Does step (talk_part text s) old old before told (Err why)
     talks-untold why tells =
-        let t = ran-told text old before told (Err why) tells in
-        let r = ran-out2 old old (told_to text before) told (offer_part None) (read_by Silence) why
-        t
-        in
-        let b = behind (behind (told_to text before) (offer_part None)) (read_by Silence) in
+        let t = ran-told text s old before told (Err why) tells in
+        let r = ran-out2 old old (told_to text s before) told (offer_part None) (read_by Silence)
+        why t in
+        let b = behind (behind (told_to text s before) (offer_part None)) (read_by Silence) in
         let last = ran-out old old b.after b.calls told line_part why r.talks r.leads in
         record { answers = (None, Silence); talks = last.talks; leads = last.leads }
 
-    module _ (tells : Leads (told_to text before).after told (Ok tt)) where
+    module _ (tells : Leads (told_to text s before).after told (Ok tt)) where
       ran-offered : (new : L) (after : PortData) (answer : Result (Unit {0}) Parting)
           → (does : Does step offer_part old new told after answer)
-          → Ran old new (behind (told_to text before) (offer_part does.answers)) after answer
+          → Ran old new (behind (told_to text s before) (offer_part does.answers)) after answer
       ran-offered new after answer does =
-          let a = told_to text before in
-          let t = ran-told text old before told (Ok tt) tells in
+          let a = told_to text s before in
+          let t = ran-told text s old before told (Ok tt) tells in
           ran-on old old new a.after a.calls told after (offer_part does.answers) answer t.talks
           t.leads (record { talks = does.talks; leads = does.leads })
 
       -- it could not be offered
       pub talks-unoffered : (new : L) (after : PortData) (why : Parting)
           → Does step offer_part old new told after (Err why)
-          → Does step (talk_part text) old new before after (Err why)
+          → Does step (talk_part text s) old new before after (Err why)
       talks-unoffered new after why does =
           let r = ran-offered new after (Err why) does in
-          let a = behind (told_to text before) (offer_part does.answers) in
+          let a = behind (told_to text s before) (offer_part does.answers) in
           let last = ran-out2 old new a after (read_by Silence) line_part why r in
           record { answers = (does.answers, Silence); talks = last.talks; leads = last.leads }
 
@@ -168,10 +168,10 @@ module _ {L : Type 0} (step : L → Call → L → Type 0) where
         where
           ran-read : (new : L) (after : PortData) (answer : Result (Unit {0}) Parting)
               → (does : Does step read_by mid new between after answer)
-              → Ran old new (behind (behind (told_to text before) (offer_part offers.answers))
+              → Ran old new (behind (behind (told_to text s before) (offer_part offers.answers))
               (read_by does.answers)) after answer
           ran-read new after answer does =
-              let a = behind (told_to text before) (offer_part offers.answers) in
+              let a = behind (told_to text s before) (offer_part offers.answers) in
               let r = ran-offered mid between (Ok tt) offers in
               ran-on old mid new a.after a.calls between after (read_by does.answers) answer r.talks
               r.leads (record { talks = does.talks; leads = does.leads })
@@ -179,10 +179,10 @@ module _ {L : Type 0} (step : L → Call → L → Type 0) where
           -- it could not be read
           pub talks-unread : (new : L) (after : PortData) (why : Parting)
               → Does step read_by mid new between after (Err why)
-              → Does step (talk_part text) old new before after (Err why)
+              → Does step (talk_part text s) old new before after (Err why)
           talks-unread new after why does =
               let r = ran-read new after (Err why) does in
-              let b = behind (behind (told_to text before) (offer_part offers.answers))
+              let b = behind (behind (told_to text s before) (offer_part offers.answers))
               (read_by does.answers) in
               let last = ran-out old new b.after b.calls after line_part why r.talks r.leads in
               record {
@@ -195,10 +195,10 @@ module _ {L : Type 0} (step : L → Call → L → Type 0) where
           pub talks-whole : (new : L) (read after : PortData) (answer : Result (Unit {0}) Parting)
               → Does step read_by mid new between read (Ok tt)
               → Leads (line_part read).after after answer
-              → Does step (talk_part text) old new before after answer
+              → Does step (talk_part text s) old new before after answer
           talks-whole new read after answer does checks =
               let r = ran-read new read (Ok tt) does in
-              let b = behind (behind (told_to text before) (offer_part offers.answers))
+              let b = behind (behind (told_to text s before) (offer_part offers.answers))
               (read_by does.answers) in
               let last =
               ran-on old new new b.after b.calls read after line_part answer r.talks r.leads
@@ -211,6 +211,26 @@ module _ {L : Type 0} (step : L → Call → L → Type 0) where
                 talks = last.talks;
                 leads = last.leads;
               }
+
+  -- it was read twice
+  pub reads-first : (old mid new : L) (before between after : PortData)
+      (answer : Result (Unit {0}) Parting) → Does step read_by old mid before between (Ok tt)
+      → Does step read_by mid new between after answer
+      → Does step first_part old new before after answer
+  reads-first old mid new before between after answer first second =
+      let a = read_by first.answers before in
+      let r = ran-on old mid new a.after a.calls between after (read_by second.answers) answer
+      first.talks first.leads (record { talks = second.talks; leads = second.leads }) in
+      record { answers = (first.answers, second.answers); talks = r.talks; leads = r.leads }
+
+  -- the first read brought its end
+  pub reads-gone : (old new : L) (before after : PortData) (why : Parting)
+      → Does step read_by old new before after (Err why)
+      → Does step first_part old new before after (Err why)
+  reads-gone old new before after why first =
+      let a = read_by first.answers before in
+      let r = ran-out old new a.after a.calls after (read_by Silence) why first.talks first.leads in
+      record { answers = (first.answers, Silence); talks = r.talks; leads = r.leads }
 
   -- ---- behind a turn
 
@@ -227,51 +247,161 @@ module _ {L : Type 0} (step : L → Call → L → Type 0) where
         news_is = attends.news_is ∙ sym (ap (λ (a : Attended). a.news) is);
       }
 
-  -- a connection was asked for
-  pub takes-in : (old new : L) (before after : PortData) (news : Option News) (taken : Option Bool)
-      → Talks step old (taken_in taken before).calls new
-      → after ≡ (taken_in taken before).port → news ≡ (taken_in taken before).news
-      → Attends step (λ script. taken_in script.accepted before) old new after news
-  takes-in old new before after news taken talks port is =
+  -- no connection was accepted
+  pub accepts-none : (old new : L) (before : PortData) (taken : Option (Option SocketAddrV4))
+      → accepted_in taken (Silence, Silence) before
+      ≡ record { port = before; news = None; calls = Accepts 1 taken ∷ [] }
+      → step old (Accepts 1 taken) new
+      → Attends step (λ script. accepted_in script.accepted (script.heard, script.again) before)
+      old new before None
+  accepts-none old new before taken is call =
       record {
-        script = record { accepted = taken; taken = None; heard = Silence };
-        talks = talks;
-        port = port;
-        news_is = is;
+        script = record { accepted = taken; taken = None; heard = Silence; again = Silence };
+        talks = rw is (new, call, refl);
+        port = rw is refl;
+        news_is = rw is refl;
       }
+
+  -- one was, and it was welcomed
+  pub accepts-one : (old mid new : L) (from : SocketAddrV4) (before after : PortData)
+      (news : Option News)
+      → step old (Accepts 1 (Some (Some from))) mid
+      → Attends step
+      (λ script. welcomed before
+      (first_part (script.heard, script.again) (emptied Here before))) mid new after news
+      → Attends step (λ script. accepted_in script.accepted (script.heard, script.again) before)
+      old new after news
+  accepts-one old mid new from before after news call welcomes =
+      let s = welcomes.script in
+      record {
+        script =
+            record { accepted = Some (Some from); taken = None; heard = s.heard; again = s.again };
+        talks = (mid, call, welcomes.talks);
+        port = welcomes.port;
+        news_is = welcomes.news_is;
+      }
+
+  -- it is taken
+  pub welcomes-taken : (old new : L) (before after : PortData)
+      → Does step first_part old new (emptied Here before) after (Ok tt)
+      → Attends step (λ script. welcomed before
+      (first_part (script.heard, script.again) (emptied Here before)))
+      old new after (Some Opened)
+  welcomes-taken old new before after does =
+      by-part (first_part does.answers (emptied Here before)) refl does.talks does.leads
+    where
+      script : Script
+      script = record {
+        accepted = None;
+        taken = None;
+        heard = does.answers.0;
+        again = does.answers.1;
+      }
+
+      by-part : (part : Part) → first_part does.answers (emptied Here before) ≡ part
+          → Talks step old part.calls new → Leads part.after after (Ok tt)
+          → Attends step (λ script. welcomed before
+          (first_part (script.heard, script.again) (emptied Here before)))
+          old new after (Some Opened)
+      by-part part is talks leads = by-after part.after part.calls is talks leads
+        where
+          by-after : (r : Result PortData Parting) (calls : List Call)
+              → first_part does.answers (emptied Here before) ≡ record { after = r; calls = calls }
+              → Talks step old calls new → Leads r after (Ok tt)
+              → Attends step
+              (λ script. welcomed before
+              (first_part (script.heard, script.again) (emptied Here before)))
+              old new after (Some Opened)
+          by-after (Ok p) calls is talks leads = record {
+            script = script;
+            talks = rw is talks;
+            port = rw is leads;
+            news_is = rw is refl;
+          }
+          by-after (Err why) calls is talks leads = absurd leads
+
+  -- or it has gone
+  pub welcomes-gone : (old mid new : L) (before after : PortData) (why : Parting)
+      → Does step first_part old mid (emptied Here before) after (Err why) → step mid (Closes 1) new
+      → Attends step (λ script. welcomed before
+      (first_part (script.heard, script.again) (emptied Here before)))
+      old new (emptied Away before) None
+  welcomes-gone old mid new before after why does closes =
+      by-part (first_part does.answers (emptied Here before)) refl does.talks does.leads
+    where
+      script : Script
+      script = record {
+        accepted = None;
+        taken = None;
+        heard = does.answers.0;
+        again = does.answers.1;
+      }
+
+      by-part : (part : Part) → first_part does.answers (emptied Here before) ≡ part
+          → Talks step old part.calls mid → Leads part.after after (Err why)
+          → Attends step (λ script. welcomed before
+          (first_part (script.heard, script.again) (emptied Here before)))
+          old new (emptied Away before) None
+      by-part part is talks leads = by-after part.after part.calls is talks leads
+        where
+          by-after : (r : Result PortData Parting) (calls : List Call)
+              → first_part does.answers (emptied Here before) ≡ record { after = r; calls = calls }
+              → Talks step old calls mid → Leads r after (Err why)
+              → Attends step
+              (λ script. welcomed before
+              (first_part (script.heard, script.again) (emptied Here before)))
+              old new (emptied Away before) None
+          by-after (Ok p) calls is talks leads = absurd leads
+          by-after (Err w) calls is talks leads = record {
+            script = script;
+            talks =
+                rw is (Talks-append step old mid new calls (Closes 1 ∷ []) talks
+                (new, closes, refl));
+            port = rw is refl;
+            news_is = rw is refl;
+          }
 
   module _ (text : List ℕ) (s : State) (old mid : L) (before after : PortData) where
     attended-here : (script : Script) → before.standing ≡ Here
         → attendance text s script before
-        ≡ attended_here (talk_part text (script.taken, script.heard) before)
+        ≡ attended_here before (talk_part text s (script.taken, script.heard) before)
     attended-here script here = rw here refl
 
     -- a process stays
     pub attends-kept : before.standing ≡ Here
-        → Does step (talk_part text) old mid before after (Ok tt)
+        → Does step (talk_part text s) old mid before after (Ok tt)
         → Attends step (λ script. attendance text s script before) old mid after None
     attends-kept here does =
         attends-as (λ script. attendance text s script before)
-        (λ script. attended_here (talk_part text (script.taken, script.heard) before)) old mid after
+        (λ script. attended_here before (talk_part text s (script.taken, script.heard) before))
+        old mid after
         None (λ script. attended-here script here)
-        (by-part (talk_part text does.answers before) refl does.talks does.leads)
+        (by-part (talk_part text s does.answers before) refl does.talks does.leads)
       where
         script : Script
         script =
-            record { accepted = None; taken = does.answers.0; heard = does.answers.1 }
+            record {
+              accepted = None;
+              taken = does.answers.0;
+              heard = does.answers.1;
+              again = Silence;
+            }
 
-        by-part : (part : Part) → talk_part text does.answers before ≡ part
+        by-part : (part : Part) → talk_part text s does.answers before ≡ part
             → Talks step old part.calls mid → Leads part.after after (Ok tt)
             → Attends step
-            (λ script. attended_here (talk_part text (script.taken, script.heard) before)) old mid
+            (λ script. attended_here before (talk_part text s (script.taken, script.heard) before))
+            old mid
             after None
         by-part part is talks leads = by-after part.after part.calls is talks leads
           where
             by-after : (r : Result PortData Parting) (calls : List Call)
-                → talk_part text does.answers before ≡ record { after = r; calls = calls }
+                → talk_part text s does.answers before ≡ record { after = r; calls = calls }
                 → Talks step old calls mid → Leads r after (Ok tt)
                 → Attends step
-                (λ script. attended_here (talk_part text (script.taken, script.heard) before)) old
+                (λ script. attended_here before
+                (talk_part text s (script.taken, script.heard) before))
+                old
                 mid
                 after None
             by-after (Ok p) calls is talks leads = record {
@@ -284,33 +414,42 @@ module _ {L : Type 0} (step : L → Call → L → Type 0) where
 
     -- or it is closed
     pub attends-closed : (new : L) (why : Parting) → before.standing ≡ Here
-        → Does step (talk_part text) old mid before after (Err why) → step mid (Closes 1) new
-        → Attends step (λ script. attendance text s script before) old new (bare Leaving)
+        → Does step (talk_part text s) old mid before after (Err why) → step mid (Closes 1) new
+        → Attends step (λ script. attendance text s script before) old new (emptied Leaving before)
         (Some (Closed why))
     attends-closed new why here does closes =
         attends-as (λ script. attendance text s script before)
-        (λ script. attended_here (talk_part text (script.taken, script.heard) before)) old new
-        (bare Leaving) (Some (Closed why)) (λ script. attended-here script here)
-        (by-part (talk_part text does.answers before) refl does.talks does.leads)
+        (λ script. attended_here before (talk_part text s (script.taken, script.heard) before))
+        old new
+        (emptied Leaving before) (Some (Closed why)) (λ script. attended-here script here)
+        (by-part (talk_part text s does.answers before) refl does.talks does.leads)
       where
         script : Script
         script =
-            record { accepted = None; taken = does.answers.0; heard = does.answers.1 }
+            record {
+              accepted = None;
+              taken = does.answers.0;
+              heard = does.answers.1;
+              again = Silence;
+            }
 
-        by-part : (part : Part) → talk_part text does.answers before ≡ part
+        by-part : (part : Part) → talk_part text s does.answers before ≡ part
             → Talks step old part.calls mid → Leads part.after after (Err why)
             → Attends step
-            (λ script. attended_here (talk_part text (script.taken, script.heard) before)) old new
-            (bare Leaving) (Some (Closed why))
+            (λ script. attended_here before (talk_part text s (script.taken, script.heard) before))
+            old new
+            (emptied Leaving before) (Some (Closed why))
         by-part part is talks leads = by-after part.after part.calls is talks leads
           where
             by-after : (r : Result PortData Parting) (calls : List Call)
-                → talk_part text does.answers before ≡ record { after = r; calls = calls }
+                → talk_part text s does.answers before ≡ record { after = r; calls = calls }
                 → Talks step old calls mid → Leads r after (Err why)
                 → Attends step
-                (λ script. attended_here (talk_part text (script.taken, script.heard) before)) old
+                (λ script. attended_here before
+                (talk_part text s (script.taken, script.heard) before))
+                old
                 new
-                (bare Leaving) (Some (Closed why))
+                (emptied Leaving before) (Some (Closed why))
             by-after (Ok p) calls is talks leads = absurd leads
             by-after (Err w) calls is talks leads = record {
               script = script;
@@ -330,7 +469,8 @@ module _ {L : Type 0} (step : L → Call → L → Type 0) where
         (λ script. left_in (is_forgotten s) before) old old after None
         (λ script. rw leaving refl)
         (record {
-          script = record { accepted = None; taken = None; heard = Silence };
+          script =
+              record { accepted = None; taken = None; heard = Silence; again = Silence };
           talks = refl;
           port = is;
           news_is = refl;

@@ -1,16 +1,18 @@
 -- Lemmas on what holds of the port of a process.
-use Rattle.std.proofs.Common.{◌≡◌, ◌≢◌, ℕ, zero, suc, ◌+◌, ◌<◌, Bool, true, false, List, [], ◌∷◌, ◌++◌, length, take, drop, is_none, is_some, All, codes, Option, None, Some, nat_le, Result, Ok, Err, refl, sym, ap, ◌∙◌, subst, arith, append_assoc, append-nil, take-append-drop}
+use Rattle.std.proofs.Common.{◌≡◌, ◌≢◌, ℕ, zero, suc, ◌+◌, ◌<◌, Bool, ◌||◌, true, false, List, [], ◌∷◌, ◌++◌, length, take, drop, is_none, is_some, All, codes, Option, None, Some, nat_le, Result, Ok, Err, refl, sym, ap, ◌∙◌, subst, arith, append_assoc, append-nil, take-append-drop}
 use Rattle.std.proofs.lemmas.Iterator.Adapters.{position_from-zero}
 use Rattle.std.proofs.lemmas.List.Elements.{All-cons, All-nil}
 use Rattle.std.specs.List.{position_from}
+use Rattle.std.specs.declared.net.socket_addr.SocketAddrV4.{SocketAddrV4}
 use Rattle.bay_tree.specs.declared.row.Row.{Row}
 use Rattle.bay_nodes.specs.declared.switch.Switch.{Switch}
 use Rattle.bay_device.specs.Device.{State}
 use Rattle.bay_lines.specs.Fronts.{Front, Waiting, Overlong, Whole, front}
-use Rattle.bay_port.specs.Attending.{Attended, Part, Script, attendance, attended_here, behind, line_part, closed_or_kept, attended_as, left_in, offer_part, offered_of, on_heard, read_by, taken_in, talk_part, told_to}
-use Rattle.bay_port.specs.Fit.{forgetting_line, is_told, is_waiting, is_wrong, line_or_none, said_or_none}
-use Rattle.bay_port.specs.Laws.{AreBad, AreFalse, IsReadable, IsSilent, TellsInOrder, taken_of}
-use Rattle.bay_port.specs.Ports.{PortData, bare, taken_as, taken_front}
+use Rattle.bay_port.specs.Attending.{Attended, all_told, Part, Script, accepted_in, attendance, first_part, taken_or_closed, welcomed, attended_here, behind, line_part, closed_or_kept, attended_as, left_in, offer_part, offered_of, on_heard, read_by, talk_part, told_to}
+use Rattle.bay_port.specs.Fit.{forgetting_line, is_fit, is_told, is_waiting, is_wrong, line_or_none, said_or_none}
+use Rattle.bay_port.specs.Laws.{AreBad, AreFalse, IsReadable, IsSilent, TellsInOrder, hears_end, is_end, taken_of}
+use Rattle.bay_port.specs.Ports.{PortData, emptied, taken_as, taken_front}
+use Rattle.bay_port.specs.Releases.{told_after}
 use Rattle.bay_port.specs.Sound.{first_on, first_on_name, first_sound, is_forgotten, sound_from, tells_bad}
 use Rattle.bay_port.specs.Telling.{fits_in}
 use Rattle.bay_port.specs.declared.news.News.TheVariants.{Closed}
@@ -61,7 +63,11 @@ front-right : (f : Front) (p : PortData) (found : List ℕ)
     → (taken_front f p).line ≡ Some found → refusal_at (Some found) false ≡ None
 front-right Waiting p found e = absurd cc
 front-right Overlong p found e = absurd cc
-front-right (Whole line rest) p found e = some-right line found e
+front-right (Whole line rest) p found e = by-fit (is_fit line) refl
+  where
+    by-fit : (v : Bool) → is_fit line ≡ v → refusal_at (Some found) false ≡ None
+    by-fit true is = some-right line found (rw is at e)
+    by-fit false is = let none : None ≡ Some found = rw is at e in absurd cc
 
 taken-right : (standing : Presence) (s : State) (p : PortData) (found : List ℕ)
     → (taken_as standing s p).line ≡ Some found → refusal_at (Some found) false ≡ None
@@ -117,17 +123,94 @@ are-forgotten s e = by-sound (is_none (first_sound s)) refl (is_none (first_on s
     by-sound true bad false off = let none : false ≡ true = rw (bad, off) at e in absurd cc
     by-sound false bad b off = let none : false ≡ true = rw bad at e in absurd cc
 
-closed-bare : (r : Result PortData Parting) (calls : List Call) (why : Parting)
-    → (closed_or_kept r calls).news ≡ Some (Closed why)
-    → (closed_or_kept r calls).port ≡ bare Leaving
-closed-bare (Ok p) calls why e = absurd cc
-closed-bare (Err w) calls why e = refl
+closed-empty : (before : PortData) (r : Result PortData Parting) (calls : List Call)
+    (why : Parting) → (closed_or_kept before r calls).news ≡ Some (Closed why)
+    → (closed_or_kept before r calls).port ≡ emptied Leaving before
+closed-empty before (Ok p) calls why e = absurd cc
+closed-empty before (Err w) calls why e = refl
 
-accepted-bare : (taken : Option Bool) (p : PortData) (why : Parting)
-    → (taken_in taken p).news ≡ Some (Closed why) → (taken_in taken p).port ≡ bare Leaving
-accepted-bare None p why e = absurd cc
-accepted-bare (Some false) p why e = absurd cc
-accepted-bare (Some true) p why e = absurd cc
+-- a process that comes is not told as closed
+welcomed-open : (before : PortData) (r : Result PortData Parting) (calls : List Call)
+    (why : Parting) → (taken_or_closed before r calls).news ≡ Some (Closed why) → ⊥
+welcomed-open before (Ok p) calls why e = cc
+welcomed-open before (Err gone) calls why e = cc
+
+accepted-open : (taken : Option (Option SocketAddrV4)) (heard : ReadOutcome × ReadOutcome)
+    (p : PortData)
+    (why : Parting) → (accepted_in taken heard p).news ≡ Some (Closed why) → ⊥
+accepted-open None heard p why e = cc
+accepted-open (Some None) heard p why e = cc
+accepted-open (Some (Some from)) heard p why e =
+    let part = first_part heard (emptied Here p) in welcomed-open p part.after part.calls why e
+
+-- one that has gone while it waited
+record Untaken (p : PortData) (a : Attended) : Type 0 where
+  news : a.news ≡ None
+  port : a.port ≡ emptied Away p
+
+again-untaken : (before : PortData) (octets : List ℕ) (again : ReadOutcome)
+    → (let part = read_by again (record (emptied Here before) { kept = octets }) in
+    let calls = Reads 1 4096 (Octets octets) ∷ part.calls in hears_end calls ≡ true
+    → Untaken before (taken_or_closed before part.after calls))
+again-untaken before octets again = by-front (is_waiting (front octets)) refl
+  where
+    p : PortData
+    p = record (emptied Here before) { kept = octets }
+
+    by-front : (v : Bool) → is_waiting (front octets) ≡ v
+        → (let part = read_by again p in
+        let calls = Reads 1 4096 (Octets octets) ∷ part.calls in hears_end calls ≡ true
+        → Untaken before (taken_or_closed before part.after calls))
+    by-front true e = rw e (by-again again)
+      where
+        by-again : (h : ReadOutcome)
+            → (let part = on_heard h p (Reads 1 4096 h ∷ []) in
+            let calls = Reads 1 4096 (Octets octets) ∷ part.calls in hears_end calls ≡ true
+            → Untaken before (taken_or_closed before part.after calls))
+        by-again (Octets more) ends = absurd cc
+        by-again Silence ends = absurd cc
+        by-again Over ends = record { news = refl; port = refl }
+        by-again Broken ends = record { news = refl; port = refl }
+    by-front false e = rw e (λ ends. absurd cc)
+
+first-untaken : (before : PortData) (heard : ReadOutcome × ReadOutcome)
+    → hears_end (first_part heard (emptied Here before)).calls ≡ true
+    → Untaken before (welcomed before (first_part heard (emptied Here before)))
+first-untaken before heard = by-first heard.0 heard.1
+  where
+    by-first : (first again : ReadOutcome)
+        → hears_end (first_part (first, again) (emptied Here before)).calls ≡ true
+        → Untaken before (welcomed before (first_part (first, again) (emptied Here before)))
+    by-first (Octets octets) again ends = again-untaken before octets again ends
+    by-first Silence (Octets octets) ends = absurd cc
+    by-first Silence Silence ends = absurd cc
+    by-first Silence Over ends = record { news = refl; port = refl }
+    by-first Silence Broken ends = record { news = refl; port = refl }
+    by-first Over again ends = record { news = refl; port = refl }
+    by-first Broken again ends = record { news = refl; port = refl }
+
+-- a closing ends nothing
+closes-nothing : (calls : List Call) → hears_end (calls ++ Closes 1 ∷ []) ≡ hears_end calls
+closes-nothing [] = refl
+closes-nothing (Accepts a taken ∷ calls) = closes-nothing calls
+closes-nothing (Reads a room heard ∷ calls) = ap (λ v. is_end heard || v) (closes-nothing calls)
+closes-nothing (Writes a octets taken ∷ calls) = closes-nothing calls
+closes-nothing (Closes a ∷ calls) = closes-nothing calls
+
+welcomed-ends : (before : PortData) (r : Result PortData Parting) (calls : List Call)
+    → hears_end (taken_or_closed before r calls).calls ≡ hears_end calls
+welcomed-ends before (Ok p) calls = refl
+welcomed-ends before (Err why) calls = closes-nothing calls
+
+accepted-untaken : (taken : Option (Option SocketAddrV4)) (heard : ReadOutcome × ReadOutcome)
+    (p : PortData)
+    → hears_end (accepted_in taken heard p).calls ≡ true → Untaken p (accepted_in taken heard p)
+accepted-untaken None heard p ends = absurd cc
+accepted-untaken (Some None) heard p ends = absurd cc
+accepted-untaken (Some (Some from)) heard p ends =
+    let part = first_part heard (emptied Here p) in
+    let u = first-untaken p heard (sym (welcomed-ends p part.after part.calls) ∙ ends) in
+    record { news = u.news; port = u.port }
 
 left-bad : (v : Bool) (p : PortData) → p.standing ≡ Leaving
     → (left_in v p).port.standing ≢ Leaving → v ≡ true
@@ -136,12 +219,13 @@ left-bad false p leaving other = absurd (other leaving)
 
 closed-as : (standing : Presence) (text : List ℕ) (s : State) (script : Script) (p : PortData)
     (why : Parting) → (attended_as standing text s script p).news ≡ Some (Closed why)
-    → (attended_as standing text s script p).port ≡ bare Leaving
-closed-as Away text s script p why e = accepted-bare script.accepted p why e
+    → (attended_as standing text s script p).port ≡ emptied Leaving p
+closed-as Away text s script p why e =
+    absurd (accepted-open script.accepted (script.heard, script.again) p why e)
 closed-as Leaving text s script p why e = absurd cc
 closed-as Here text s script p why e =
-    let part = talk_part text (script.taken, script.heard) p in
-    closed-bare part.after part.calls why e
+    let part = talk_part text s (script.taken, script.heard) p in
+    closed-empty p part.after part.calls why e
 
 pub is-silent : (text : List ℕ) (s : State) (script : Script) (p : PortData)
     → IsSilent text s script p
@@ -153,6 +237,11 @@ is-silent text s script p = record {
       are-forgotten s (left-bad (is_forgotten s) p leaving
       (λ e. other (ap (λ standing. (attended_as standing text s script p).port.standing) leaving
       ∙ e)));
+  untaken = λ away ends.
+      let is = ap (λ standing. attended_as standing text s script p) away in
+      let u = accepted-untaken script.accepted (script.heard, script.again) p
+      (ap (λ (a : Attended). hears_end a.calls) (sym is) ∙ ends) in
+      (ap (λ (a : Attended). a.news) is ∙ u.news, ap (λ (a : Attended). a.port) is ∙ u.port);
 }
 
 -- ---- what is told
@@ -190,18 +279,23 @@ tells-behind all (Ok p) calls f t next =
       waits = n.waits;
     }
 
-tells-told : (text : List ℕ) (p : PortData) → Tells (p.queue ++ text) (told_to text p)
-tells-told text p = by-room (fits_in p.queue text) refl
+tells-told : (text : List ℕ) (s : State) (p : PortData)
+    → Tells (p.queue ++ all_told text s p) (told_to text s p)
+tells-told text s p = by-room (fits_in p.queue all) refl
   where
-    by-room : (v : Bool) → fits_in p.queue text ≡ v → Tells (p.queue ++ text) (told_to text p)
+    all : List ℕ
+    all = all_told text s p
+
+    by-room : (v : Bool) → fits_in p.queue all ≡ v → Tells (p.queue ++ all) (told_to text s p)
     by-room true e = rw e (record {
-      rest = p.queue ++ text;
+      rest = p.queue ++ all;
       whole = refl;
-      waits = λ q is. let same : record p { queue = p.queue ++ text } ≡ q = cc in
+      waits = λ q is.
+          let same : record p { queue = p.queue ++ all; told = told_after s p.told } ≡ q = cc in
           ap (λ (d : PortData). d.queue) (sym same);
     })
     by-room false e =
-        rw e (record { rest = p.queue ++ text; whole = refl; waits = λ q is. absurd cc })
+        rw e (record { rest = p.queue ++ all; whole = refl; waits = λ q is. absurd cc })
 
 tells-taken : (queue : List ℕ) (taken : Option ℕ) (p : PortData) → p.queue ≡ queue
     → Tells queue (offered_of queue taken p)
@@ -259,16 +353,16 @@ tells-checked p = by-front (is_wrong (front p.kept)) refl
       waits = λ q e. let same : p ≡ q = cc in ap (λ (d : PortData). d.queue) (sym same);
     })
 
-tells-talked : (text : List ℕ) (answers : Option ℕ × ReadOutcome) (p : PortData)
-    → Tells (p.queue ++ text) (talk_part text answers p)
-tells-talked text answers p =
-    let all = p.queue ++ text in
-    let a = told_to text p in
+tells-talked : (text : List ℕ) (s : State) (answers : Option ℕ × ReadOutcome) (p : PortData)
+    → Tells (p.queue ++ all_told text s p) (talk_part text s answers p)
+tells-talked text s answers p =
+    let all = p.queue ++ all_told text s p in
+    let a = told_to text s p in
     let ta = tells-behind all a.after a.calls (offer_part answers.0)
     (record {
-      rest = (tells-told text p).rest;
-      whole = (tells-told text p).whole;
-      waits = (tells-told text p).waits;
+      rest = (tells-told text s p).rest;
+      whole = (tells-told text s p).whole;
+      waits = (tells-told text s p).waits;
     })
     (λ q. tells-taken q.queue answers.0 q refl) in
     let b = behind a (offer_part answers.0) in
@@ -279,31 +373,33 @@ tells-talked text answers p =
     tells-behind all c.after c.calls line_part
     (record { rest = tb.rest; whole = tb.whole; waits = tb.waits }) tells-checked
 
-closed-tells : (all : List ℕ) (r : Result PortData Parting) (calls : List Call) (rest : List ℕ)
-    → all ≡ taken_of calls ++ rest → all ≡ taken_of (closed_or_kept r calls).calls ++ rest
-closed-tells all (Ok p) calls rest e = e
-closed-tells all (Err why) calls rest e =
+closed-tells : (all : List ℕ) (before : PortData) (r : Result PortData Parting)
+    (calls : List Call) (rest : List ℕ) → all ≡ taken_of calls ++ rest
+    → all ≡ taken_of (closed_or_kept before r calls).calls ++ rest
+closed-tells all before (Ok p) calls rest e = e
+closed-tells all before (Err why) calls rest e =
     e ∙ ap (λ l. l ++ rest)
     (sym (append-nil (taken_of calls)) ∙ sym (taken-append calls (Closes 1 ∷ [])))
 
-kept-waits : (r : Result PortData Parting) (calls : List Call) (rest : List ℕ)
-    → ((p : PortData) → r ≡ Ok p → p.queue ≡ rest) → (closed_or_kept r calls).news ≡ None
-    → (closed_or_kept r calls).port.queue ≡ rest
-kept-waits (Ok p) calls rest waits e = waits p refl
-kept-waits (Err why) calls rest waits e = absurd cc
+kept-waits : (before : PortData) (r : Result PortData Parting) (calls : List Call)
+    (rest : List ℕ) → ((p : PortData) → r ≡ Ok p → p.queue ≡ rest)
+    → (closed_or_kept before r calls).news ≡ None
+    → (closed_or_kept before r calls).port.queue ≡ rest
+kept-waits before (Ok p) calls rest waits e = waits p refl
+kept-waits before (Err why) calls rest waits e = absurd cc
 
 pub tells-in-order : (text : List ℕ) (s : State) (script : Script) (p : PortData)
     → p.standing ≡ Here → TellsInOrder text s script p
 tells-in-order text s script p here =
-    let part = talk_part text (script.taken, script.heard) p in
-    let t = tells-talked text (script.taken, script.heard) p in
-    let is : attendance text s script p ≡ attended_here part =
+    let part = talk_part text s (script.taken, script.heard) p in
+    let t = tells-talked text s (script.taken, script.heard) p in
+    let is : attendance text s script p ≡ attended_here p part =
     ap (λ standing. attended_as standing text s script p) here in
     record {
       rest = t.rest;
-      whole = closed-tells (p.queue ++ text) part.after part.calls t.rest t.whole
+      whole = closed-tells (p.queue ++ all_told text s p) p part.after part.calls t.rest t.whole
           ∙ ap (λ (a : Attended). taken_of a.calls ++ t.rest) (sym is);
       waits = λ none. ap (λ (a : Attended). a.port.queue) is
-          ∙ kept-waits part.after part.calls t.rest t.waits
+          ∙ kept-waits p part.after part.calls t.rest t.waits
           (ap (λ (a : Attended). a.news) (sym is) ∙ none);
     }

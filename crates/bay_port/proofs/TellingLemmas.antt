@@ -27,6 +27,18 @@ module _ (old x y text : List ℕ) (fits : Bool) (is : fits ≡ fits_in old x) (
               ∙ ap (λ l. old ++ l) (sym parts);
         }
 
+-- two texts were put, one after the other
+pub puts-both : (old mid new x y : List ℕ) (answer : Bool) → PutsWhole old x mid true
+    → PutsWhole mid y new answer → PutsWhole old (x ++ y) new answer
+puts-both old mid new x y answer first second =
+    puts-next old x y (x ++ y) true first.fits refl mid new answer refl (first.after refl) second
+
+-- or the first was not
+pub puts-neither : (old mid new x y : List ℕ) → PutsWhole old x mid false
+    → PutsWhole old (x ++ y) new false
+puts-neither old mid new x y first =
+    puts-failed old x y (x ++ y) false first.fits refl new refl
+
 -- what was put is within the room
 pub puts-within : (old x mid : List ℕ) (fits : Bool) → fits ≡ fits_in old x → fits ≡ true
     → mid ≡ (if fits then old ++ x else old) → length mid ≤ 65536

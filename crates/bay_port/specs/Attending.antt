@@ -1,10 +1,13 @@
 -- What is done with the connection of the process behind a turn: what it is told, and what it
 -- sends.
-use Rattle.std.specs.Prelude.{◌≡◌, ℕ, Bool, true, false, List, [], ◌∷◌, ◌++◌, drop, Option, None, Some, Result, Ok, Err, if◌then◌else◌}
+use Rattle.std.specs.Prelude.{◌≡◌, ℕ, Bool, List, [], ◌∷◌, ◌++◌, drop, Option, None, Some, Result, Ok, Err, if◌then◌else◌}
+use Rattle.std.specs.declared.net.socket_addr.SocketAddrV4.{SocketAddrV4}
 use Rattle.bay_device.specs.Device.{State}
 use Rattle.bay_lines.specs.Fronts.{front}
-use Rattle.bay_port.specs.Fit.{is_waiting, is_wrong}
-use Rattle.bay_port.specs.Ports.{PortData, bare}
+use Rattle.bay_lines.specs.Shown.{shown_text}
+use Rattle.bay_port.specs.Fit.{is_waiting, is_wrong, line_or_all}
+use Rattle.bay_port.specs.Ports.{PortData, emptied}
+use Rattle.bay_port.specs.Releases.{releases_text, said_in, told_after}
 use Rattle.bay_port.specs.Sound.{is_forgotten}
 use Rattle.bay_port.specs.Telling.{fits_in}
 use Rattle.bay_port.specs.declared.news.News.{News}
@@ -15,12 +18,13 @@ use Rattle.bay_port.specs.declared.port.Presence.{Presence}
 use Rattle.bay_port.specs.declared.port.Presence.TheVariants.{Away, Leaving, Here}
 use Rattle.bay_serve.specs.Calls.{Call, Accepts, Reads, Writes, Closes, ReadOutcome, Octets, Silence, Over, Broken, Talks}
 
--- what the link answered: whether a connection was taken, how many octets of a write, and what a
--- read brought
+-- what the link answered: whether a connection was accepted, how many octets of a write were taken,
+-- what a read brought, and what a second one
 pub record Script : Type 0 where
-  pub accepted : Option Bool
+  pub accepted : Option (Option SocketAddrV4)
   pub taken : Option ℕ
   pub heard : ReadOutcome
+  pub again : ReadOutcome
 
 -- a part of what is done with a process that is there: the port behind it, or why the connection is
 -- closed; and the calls on the link, in which it is association 1
@@ -36,10 +40,15 @@ parting why calls = record { after = Err why; calls = calls }
 
 -- ---- the parts
 
--- what a turn tells goes whole into the queue
-abbrev pub told_to : List ℕ → PortData → Part
-told_to text p =
-    if fits_in p.queue text then going (record p { queue = p.queue ++ text }) []
+-- what a turn tells, and then the releases that have changed
+abbrev pub all_told : List ℕ → State → PortData → List ℕ
+all_told text s p = text ++ releases_text s (said_in s p.told)
+
+-- goes whole into the queue
+abbrev pub told_to : List ℕ → State → PortData → Part
+told_to text s p =
+    if fits_in p.queue (all_told text s p)
+    then going (record p { queue = p.queue ++ all_told text s p; told = told_after s p.told }) []
     else parting QueueFull []
 
 -- how many octets the link took
@@ -67,9 +76,12 @@ abbrev pub read_by : ReadOutcome → PortData → Part
 read_by heard p =
     if is_waiting (front p.kept) then on_heard heard p (Reads 1 4096 heard ∷ []) else going p []
 
--- a line that can't be taken ends the connection
+-- a line that can't be taken ends the connection, and is told
 abbrev pub line_part : PortData → Part
-line_part p = if is_wrong (front p.kept) then parting BadLine [] else going p []
+line_part p =
+    if is_wrong (front p.kept)
+    then parting (BadLine (shown_text (line_or_all (front p.kept) p.kept))) []
+    else going p []
 
 -- ---- one after the other
 
@@ -81,10 +93,10 @@ part_then (Ok p) calls next =
 abbrev pub behind : Part → (PortData → Part) → Part
 behind part next = part_then part.after part.calls next
 
--- the process is told, it is offered what waits, it is read, and its line is looked at
-abbrev pub talk_part : List ℕ → Option ℕ × ReadOutcome → PortData → Part
-talk_part text answers p =
-    behind (behind (behind (told_to text p) (offer_part answers.0)) (read_by answers.1)) line_part
+-- The process is told, it is offered what waits, it is read, and its line is looked at
+abbrev pub talk_part : List ℕ → State → Option ℕ × ReadOutcome → PortData → Part
+talk_part text s answers p =
+    behind (behind (behind (told_to text s p) (offer_part answers.0)) (read_by answers.1)) line_part
 
 -- ---- behind a turn
 
@@ -95,30 +107,53 @@ pub record Attended : Type 0 where
   pub calls : List Call
 
 -- a process that is there is closed, or stays
-abbrev pub closed_or_kept : Result PortData Parting → List Call → Attended
-closed_or_kept (Ok p) calls = record { port = p; news = None; calls = calls }
-closed_or_kept (Err why) calls =
-    record { port = bare Leaving; news = Some (Closed why); calls = calls ++ Closes 1 ∷ [] }
+abbrev pub closed_or_kept : PortData → Result PortData Parting → List Call → Attended
+closed_or_kept before (Ok p) calls = record { port = p; news = None; calls = calls }
+closed_or_kept before (Err why) calls = record {
+  port = emptied Leaving before;
+  news = Some (Closed why);
+  calls = calls ++ Closes 1 ∷ [];
+}
 
-abbrev pub attended_here : Part → Attended
-attended_here part = closed_or_kept part.after part.calls
+abbrev pub attended_here : PortData → Part → Attended
+attended_here before part = closed_or_kept before part.after part.calls
 
--- a connection that waits is taken
-abbrev pub taken_in : Option Bool → PortData → Attended
-taken_in None p = record { port = p; news = None; calls = Accepts 1 None ∷ [] }
-taken_in (Some false) p = record { port = p; news = None; calls = Accepts 1 (Some false) ∷ [] }
-taken_in (Some true) p =
-    record { port = bare Here; news = Some Opened; calls = Accepts 1 (Some true) ∷ [] }
+-- a process that has come is read twice: one that has gone while it waited has left its last octets
+-- and then its end
+abbrev pub first_part : ReadOutcome × ReadOutcome → PortData → Part
+first_part answers p = behind (read_by answers.0 p) (read_by answers.1)
+
+-- it is taken, or closed where it has gone
+abbrev pub taken_or_closed : PortData → Result PortData Parting → List Call → Attended
+taken_or_closed before (Ok p) calls = record { port = p; news = Some Opened; calls = calls }
+taken_or_closed before (Err why) calls =
+    record { port = emptied Away before; news = None; calls = calls ++ Closes 1 ∷ [] }
+
+abbrev pub welcomed : PortData → Part → Attended
+welcomed before part = taken_or_closed before part.after part.calls
+
+abbrev pub with_call : Call → Attended → Attended
+with_call call a = record a { calls = call ∷ a.calls }
+
+-- a connection that waits is accepted
+abbrev pub accepted_in : Option (Option SocketAddrV4) → ReadOutcome × ReadOutcome → PortData
+    → Attended
+accepted_in None heard p = record { port = p; news = None; calls = Accepts 1 None ∷ [] }
+accepted_in (Some None) heard p =
+    record { port = p; news = None; calls = Accepts 1 (Some None) ∷ [] }
+accepted_in (Some (Some from)) heard p =
+    with_call (Accepts 1 (Some (Some from))) (welcomed p (first_part heard (emptied Here p)))
 
 -- once each switch is bad and each input FALSE another process may come
 abbrev pub left_in : Bool → PortData → Attended
 left_in forgotten p =
-    record { port = if forgotten then bare Away else p; news = None; calls = [] }
+    record { port = if forgotten then emptied Away p else p; news = None; calls = [] }
 
 abbrev pub attended_as : Presence → List ℕ → State → Script → PortData → Attended
-attended_as Away text s script p = taken_in script.accepted p
+attended_as Away text s script p = accepted_in script.accepted (script.heard, script.again) p
 attended_as Leaving text s script p = left_in (is_forgotten s) p
-attended_as Here text s script p = attended_here (talk_part text (script.taken, script.heard) p)
+attended_as Here text s script p =
+    attended_here p (talk_part text s (script.taken, script.heard) p)
 
 -- What is done behind a turn that told this text, by the device after it.
 abbrev pub attendance : List ℕ → State → Script → PortData → Attended

@@ -5,6 +5,6 @@ use Rattle.bay_port.specs.declared.news.Parting.TheVariants.{Ended, BadLine, Que
 
 abbrev pub code_of : Parting → ℕ
 code_of Ended = 0
-code_of BadLine = 120
+code_of (BadLine line) = 120
 code_of QueueFull = 130
 code_of LinkFailed = 131

@@ -18,6 +18,12 @@ is_wrong Waiting = false
 is_wrong Overlong = true
 is_wrong (Whole line rest) = not (is_fit line)
 
+-- the line that stands in front, or all that does
+abbrev pub line_or_all : Front → List ℕ → List ℕ
+line_or_all Waiting xs = xs
+line_or_all Overlong xs = xs
+line_or_all (Whole line rest) xs = line
+
 -- there is no whole line
 abbrev pub is_waiting : Front → Bool
 is_waiting Waiting = true

@@ -1,14 +1,14 @@
 -- What holds of the port of a process, turn after turn.
-use Rattle.std.specs.Prelude.{◌≡◌, ◌≢◌, ℕ, ◌<◌, true, false, All, List, [], ◌∷◌, ◌++◌, length, take, None, Some}
+use Rattle.std.specs.Prelude.{◌≡◌, ◌≢◌, ℕ, ◌<◌, Bool, ◌||◌, true, false, All, List, [], ◌∷◌, ◌++◌, length, take, None, Some}
 use Rattle.bay_device.specs.Device.{State}
-use Rattle.bay_port.specs.Attending.{Script, attendance}
+use Rattle.bay_port.specs.Attending.{Script, all_told, attendance}
 use Rattle.bay_port.specs.Fit.{forgetting_line}
-use Rattle.bay_port.specs.Ports.{PortData, bare, taken_line}
+use Rattle.bay_port.specs.Ports.{PortData, emptied, taken_line}
 use Rattle.bay_port.specs.Sound.{first_on_name, first_sound, is_bad}
 use Rattle.bay_port.specs.declared.news.News.TheVariants.{Closed}
 use Rattle.bay_port.specs.declared.news.Parting.{Parting}
-use Rattle.bay_port.specs.declared.port.Presence.TheVariants.{Leaving}
-use Rattle.bay_serve.specs.Calls.{Call, Accepts, Reads, Writes, Closes}
+use Rattle.bay_port.specs.declared.port.Presence.TheVariants.{Away, Leaving}
+use Rattle.bay_serve.specs.Calls.{Call, Accepts, Reads, Writes, Closes, ReadOutcome, Octets, Silence, Over, Broken}
 use Rattle.bay_serve.specs.Served.{refusal_at}
 
 -- each switch is bad
@@ -19,17 +19,36 @@ AreBad s = (k : ℕ) → k < length s.switches → is_bad s k ≡ true
 abbrev pub AreFalse : State → Type 0
 AreFalse s = All (λ value. value ≡ false) s.input_values
 
--- Behind a closing nothing is kept. Then a turn has no line of the port but that the first switch
--- which is not bad is so, or, where each is bad, that the first input which is TRUE is FALSE; the
--- link is not asked; and that ends only where each switch is bad and each input FALSE.
+-- the end of what a process sends, or a failure
+abbrev pub is_end : ReadOutcome → Bool
+is_end (Octets octets) = false
+is_end Silence = false
+is_end Over = true
+is_end Broken = true
+
+-- a read brought it
+abbrev pub hears_end : List Call → Bool
+hears_end [] = false
+hears_end (Accepts a taken ∷ calls) = hears_end calls
+hears_end (Reads a room heard ∷ calls) = is_end heard || hears_end calls
+hears_end (Writes a octets taken ∷ calls) = hears_end calls
+hears_end (Closes a ∷ calls) = hears_end calls
+
+-- Behind a closing nothing is kept, and nothing counts as told. Then a turn has no line of the port
+-- but that the first switch which is not bad is so, or, where each is bad, that the first input
+-- which is TRUE is FALSE; the link is not asked; and that ends only where each switch is bad and
+-- each input FALSE. Of a process that has gone while it waited nothing is kept or told.
 pub record IsSilent (text : List ℕ) (s : State) (script : Script) (p : PortData) : Type 0 where
   pub closed : (why : Parting) → (attendance text s script p).news ≡ Some (Closed why)
-      → (attendance text s script p).port ≡ bare Leaving
+      → (attendance text s script p).port ≡ emptied Leaving p
   pub lines : p.standing ≡ Leaving
       → (taken_line s p).line ≡ forgetting_line (first_sound s) (first_on_name s)
   pub calls : p.standing ≡ Leaving → (attendance text s script p).calls ≡ []
   pub ends : p.standing ≡ Leaving → (attendance text s script p).port.standing ≢ Leaving
       → AreBad s × AreFalse s
+  pub untaken : p.standing ≡ Away → hears_end (attendance text s script p).calls ≡ true
+      → ((attendance text s script p).news ≡ None)
+      × ((attendance text s script p).port ≡ emptied Away p)
 
 -- a line that the port has is not refused
 abbrev pub IsReadable : State → PortData → Type 0
@@ -45,11 +64,13 @@ taken_of (Writes a octets None ∷ calls) = taken_of calls
 taken_of (Writes a octets (Some n) ∷ calls) = take n octets ++ taken_of calls
 taken_of (Closes a ∷ calls) = taken_of calls
 
--- Of a process that is there the link takes what waited and then what the turn told, in order; what
--- it does not take still waits, or is lost where the connection is closed.
+-- Of a process that is there the link takes what waited, then what the turn told, and then the
+-- releases that have changed, in order; what it does not take still waits, or is lost where the
+-- connection is closed.
 pub record TellsInOrder (text : List ℕ) (s : State) (script : Script) (p : PortData)
     : Type 0 where
   pub rest : List ℕ
-  pub whole : p.queue ++ text ≡ taken_of (attendance text s script p).calls ++ rest
+  pub whole : p.queue ++ all_told text s p
+      ≡ taken_of (attendance text s script p).calls ++ rest
   pub waits : (attendance text s script p).news ≡ None
       → (attendance text s script p).port.queue ≡ rest

@@ -6,11 +6,14 @@
 -- `Telling`: what the process is told of a turn. `Attending`: what is done with the connection
 -- after a turn, by what the link answered.
 --
+-- `Releases`: what it is told of releases, and what it then knows of them.
+--
 -- `Laws`, turn after turn: after a closing nothing is kept and the link is not asked; the port's
--- lines then only make switches bad, until each is. No line of the port is refused. While the
--- connection stands, the link takes what the process is told in order; what it does not take waits,
--- or is lost if the connection is closed. `Uses`: of what the link gives since a process came no
--- line is lost, repeated or joined with another. `Code` numbers the reasons for closing.
+-- lines then only make switches bad and inputs FALSE, until each is. No line of the port is
+-- refused. While the connection stands, the link takes what the process is told in order; what it
+-- does not take waits, or is lost if the connection is closed. `Uses`: of what the link gives since
+-- a process was accepted no line is lost, repeated or joined with another; and a process that is
+-- told of releases knows them. `Code` numbers the reasons for closing.
 
 -- What public clauses cite of the crates below.
 pub use Rattle.bay_lines.specs.Fronts
@@ -22,6 +25,7 @@ pub mod Code
 pub mod Fit
 pub mod Laws
 pub mod Ports
+pub mod Releases
 pub mod Sound
 pub mod Telling
 pub mod Uses

@@ -1,13 +1,16 @@
--- The lines that turns have of a process, from when it comes, over all uses of its port.
-use Rattle.std.specs.Prelude.{◌≡◌, ℕ, List, [], ◌∷◌, ◌++◌, filter}
+-- The lines that turns have of a process, from when it is accepted, over all uses of its port.
+use Rattle.std.specs.Prelude.{◌≡◌, ℕ, ◌<◌, Bool, true, List, [], ◌∷◌, ◌++◌, length, filter, None, Some}
 use Rattle.std.specs.Option.{option_to_list}
 use Rattle.bay_device.specs.Device.{State}
+use Rattle.bay_device.specs.LookUps.{may_open, may_close}
 use Rattle.bay_lines.specs.Cuttings.{AreLines}
 use Rattle.bay_serve.specs.Calls.{Call, Accepts, Reads, Writes, Closes, ReadOutcome, Octets, Silence, Over, Broken}
 use Rattle.bay_port.specs.Attending.{Script, attendance}
 use Rattle.bay_port.specs.Fit.{is_told}
 use Rattle.bay_port.specs.Ports.{PortData, bare, taken_line}
-use Rattle.bay_port.specs.declared.port.Presence.TheVariants.{Here}
+use Rattle.bay_port.specs.Releases.{Release, last_said, said_in}
+use Rattle.bay_port.specs.declared.port.Presence.{Presence}
+use Rattle.bay_port.specs.declared.port.Presence.TheVariants.{Away, Leaving, Here}
 
 -- The port is used: a turn takes its line, or its connection is attended to behind a turn that told
 -- this text.
@@ -64,11 +67,37 @@ abbrev pub StaysHere : List Use → PortData → Type 0
 StaysHere [] p = Unit {0}
 StaysHere (u ∷ us) p = ((port_after u p).standing ≡ Here) × StaysHere us (port_after u p)
 
--- What the link gave since the process came is lines, each with its end, and then what is kept.
--- Turns had these lines, in order, but for those that tell nothing, as an empty one.
-pub record LosesNoLine (uses : List Use) : Type 0 where
+-- What the link gave, as the process was accepted and since, is lines, each with its end, and then
+-- what is kept. Turns had these lines, in order, but for those that tell nothing, as an empty one.
+pub record LosesNoLine (tells : Bool) (uses : List Use) : Type 0 where
   pub lines : List (List ℕ)
   pub text : List ℕ
   pub are : AreLines lines text
-  pub given : all_given uses (bare Here) ≡ text ++ (after_uses uses (bare Here)).kept
-  pub had : all_had uses (bare Here) ≡ filter is_told lines
+  pub given : all_given uses (bare tells Away)
+      ≡ text ++ (after_uses uses (bare tells Away)).kept
+  pub had : all_had uses (bare tells Away) ≡ filter is_told lines
+
+-- ---- releases
+
+-- what is said of releases in a use: behind a turn, to a process that is there
+abbrev pub said_as : Presence → State → PortData → List (ℕ × Release)
+said_as Away s p = []
+said_as Leaving s p = []
+said_as Here s p = said_in s p.told
+
+abbrev pub said_of : Use → PortData → List (ℕ × Release)
+said_of (Takes s) p = []
+said_of (Attends text s script) p = said_as p.standing s p
+
+abbrev pub all_said : List Use → PortData → List (ℕ × Release)
+all_said [] p = []
+all_said (u ∷ us) p = said_of u p ++ all_said us (port_after u p)
+
+-- A process that was there before a turn, and has been told of releases, was told last of each
+-- switch what its release is.
+abbrev pub IsUpToDate : List Use → List ℕ → State → Script → Type 0
+IsUpToDate uses text s script = (after_uses uses (bare true Away)).standing ≡ Here
+    → (attendance text s script (after_uses uses (bare true Away))).news ≡ None
+    → (k : ℕ) → k < 32 → k < length s.switches
+    → last_said k None (all_said (uses ++ Attends text s script ∷ []) (bare true Away))
+    ≡ Some (may_open s k, may_close s k)

@@ -1,7 +1,8 @@
 // What is done with the connection of the process behind a turn.
 ghost use Rattle.std.specs.Prelude.{◌≡◌};
 ghost use Rattle.bay_serve.specs.Calls.{Called};
-ghost use Rattle.bay_port.specs.Attending.{Attends, Does, attendance, left_in, taken_in, talk_part};
+ghost use Rattle.bay_port.specs.Attending.{Attends, Does, accepted_in, attendance, first_part, left_in, talk_part, welcomed};
+ghost use Rattle.bay_port.specs.Ports.{emptied};
 ghost use Rattle.bay_port.specs.Sound as spec;
 ghost use Rattle.bay_port.specs.Telling.{told_text};
 
@@ -12,8 +13,9 @@ use bay_device::device::Device;
 use bay_serve::link::Link;
 use bay_serve::told::Turn;
 
-/// Talks to a connected process: tells it what the turn reported, offers what is waiting, reads it,
-/// and checks its line. An error means that its connection is to be closed.
+/// Talks to a connected process: tells it what the turn reported and which releases have changed,
+/// offers what is waiting, reads it, and checks its line. An error means that its connection is to
+/// be closed.
 fn talk<L: Link>(
     port: &mut Port,
     link: &mut L,
@@ -21,7 +23,8 @@ fn talk<L: Link>(
     moment: u64,
     turn: &Turn,
 ) -> Result<(), Parting>
-    ensures { Does (Called L.does L.failures) (talk_part (told_text moment turn.now device.now))
+    ensures { Does (Called L.does L.failures)
+        (talk_part (told_text moment turn.now device.now) device.now)
         link.old link.new port.old port.new result }
 {
     port.tell(device, moment, turn)?;
@@ -30,17 +33,34 @@ fn talk<L: Link>(
     port.check()
 }
 
+/// Takes a process that was accepted, unless it has gone while it waited.
+fn welcome<L: Link>(port: &mut Port, link: &mut L) -> Option<News>
+    ensures { Attends (Called L.does L.failures)
+        (λ script. welcomed port.old
+        (first_part (script.heard, script.again) (emptied Presence.Here port.old)))
+        link.old link.new port.new result }
+{
+    let tells = port.tells_releases();
+    port.stand(Presence::Here, tells);
+    match port.read_first(link) {
+        Ok(()) => Some(News::Opened),
+        Err(_) => {
+            link.close(PROCESS);
+            port.stand(Presence::Away, tells);
+            None
+        }
+    }
+}
+
 /// Accepts a waiting connection, if there is one.
 fn accept<L: Link>(port: &mut Port, link: &mut L) -> Option<News>
-    ensures { Attends (Called L.does L.failures) (λ script. taken_in script.accepted port.old)
+    ensures { Attends (Called L.does L.failures)
+        (λ script. accepted_in script.accepted (script.heard, script.again) port.old)
         link.old link.new port.new result }
 {
     match link.accept(PROCESS) {
-        Ok(true) => {
-            port.stand(Presence::Here);
-            Some(News::Opened)
-        }
-        Ok(false) => None,
+        Ok(Some(_)) => welcome(port, link),
+        Ok(None) => None,
         Err(_) => None,
     }
 }
@@ -50,18 +70,20 @@ fn leave(port: &mut Port, device: &Device)
     ensures { port.new ≡ (left_in (spec.is_forgotten device.now) port.old).port }
 {
     if is_forgotten(device) {
-        port.stand(Presence::Away);
+        let tells = port.tells_releases();
+        port.stand(Presence::Away, tells);
     }
 }
 
 /// Attends to the connection of the process after a turn, given the device after it, and returns
 /// what happened to the connection.
 ///
-/// A waiting connection is accepted. A connected process is told the turn's refusal and commands,
-/// each line as it is printed; what is waiting is offered once; and it is read once if no whole
-/// line is kept. The connection is closed at its end, for an invalid line, for a full queue, and if
-/// a read or a write fails. After that, none is accepted before every switch is bad and every input
-/// FALSE.
+/// A waiting connection is accepted and read; one that has gone itself, and left no whole line, is
+/// closed again and not reported. A connected process is told the turn's refusal and commands, each
+/// line as it is printed, and the releases that have changed, if it is told of them; what is
+/// waiting is offered once; and it is read once if no whole line is kept. The connection is closed
+/// at its end, for an invalid line, for a full queue, and if a read or a write fails. After that,
+/// none is accepted before every switch is bad and every input FALSE.
 pub fn attend<L: Link>(
     port: &mut Port,
     link: &mut L,
@@ -73,6 +95,7 @@ pub fn attend<L: Link>(
         (λ script. attendance (told_text moment turn.now device.now) device.now script port.old)
         link.old link.new port.new result }
 {
+    let tells = port.tells_releases();
     match port.standing() {
         Presence::Away => accept(port, link),
         Presence::Leaving => {
@@ -83,7 +106,7 @@ pub fn attend<L: Link>(
             Ok(()) => None,
             Err(why) => {
                 link.close(PROCESS);
-                port.stand(Presence::Leaving);
+                port.stand(Presence::Leaving, tells);
                 Some(News::Closed(why))
             }
         },

@@ -1,7 +1,7 @@
 // The line that a turn can take.
 ghost use Rattle.std.specs.Prelude.{◌≡◌, ◌≤◌, length, option_map};
 ghost use Rattle.bay_lines.specs.Fronts.{front};
-ghost use Rattle.bay_port.specs.Fit.{forgetting_line, is_waiting, is_wrong, line_or_none, line_if, said_or_none};
+ghost use Rattle.bay_port.specs.Fit.{forgetting_line, is_waiting, is_wrong, line_or_all, line_or_none, line_if, said_or_none};
 ghost use Rattle.bay_port.specs.Fit as spec;
 
 use arrayvec::ArrayVec;
@@ -22,7 +22,7 @@ fn is_told(line: &[u8]) -> bool
 }
 
 /// Whether a line is empty, or reports a contact, an input or a measurement.
-fn is_fit(line: &[u8]) -> bool
+pub fn is_fit(line: &[u8]) -> bool
     ensures { result ≡ spec.is_fit line.now }
 {
     line.is_empty() || is_told(line)
@@ -78,6 +78,17 @@ pub fn is_wrong_in_front(octets: &[u8]) -> bool
         Found::Waiting => false,
         Found::Overlong => true,
         Found::Whole { line, .. } => !is_fit(&octets[..line]),
+    }
+}
+
+/// Returns the first line, or all octets where there is none.
+pub fn line_in_front_or_all(octets: &[u8]) -> &[u8]
+    ensures { result.now ≡ line_or_all (front octets.now) octets.now }
+{
+    match line_in_front(octets) {
+        Found::Waiting => octets,
+        Found::Overlong => octets,
+        Found::Whole { line, .. } => &octets[..line],
     }
 }
 

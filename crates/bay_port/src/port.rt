@@ -1,20 +1,25 @@
 // What is kept of the process.
-ghost use Rattle.std.specs.Prelude.{◌≡◌, [], false, not, IfOk, if◌then◌else◌};
+ghost use Rattle.std.specs.Prelude.{◌≡◌, [], is_some, false, not, IfOk, if◌then◌else◌};
 ghost use Rattle.bay_serve.specs.Calls.{Called};
-ghost use Rattle.bay_port.specs.Attending.{Does, Leads, line_part, offer_part, read_by, told_to};
+ghost use Rattle.bay_port.specs.Attending.{Does, Leads, first_part, line_part, offer_part, read_by, told_to};
 ghost use Rattle.bay_port.specs.Ports.{bare, taken_front, taken_line};
 ghost use Rattle.bay_port.specs.Fit.{line_if};
 ghost use Rattle.bay_lines.specs.Fronts.{front};
 ghost use Rattle.bay_port.specs.Ports as spec;
 ghost use Rattle.bay_port.specs.Telling.{told_text};
 
-use crate::fit::{Line, is_waiting_in_front, is_wrong_in_front, put_forgetting_line, put_line};
+use crate::fit::{
+    Line, is_fit, is_waiting_in_front, is_wrong_in_front, line_in_front_or_all,
+    put_forgetting_line, put_line,
+};
 use crate::news::Parting;
+use crate::releases::{Told, put_releases, told_if};
 use crate::sound::{first_on_name, first_sound};
 use crate::telling::{Queue, put_told};
 use bay_device::device::Device;
 use bay_lines::front::{Found, line_in_front};
 use bay_lines::kept::Kept;
+use bay_lines::shown::Shown;
 use bay_serve::link::{Arrival, Link};
 use bay_serve::told::Turn;
 use std::alloc::{AllocError, Global};
@@ -40,13 +45,14 @@ pub enum Presence {
     Here,
 }
 
-/// The port of a process: its state, what it has sent that no turn has taken, and what is still to
-/// be sent to it.
+/// The port of a process: its state, what it has sent that no turn has taken, what is still to be
+/// sent to it, and which releases it was told last.
 #[derive(Drop)]
 pub struct Port {
     standing: Presence,
     kept: Kept<ROOM>,
     queue: Queue,
+    told: Option<Told>,
 }
 
 impl Model for Port {
@@ -54,14 +60,15 @@ impl Model for Port {
 
     ghost Value = { PortData };
 
-    ghost view = { λ p. record { standing = p.standing; kept = p.kept; queue = p.queue } };
+    ghost view = { λ p. record
+        { standing = p.standing; kept = p.kept; queue = p.queue; told = p.told } };
 }
 
 impl Port {
-    /// Creates a port to which a process may come. Allocates the room for what is kept and what is
-    /// to be sent.
-    pub fn new(alloc: Global) -> Result<Self, AllocError>
-        ensures { IfOk result (λ port. port ≡ bare Presence.Away) }
+    /// Creates a port to which a process may come, which is told of releases if `tells_releases` is
+    /// true. Allocates the room for what is kept and what is to be sent.
+    pub fn new(alloc: Global, tells_releases: bool) -> Result<Self, AllocError>
+        ensures { IfOk result (λ port. port ≡ bare tells_releases Presence.Away) }
     {
         let kept = Kept::new(alloc)?;
         let queue = Kept::new(alloc)?;
@@ -69,6 +76,7 @@ impl Port {
             standing: Presence::Away,
             kept,
             queue,
+            told: told_if(tells_releases),
         })
     }
 
@@ -91,16 +99,26 @@ impl Port {
         (self.kept.as_slice().len(), self.queue.as_slice().len())
     }
 
-    /// Sets the state of the process, and drops everything that is kept or waiting to be sent.
-    pub(crate) fn stand(&mut self, standing: Presence)
-        ensures { self.new ≡ bare standing }
+    /// Whether a process is told of releases.
+    pub(crate) fn tells_releases(&self) -> bool
+        ensures { result ≡ is_some self.now.told }
+    {
+        self.told.is_some()
+    }
+
+    /// Sets the state of the process, and whether it is told of releases. Drops everything that is
+    /// kept or waiting to be sent, and forgets which releases were told.
+    pub(crate) fn stand(&mut self, standing: Presence, tells_releases: bool)
+        ensures { self.new ≡ bare tells_releases standing }
     {
         self.standing = standing;
         self.kept.clear();
         self.queue.clear();
+        self.told = told_if(tells_releases);
     }
 
-    /// Takes the first line of what was sent. Returns false if there is none that reports anything.
+    /// Takes the first line of what was sent. Returns false if there is none that reports anything;
+    /// an invalid one stays.
     fn take_front(&mut self, line: &mut Line) -> bool
         ensures line { line_if result line.new.items
             ≡ (taken_front (front self.old.kept) self.old).line }
@@ -108,6 +126,9 @@ impl Port {
     {
         match line_in_front(self.kept.as_slice()) {
             Found::Whole { line: length, end } => {
+                if !is_fit(&self.kept.as_slice()[..length]) {
+                    return false;
+                }
                 let is_line = put_line(line, &self.kept.as_slice()[..length]);
                 self.kept.drop_front(end);
                 is_line
@@ -131,12 +152,15 @@ impl Port {
         }
     }
 
-    /// Puts what a turn reports into the queue as a whole.
+    /// Puts what a turn reports into the queue as a whole, and then the releases that have changed,
+    /// if the process is told of them.
     pub(crate) fn tell(&mut self, device: &Device, moment: u64, turn: &Turn) -> Result<(), Parting>
-        ensures { Leads (told_to (told_text moment turn.now device.now) self.old).after self.new
-            result }
+        ensures { Leads (told_to (told_text moment turn.now device.now) device.now self.old).after
+            self.new result }
     {
-        if put_told(&mut self.queue, device, moment, turn) {
+        if put_told(&mut self.queue, device, moment, turn)
+            && put_releases(&mut self.queue, device, &mut self.told)
+        {
             Ok(())
         } else {
             Err(Parting::QueueFull)
@@ -180,12 +204,23 @@ impl Port {
         }
     }
 
-    /// Checks the first line, if there is one.
+    /// Reads a process that was accepted. Reads it twice, since one that has gone while it waited
+    /// has left its last octets and then its end.
+    pub(crate) fn read_first<L: Link>(&mut self, link: &mut L) -> Result<(), Parting>
+        ensures { Does (Called L.does L.failures) first_part link.old link.new self.old self.new
+            result }
+    {
+        self.read(link)?;
+        self.read(link)
+    }
+
+    /// Checks the first line, if there is one. A line that is wrong is told.
     pub(crate) fn check(&self) -> Result<(), Parting>
         ensures { Leads (line_part self.now).after self.now result }
     {
-        if is_wrong_in_front(self.kept.as_slice()) {
-            Err(Parting::BadLine)
+        let kept = self.kept.as_slice();
+        if is_wrong_in_front(kept) {
+            Err(Parting::BadLine(Shown::new(line_in_front_or_all(kept))))
         } else {
             Ok(())
         }

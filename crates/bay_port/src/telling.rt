@@ -16,7 +16,7 @@ pub const QUEUE: usize = 65_536;
 pub type Queue = Kept<QUEUE>;
 
 /// Appends the parts of a text. Returns false if there is not room for all of them.
-fn put_parts(queue: &mut Queue, parts: &[&[u8]]) -> bool
+pub fn put_parts(queue: &mut Queue, parts: &[&[u8]]) -> bool
     ensures { PutsWhole queue.old (text_of parts.now) queue.new result }
 {
     let _ = queue.as_slice();

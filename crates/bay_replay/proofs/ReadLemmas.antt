@@ -26,7 +26,7 @@ pub unread-replay : (input : Option (List ℕ)) (fault : ReadFault) (failed : Bo
     → IsReplay input failed text status
 unread-replay input TooLong failed off over few text status told =
     other _ failed off (inr ((told.0, told.1), over refl))
-unread-replay input Failed failed on over few text status told =
+unread-replay input (Failed kind) failed on over few text status told =
     chosen _ failed on (told.0, told.1)
 unread-replay None OutOfMemory failed off over few text status told =
     other _ failed off (inl ([], tt, omega arith, inr (told.0, told.1)))
@@ -37,18 +37,18 @@ unread-replay (Some octets) OutOfMemory failed off over few text status told =
 pub gave-too-much : (fault : ReadFault) (calls : List ReadCall) → FailsAs scenario_limit calls fault
     → fault ≡ TooLong → scenario_limit < length (octets_of calls)
 gave-too-much TooLong calls over is = over
-gave-too-much Failed calls over is = absurd cc
+gave-too-much (Failed kind) calls over is = absurd cc
 gave-too-much OutOfMemory calls over is = absurd cc
 
 pub gave-few : (fault : ReadFault) (calls : List ReadCall) → FailsAs scenario_limit calls fault
     → fault ≡ OutOfMemory → length (octets_of calls) ≤ scenario_limit
 gave-few TooLong calls gave is = absurd cc
-gave-few Failed calls gave is = absurd cc
+gave-few (Failed kind) calls gave is = absurd cc
 gave-few OutOfMemory calls gave is = gave.1
 
 pub unread-ended : (fault : ReadFault) (calls : List ReadCall) (failed : Bool)
     → failed ≡ failed_of {A = List ℕ} (Err fault) → FailsAs scenario_limit calls fault
     → failed ≡ false → IsEnded calls ⊎ (scenario_limit < length (octets_of calls))
 unread-ended TooLong calls failed is over off = inr over
-unread-ended Failed calls failed is gave off = absurd (let e : true ≡ false = sym is ∙ off in cc)
+unread-ended (Failed kind) calls failed is gave off = absurd (let e : true ≡ false = sym is ∙ off in cc)
 unread-ended OutOfMemory calls failed is gave off = inl gave.0

@@ -94,5 +94,11 @@ pub record Replays {R W : Type 0} (does : R → ReadCall → R → Type 0)
   pub last : Writing W
   pub replays : ReplaysReads does contents asks
       (record { inner = reader; reads = 0; has_failed = false }) end
-      (record { inner = writer; has_failed = false; is_flushed = false; pending = [] }) last result
+      (record {
+        inner = writer;
+        has_failed = false;
+        is_flushed = false;
+        logs = false;
+        pending = [];
+      }) last result
   pub fault : is_err result ≡ some_call write_failed replays.prints.asked.calls

@@ -126,6 +126,7 @@ module _ {W : Type 0} {contents : W → Option (List ℕ)} {asks : W → WriteCa
     printed = last-printed new status r told put f.ends is;
     asked = Asked-then old.inner mid.inner new.inner old.has_failed mid.has_failed new.has_failed
         put.asked f.asked;
+    same_logs = f.same_logs ∙ put.same_logs;
   }
 
   -- a front of a text was put, and a write has failed
@@ -145,6 +146,7 @@ module _ {W : Type 0} {contents : W → Option (List ℕ)} {asks : W → WriteCa
       failed,
     );
     asked = put.asked;
+    same_logs = put.same_logs;
   }
     where
       by_failed : (b : Bool) → b ≡ true
@@ -178,7 +180,11 @@ pub Prints-weaker : {W : Type 0} (contents : W → Option (List ℕ))
     → ((text : List ℕ) (status : ℕ) → May text status → Might text status)
     → Prints contents asks May old new r → Prints contents asks Might old new r
 Prints-weaker contents asks May Might old new r wider p =
-    record { printed = weaker contents May Might old new r wider p.printed; asked = p.asked }
+    record {
+      printed = weaker contents May Might old new r wider p.printed;
+      asked = p.asked;
+      same_logs = p.same_logs;
+    }
 
 -- a fault is answered where a write or a flush failed
 pub Prints-fault : {W : Type 0} {contents : W → Option (List ℕ)} {asks : W → WriteCall → W → Type 0}

@@ -1,5 +1,5 @@
 -- What is printed of a load and of a fault, with which status, and how it reached a writer.
-use Rattle.bay_io.specs.Calls.{Asked, WriteCall, write_failed}
+use Rattle.bay_io.specs.Calls.{Asked, Unlogged, WriteCall, write_failed}
 use Rattle.bay_device.specs.declared.fault.LoadFault.TheVariants.{Refused, OutOfMemory}
 use Rattle.bay_device.specs.declared.fault.LoadFault.{LoadFault}
 use Rattle.bay_device.specs.declared.report.Report.{Report}
@@ -64,15 +64,16 @@ Printed contents May old new (Err fault) =
     ReportsPart May old.pending (contents old.inner) (contents new.inner)
     × (new.has_failed ≡ true)
 
--- and what the writer was asked
+-- and what the writer was asked, which logs nothing
 pub record Prints {W : Type 0} (contents : W → Option (List ℕ)) (asks : W → WriteCall → W → Type 0)
     (May : List ℕ → ℕ → Type 0) (old new : Writing W) (result : Result ℕ WriteFault)
     : Type 0 where
   pub printed : Printed contents May old new result
-  pub asked : Asked asks write_failed old.inner old.has_failed new.inner new.has_failed
+  pub asked : Asked (Unlogged asks) write_failed old.inner old.has_failed new.inner new.has_failed
+  pub same_logs : new.logs ≡ old.logs
 
 -- the text and the status where a file can't be read
 abbrev pub UnreadReport : ReadFault → List ℕ → ℕ → Type 0
 UnreadReport unread.TooLong text status = IsLast (codes "fault 121\n") 3 text status
-UnreadReport unread.Failed text status = IsLast (codes "fault 121\n") 3 text status
+UnreadReport (unread.Failed kind) text status = IsLast (codes "fault 121\n") 3 text status
 UnreadReport unread.OutOfMemory text status = IsLast (codes "fault memory\n") 3 text status

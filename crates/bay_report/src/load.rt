@@ -5,9 +5,9 @@ ghost use Rattle.bay_config.specs.Bay.{bay_of};
 ghost use Rattle.bay_services.specs.Released.{AreTimed};
 ghost use Rattle.il_image.specs.Decoding.{image_spelled};
 ghost use Rattle.bay_device.specs.Entries.{IsIdle};
-ghost use Rattle.bay_device.specs.Load.{of_bay, Loads};
+ghost use Rattle.bay_device.specs.Load.{IsCompiled, IsLoaded, of_bay, Loads};
 ghost use Rattle.bay_device.specs.declared.fault.LoadFault.TheVariants.{OutOfMemory};
-ghost use Rattle.bay_report.specs.Load.{file_of, text_of, load_of, LoadsTo};
+ghost use Rattle.bay_report.specs.Load.{file_of, text_of, load_of, IsImageOf, LoadsTo};
 ghost use Rattle.il_text.specs.declared.fault.TextFault.TheVariants.{BadToken};
 
 use bay_config::fault::BayFault;
@@ -32,6 +32,7 @@ pub enum Form {
 fn refuse_logic(alloc: Global, bay: &str) -> Result<Device, LoadFault>
     ensures device { Gives LoadFault.OutOfMemory (λ device. device) result
         (of_bay (bay_of bay.now) (Err (BadToken 1))) }
+    ensures loaded { IfOk result (IsLoaded (bay_of bay.now) (IsCompiled (Err (BadToken 1)))) }
     // Nothing is selected, and no association is open; each switch that can be operated takes some
     // time.
     ensures idle { IfOk result IsIdle }
@@ -45,6 +46,7 @@ fn refuse_logic(alloc: Global, bay: &str) -> Result<Device, LoadFault>
 fn load_logic(alloc: Global, bay: &str, logic: &[u8]) -> Result<Device, LoadFault>
     ensures device { Gives LoadFault.OutOfMemory (λ device. device) result
         (of_bay (bay_of bay.now) (text_of logic.now)) }
+    ensures loaded { IfOk result (IsLoaded (bay_of bay.now) (IsCompiled (text_of logic.now))) }
     // Nothing is selected, and no association is open; each switch that can be operated takes some
     // time.
     ensures idle { IfOk result IsIdle }
@@ -61,6 +63,7 @@ fn load_logic(alloc: Global, bay: &str, logic: &[u8]) -> Result<Device, LoadFaul
 pub fn load_octets(alloc: Global, bay: &[u8], logic: &[u8]) -> Result<Device, LoadFault>
     ensures device { Gives LoadFault.OutOfMemory (λ device. device) result
         (load_of bay.now logic.now) }
+    ensures loaded { IfOk result (IsLoaded (file_of bay.now) (IsCompiled (text_of logic.now))) }
     // Nothing is selected, and no association is open; each switch that can be operated takes some
     // time.
     ensures idle { IfOk result IsIdle }
@@ -78,6 +81,8 @@ fn load_image_octets(alloc: Global, bay: &[u8], image: &[u8]) -> Result<Device, 
         (λ device. Loads (file_of bay.now) (image_spelled image.now) (Ok device)) }
     ensures refused { IfErr result
         (λ e. e ≢ OutOfMemory → Loads (file_of bay.now) (image_spelled image.now) (Err e)) }
+    ensures loaded { IfOk result
+        (IsLoaded (file_of bay.now) (λ _ code. image_spelled image.now ≡ Ok code)) }
     // Nothing is selected, and no association is open; each switch that can be operated takes some
     // time.
     ensures idle { IfOk result IsIdle }
@@ -99,6 +104,8 @@ pub fn load_program(
     ensures ok { IfOk result (λ device. LoadsTo bay.now form program.now (Ok device)) }
     ensures refused { IfErr result
         (λ e. e ≢ OutOfMemory → LoadsTo bay.now form program.now (Err e)) }
+    // It is the device of the bay as which the file reads, and of the program's image.
+    ensures loaded { IfOk result (IsLoaded (file_of bay.now) (IsImageOf form program.now)) }
     // Nothing is selected, and no association is open; each switch that can be operated takes some
     // time.
     ensures idle { IfOk result IsIdle }

@@ -78,6 +78,6 @@ pub fn write_unread<W: Sink>(
     match fault {
         ReadFault::OutOfMemory => write_text(writer, NO_MEMORY, FAULT),
         ReadFault::TooLong => write_text(writer, b"fault 121\n", FAULT),
-        ReadFault::Failed => write_text(writer, b"fault 121\n", FAULT),
+        ReadFault::Failed(_) => write_text(writer, b"fault 121\n", FAULT),
     }
 }

@@ -1,11 +1,12 @@
 -- The parts of a turn.
 use Rattle.std.proofs.Common.{◌≡◌, ℕ, ◌+◌, Bool, true, false, Option, Some, None, Result, Ok, Err, List, [], ◌∷◌, ◌++◌, drop, refl, ap, sym, ◌∙◌, subst}
+use Rattle.std.specs.declared.net.socket_addr.SocketAddrV4.{SocketAddrV4}
 use Rattle.bay_trace.specs.Trace.{NamedData}
 use Rattle.bay_serve.specs.Calls.{Call, Accepts, Reads, Closes, Talks, ReadOutcome, Silence, Octets, Over, Broken, heard_of}
 use Rattle.bay_serve.specs.Offers.{Offer}
-use Rattle.bay_serve.specs.Served.{Goes, GoesEach, Offers, Serves, TakesIn}
+use Rattle.bay_serve.specs.Served.{Goes, GoesEach, Offers, Opens, Serves, TakesIn}
 use Rattle.bay_serve.specs.Standings.{is_leaving}
-use Rattle.bay_serve.specs.Turns.{Held, Noted, Script, Turning, accept_calls, accept_calls_at, with_accept, after_accept, after_each, after_line, after_reads, after_scan, turn_begin, calls_of_each, cut_off, free_place, heard_calls, hung_up, is_up, line_calls, with_line, offer_calls, offer_end, offer_of, offer_one, on_accept, on_heard, after_opening, after_parting, queue_of, read_calls, read_one, scan_calls, after_turn_scan, after_settling, settling, standing_of, after_turn, turning, with_queue}
+use Rattle.bay_serve.specs.Turns.{Held, Noted, Script, Turning, accept_calls_at, after_accept, after_each, after_line, after_reads, after_scan, turn_begin, calls_of_each, cut_off, free_place, heard_calls, hung_up, is_up, line_calls, with_line, offer_calls, offer_end, offer_of, offer_one, on_accept, on_heard, opening_at, after_opening, after_parting, queue_of, read_calls, read_one, scan_calls, after_turn_scan, after_settling, settling, standing_of, after_turn, turning, with_queue}
 use Rattle.bay_serve.specs.declared.link.Arrival.{Arrival}
 use Rattle.bay_serve.specs.declared.told.Closing.TheVariants.{LinkFailed}
 use Rattle.bay_serve.specs.declared.told.Turn.{Turn}
@@ -26,44 +27,45 @@ turning-as s t n m p q = ap (λ x. turning x n) p ∙ ap (λ x. turning t x) q
 module _ {L : Type 0} (step : L → Call → L → Type 0) where
   -- ---- a connection that waits
 
-  accepts : (old new : L) (now place : ℕ) (taken : Option Bool) (before after : Turning)
-      → free_place before.server ≡ Some place
+  accepts : (old new : L) (now place : ℕ) (taken : Option (Option SocketAddrV4))
+      (before after : Turning) → free_place before.server ≡ Some place
       → Talks step old (accept_calls_at now (Some place) taken before) new
       → after ≡ on_accept now (Some place) taken before
-      → Goes step (with_accept now) (accept_calls now) old new before after
+      → Opens step now old new before after (opening_at (Some place) taken)
   accepts old new now place taken before after e talks is =
       record {
-        choice = taken;
-        talks = subst (λ o. Talks step old (accept_calls_at now o taken before) new) (sym e) talks;
-        is = is ∙ ap (λ o. on_accept now o taken before) (sym e);
+        goes = record {
+          choice = taken;
+          talks =
+              subst (λ o. Talks step old (accept_calls_at now o taken before) new) (sym e) talks;
+          is = is ∙ ap (λ o. on_accept now o taken before) (sym e);
+        };
+        opened_is = ap (λ o. opening_at o taken) (sym e);
       }
 
-  pub accepts-true : (old mid new : L) (now place : ℕ) (taken : Bool)
+  pub accepts-some : (old mid new : L) (now place : ℕ) (from : SocketAddrV4)
       (before between after : Turning) → free_place before.server ≡ Some place
-      → taken ≡ true → step old (Accepts (place + 1) (Some taken)) mid
+      → step old (Accepts (place + 1) (Some (Some from))) mid
       → between ≡ after_opening now place before
       → Talks step mid (settling now between) new → after ≡ after_settling now between
-      → Goes step (with_accept now) (accept_calls now) old new before after
-  accepts-true old mid new now place taken before between after e t s is talks settles =
-      let call : step old (Accepts (place + 1) (Some true)) mid =
-      subst (λ b. step old (Accepts (place + 1) (Some b)) mid) t s in
-      let rest : Talks step mid (settling now (after_opening now place before)) new =
-      subst (λ x. Talks step mid (settling now x) new) is talks in
-      accepts old new now place (Some true) before after e (mid, call, rest)
+      → Opens step now old new before after (Some (place + 1, from))
+  accepts-some old mid new now place from before between after e s is talks settles =
+      accepts old new now place (Some (Some from)) before after e
+      (mid, s, subst (λ x. Talks step mid (settling now x) new) is talks)
       (settles ∙ ap (after_settling now) is)
 
-  pub accepts-false : (old new : L) (now place : ℕ) (taken : Bool) (before : Turning)
-      → free_place before.server ≡ Some place → taken ≡ false
-      → step old (Accepts (place + 1) (Some taken)) new
-      → Goes step (with_accept now) (accept_calls now) old new before before
-  accepts-false old new now place taken before e t s =
-      accepts old new now place (Some false) before before e
-      (new, subst (λ b. step old (Accepts (place + 1) (Some b)) new) t s, refl) refl
+  -- no connection was taken
+  pub accepts-none : (old new : L) (now place : ℕ) (before : Turning)
+      → free_place before.server ≡ Some place
+      → step old (Accepts (place + 1) (Some None)) new
+      → Opens step now old new before before None
+  accepts-none old new now place before e s =
+      accepts old new now place (Some None) before before e (new, s, refl) refl
 
   pub accepts-failed : (old new : L) (now place : ℕ) (before : Turning)
       → free_place before.server ≡ Some place
       → step old (Accepts (place + 1) None) new
-      → Goes step (with_accept now) (accept_calls now) old new before before
+      → Opens step now old new before before None
   accepts-failed old new now place before e s =
       accepts old new now place None before before e (new, s, refl) refl
 
@@ -207,24 +209,26 @@ module _ {L : Type 0} (step : L → Call → L → Type 0) where
   -- ---- a turn
 
   serves : (old l m p q new : L) (now : ℕ) (line : Option NamedData) (before after : Held)
-      (noted : Noted) (s t u v : Turning) (turn : Turn)
-      → Goes step (with_accept now) (accept_calls now) old l (turn_begin before) s
+      (noted : Noted) (s t u v : Turning) (opened : Option (ℕ × SocketAddrV4)) (turn : Turn)
+      → Opens step now old l (turn_begin before) s opened
       → GoesEach step (read_one now) (read_calls now) l m 8 s t
       → Talks step m (line_calls now line t) p → u ≡ with_line now line t
       → Talks step p (scan_calls now u) q → v ≡ after_turn_scan now u
       → GoesEach step (offer_one now) (offer_calls now) q new 8 v (turning after noted)
       → turn ≡ record {
+        opened = opened;
         refused = noted.refused;
         commands = noted.commands;
         closed = noted.closed;
         memory = noted.memory;
       }
       → Serves step old new now line before after turn
-  serves old l m p q new now line before after noted s t u v turn a r line_talks line_is scan_talks
+  serves old l m p q new now line before after noted s t u v opened turn a r
+      line_talks line_is scan_talks
       scan_is o told =
       let script : Script =
-      record { accepted = a.choice; readings = r.choices; offers = o.choices } in
-      let first : s ≡ after_accept now script before = a.is in
+      record { accepted = a.goes.choice; readings = r.choices; offers = o.choices } in
+      let first : s ≡ after_accept now script before = a.goes.is in
       let second : t ≡ after_reads now script before =
       r.is ∙ ap (after_each (read_one now) 0 r.choices) first in
       let third : u ≡ after_line now line script before =
@@ -253,9 +257,11 @@ module _ {L : Type 0} (step : L → Call → L → Type 0) where
         all_offered = o.many;
         talks = Talks-append step old q new _ _
             (Talks-append step old p q _ _
-            (Talks-append step old m p _ _ (Talks-append step old l m _ _ a.talks read_talks) lines)
+            (Talks-append step old m p _ _ (Talks-append step old l m _ _ a.goes.talks read_talks)
+            lines)
             scans) offers;
         server = ap (λ (x : Turning). x.server) whole;
+        opened = ap (λ (x : Turn). x.opened) told ∙ a.opened_is;
         refused = ap (λ (x : Turn). x.refused) told ∙ ap (λ (x : Turning). x.noted.refused) whole;
         commands =
             ap (λ (x : Turn). x.commands) told ∙ ap (λ (x : Turning). x.noted.commands) whole;
@@ -265,24 +271,26 @@ module _ {L : Type 0} (step : L → Call → L → Type 0) where
 
   -- with what the code has in hand
   pub serves-with : (old l m p q new : L) (now : ℕ) (line : Option NamedData) (before after : Held)
-      (first noted : Noted) (s t u v : Turning) (turn : Turn)
+      (first noted : Noted) (s t u v : Turning) (opened : Option (ℕ × SocketAddrV4)) (turn : Turn)
       → turning before first ≡ turn_begin before
-      → Goes step (with_accept now) (accept_calls now) old l (turning before first) s
+      → Opens step now old l (turning before first) s opened
       → GoesEach step (read_one now) (read_calls now) l m 8 s t
       → Talks step m (line_calls now line t) p → u ≡ with_line now line t
       → Talks step p (scan_calls now u) q → v ≡ after_turn_scan now u
       → GoesEach step (offer_one now) (offer_calls now) q new 8 v (turning after noted)
       → turn ≡ record {
+        opened = opened;
         refused = noted.refused;
         commands = noted.commands;
         closed = noted.closed;
         memory = noted.memory;
       }
       → Serves step old new now line before after turn
-  serves-with old l m p q new now line before after first noted s t u v turn e a r lt li st si o
+  serves-with old l m p q new now line before after first noted s t u v opened turn e a r lt li st
+      si o
       told =
-      serves old l m p q new now line before after noted s t u v turn
-      (subst (λ x. Goes step (with_accept now) (accept_calls now) old l x s) e a) r lt li st si o
+      serves old l m p q new now line before after noted s t u v opened turn
+      (subst (λ x. Opens step now old l x s opened) e a) r lt li st si o
       told
 
   pub serves-as : (old new : L) (now same : ℕ) (line told : Option NamedData) (before after : Held)

@@ -1,5 +1,6 @@
 -- What a link is asked, and what it answers.
 use Rattle.std.specs.Prelude.{◌≡◌, ℕ, ◌+◌, ◌≤◌, Bool, true, false, if◌then◌else◌, min, List, [], ◌∷◌, length, take, Option, is_none, Result, Ok, Err}
+use Rattle.std.specs.declared.net.socket_addr.SocketAddrV4.{SocketAddrV4}
 use Rattle.bay_serve.specs.declared.link.Arrival.{Arrival}
 use Rattle.bay_serve.specs.declared.link.Arrival.TheVariants.{Bytes, Nothing, End}
 
@@ -10,11 +11,11 @@ pub data ReadOutcome : Type 0 where
   Over : ReadOutcome
   Broken : ReadOutcome
 
--- one call, with the number of an association: whether a connection was taken for it; how many
--- octets were asked for, and what came; the octets offered, and how many of them were taken; a
--- closing. None stands for a failure
+-- one call, with the number of an association: the address of the connection that was taken for it,
+-- if one waited; how many octets were asked for, and what came; the octets offered, and how many of
+-- them were taken; a closing. None stands for a failure
 pub data Call : Type 0 where
-  Accepts : ℕ → Option Bool → Call
+  Accepts : ℕ → Option (Option SocketAddrV4) → Call
   Reads : ℕ → ℕ → ReadOutcome → Call
   Writes : ℕ → List ℕ → Option ℕ → Call
   Closes : ℕ → Call

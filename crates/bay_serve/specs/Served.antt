@@ -1,11 +1,12 @@
 -- What a turn does, with the link that it is done over.
 use Rattle.std.specs.Prelude.{◌≡◌, ℕ, nat_lt, Bool, List, ◌++◌, length, drop, Option, Some, None, option_and_then, option_map, if◌then◌else◌}
 use Rattle.std.specs.Borrow.{Bor}
+use Rattle.std.specs.declared.net.socket_addr.SocketAddrV4.{SocketAddrV4}
 use Rattle.bay_device.specs.Outcomes.{last_moment}
 use Rattle.bay_trace.specs.Trace.{NamedData, process_of, trace_line_of}
 use Rattle.bay_serve.specs.Calls.{Call, Talks}
 use Rattle.bay_serve.specs.Offers.{offering_of, after_calls}
-use Rattle.bay_serve.specs.Turns.{Held, Script, Turning, after_each, calls_of_each, moment_at, taken_in, after_turn, turn_calls}
+use Rattle.bay_serve.specs.Turns.{Held, Script, Turning, accept_calls, with_accept, after_each, calls_of_each, moment_at, opening_of, taken_in, after_turn, turn_calls}
 use Rattle.bay_serve.specs.declared.fault.ServeFault.{ServeFault}
 use Rattle.bay_serve.specs.declared.fault.ServeFault.TheVariants.{BadLine, MomentTooLarge}
 use Rattle.bay_serve.specs.declared.told.Turn.{Turn}
@@ -55,6 +56,12 @@ module _ {L : Type 0} (step : L → Call → L → Type 0) where
     pub talks : Talks step old (calls choice before) new
     pub is : after ≡ f choice before
 
+  -- a connection was taken, or none: the association that was opened, and from where
+  pub record Opens (now : ℕ) (old new : L) (before after : Turning)
+      (opened : Option (ℕ × SocketAddrV4)) : Type 0 where
+    pub goes : Goes (with_accept now) (accept_calls now) old new before after
+    pub opened_is : opened ≡ opening_of goes.choice before.server
+
   -- it was done for the first places, so many
   pub record GoesEach {C : Type 0} (f : ℕ → C → Turning → Turning)
       (calls : ℕ → C → Turning → List Call) (old new : L) (count : ℕ) (before after : Turning)
@@ -94,6 +101,7 @@ module _ {L : Type 0} (step : L → Call → L → Type 0) where
     pub all_offered : length script.offers ≡ 8
     pub talks : Talks step old (turn_calls now line script before) new
     pub server : after ≡ (after_turn now line script before).server
+    pub opened : turn.opened ≡ opening_of script.accepted before
     pub refused : turn.refused ≡ (after_turn now line script before).noted.refused
     pub commands : turn.commands ≡ (after_turn now line script before).noted.commands
     pub closed : turn.closed ≡ (after_turn now line script before).noted.closed

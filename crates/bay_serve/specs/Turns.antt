@@ -1,6 +1,7 @@
 -- A turn of the server: what it comes to, by what the link and the memory decide.
-use Rattle.std.specs.Prelude.{ℕ, zero, suc, ◌+◌, max, nat_le, Bool, true, false, if◌then◌else◌, List, [], ◌∷◌, ◌++◌, length, position, replicate, slice_set, Option, Some, None, is_none, is_some, Result, Ok, Err}
+use Rattle.std.specs.Prelude.{ℕ, zero, suc, ◌+◌, max, nat_le, Bool, if◌then◌else◌, List, [], ◌∷◌, ◌++◌, length, position, replicate, slice_set, Option, Some, None, is_none, is_some, Result, Ok, Err}
 use Rattle.std.specs.List.{slice_index_or}
+use Rattle.std.specs.declared.net.socket_addr.SocketAddrV4.{SocketAddrV4}
 use Rattle.bay_services.specs.declared.answer.Command.{Command}
 use Rattle.bay_device.specs.Code.{step_code_of}
 use Rattle.bay_device.specs.Device.{State}
@@ -205,25 +206,35 @@ abbrev pub after_opening : ℕ → ℕ → Turning → Turning
 after_opening now place s = after_event now (Open (place + 1)) s
 
 -- a connection that was taken is opened
-abbrev pub on_accept : ℕ → Option ℕ → Option Bool → Turning → Turning
+abbrev pub on_accept : ℕ → Option ℕ → Option (Option SocketAddrV4) → Turning → Turning
 on_accept now None taken s = s
 on_accept now (Some place) None s = s
-on_accept now (Some place) (Some false) s = s
-on_accept now (Some place) (Some true) s = after_settling now (after_opening now place s)
+on_accept now (Some place) (Some None) s = s
+on_accept now (Some place) (Some (Some from)) s = after_settling now (after_opening now place s)
 
 -- the calls on the link for it: where no association is free the link is not asked
-abbrev pub accept_calls_at : ℕ → Option ℕ → Option Bool → Turning → List Call
+abbrev pub accept_calls_at : ℕ → Option ℕ → Option (Option SocketAddrV4) → Turning → List Call
 accept_calls_at now None taken s = []
 accept_calls_at now (Some place) None s = Accepts (place + 1) None ∷ []
-accept_calls_at now (Some place) (Some false) s = Accepts (place + 1) (Some false) ∷ []
-accept_calls_at now (Some place) (Some true) s =
-    Accepts (place + 1) (Some true) ∷ settling now (after_opening now place s)
+accept_calls_at now (Some place) (Some None) s = Accepts (place + 1) (Some None) ∷ []
+accept_calls_at now (Some place) (Some (Some from)) s =
+    Accepts (place + 1) (Some (Some from)) ∷ settling now (after_opening now place s)
+
+-- the association that is opened, and the address that it is opened from
+abbrev pub opening_at : Option ℕ → Option (Option SocketAddrV4) → Option (ℕ × SocketAddrV4)
+opening_at None taken = None
+opening_at (Some place) None = None
+opening_at (Some place) (Some None) = None
+opening_at (Some place) (Some (Some from)) = Some (place + 1, from)
+
+abbrev pub opening_of : Option (Option SocketAddrV4) → Held → Option (ℕ × SocketAddrV4)
+opening_of taken h = opening_at (free_place h) taken
 
 -- One connection that waits is taken, under the lowest free number.
-abbrev pub with_accept : ℕ → Option Bool → Turning → Turning
+abbrev pub with_accept : ℕ → Option (Option SocketAddrV4) → Turning → Turning
 with_accept now taken s = on_accept now (free_place s.server) taken s
 
-abbrev pub accept_calls : ℕ → Option Bool → Turning → List Call
+abbrev pub accept_calls : ℕ → Option (Option SocketAddrV4) → Turning → List Call
 accept_calls now taken s = accept_calls_at now (free_place s.server) taken s
 
 -- ---- what is read
@@ -375,7 +386,7 @@ calls_of_each f calls place (c ∷ cs) s =
 -- all that a turn does not itself decide: whether a connection waited, what each association
 -- brought, and what was taken of each queue
 pub record Script : Type 0 where
-  pub accepted : Option Bool
+  pub accepted : Option (Option SocketAddrV4)
   pub readings : List Reading
   pub offers : List Offer
 

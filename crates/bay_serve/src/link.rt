@@ -3,6 +3,7 @@ ghost use Rattle.std.specs.Prelude.{◌≡◌, ℕ, ◌<◌, ◌≤◌, length, 
 ghost use Rattle.std.specs.Result.{result_ok};
 ghost use Rattle.bay_serve.specs.Calls.{Call, Accepts, Reads, Writes, Closes, Called, heard_of, FitsIn};
 
+use std::net::SocketAddrV4;
 use thiserror::Error;
 
 /// A failed call of a link.
@@ -33,8 +34,9 @@ pub trait Link {
     /// The number of failed calls, counted up to 18,446,744,073,709,551,615.
     ghost failures: { Self → ℕ };
 
-    /// Accepts a waiting connection, if there is one, under this number.
-    fn accept(&mut self, association: u16) -> Result<bool, LinkFault>
+    /// Accepts a waiting connection, if there is one, under this number. Returns the address of its
+    /// client.
+    fn accept(&mut self, association: u16) -> Result<Option<SocketAddrV4>, LinkFault>
         requires low { 0 < association }
         requires high { association ≤ 8 }
         ensures call { Called does failures self.old (Accepts association (result_ok result))

@@ -11,6 +11,7 @@ use crate::told::{Closing, Turn};
 use bay_device::event::{ASSOCIATIONS, Why};
 use bay_services::answer::Command;
 use std::marker::Model;
+use std::net::SocketAddrV4;
 
 /// The standing of each association in a turn, and what the turn will report: at most one entry for
 /// each association, and one command for each association read.
@@ -144,9 +145,10 @@ impl Notes {
         self.commands.push(command);
     }
 
-    /// Returns what the turn reports.
-    pub fn into_turn(self) -> Turn
+    /// Returns what the turn reports, given the association that it opened.
+    pub fn into_turn(self, opened: Option<(u16, SocketAddrV4)>) -> Turn
         ensures { result ≡ record {
+          opened = opened;
           refused = self.refused;
           commands = self.commands;
           closed = self.closed;
@@ -161,6 +163,7 @@ impl Notes {
             memory,
         } = self;
         Turn {
+            opened,
             refused,
             commands,
             closed,

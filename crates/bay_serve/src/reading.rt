@@ -1,8 +1,8 @@
 // Connections are taken, and clients are read.
 ghost use Rattle.std.specs.Prelude.{◌≡◌, ◌+◌, ◌<◌, ◌≤◌, length};
 ghost use Rattle.bay_serve.specs.Calls.{Called};
-ghost use Rattle.bay_serve.specs.Served.{Goes, GoesEach, TakesIn};
-ghost use Rattle.bay_serve.specs.Turns.{accept_calls, with_accept, read_calls, turning};
+ghost use Rattle.bay_serve.specs.Served.{Goes, GoesEach, Opens, TakesIn};
+ghost use Rattle.bay_serve.specs.Turns.{read_calls, turning};
 ghost use Rattle.bay_serve.specs.Turns as spec;
 
 use crate::closing::{cut_off, settle};
@@ -12,27 +12,35 @@ use crate::sending::{put_all, put_ended, step_quietly, tell_commands};
 use crate::server::Server;
 use crate::told::Closing;
 use bay_device::event::{ASSOCIATIONS, Event, Why};
+use std::net::SocketAddrV4;
 
 /// The maximum number of octets read from a client in a turn.
 const PIECE: usize = 4096;
 
-/// Accepts a waiting connection, if there is one and a number is free.
-pub fn accept_one<L: Link>(server: &mut Server, notes: &mut Notes, link: &mut L, now: u64)
-    ensures goes { Goes (Called L.does L.failures) (with_accept now) (accept_calls now) link.old
-        link.new (turning server.old notes.old) (turning server.new notes.new) }
+/// Accepts a waiting connection, if there is one and a number is free. Returns the association that
+/// it opens, and the address of its client.
+pub fn accept_one<L: Link>(
+    server: &mut Server,
+    notes: &mut Notes,
+    link: &mut L,
+    now: u64,
+) -> Option<(u16, SocketAddrV4)>
+    ensures opens { Opens (Called L.does L.failures) now link.old link.new
+        (turning server.old notes.old) (turning server.new notes.new) result }
     ensures commands { notes.new.commands ≡ notes.old.commands }
 {
     let Some(place) = server.free_place() else {
-        return;
+        return None;
     };
     let association = place as u16 + 1;
     match link.accept(association) {
-        Ok(true) => {
+        Ok(Some(from)) => {
             step_quietly(server, notes, now, Event::Open { association });
             settle(server, notes, link, now);
+            Some((association, from))
         }
-        Ok(false) => {}
-        Err(_) => {}
+        Ok(None) => None,
+        Err(_) => None,
     }
 }
 

@@ -4,6 +4,7 @@ ghost use Rattle.bay_serve.specs.Code.{code_of};
 
 use crate::entries::Entries;
 use bay_services::answer::Command;
+use std::net::SocketAddrV4;
 
 /// Why an association was closed.
 #[derive(Clone, Copy, Debug, PartialEq, Eq)]
@@ -36,6 +37,8 @@ impl Closing {
 /// What a turn reports.
 #[derive(Debug, Drop)]
 pub struct Turn {
+    /// The association that was opened, and the address of its client.
+    pub opened: Option<(u16, SocketAddrV4)>,
     /// The number of the fault with which the device refused the event of the line: 113, no such
     /// switch, input or meter.
     pub refused: Option<u8>,

@@ -86,8 +86,8 @@ pub fn serve_turn<L: Link>(
     ensures ok { IfOk result
         (λ turn. Serves (Called L.does L.failures) link.old link.new (moment_at clock server.old)
         (line_in (text_in line.entry)) server.old server.new turn) }
-    // A turn is done exactly where its line and its moment are right, and otherwise it says which of
-    // them is not.
+    // A turn is done exactly where its line and its moment are right, and otherwise it says which
+    // of them is not.
     ensures right { OnOk result (turn_refusal clock (text_in line.entry) server.old ≡ None) }
     ensures refused { IfErr result
         (λ fault. turn_refusal clock (text_in line.entry) server.old ≡ Some fault) }
@@ -100,10 +100,10 @@ pub fn serve_turn<L: Link>(
         return Err(ServeFault::MomentTooLarge);
     }
     let mut notes = Notes::new();
-    accept_one(server, &mut notes, link, now);
+    let opened = accept_one(server, &mut notes, link, now);
     read_each(server, &mut notes, link, now);
     tell_line(server, &mut notes, link, now, line);
     scan(server, &mut notes, link, now);
     offer_each(server, &mut notes, link, now);
-    Ok(notes.into_turn())
+    Ok(notes.into_turn(opened))
 }

@@ -2,6 +2,7 @@
 use Rattle.std.proofs.Common.{◌≡◌, ◌≢◌, ℕ, zero, suc, ◌+◌, ◌<◌, ◌≤◌, ◌==◌, ◌&&◌, ◌||◌, Bool, true, false, cond, List, [], ◌∷◌, ◌++◌, length, drop, Option, Some, None, Result, Ok, Err, refl, ap, sym, subst, ◌∙◌, arith, append_assoc, append-nil, inl, inr}
 use Rattle.std.proofs.Math.Bool.{or_assoc}
 use Rattle.std.proofs.lemmas.Bool.{cases_eq}
+use Rattle.std.specs.declared.net.socket_addr.SocketAddrV4.{SocketAddrV4}
 use Rattle.bay_device.specs.Device.{State}
 use Rattle.bay_device.specs.Outcomes.{last_moment, outcome}
 use Rattle.bay_device.specs.declared.event.Event.TheVariants.{Close, Recv, Scan}
@@ -73,12 +74,12 @@ plain-settling a now s = all 8 s
     all zero s = plain-nil a
     all (suc count) s = next (first_full s.noted) s (settling_in now count) (all count)
 
-plain-accept : (a now : ℕ) (place : Option ℕ) (taken : Option Bool) (s : Turning)
+plain-accept : (a now : ℕ) (place : Option ℕ) (taken : Option (Option SocketAddrV4)) (s : Turning)
     → IsPlain a (accept_calls_at now place taken s)
 plain-accept a now None taken s = plain-nil a
 plain-accept a now (Some place) None s = record { fails = refl; ends = refl }
-plain-accept a now (Some place) (Some false) s = record { fails = refl; ends = refl }
-plain-accept a now (Some place) (Some true) s =
+plain-accept a now (Some place) (Some None) s = record { fails = refl; ends = refl }
+plain-accept a now (Some place) (Some (Some from)) s =
     plain-call a _ _ refl refl (plain-settling a now (after_opening now place s))
 
 plain-line : (a now : ℕ) (line : Option NamedData) (s : Turning) → IsPlain a (line_calls now line s)

@@ -1,6 +1,7 @@
 -- What a turn has told stays told, and which events close nothing.
 use Rattle.std.proofs.Common.{◌≡◌, ℕ, zero, suc, ◌+◌, ◌<◌, Bool, true, false, cond, List, [], ◌∷◌, ◌++◌, length, Option, Some, None, refl, ap, sym, subst, ◌∙◌, append_assoc, append-nil}
 use Rattle.std.proofs.lemmas.List.Quantifiers.{position-Some}
+use Rattle.std.specs.declared.net.socket_addr.SocketAddrV4.{SocketAddrV4}
 use Rattle.bay_connection.specs.Talk.{Talk}
 use Rattle.bay_device.specs.Device.{State}
 use Rattle.bay_device.specs.Outcomes.{closed_by, connection_at, octets_outcome, outcome, place_of, recv_outcome}
@@ -113,12 +114,13 @@ pub settled-quiet : (now : ℕ) (s : Turning) → AllQuiet (settled_events now s
 unfolding settled_events
 settled-quiet now s = settled_in-quiet now 8 s
 
-pub accept-quiet : (now : ℕ) (place : Option ℕ) (taken : Option Bool) (s : Turning)
+pub accept-quiet : (now : ℕ) (place : Option ℕ) (taken : Option (Option SocketAddrV4)) (s : Turning)
     → AllQuiet (accept_events_at now place taken s)
 accept-quiet now None taken s = tt
 accept-quiet now (Some place) None s = tt
-accept-quiet now (Some place) (Some false) s = tt
-accept-quiet now (Some place) (Some true) s = (tt, settled-quiet now (after_opening now place s))
+accept-quiet now (Some place) (Some None) s = tt
+accept-quiet now (Some place) (Some (Some from)) s =
+    (tt, settled-quiet now (after_opening now place s))
 
 pub line-quiet : (now : ℕ) (line : Option NamedData) (s : Turning) → HasNoOctets line
     → AllQuiet (line_events now line s)

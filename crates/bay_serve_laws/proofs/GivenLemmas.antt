@@ -1,5 +1,6 @@
 -- What the link gives of an association is what the events of a turn bring.
 use Rattle.std.proofs.Common.{◌≡◌, ℕ, zero, suc, ◌+◌, ◌==◌, Bool, true, false, cond, List, [], ◌∷◌, ◌++◌, drop, Option, Some, None, refl, ap, sym, ◌∙◌, append_assoc}
+use Rattle.std.specs.declared.net.socket_addr.SocketAddrV4.{SocketAddrV4}
 use Rattle.bay_device.specs.Device.{State}
 use Rattle.bay_trace.specs.Placing.{AreOctets, placed_event}
 use Rattle.bay_trace.specs.Trace.{NamedData, connects, receives, disconnects, contact, input, measure, scan}
@@ -63,12 +64,12 @@ module _ (a : ℕ) where
             next (first_full s.noted) s (settling_in now count) (settled_in_events now count)
             (all count)
 
-    accept-bring : (place : Option ℕ) (taken : Option Bool) (s : Turning)
+    accept-bring : (place : Option ℕ) (taken : Option (Option SocketAddrV4)) (s : Turning)
         → Brings (accept_calls_at now place taken s) (accept_events_at now place taken s)
     accept-bring None taken s = bring-none
     accept-bring (Some place) None s = record { is = refl }
-    accept-bring (Some place) (Some false) s = record { is = refl }
-    accept-bring (Some place) (Some true) s =
+    accept-bring (Some place) (Some None) s = record { is = refl }
+    accept-bring (Some place) (Some (Some from)) s =
         record { is = (settled-bring (after_opening now place s)).is }
 
     heard-bring : (place : ℕ) (choice : Option ℕ) (heard : ReadOutcome) (s : Turning)

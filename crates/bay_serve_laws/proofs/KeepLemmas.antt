@@ -1,5 +1,6 @@
 -- What each change of a turn's notes keeps, a turn keeps.
 use Rattle.std.proofs.Common.{◌≡◌, ℕ, zero, suc, ◌+◌, ◌<◌, ◌≤◌, Bool, true, false, cond, List, [], ◌∷◌, ◌++◌, length, Option, Some, None, Result, Ok, Err, refl, arith}
+use Rattle.std.specs.declared.net.socket_addr.SocketAddrV4.{SocketAddrV4}
 use Rattle.bay_services.specs.declared.answer.Command.{Command}
 use Rattle.bay_device.specs.Code.{step_code_of}
 use Rattle.bay_device.specs.Outcomes.{outcome, place_of}
@@ -123,12 +124,13 @@ module _ (Ends : ℕ → Type 0) (P : Noted → Type 0) (k : IsNoted Ends P) (no
 
   -- ---- the parts of a turn
 
-  pub keep-on-accept : (place : Option ℕ) (taken : Option Bool) (s : Turning) → Holds P s
+  pub keep-on-accept : (place : Option ℕ) (taken : Option (Option SocketAddrV4)) (s : Turning)
+      → Holds P s
       → Holds P (on_accept now place taken s)
   keep-on-accept None taken s p = p
   keep-on-accept (Some place) None s p = p
-  keep-on-accept (Some place) (Some false) s p = p
-  keep-on-accept (Some place) (Some true) s p =
+  keep-on-accept (Some place) (Some None) s p = p
+  keep-on-accept (Some place) (Some (Some from)) s p =
       keep-settled (after_opening now place s) (stepped-kept (Open (place + 1)) s p)
 
   keep-left : (place : ℕ) (left : Option (ℕ × Why)) (s : Turning) → place < 8 → Ends place

@@ -3,6 +3,7 @@ use Rattle.std.proofs.Common.{◌≡◌, ◌≢◌, ℕ, zero, suc, ◌+◌, ◌
 use Rattle.std.proofs.lemmas.Bool.{cases_eq}
 use Rattle.std.proofs.lemmas.List.{get_or-set_same}
 use Rattle.std.proofs.lemmas.List.Quantifiers.{position-Some}
+use Rattle.std.specs.declared.net.socket_addr.SocketAddrV4.{SocketAddrV4}
 use Rattle.bay_connection.specs.Talk.{Talk}
 use Rattle.bay_device.specs.Outcomes.{last_moment, outcome}
 use Rattle.bay_device.specs.declared.event.Event.{Event}
@@ -118,12 +119,12 @@ module _ (now p : ℕ) (low : p < 8) where
   unfolding after_settling
   settled-open s o = settled-open-in 8 s o
 
-  accept-open : (place : Option ℕ) (taken : Option Bool) (s : Turning) → Opened s
+  accept-open : (place : Option ℕ) (taken : Option (Option SocketAddrV4)) (s : Turning) → Opened s
       → Opened (on_accept now place taken s)
   accept-open None taken s o = o
   accept-open (Some place) None s o = o
-  accept-open (Some place) (Some false) s o = o
-  accept-open (Some place) (Some true) s o =
+  accept-open (Some place) (Some None) s o = o
+  accept-open (Some place) (Some (Some from)) s o =
       settled-open (after_opening now place s)
       (stepped-open (Open (place + 1)) s
       (rises (is_up p s) _ (open-outcome-up None now (place + 1) p s.server.device)) o)
@@ -318,7 +319,8 @@ module _ (now p : ℕ) (low : p < 8) where
   accepted-open script h time (inr taken) =
       subst (λ (o : Option ℕ). Opened (on_accept now o script.accepted (turn_begin h)))
       (sym taken.0)
-      (subst (λ (b : Option Bool). Opened (on_accept now (Some p) b (turn_begin h))) (sym taken.1)
+      (subst (λ (b : Option (Option SocketAddrV4)). Opened
+      (on_accept now (Some p) b (turn_begin h))) (sym taken.2)
       (settled-open (after_opening now p (turn_begin h))
       (opened-here (turn_begin h) refl time.not_before time.not_past taken.0)))
 

@@ -2,6 +2,7 @@
 use Rattle.std.proofs.Common.{◌≡◌, ℕ, zero, suc, ◌+◌, ◌<◌, ◌≤◌, ◌||◌, Bool, true, false, cond, List, [], ◌∷◌, ◌++◌, length, Option, Some, None, refl, ap, sym, subst, ◌∙◌, arith, append_assoc}
 use Rattle.std.proofs.lemmas.List.Elements.{All-nil, All-cons, All-append, All-weaker}
 use Rattle.std.proofs.lemmas.List.Quantifiers.{position-Some}
+use Rattle.std.specs.declared.net.socket_addr.SocketAddrV4.{SocketAddrV4}
 use Rattle.bay_device.specs.Device.{State}
 use Rattle.bay_device.specs.Outcomes.{outcome}
 use Rattle.bay_device.specs.declared.event.Event.TheVariants.{Close, Open, Recv, Scan}
@@ -115,7 +116,13 @@ module _ (now : ℕ) (final : Noted) where
   then-nothing : (Rest : State → List ChosenEvent → Type 0) (s : Turning) (rest : List ChosenEvent)
       → Rest s.server.device rest → Then now final.closed [] Rest s.server.device rest
   then-nothing Rest s rest h =
-      record { cut = []; rest = rest; is = refl; closings = All-nil (IsClosing was_full); goes_on = h }
+      record {
+        cut = [];
+        rest = rest;
+        is = refl;
+        closings = All-nil (IsClosing was_full);
+        goes_on = h;
+      }
 
   -- an event happens, and what did not fit then is dealt with
   then-one : (Rest : State → List ChosenEvent → Type 0) (s t : Turning) (e : ChosenEvent)
@@ -141,17 +148,19 @@ module _ (now : ℕ) (final : Noted) where
       (keep-stepped (Grown s.noted) (grown-kept s.noted).fills now event s
       (Grown-refl s.noted sized)).sized
 
-  then-accept : (Rest : State → List ChosenEvent → Type 0) (place : Option ℕ) (taken : Option Bool)
+  then-accept : (Rest : State → List ChosenEvent → Type 0) (place : Option ℕ)
+      (taken : Option (Option SocketAddrV4))
       (s : Turning) (rest : List ChosenEvent) → length s.noted.standings ≡ 8
       → Whole (on_accept now place taken s) → Rest (on_accept now place taken s).server.device rest
       → Then now final.closed (opened_at place taken) Rest s.server.device
       (accept_events_at now place taken s ++ rest)
   then-accept Rest None taken s rest sized whole h = then-nothing Rest s rest h
   then-accept Rest (Some place) None s rest sized whole h = then-nothing Rest s rest h
-  then-accept Rest (Some place) (Some false) s rest sized whole h = then-nothing Rest s rest h
-  then-accept Rest (Some place) (Some true) s rest sized whole h =
+  then-accept Rest (Some place) (Some None) s rest sized whole h = then-nothing Rest s rest h
+  then-accept Rest (Some place) (Some (Some from)) s rest sized whole h =
       then-one Rest s (after_opening now place s) (surely (Open (place + 1))) _ rest
-      (Part-on_accept ⊥ now (Some place) (Some true) s) (stepped-sized (Open (place + 1)) s sized)
+      (Part-on_accept ⊥ now (Some place) (Some (Some from)) s)
+      (stepped-sized (Open (place + 1)) s sized)
       whole h
 
   then-heard : (Rest : State → List ChosenEvent → Type 0) (place : ℕ) (choice : Option ℕ)

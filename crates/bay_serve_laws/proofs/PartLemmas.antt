@@ -1,5 +1,6 @@
 -- The parts of a turn: their events, and what they tell.
 use Rattle.std.proofs.Common.{◌≡◌, ℕ, zero, suc, ◌+◌, Bool, true, false, if◌then◌else◌, List, [], ◌∷◌, ◌++◌, Option, Some, None, Result, Ok, Err, refl, ap, sym, ◌∙◌, append_assoc, append-nil, ◌⊎◌, inl, inr}
+use Rattle.std.specs.declared.net.socket_addr.SocketAddrV4.{SocketAddrV4}
 use Rattle.bay_device.specs.Outcomes.{Outcome, outcome}
 use Rattle.bay_device.specs.Steps.{IsWithoutOctets}
 use Rattle.bay_device.specs.declared.event.Event.{Event}
@@ -178,18 +179,18 @@ module _ (Q : Type 0) (now : ℕ) where
 
   -- ---- the parts
 
-  pub Part-on_accept : (place : Option ℕ) (taken : Option Bool) (s : Turning)
+  pub Part-on_accept : (place : Option ℕ) (taken : Option (Option SocketAddrV4)) (s : Turning)
       → Part Q now s (accept_calls_at now place taken s) (accept_events_at now place taken s)
       (on_accept now place taken s)
   Part-on_accept None taken s = Part-still s []
   Part-on_accept (Some place) None s = Part-still s (Accepts (place + 1) None ∷ [])
-  Part-on_accept (Some place) (Some false) s = Part-still s (Accepts (place + 1) (Some false) ∷ [])
-  Part-on_accept (Some place) (Some true) s =
-      let calls = Accepts (place + 1) (Some true) ∷ [] in
+  Part-on_accept (Some place) (Some None) s = Part-still s (Accepts (place + 1) (Some None) ∷ [])
+  Part-on_accept (Some place) (Some (Some from)) s =
+      let calls = Accepts (place + 1) (Some (Some from)) ∷ [] in
       Part-then s (after_opening now place s) calls (surely (Open (place + 1)))
       (Part-stepped (Open (place + 1)) s calls tt)
 
-  pub Part-accept : (taken : Option Bool) (s : Turning)
+  pub Part-accept : (taken : Option (Option SocketAddrV4)) (s : Turning)
       → Part Q now s (accept_calls now taken s) (accept_events now taken s)
       (with_accept now taken s)
   Part-accept taken s = Part-on_accept (free_place s.server) taken s

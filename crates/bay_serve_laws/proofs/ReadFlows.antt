@@ -3,6 +3,7 @@
 use Rattle.std.proofs.Common.{◌≡◌, ◌≢◌, ℕ, ◌+◌, ◌<◌, ◌≤◌, ◌==◌, Bool, true, false, if◌then◌else◌, List, [], ◌∷◌, ◌++◌, length, get_or, set, Option, Some, None, Result, Ok, Err, refl, ap, sym, ◌∙◌, subst, arith, append_assoc, append-nil}
 use Rattle.std.proofs.lemmas.Bool.{eqb-true, eq-eqb}
 use Rattle.std.proofs.lemmas.List.{get_or-set_same, length-set}
+use Rattle.std.specs.declared.net.socket_addr.SocketAddrV4.{SocketAddrV4}
 use Rattle.bay_device.specs.Device.{State}
 use Rattle.bay_device.specs.Outcomes.{last_moment, outcome}
 use Rattle.bay_device.specs.Steps.{IsWithoutOctets}
@@ -282,22 +283,23 @@ module _ (now p : ℕ) (held : List ℕ) (h : p < 8) (past : now ≤ last_moment
         calm = f.calm;
       }
 
-  opened-moves : (i : ℕ) (s : Turning)
-      → Moves (Fresh now p held) (Carried now p held) now p s (Accepts (i + 1) (Some true) ∷ [])
+  opened-moves : (i : ℕ) (from : SocketAddrV4) (s : Turning)
+      → Moves (Fresh now p held) (Carried now p held) now p s
+      (Accepts (i + 1) (Some (Some from)) ∷ [])
       (surely (Open (i + 1)) ∷ []) (after_opening now i s)
-  opened-moves i s =
+  opened-moves i from s =
       let o = outcome None now (Open (i + 1)) s.server.device in
       let same : Same (with_device o.after s) (after_opening now i s) =
       put_quiet-same o.answer (with_device o.after s) in
       Moves-one (Fresh now p held) (Carried now p held) now p s (after_opening now i s)
-      (Accepts (i + 1) (Some true) ∷ []) (surely (Open (i + 1))) same.device refl
+      (Accepts (i + 1) (Some (Some from)) ∷ []) (surely (Open (i + 1))) same.device refl
       (λ taken sent f. put_quiet-carried now p held taken sent o.answer (with_device o.after s) h
       (outcome-quiet None now (Open (i + 1)) s.server.device tt)
       (fresh-carried now p held taken sent o.after s f
       (outcome-moment None now (Open (i + 1)) s.server.device f.sound.moment)
       (open-outcome-up None now (i + 1) p s.server.device)))
 
-  on_accept-moves : (o : Option ℕ) (taken : Option Bool) (s : Turning)
+  on_accept-moves : (o : Option ℕ) (taken : Option (Option SocketAddrV4)) (s : Turning)
       → Moves (Fresh now p held) (Well now p held) now p s (accept_calls_at now o taken s)
       (accept_events_at now o taken s) (on_accept now o taken s)
   on_accept-moves None taken s =
@@ -306,17 +308,17 @@ module _ (now p : ℕ) (held : List ℕ) (h : p < 8) (past : now ≤ last_moment
   on_accept-moves (Some i) None s =
       Moves-none (Fresh now p held) (Well now p held) now p s s (Accepts (i + 1) None ∷ []) refl
       refl (λ t u f. fresh-well t u s f)
-  on_accept-moves (Some i) (Some false) s =
-      Moves-none (Fresh now p held) (Well now p held) now p s s (Accepts (i + 1) (Some false) ∷ [])
+  on_accept-moves (Some i) (Some None) s =
+      Moves-none (Fresh now p held) (Well now p held) now p s s (Accepts (i + 1) (Some None) ∷ [])
       refl refl (λ t u f. fresh-well t u s f)
-  on_accept-moves (Some i) (Some true) s =
+  on_accept-moves (Some i) (Some (Some from)) s =
       let t : Turning = after_opening now i s in
       Moves-trans (Fresh now p held) (Carried now p held) (Well now p held) now p s t
-      (after_settling now t) (Accepts (i + 1) (Some true) ∷ []) (settling now t)
-      (surely (Open (i + 1)) ∷ []) (settled_events now t) (opened-moves i s)
+      (after_settling now t) (Accepts (i + 1) (Some (Some from)) ∷ []) (settling now t)
+      (surely (Open (i + 1)) ∷ []) (settled_events now t) (opened-moves i from s)
       (settled-moves now p held h past t)
 
-  pub accept-moves : (taken : Option Bool) (s : Turning)
+  pub accept-moves : (taken : Option (Option SocketAddrV4)) (s : Turning)
       → Moves (Fresh now p held) (Well now p held) now p s (accept_calls now taken s)
       (accept_events now taken s) (with_accept now taken s)
   accept-moves taken s = on_accept-moves (free_place s.server) taken s

@@ -5,6 +5,7 @@ use Rattle.std.proofs.lemmas.List.{get_or-replicate, length-append, length-drop}
 use Rattle.std.proofs.lemmas.Bool.Decides.{leb_tells}
 use Rattle.std.proofs.Math.ListN.{get_or-eq_default}
 use Rattle.std.proofs.lemmas.List.Elements.{All-get_or, All-replicate, All-set}
+use Rattle.std.specs.declared.net.socket_addr.SocketAddrV4.{SocketAddrV4}
 use Rattle.bay_device.specs.Device.{State}
 use Rattle.bay_device.specs.Outcomes.{outcome, place_of}
 use Rattle.bay_device.specs.declared.event.Event.{Event}
@@ -133,12 +134,12 @@ module _ (now : ℕ) where
 
   -- ---- the parts of a turn
 
-  holds-accept : (place : Option ℕ) (taken : Option Bool) (s : Turning) → Holds s
+  holds-accept : (place : Option ℕ) (taken : Option (Option SocketAddrV4)) (s : Turning) → Holds s
       → Holds (on_accept now place taken s)
   holds-accept None taken s p = p
   holds-accept (Some place) None s p = p
-  holds-accept (Some place) (Some false) s p = p
-  holds-accept (Some place) (Some true) s p =
+  holds-accept (Some place) (Some None) s p = p
+  holds-accept (Some place) (Some (Some from)) s p =
       holds-settled (after_opening now place s) (holds-stepped (Open (place + 1)) s p)
 
   holds-answer : (place : ℕ) (answer : Result Step StepFault) (s : Turning) → Holds s

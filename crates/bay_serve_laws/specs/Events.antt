@@ -1,6 +1,7 @@
 -- The events that a turn does on the device, in their order, each with its choice; and what they
 -- come to.
-use Rattle.std.specs.Prelude.{◌≡◌, ℕ, zero, suc, ◌+◌, Bool, true, false, if◌then◌else◌, List, [], ◌∷◌, ◌++◌, Option, Some, None, IfSome, Result, Ok, Err}
+use Rattle.std.specs.Prelude.{◌≡◌, ℕ, zero, suc, ◌+◌, Bool, if◌then◌else◌, List, [], ◌∷◌, ◌++◌, Option, Some, None, IfSome, Result, Ok, Err}
+use Rattle.std.specs.declared.net.socket_addr.SocketAddrV4.{SocketAddrV4}
 use Rattle.bay_services.specs.declared.answer.Command.{Command}
 use Rattle.bay_device.specs.Device.{State}
 use Rattle.bay_device.specs.Outcomes.{Outcomes, outcomes}
@@ -46,14 +47,15 @@ unfoldable pub settled_events : ℕ → Turning → List ChosenEvent
 settled_events now s = settled_in_events now 8 s
 
 -- a connection that waits opens an association
-abbrev pub accept_events_at : ℕ → Option ℕ → Option Bool → Turning → List ChosenEvent
+abbrev pub accept_events_at : ℕ → Option ℕ → Option (Option SocketAddrV4) → Turning
+    → List ChosenEvent
 accept_events_at now None taken s = []
 accept_events_at now (Some place) None s = []
-accept_events_at now (Some place) (Some false) s = []
-accept_events_at now (Some place) (Some true) s =
+accept_events_at now (Some place) (Some None) s = []
+accept_events_at now (Some place) (Some (Some from)) s =
     surely (Open (place + 1)) ∷ settled_events now (after_opening now place s)
 
-abbrev pub accept_events : ℕ → Option Bool → Turning → List ChosenEvent
+abbrev pub accept_events : ℕ → Option (Option SocketAddrV4) → Turning → List ChosenEvent
 accept_events now taken s = accept_events_at now (free_place s.server) taken s
 
 -- octets of a client come, or it is closed

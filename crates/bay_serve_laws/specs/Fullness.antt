@@ -1,5 +1,6 @@
 -- Where a turn tells that the queue of an association was full, by octets alone.
 use Rattle.std.specs.Prelude.{◌≡◌, ℕ, ◌+◌, ◌<◌, ◌↔◌, ◌⊎◌, Bool, true, false, List, [], length, Option, Some}
+use Rattle.std.specs.declared.net.socket_addr.SocketAddrV4.{SocketAddrV4}
 use Rattle.bay_device.specs.declared.event.Why.{Why}
 use Rattle.bay_trace.specs.Trace.{NamedData}
 use Rattle.bay_serve.specs.Turns.{Held, Script, free_place, is_up_in, queue_at, turn_calls, after_turn}
@@ -19,7 +20,9 @@ pub record HasNoRoom (taken held sent : List ℕ) (failed over : Bool) (reasons 
 -- an association is open as the turn begins, or the turn opens it
 abbrev pub IsOpenIn : ℕ → Script → Held → Type 0
 IsOpenIn place script h =
-    (is_up_in place h ≡ true) ⊎ ((free_place h ≡ Some place) × (script.accepted ≡ Some true))
+    (is_up_in place h ≡ true)
+    ⊎ ((free_place h ≡ Some place)
+    × (from : SocketAddrV4) × (script.accepted ≡ Some (Some from)))
 
 -- So it is of one of the associations in a turn, exactly where that is told.
 abbrev pub IsToldWhereFull : ℕ → Option NamedData → Script → Held → ℕ → Type 0

@@ -1,6 +1,7 @@
 -- The order of a turn's events, by what the link brought, by the line, and by the device as each
 -- event comes.
-use Rattle.std.specs.Prelude.{◌≡◌, ℕ, ◌+◌, ◌||◌, Bool, true, false, if◌then◌else◌, All, List, [], ◌∷◌, ◌++◌, position, is_none, is_some, Option, Some, None}
+use Rattle.std.specs.Prelude.{◌≡◌, ℕ, ◌+◌, ◌||◌, Bool, true, if◌then◌else◌, All, List, [], ◌∷◌, ◌++◌, position, is_none, is_some, Option, Some, None}
+use Rattle.std.specs.declared.net.socket_addr.SocketAddrV4.{SocketAddrV4}
 use Rattle.bay_device.specs.Device.{State}
 use Rattle.bay_device.specs.Outcomes.{connection_at}
 use Rattle.bay_device.specs.declared.event.Event.TheVariants.{Open, Recv, Close, Scan}
@@ -14,14 +15,14 @@ use Rattle.bay_serve_laws.specs.Events.{ChosenEvent, done_at, surely, turn_event
 
 -- ---- what each part of a turn does
 
-abbrev pub opened_at : Option ℕ → Option Bool → List ChosenEvent
-opened_at (Some place) (Some true) = surely (Open (place + 1)) ∷ []
-opened_at (Some place) (Some false) = []
+abbrev pub opened_at : Option ℕ → Option (Option SocketAddrV4) → List ChosenEvent
+opened_at (Some place) (Some (Some from)) = surely (Open (place + 1)) ∷ []
+opened_at (Some place) (Some None) = []
 opened_at (Some place) None = []
 opened_at None accepted = []
 
 -- A connection that was taken opens the lowest association that is free.
-abbrev pub opened : Option Bool → State → List ChosenEvent
+abbrev pub opened : Option (Option SocketAddrV4) → State → List ChosenEvent
 opened accepted d = opened_at (position is_none d.connections) accepted
 
 -- Octets that came are received, in one event; an end and a failure close the association.
@@ -75,7 +76,8 @@ module _ (now : ℕ) (told : List (ℕ × Closing)) where
       → Type 0
   AreInOrder has_reason line script d events =
       Then (opened script.accepted d) (ThenReads 0 script.readings
-      (λ e. Then (told_at line e) (Then (surely Scan ∷ []) (λ f rest. AreClosings has_reason rest)) e))
+      (λ e. Then (told_at line e) (Then (surely Scan ∷ []) (λ f rest. AreClosings has_reason rest))
+      e))
       d
       events
 

@@ -106,7 +106,7 @@ impl ServedBay {
         self.controls.is_enhanced(switch)
     }
 
-    // Puts down the report that a control is refused.
+    // Adds the report that a control is refused.
     fn report_refusal(
         &self,
         alloc: Global,
@@ -137,7 +137,7 @@ impl ServedBay {
         Ok(())
     }
 
-    // Puts down that a control is refused.
+    // Records that a control is refused.
     fn refuse(
         &self,
         alloc: Global,
@@ -161,7 +161,7 @@ impl ServedBay {
         self.report_refusal(alloc, client, part, control, why, &mut written.reports)
     }
 
-    // Puts down what a decision on a control answers.
+    // Records a decision's result in the response.
     fn put_decision(
         &self,
         alloc: Global,
@@ -273,7 +273,7 @@ impl ServedBay {
         })
     }
 
-    // Puts down that an operate is accepted: its command, and the reports of its end.
+    // Records that an operate is accepted: its command, and the reports of its end.
     fn accept(
         &self,
         alloc: Global,

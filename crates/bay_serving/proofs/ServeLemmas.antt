@@ -7,6 +7,7 @@ use Rattle.bay_device.specs.Report.{IsReport}
 use Rattle.bay_device.specs.declared.fault.LoadFault.{LoadFault}
 use Rattle.bay_device.specs.declared.fault.LoadFault.TheVariants.{Refused, OutOfMemory as wants_memory}
 use Rattle.bay_device.specs.declared.report.Report.{Report}
+use Rattle.bay_io.specs.Sent.{Logs}
 use Rattle.bay_io.specs.Watched.{Writing}
 use Rattle.bay_io.specs.declared.outbox.WriteFault.{WriteFault}
 use Rattle.bay_report.proofs.ReportLemmas.{nil-from-length}
@@ -20,6 +21,7 @@ use Rattle.bay_report.specs.TextLines.{CutsLine, lines_of}
 use Rattle.bay_serving.specs.ServeReport.{AfterTurn, Hearing, Hears, MayPause, Serving, ServesTurns, TellsNews, TellsTurn, TurnFails, TurnGoes, chosen, from_port, is_gone, text_of_next, told_lines, with_process}
 use Rattle.bay_port.specs.declared.news.News.{News}
 use Rattle.bay_serving.specs.Serving.{TriesTurn}
+use Rattle.bay_serving.specs.LogLines.{used_up_log}
 use Rattle.bay_serving.specs.TurnLines.{is_quiet, turn_text}
 use Rattle.bay_serving.specs.declared.serving.Tried.{Tried}
 use Rattle.bay_serving.specs.declared.serving.Tried.TheVariants as tried
@@ -89,6 +91,7 @@ module _ {L B : Type 0} (below : B → L) (does : L → Call → L → Type 0) (
     all_offered = s.all_offered;
     talks = talks-below _ old new s.talks;
     server = s.server;
+    opened = s.opened;
     refused = s.refused;
     commands = s.commands;
     closed = s.closed;
@@ -152,7 +155,7 @@ module _ {L B H W : Type 0} (below : B → L) (does : L → Call → L → Type 
       → acts host-before (Tells clock) host-after
       → Serves (Called (λ o call n. does (below o) call (below n)) (λ b. failures (below b)))
       link-before link-after (moment_at clock before) (line_in text) before after turn
-      → TellsTurn contents asks now turn s old between r
+      → TellsTurn contents asks now text turn s old between r
       → AfterTurn r
       ((process-after ≡ process-before) × (new ≡ between) × (answer ≡ r))
       (Hears (Called does failures) contents asks now turn s process-before process-after between
@@ -185,8 +188,10 @@ module _ {L B H W : Type 0} (below : B → L) (does : L → Call → L → Type 
         between = between;
         outcome = r;
         printed =
-            subst (λ m. TellsTurn contents asks m turn after.device old between r) is
-            (subst (λ d. TellsTurn contents asks now turn d old between r) whole tells);
+            subst (λ t. TellsTurn contents asks (moment_at clock before) t turn after.device old
+            between r) same
+            (subst (λ m. TellsTurn contents asks m text turn after.device old between r) is
+            (subst (λ d. TellsTurn contents asks now text turn d old between r) whole tells));
         hears =
             subst (λ m. AfterTurn r
             ((process-after ≡ process-before) × (new ≡ between) × (answer ≡ r))
@@ -203,16 +208,20 @@ module _ {L B H W : Type 0} (below : B → L) (does : L → Call → L → Type 
 module _ {L H W : Type 0} (step : L → Call → L → Type 0) (acts : H → HostCall L → H → Type 0)
     (contents : W → Option (List ℕ)) (asks : W → WriteCall → W → Type 0) where
   -- which fault it is makes no difference
-  tells-cut : (now : ℕ) (turn : Turn) (s : State) (old new : Writing W) (one other : WriteFault)
-      → TellsTurn contents asks now turn s old new (Err one)
-      → TellsTurn contents asks now turn s old new (Err other)
-  tells-cut now turn s old new one other tells = by-quiet (is_quiet turn) tells
+  tells-cut : (now : ℕ) (line : Option (List ℕ)) (turn : Turn) (s : State) (old new : Writing W)
+      (one other : WriteFault) → TellsTurn contents asks now line turn s old new (Err one)
+      → TellsTurn contents asks now line turn s old new (Err other)
+  tells-cut now line turn s old new one other tells = record {
+    mid = tells.mid;
+    logged = tells.logged;
+    printed = by-quiet (is_quiet turn) tells.printed;
+  }
     where
       by-quiet : (b : Bool) → MatchBool b
-          ((new ≡ old) × (◌≡◌ {A = Result ℕ WriteFault} (Err one) (Ok 0)))
-          (Prints contents asks (IsLast (turn_text now turn s) 0) old new (Err one))
-          → MatchBool b ((new ≡ old) × (◌≡◌ {A = Result ℕ WriteFault} (Err other) (Ok 0)))
-          (Prints contents asks (IsLast (turn_text now turn s) 0) old new (Err other))
+          ((new ≡ tells.mid) × (◌≡◌ {A = Result ℕ WriteFault} (Err one) (Ok 0)))
+          (Prints contents asks (IsLast (turn_text now turn s) 0) tells.mid new (Err one))
+          → MatchBool b ((new ≡ tells.mid) × (◌≡◌ {A = Result ℕ WriteFault} (Err other) (Ok 0)))
+          (Prints contents asks (IsLast (turn_text now turn s) 0) tells.mid new (Err other))
       by-quiet true stays = let e = stays.1 in absurd cc
       by-quiet false prints = prints
 
@@ -246,7 +255,8 @@ module _ {L H W : Type 0} (step : L → Call → L → Type 0) (acts : H → Hos
       now = moment_at goes.clock before.held
 
       by-outcome : (r : Result ℕ WriteFault)
-          → TellsTurn contents asks now goes.turn after.held.device old goes.between r
+          → TellsTurn contents asks now (text_of_next line) goes.turn after.held.device old
+          goes.between r
           → AfterTurn r
           ((after.process ≡ before.process) × (new ≡ goes.between)
           × (◌≡◌ {A = Result ℕ WriteFault} (Err one) r))
@@ -273,7 +283,8 @@ module _ {L H W : Type 0} (step : L → Call → L → Type 0) (acts : H → Hos
         between = goes.between;
         outcome = Err other;
         printed =
-            tells-cut now goes.turn after.held.device old goes.between fault other printed;
+            tells-cut now (text_of_next line) goes.turn after.held.device old goes.between fault
+            other printed;
         hears = (hears.0, hears.1, refl);
       }
 
@@ -436,11 +447,12 @@ module _ {L H W : Type 0} (step : L → Call → L → Type 0) (acts : H → Hos
   -- there is none left
   pub Reached-end : (turns : ℕ) (lines : List (ℕ × List ℕ)) (before : Serving L H)
       (old : Writing W) (left : ℕ) (rest : List (ℕ × List ℕ)) (here : Serving L H)
-      (mid : Writing W)
+      (mid new : Writing W)
       → Reached turns lines before old left rest here mid → left ≡ 0
-      → ServesTurns step acts contents asks turns lines before old here.host mid (Ok 0)
-  Reached-end turns lines before old left rest here mid reached e =
-      reached.goes here.host mid (Ok 0) (rw e (refl, (refl, refl)))
+      → Logs contents asks mid (used_up_log here.held.device.moment) new
+      → ServesTurns step acts contents asks turns lines before old here.host new (Ok 0)
+  Reached-end turns lines before old left rest here mid new reached e logged =
+      reached.goes here.host new (Ok 0) (rw e (refl, logged, refl))
 
 -- ---- what follows the line of a load that is served
 

@@ -8,10 +8,13 @@
 --
 -- `Host`: what serving asks of the system: ports and links, the clock's time, a pause. `Choosing`:
 -- the line of a turn. `TurnLines`: what is printed for a turn, and for one that is not done.
--- `Serving`: what one try of a turn comes to.
+-- `LogLines`: what is logged of ports, of a turn, of the process and of the end, line by line.
+-- `Logging`: lines that are logged one after the other. `Serving`: what one try of a turn comes to.
 
 -- What public clauses cite of the crates below.
 pub use Rattle.bay_files.specs.Files
+pub use Rattle.bay_io.specs.Sent
+pub use Rattle.bay_lines.specs.Shown
 pub use Rattle.bay_port.specs.Attending
 pub use Rattle.bay_port.specs.Ports
 pub use Rattle.bay_port.specs.Telling
@@ -25,6 +28,8 @@ pub use Rattle.bay_serve.specs.Turns
 -- Its own definitions.
 pub mod Choosing
 pub mod Host
+pub mod LogLines
+pub mod Logging
 pub mod Serve
 pub mod ServeReport
 pub mod Serving

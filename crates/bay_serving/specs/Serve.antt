@@ -1,17 +1,20 @@
 -- What the command to serve comes to: files are read and loaded, a port is bound, and turns are
 -- served.
 use Rattle.bay_io.specs.Calls.{WriteCall}
-use Rattle.std.specs.Prelude.{◌≡◌, ℕ, List, replicate, codes, Option, None, Some, Result, Ok, Err, ◌⊎◌, []}
+use Rattle.std.specs.Prelude.{◌≡◌, ℕ, List, replicate, codes, MatchBool, Option, None, Some, Result, Ok, Err, ◌⊎◌, []}
 use Rattle.bay_device.specs.Device.{State}
 use Rattle.bay_device.specs.Report.{IsReport as IsReportOf}
 use Rattle.bay_device.specs.declared.report.Report.{Report}
 use Rattle.bay_device.specs.declared.fault.LoadFault.{LoadFault}
 use Rattle.bay_device.specs.declared.fault.LoadFault.TheVariants.{OutOfMemory as wants_memory}
+use Rattle.bay_io.specs.Sent.{Logs}
 use Rattle.bay_io.specs.Watched.{Writing}
 use Rattle.bay_io.specs.declared.input.ReadFault.{ReadFault}
 use Rattle.bay_io.specs.declared.outbox.WriteFault.{WriteFault}
 use Rattle.bay_files.specs.Files.{FilesData, ReadsBoth, ReadsNamed}
-use Rattle.bay_serving.specs.Host.{HostCall, Binds}
+use Rattle.bay_serving.specs.Host.{HostCall, Binds, Tells}
+use Rattle.bay_serving.specs.LogLines.{ports_log, unbound_log}
+use Rattle.bay_serving.specs.declared.host.BindFault.{BindFault}
 use Rattle.bay_report.specs.Load.{LoadsTo}
 use Rattle.bay_report.specs.Report.{IsLast, Prints, Refuses, UnreadReport, report_text}
 use Rattle.bay_report.specs.TextLines.{lines_of}
@@ -29,37 +32,57 @@ pub record FileNames : Type 0 where
   pub program : List ℕ
   pub trace : Option (List ℕ)
 
+-- a port can't be had: why is logged, and that it is so is told
+pub record TellsUnbound {W : Type 0} (contents : W → Option (List ℕ))
+    (asks : W → WriteCall → W → Type 0) (port : ℕ) (fault : BindFault) (old new : Writing W)
+    (answer : Result ℕ WriteFault) : Type 0 where
+  pub mid : Writing W
+  pub logged : Logs contents asks old (unbound_log port fault) mid
+  pub printed : Prints contents asks (IsLast (codes "fault 121\n") 3) mid new answer
+
+-- where the log was started the clock is asked, and the ports are logged
+abbrev pub LogsPorts : {L H W : Type 0} → (H → HostCall L → H → Type 0) → (W → Option (List ℕ))
+    → (W → WriteCall → W → Type 0) → Numbers → H → H → Writing W → Writing W → Type 0
+LogsPorts acts contents asks numbers before after old new =
+    MatchBool old.logs
+    ((clock : ℕ) × acts before (Tells clock) after
+    × Logs contents asks old (ports_log clock numbers.port numbers.process) new)
+    ((after ≡ before) × (new ≡ old))
+
 module _ {L H W : Type 0} (step : L → Call → L → Type 0) (acts : H → HostCall L → H → Type 0)
     (contents : W → Option (List ℕ)) (asks : W → WriteCall → W → Type 0) where
-  -- a server is made, and turns are served; or there is no memory, which is told
+  -- a server is made, the ports are logged, and turns are served; or there is no memory, which is
+  -- told
   abbrev pub ServesWith : Numbers → List ℕ → State → L → Option (Hearing L) → H → H → Writing W
       → Writing W → Result ℕ WriteFault → Type 0
   ServesWith numbers trace s link process host after old new answer =
-      ServesTurns step acts contents asks numbers.turns (told_lines 1 (lines_of trace))
+      ((began : H) × (mid : Writing W) × LogsPorts acts contents asks numbers host began old mid
+      × ServesTurns step acts contents asks numbers.turns (told_lines 1 (lines_of trace))
       (record {
         link = link;
         held = record { device = s; queues = replicate 8 [] };
-        host = host;
+        host = began;
         process = process;
-      }) old after new answer
+      }) mid after new answer)
       ⊎ (Prints contents asks (IsLast (codes "fault memory\n") 3) old new answer × (after ≡ host))
 
-  -- the port of the process can't be had, which is told; or a process may come to it
-  abbrev pub ServesHeard : Numbers → List ℕ → State → L → Option L → H → H → Writing W → Writing W
-      → Result ℕ WriteFault → Type 0
-  ServesHeard numbers trace s link None host after old new answer =
-      Prints contents asks (IsLast (codes "fault 121\n") 3) old new answer × (after ≡ host)
-  ServesHeard numbers trace s link (Some had) host after old new answer =
-      ServesWith numbers trace s link (Some (record { link = had; port = bare Away })) host after
-      old new answer
+  -- the port of the process can't be had; or a process may come to it
+  abbrev pub ServesHeard : Numbers → List ℕ → State → L → ℕ → Result L BindFault → H → H → Writing W
+      → Writing W → Result ℕ WriteFault → Type 0
+  ServesHeard numbers trace s link port (Err fault) host after old new answer =
+      TellsUnbound contents asks port fault old new answer × (after ≡ host)
+  ServesHeard numbers trace s link port (Ok had) host after old new answer =
+      ServesWith numbers trace s link
+      (Some (record { link = had; port = bare numbers.tells_releases Away })) host after old new
+      answer
 
   -- the port of the process is bound
   pub record BindsProcess (numbers : Numbers) (trace : List ℕ) (s : State) (link : L) (port : ℕ)
       (before after : H) (old new : Writing W) (answer : Result ℕ WriteFault) : Type 0 where
-    pub had : Option L
+    pub had : Result L BindFault
     pub host : H
     pub binds : acts before (Binds port had) host
-    pub goes_on : ServesHeard numbers trace s link had host after old new answer
+    pub goes_on : ServesHeard numbers trace s link port had host after old new answer
 
   -- there is a process, or none
   abbrev pub ServesAlone : Option ℕ → Numbers → List ℕ → State → L → H → H → Writing W → Writing W
@@ -69,18 +92,18 @@ module _ {L H W : Type 0} (step : L → Call → L → Type 0) (acts : H → Hos
   ServesAlone (Some port) numbers trace s link host after old new answer =
       BindsProcess numbers trace s link port host after old new answer
 
-  -- the port of the clients can't be had, which is told; or it is served
-  abbrev pub ServesBound : Numbers → List ℕ → State → Option L → H → H → Writing W → Writing W
-      → Result ℕ WriteFault → Type 0
-  ServesBound numbers trace s None host after old new answer =
-      Prints contents asks (IsLast (codes "fault 121\n") 3) old new answer × (after ≡ host)
-  ServesBound numbers trace s (Some link) host after old new answer =
+  -- the port of the clients can't be had; or it is served
+  abbrev pub ServesBound : Numbers → List ℕ → State → Result L BindFault → H → H → Writing W
+      → Writing W → Result ℕ WriteFault → Type 0
+  ServesBound numbers trace s (Err fault) host after old new answer =
+      TellsUnbound contents asks numbers.port fault old new answer × (after ≡ host)
+  ServesBound numbers trace s (Ok link) host after old new answer =
       ServesAlone numbers.process numbers trace s link host after old new answer
 
   -- the port of the clients is bound
   pub record BindsPort (numbers : Numbers) (trace : List ℕ) (s : State) (before after : H)
       (old new : Writing W) (answer : Result ℕ WriteFault) : Type 0 where
-    pub had : Option L
+    pub had : Result L BindFault
     pub host : H
     pub binds : acts before (Binds numbers.port had) host
     pub goes_on : ServesBound numbers trace s had host after old new answer

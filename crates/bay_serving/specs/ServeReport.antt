@@ -1,13 +1,16 @@
 -- What serving comes to, turn by turn: what each turn does, and what is printed for it.
 use Rattle.bay_io.specs.Calls.{WriteCall}
-use Rattle.std.specs.Prelude.{◌≡◌, ℕ, zero, suc, ◌+◌, List, ◌∷◌, drop, slice_get, Option, None, Some, option_map, Result, Ok, Err, ◌⊎◌, MatchBool, Bool, false, if◌then◌else◌, []}
+use Rattle.std.specs.Prelude.{◌≡◌, ℕ, zero, suc, ◌+◌, List, ◌∷◌, drop, slice_get, Option, None, Some, option_map, Result, Ok, Err, ◌⊎◌, MatchBool, Bool, false, unwrap_or, if◌then◌else◌, []}
 use Rattle.std.specs.Borrow.{Bor}
 use Rattle.bay_device.specs.Device.{State}
+use Rattle.bay_io.specs.Sent.{Logs}
 use Rattle.bay_io.specs.Watched.{Writing}
 use Rattle.bay_io.specs.declared.outbox.WriteFault.{WriteFault}
 use Rattle.bay_serving.specs.Host.{HostCall, Tells, Pauses}
 use Rattle.bay_report.specs.Report.{IsLast, Prints}
 use Rattle.bay_serving.specs.TurnLines.{is_quiet, news_text, turn_text, unserved_text}
+use Rattle.bay_serving.specs.Logging.{LogsAll}
+use Rattle.bay_serving.specs.LogLines.{news_log, turn_log, unserved_log, used_up_log}
 use Rattle.bay_port.specs.Attending.{Attends, attendance}
 use Rattle.bay_port.specs.Ports.{PortData, is_leaving, taken_line}
 use Rattle.bay_port.specs.Telling.{told_text}
@@ -42,12 +45,29 @@ abbrev pub Stays : {W : Type 0} → Writing W → Writing W → Result ℕ Write
 Stays old new answer = (new ≡ old) × (answer ≡ Ok 0)
 
 -- what a turn tells is printed and flushed; where it tells nothing the writer is left alone
-abbrev pub TellsTurn : {W : Type 0} → (W → Option (List ℕ)) → (W → WriteCall → W → Type 0) → ℕ
+abbrev pub PrintsTurn : {W : Type 0} → (W → Option (List ℕ)) → (W → WriteCall → W → Type 0) → ℕ
     → Turn → State → Writing W
     → Writing W → Result ℕ WriteFault → Type 0
-TellsTurn contents asks now turn s old new answer =
+PrintsTurn contents asks now turn s old new answer =
     MatchBool (is_quiet turn) (Stays old new answer)
     (Prints contents asks (IsLast (turn_text now turn s) 0) old new answer)
+
+-- before that it is logged
+pub record TellsTurn {W : Type 0} (contents : W → Option (List ℕ))
+    (asks : W → WriteCall → W → Type 0)
+    (now : ℕ) (line : Option (List ℕ)) (turn : Turn) (s : State) (old new : Writing W)
+    (answer : Result ℕ WriteFault) : Type 0 where
+  pub mid : Writing W
+  pub logged : LogsAll contents asks old (turn_log now (unwrap_or line []) turn) mid
+  pub printed : PrintsTurn contents asks now turn s mid new answer
+
+-- why a turn is not done is logged, printed and flushed
+pub record TellsUnserved {W : Type 0} (contents : W → Option (List ℕ))
+    (asks : W → WriteCall → W → Type 0) (fault : ServeFault) (number : ℕ) (line : Option (List ℕ))
+    (old new : Writing W) (answer : Result ℕ WriteFault) : Type 0 where
+  pub mid : Writing W
+  pub logged : Logs contents asks old (unserved_log fault number (unwrap_or line [])) mid
+  pub printed : Prints contents asks (IsLast (unserved_text fault number) 3) mid new answer
 
 -- what follows a turn whose lines could not be written, and another
 abbrev pub AfterTurn : Result ℕ WriteFault → Type 0 → Type 0 → Type 0
@@ -120,13 +140,14 @@ MayPause acts before after = (after ≡ before)
     ⊎ (acts before.host Pauses after.host × (after.link ≡ before.link)
     × (after.held ≡ before.held) × (after.process ≡ before.process))
 
--- what has become of the process's connection is printed and flushed
+-- what has become of the process's connection is logged, printed and flushed
 abbrev pub TellsNews : {W : Type 0} → (W → Option (List ℕ)) → (W → WriteCall → W → Type 0) → ℕ
     → Option News → Writing W
     → Writing W → Result ℕ WriteFault → Type 0
 TellsNews contents asks now None old new answer = Stays old new answer
-TellsNews contents asks now (Some news) old new answer =
-    Prints contents asks (IsLast (news_text now news) 0) old new answer
+TellsNews {W} contents asks now (Some news) old new answer =
+    (mid : Writing W) × Logs contents asks old (news_log now news) mid
+    × Prints contents asks (IsLast (news_text now news) 0) mid new answer
 
 module _ {L W : Type 0} (step : L → Call → L → Type 0) (contents : W → Option (List ℕ))
     (asks : W → WriteCall → W → Type 0) where
@@ -156,9 +177,8 @@ module _ {L H W : Type 0} (step : L → Call → L → Type 0) (acts : H → Hos
     pub told : acts before.host (Tells clock) host
     pub fault : ServeFault
     pub is : turn_refusal clock (text_of_next line) before.held ≡ Some fault
-    pub printed : Prints contents asks (IsLast (unserved_text fault (number_of_next line)) 3) old
-        new
-        answer
+    pub printed : TellsUnserved contents asks fault (number_of_next line) (text_of_next line) old
+        new answer
 
   -- the clock was asked, the turn was done, what it tells was printed, and then the process was
   -- attended to; or it could not be printed
@@ -171,19 +191,21 @@ module _ {L H W : Type 0} (step : L → Call → L → Type 0) (acts : H → Hos
         (line_in (text_of_next line)) before.held after.held turn
     pub between : Writing W
     pub outcome : Result ℕ WriteFault
-    pub printed : TellsTurn contents asks (moment_at clock before.held) turn after.held.device old
-        between outcome
+    pub printed : TellsTurn contents asks (moment_at clock before.held) (text_of_next line) turn
+        after.held.device old between outcome
     pub hears : AfterTurn outcome
         ((after.process ≡ before.process) × (new ≡ between) × (answer ≡ outcome))
         (Hears step contents asks (moment_at clock before.held) turn after.held.device
         before.process
         after.process between new answer)
 
-  -- So many turns are served, each with its line: all of them; up to one that is not done; or up to
-  -- one whose lines could not be written.
+  -- So many turns are served, each with its line: all of them, which is logged; up to one that is
+  -- not done; or up to one whose lines could not be written.
   abbrev pub ServesTurns : ℕ → List (ℕ × List ℕ) → Serving L H → Writing W → H → Writing W
       → Result ℕ WriteFault → Type 0
-  ServesTurns zero lines before old host new answer = (host ≡ before.host) × Stays old new answer
+  ServesTurns zero lines before old host new answer =
+      (host ≡ before.host) × Logs contents asks old (used_up_log before.held.device.moment) new
+      × (answer ≡ Ok 0)
   ServesTurns (suc turns) lines before old host new answer =
       TurnFails (chosen before.held.device lines before.process).line before old host new answer
       ⊎ ((after : Serving L H) × (mid : Writing W) × (told : Result ℕ WriteFault)

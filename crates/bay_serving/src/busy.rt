@@ -2,6 +2,7 @@
 ghost use Rattle.std.specs.Prelude.{◌≡◌};
 
 use bay_serve::link::{Arrival, Link, LinkFault};
+use std::net::SocketAddrV4;
 
 /// A link that records whether its calls may have left something that can be done without waiting:
 /// a connection was accepted, a read filled its room, a client's end was seen, a connection was
@@ -41,9 +42,9 @@ impl<L: Link> Link for BusyLink<L> {
 
     ghost failures = { λ busy. L.failures busy.link };
 
-    fn accept(&mut self, a: u16) -> Result<bool, LinkFault> {
+    fn accept(&mut self, a: u16) -> Result<Option<SocketAddrV4>, LinkFault> {
         let answer = self.link.accept(a);
-        self.is_busy |= answer == Ok(true);
+        self.is_busy |= matches!(answer, Ok(Some(_)));
         answer
     }
 

@@ -1,16 +1,65 @@
 // What serving asks of the system: ports, and a clock.
+ghost use Rattle.std.specs.Prelude.{◌≡◌};
 ghost use Rattle.bay_serving.specs.Host.{HostCall, Binds, Tells, Pauses};
+ghost use Rattle.bay_serving.specs.LogLines.{reason_of};
 
 use bay_net::readiness::Readiness;
 use bay_net::tcp::TcpLink;
 use std::alloc::Global;
+use std::io::ErrorKind;
 use std::net::{Net, TcpListener, TcpStream};
 use std::rt::{Clock, Runtime};
-use std::thread;
 use std::time::Duration;
+use std::{io, thread};
+use thiserror::Error;
 
 /// The maximum length of a pause, in milliseconds.
 const PAUSE: u64 = 10;
+
+/// The system's number for too many open files (EMFILE).
+const TOO_MANY_FILES: i32 = 24;
+
+/// Why a port can't be opened.
+#[derive(Clone, Copy, Debug, PartialEq, Eq, Error)]
+pub enum BindFault {
+    /// Another program listens on it.
+    #[error("another program uses it")]
+    InUse,
+    /// The program may not listen on it.
+    #[error("permission denied")]
+    Denied,
+    /// The program has as many open files as it may have.
+    #[error("too many open files")]
+    NoDescriptor,
+    /// Any other reason.
+    #[error("the system does not open it")]
+    Failed,
+}
+
+impl BindFault {
+    /// Returns the reason in words.
+    pub fn reason(self) -> &'static [u8]
+        ensures { result.now ≡ reason_of self }
+    {
+        match self {
+            BindFault::InUse => b"another program uses it",
+            BindFault::Denied => b"permission denied",
+            BindFault::NoDescriptor => b"too many open files",
+            BindFault::Failed => b"the system does not open it",
+        }
+    }
+}
+
+impl From<io::Error> for BindFault {
+    fn from(error: io::Error) -> BindFault {
+        match error.kind() {
+            ErrorKind::AddrInUse => BindFault::InUse,
+            ErrorKind::PermissionDenied => BindFault::Denied,
+            _ if error.raw_os_error() == Some(TOO_MANY_FILES) => BindFault::NoDescriptor,
+            _ => BindFault::Failed,
+        }
+    }
+}
 
 /// The ports of 127.0.0.1, on which links listen, and a clock.
 ///
@@ -20,8 +69,8 @@ const PAUSE: u64 = 10;
 pub trait Host<L> {
     ghost does: { Self → HostCall L → Self → Type 0 } = { λ _ _ _. Unit {0} };
 
-    /// Listens at a port. Returns `None` if that fails.
-    fn bind(&mut self, port: u16) -> Option<L>
+    /// Listens at a port.
+    fn bind(&mut self, port: u16) -> Result<L, BindFault>
         ensures { does self.old (Binds port result) self.new };
 
     /// Returns the clock's time, in milliseconds since 1970.
@@ -54,19 +103,19 @@ impl<'a, R> SystemHost<'a, R> {
 fn ready_for<'a, R: Runtime<A = Global> + Net>(
     rt: &R,
     readiness: &'a mut Option<Readiness>,
-) -> Option<&'a Readiness> {
+) -> Result<&'a Readiness, BindFault> {
     if readiness.is_none() {
-        *readiness = Some(Readiness::new(rt, rt.alloc()).ok()?);
+        *readiness = Some(Readiness::new(rt, rt.alloc())?);
     }
-    readiness.as_ref()
+    readiness.as_ref().ok_or(BindFault::Failed)
 }
 
 impl<'a, R: Runtime<A = Global> + Net<Listener = TcpListener, Stream = TcpStream>> Host<
     TcpLink<'a, R>,
 > for SystemHost<'a, R> {
-    fn bind(&mut self, port: u16) -> Option<TcpLink<'a, R>> {
+    fn bind(&mut self, port: u16) -> Result<TcpLink<'a, R>, BindFault> {
         let readiness = ready_for(self.rt, &mut self.readiness)?;
-        TcpLink::bind(self.rt, self.rt, readiness, port).ok()
+        Ok(TcpLink::bind(self.rt, self.rt, readiness, port)?)
     }
 
     /// A clock that cannot be read gives 0, which is not later than any time.

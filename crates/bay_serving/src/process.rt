@@ -148,7 +148,7 @@ fn attend_one<L: Link, W: Sink>(
     let sizes = process.port.sizes();
     let news = attend(&mut process.port, &mut process.link, device, moment, turn);
     process.is_busy |= news.is_some() || process.port.sizes() != sizes;
-    tell_news(writer, moment, news)
+    tell_news(writer, moment, &news)
 }
 
 /// Attends to the process after a turn, if there is one.

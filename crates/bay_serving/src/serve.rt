@@ -3,11 +3,12 @@ ghost use Rattle.std.specs.Prelude.{◌≡◌, None, Ok, Err, false, replicate, 
 ghost use Rattle.bay_services.specs.Released.{AreTimed};
 ghost use Rattle.bay_files.specs.Files.{ReadsNamed};
 ghost use Rattle.bay_report.specs.Report.{Prints, UnreadReport};
-ghost use Rattle.bay_serving.specs.Serve.{LoadsServed, ServesBound, ServesDevice, ServesFiles, ServesHeard, ServesRead, ServesWith, BindsPort, BindsProcess};
+ghost use Rattle.bay_serving.specs.Serve.{LoadsServed, LogsPorts, ServesBound, ServesDevice, ServesFiles, ServesHeard, ServesRead, ServesWith, TellsUnbound, BindsPort, BindsProcess};
 ghost use Rattle.bay_serve.specs.Calls.{Called};
 ghost use Rattle.bay_serve.specs.Served.{text_in};
 
-use crate::host::Host;
+use crate::host::{BindFault, Host};
+use crate::log_lines::{log_ports, log_unbound};
 use crate::process::Process;
 use crate::serving::serve_turns;
 use bay_device::device::Device;
@@ -23,12 +24,14 @@ use bay_serve::link::Link;
 use bay_serve::server::Server;
 use std::alloc::{AllocError, AllocFailed, Global};
 
-/// The port for clients, the number of turns, and the port for the process, if there is one.
+/// The port for clients, the number of turns, the port for the process, if there is one, and
+/// whether it is told of releases.
 #[derive(Clone, Copy)]
 pub struct Numbers {
     pub port: u16,
     pub turns: u32,
     pub process: Option<u16>,
+    pub tells_releases: bool,
 }
 
 /// The names of the files that are served: the bay, a program or an image, and the trace of the
@@ -41,7 +44,19 @@ pub struct Named<'a> {
     pub trace: Option<&'a str>,
 }
 
-/// Creates a server of a device, and serves it over a link, with or without a process.
+/// Logs the ports at the clock's time, if the log was started.
+fn log_start<L, H: Host<L>, W: Sink>(host: &mut H, numbers: Numbers, writer: &mut WatchedWriter<W>)
+    ensures { LogsPorts H.does W.contents W.does numbers host.old host.new writer.old
+        writer.new }
+{
+    if writer.is_logging() {
+        let moment = host.now();
+        log_ports(writer, moment, numbers.port, numbers.process);
+    }
+}
+
+/// Creates a server of a device, logs the ports, and serves it over a link, with or without a
+/// process.
 fn serve_with<L: Link + Drop, H: Host<L>, W: Sink>(
     alloc: Global,
     device: Device,
@@ -59,9 +74,24 @@ fn serve_with<L: Link + Drop, H: Host<L>, W: Sink>(
         process host.old host.new writer.old writer.new result }
 {
     match Server::new(alloc, device) {
-        Ok(server) => serve_turns(server, link, process, host, trace, numbers.turns, writer),
+        Ok(server) => {
+            log_start::<L, H, W>(host, numbers, writer);
+            serve_turns(server, link, process, host, trace, numbers.turns, writer)
+        }
         Err(AllocFailed { value: _ }) => write_text(writer, NO_MEMORY, FAULT),
     }
+}
+
+/// Logs why a port could not be opened, and writes that it was not.
+fn tell_unbound<W: Sink>(
+    writer: &mut WatchedWriter<W>,
+    port: u16,
+    fault: BindFault,
+) -> Result<u8, WriteFault>
+    ensures { TellsUnbound W.contents W.does port fault writer.old writer.new result }
+{
+    log_unbound(writer, port, fault);
+    write_text(writer, b"fault 121\n", FAULT)
 }
 
 /// Serves a device with a process on the link of a port, if the port could be opened.
@@ -69,7 +99,8 @@ fn serve_heard<L: Link + Drop, H: Host<L>, W: Sink>(
     alloc: Global,
     device: Device,
     link: L,
-    had: Option<L>,
+    port: u16,
+    had: Result<L, BindFault>,
     host: &mut H,
     trace: &[u8],
     numbers: Numbers,
@@ -78,13 +109,14 @@ fn serve_heard<L: Link + Drop, H: Host<L>, W: Sink>(
     requires closed { device.connections ≡ replicate 8 None }
     requires timed { AreTimed device.controls.controls }
     ensures { ServesHeard (Called L.does L.failures) H.does W.contents W.does numbers trace.now
-        device link
+        device link port
         had host.old host.new writer.old writer.new result }
 {
-    let Some(had) = had else {
-        return write_text(writer, b"fault 121\n", FAULT);
+    let had = match had {
+        Ok(had) => had,
+        Err(fault) => return tell_unbound(writer, port, fault),
     };
-    match Port::new(alloc) {
+    match Port::new(alloc, numbers.tells_releases) {
         Ok(port) => serve_with(
             alloc,
             device,
@@ -117,14 +149,14 @@ fn serve_process<L: Link + Drop, H: Host<L>, W: Sink>(
         link port host.old host.new writer.old writer.new result }
 {
     let had = host.bind(port);
-    serve_heard(alloc, device, link, had, host, trace, numbers, writer)
+    serve_heard(alloc, device, link, port, had, host, trace, numbers, writer)
 }
 
 /// Serves a device over the link of a port, if the port could be opened.
 fn serve_link<L: Link + Drop, H: Host<L>, W: Sink>(
     alloc: Global,
     device: Device,
-    link: Option<L>,
+    link: Result<L, BindFault>,
     host: &mut H,
     trace: &[u8],
     numbers: Numbers,
@@ -136,8 +168,9 @@ fn serve_link<L: Link + Drop, H: Host<L>, W: Sink>(
         device link
         host.old host.new writer.old writer.new result }
 {
-    let Some(link) = link else {
-        return write_text(writer, b"fault 121\n", FAULT);
+    let link = match link {
+        Ok(link) => link,
+        Err(fault) => return tell_unbound(writer, numbers.port, fault),
     };
     match numbers.process {
         Some(port) => serve_process(alloc, device, link, port, host, trace, numbers, writer),
@@ -251,7 +284,8 @@ fn serve_read<F: FileSystem, L: Link + Drop, H: Host<L>, W: Sink>(
 
 /// Serves files by their names. Reads the bay, then the program or the image, then the trace; loads
 /// them and writes the line of the load; binds the port for clients, and then that of the process,
-/// if there is one; and serves the given number of turns.
+/// if there is one; and serves the given number of turns. Logs the ports, or why one can't be
+/// opened.
 pub fn serve<F: FileSystem, L: Link + Drop, H: Host<L>, W: Sink>(
     alloc: Global,
     named: Named<'_>,

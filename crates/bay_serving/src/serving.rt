@@ -10,9 +10,10 @@ ghost use Rattle.bay_serve.specs.Turns.{moment_at};
 
 use crate::busy::BusyLink;
 use crate::host::Host;
+use crate::log_lines::log_used_up;
 use crate::process::{Process, attend_process, choose, line_of, was_busy};
 use crate::trace_lines::TraceLines;
-use crate::turns::{tell_turn, write_unserved};
+use crate::turns::{tell_turn, tell_unserved};
 use bay_io::calls::Sink;
 use bay_io::outbox::WriteFault;
 use bay_io::writer::WatchedWriter;
@@ -90,7 +91,7 @@ fn is_idle<L: Link>(
     !was_link_busy && !was_process_busy && !had_line
 }
 
-/// Tries a turn and prints what it reports, and then attends to the process.
+/// Tries a turn, logs and prints what it reports, and then attends to the process.
 fn try_turn<L: Link, H: Host<L>, W: Sink>(
     server: &mut Server,
     link: &mut BusyLink<L>,
@@ -107,16 +108,17 @@ fn try_turn<L: Link, H: Host<L>, W: Sink>(
 {
     let clock = host.now();
     let moment = clock.max(server.device().moment());
-    match serve_line(server, link, clock, octets_of(line)) {
+    let octets = octets_of(line);
+    match serve_line(server, link, clock, octets) {
         Ok(turn) => {
             let device = server.device();
-            tell_turn(writer, device, moment, &turn)?;
+            tell_turn(writer, device, moment, octets, &turn)?;
             attend_process(process, device, moment, &turn, writer)?;
             let was_idle = is_idle(link, process, line.is_some());
             Ok(Tried::Done { was_idle })
         }
         Err(fault) => {
-            let status = write_unserved(writer, fault, number_of(line))?;
+            let status = tell_unserved(writer, fault, number_of(line), octets)?;
             Ok(Tried::Ends(status))
         }
     }
@@ -131,9 +133,9 @@ fn rest<L, H: Host<L>>(host: &mut H, was_idle: bool)
     }
 }
 
-/// Serves the given number of turns, each with its line, and prints what each reports. Returns the
-/// exit status: 0 after the last turn, or 3 at a turn that is not done. Pauses after a turn that
-/// left nothing to do at once.
+/// Serves the given number of turns, each with its line, and logs and prints what each reports, and
+/// logs that all are served. Returns the exit status: 0 after the last turn, or 3 at a turn that is
+/// not done. Pauses after a turn that left nothing to do at once.
 fn serve_lines<L: Link, H: Host<L>, W: Sink>(
     server: &mut Server,
     link: &mut BusyLink<L>,
@@ -156,6 +158,7 @@ fn serve_lines<L: Link, H: Host<L>, W: Sink>(
             Tried::Done { was_idle } => rest::<L, H>(host, was_idle),
         }
     }
+    log_used_up(writer, server.device().moment());
     Ok(CLEAN)
 }
 

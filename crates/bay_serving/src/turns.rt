@@ -1,16 +1,18 @@
 // The lines that are printed for a turn of a server.
-ghost use Rattle.std.specs.Prelude.{◌≡◌};
+ghost use Rattle.std.specs.Prelude.{◌≡◌, [], unwrap_or};
 ghost use Rattle.bay_io.specs.Sent.{Puts};
 ghost use Rattle.bay_device.specs.declared.event.Why.TheVariants.{Fault};
 ghost use Rattle.bay_report.specs.Lines.{closing_text};
 ghost use Rattle.bay_report.specs.Report.{IsLast, Prints};
 ghost use Rattle.bay_serve.specs.Code.{code_of};
-ghost use Rattle.bay_serving.specs.ServeReport.{TellsNews, TellsTurn};
+ghost use Rattle.bay_serve.specs.Served.{text_in};
+ghost use Rattle.bay_serving.specs.ServeReport.{PrintsTurn, TellsNews, TellsTurn, TellsUnserved};
 ghost use Rattle.bay_port.specs.Telling.{refusal_text};
 ghost use Rattle.bay_port.specs.declared.news.News.TheVariants.{Closed, Opened};
 ghost use Rattle.bay_serving.specs.TurnLines.{closings_text, memories_text, news_text, turn_text, unserved_text};
 ghost use Rattle.bay_serving.specs.TurnLines as spec;
 
+use crate::log_lines::{log_news, log_turn, log_unserved};
 use bay_device::device::Device;
 use bay_device::event::Why;
 use bay_io::calls::Sink;
@@ -96,19 +98,45 @@ fn write_turn<W: Sink>(
 
 /// Writes the lines of a turn and flushes them. Does not use the writer if the turn reports
 /// nothing.
-pub fn tell_turn<W: Sink>(
+fn print_turn<W: Sink>(
     writer: &mut WatchedWriter<W>,
     device: &Device,
     moment: u64,
     turn: &Turn,
 ) -> Result<u8, WriteFault>
-    ensures { TellsTurn W.contents W.does moment turn.now device.now writer.old writer.new result }
+    ensures { PrintsTurn W.contents W.does moment turn.now device.now writer.old writer.new
+        result }
 {
     if is_quiet(turn) {
         Ok(CLEAN)
     } else {
         write_turn(writer, device, moment, turn)
     }
+}
+
+/// Returns the octets of a line, or none without a line.
+fn octets_in(line: Option<&[u8]>) -> &[u8]
+    ensures { result.now ≡ unwrap_or (text_in line.entry) [] }
+{
+    match line {
+        Some(octets) => octets,
+        None => b"",
+    }
+}
+
+/// Logs what a turn with this line reports, and prints it.
+pub fn tell_turn<W: Sink>(
+    writer: &mut WatchedWriter<W>,
+    device: &Device,
+    moment: u64,
+    line: Option<&[u8]>,
+    turn: &Turn,
+) -> Result<u8, WriteFault>
+    ensures { TellsTurn W.contents W.does moment (text_in line.entry) turn.now device.now writer.old
+        writer.new result }
+{
+    log_turn(writer, moment, octets_in(line), turn);
+    print_turn(writer, device, moment, turn)
 }
 
 /// Writes that the connection of the process was accepted.
@@ -120,8 +148,8 @@ fn put_opened<W: Sink>(writer: &mut WatchedWriter<W>, moment: u64)
 }
 
 /// Writes that the connection of the process was closed, with the number of the reason.
-fn put_parting<W: Sink>(writer: &mut WatchedWriter<W>, moment: u64, why: Parting)
-    ensures { Puts W.contents W.does writer.old (news_text moment (Closed why)) writer.new }
+fn put_parting<W: Sink>(writer: &mut WatchedWriter<W>, moment: u64, why: &Parting)
+    ensures { Puts W.contents W.does writer.old (news_text moment (Closed why.now)) writer.new }
 {
     writer.put_number(moment);
     writer.put(b" process closed ");
@@ -130,8 +158,8 @@ fn put_parting<W: Sink>(writer: &mut WatchedWriter<W>, moment: u64, why: Parting
 }
 
 /// Writes what happened to the connection of the process.
-fn put_news<W: Sink>(writer: &mut WatchedWriter<W>, moment: u64, news: News)
-    ensures { Puts W.contents W.does writer.old (news_text moment news) writer.new }
+fn put_news<W: Sink>(writer: &mut WatchedWriter<W>, moment: u64, news: &News)
+    ensures { Puts W.contents W.does writer.old (news_text moment news.now) writer.new }
 {
     match news {
         News::Opened => put_opened(writer, moment),
@@ -143,26 +171,29 @@ fn put_news<W: Sink>(writer: &mut WatchedWriter<W>, moment: u64, news: News)
 fn write_news<W: Sink>(
     writer: &mut WatchedWriter<W>,
     moment: u64,
-    news: News,
+    news: &News,
 ) -> Result<u8, WriteFault>
-    ensures { Prints W.contents W.does (IsLast (news_text moment news) 0) writer.old writer.new
+    ensures { Prints W.contents W.does (IsLast (news_text moment news.now) 0) writer.old writer.new
         result }
 {
     put_news(writer, moment, news);
     finish(writer, CLEAN)
 }
 
-/// Writes what happened to the connection of the process, if anything did, and flushes it.
+/// Logs and writes what happened to the connection of the process, if anything did, and flushes it.
 /// Otherwise does not use the writer.
 pub fn tell_news<W: Sink>(
     writer: &mut WatchedWriter<W>,
     moment: u64,
-    news: Option<News>,
+    news: &Option<News>,
 ) -> Result<u8, WriteFault>
-    ensures { TellsNews W.contents W.does moment news writer.old writer.new result }
+    ensures { TellsNews W.contents W.does moment news.now writer.old writer.new result }
 {
     match news {
-        Some(news) => write_news(writer, moment, news),
+        Some(news) => {
+            log_news(writer, moment, news);
+            write_news(writer, moment, news)
+        }
         None => Ok(CLEAN),
     }
 }
@@ -178,7 +209,7 @@ fn write_bad_line<W: Sink>(writer: &mut WatchedWriter<W>, number: usize) -> Resu
 }
 
 /// Writes why a turn was not done, with the number of its line of the trace.
-pub fn write_unserved<W: Sink>(
+fn write_unserved<W: Sink>(
     writer: &mut WatchedWriter<W>,
     fault: ServeFault,
     number: usize,
@@ -190,4 +221,19 @@ pub fn write_unserved<W: Sink>(
         ServeFault::BadLine => write_bad_line(writer, number),
         ServeFault::MomentTooLarge => write_text(writer, b"fault 114\n", FAULT),
     }
+}
+
+/// Logs and writes why a turn with this line of the trace was not done.
+pub fn tell_unserved<W: Sink>(
+    writer: &mut WatchedWriter<W>,
+    fault: ServeFault,
+    number: usize,
+    line: Option<&[u8]>,
+) -> Result<u8, WriteFault>
+    ensures { TellsUnserved W.contents W.does fault number (text_in line.entry) writer.old
+        writer.new
+        result }
+{
+    log_unserved(writer, fault, number, octets_in(line));
+    write_unserved(writer, fault, number)
 }

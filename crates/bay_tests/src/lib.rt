@@ -12,6 +12,7 @@
 // - `replay`: readers and writers that go by a few octets at a time, and that fail.
 // - `serve`: serving over a link and a host in memory, and over those of the system.
 // - `process`: a process that is heard, over links in memory.
+// - `log`: what a server logs.
 // - `memory_link`, `memory`: clients in memory, and turns over them.
 // - `links`: a link over sockets call by call, and the system's clock.
 // - `sockets`: a client and the server in turn, on 127.0.0.1.
@@ -34,9 +35,13 @@ mod image;
 #[cfg(test)]
 mod links;
 #[cfg(test)]
+mod log;
+#[cfg(test)]
 mod memory;
 #[cfg(test)]
 mod memory_link;
+#[cfg(test)]
+mod output;
 #[cfg(test)]
 mod process;
 #[cfg(test)]

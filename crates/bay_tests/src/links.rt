@@ -26,7 +26,7 @@ fn take<C: Clock>(
     requires high { association ≤ 8 }
 {
     for _ in 0..2000 {
-        if let Ok(true) = link.accept(association) {
+        if let Ok(Some(_)) = link.accept(association) {
             return Ok(true);
         }
         thread::sleep(rt, Duration::from_millis(1));

@@ -3,7 +3,13 @@ ghost use Rattle.std.specs.Prelude.{◌≡◌, ◌≤◌, length};
 
 use bay_serve::link::{Arrival, Link, LinkFault};
 use std::alloc::Global;
+use std::net::{Ipv4Addr, SocketAddrV4};
 use std::test::Fail;
+
+/// Returns the address from which each client connects.
+pub fn somewhere() -> SocketAddrV4 {
+    SocketAddrV4::new(Ipv4Addr::LOCALHOST, 40_000)
+}
 
 /// A client: how many of the octets that it sends were read, and what was sent to it.
 #[derive(Drop)]
@@ -91,7 +97,7 @@ fn give(incoming: &[u8], given: &mut usize, room: &mut [u8]) -> usize
 impl Link for MemoryLink {
     ghost failures = { λ link. link.failures };
 
-    fn accept(&mut self, association: u16) -> Result<bool, LinkFault> {
+    fn accept(&mut self, association: u16) -> Result<Option<SocketAddrV4>, LinkFault> {
         if self.is_failing() {
             self.failures = self.failures.saturating_add(1);
             return Err(LinkFault);
@@ -99,9 +105,9 @@ impl Link for MemoryLink {
         if self.connected < self.clients.len() {
             self.places[association as usize - 1] = Some(self.connected);
             self.connected = self.connected.saturating_add(1);
-            return Ok(true);
+            return Ok(Some(somewhere()));
         }
-        Ok(false)
+        Ok(None)
     }
 
     fn read(&mut self, association: u16, room: &mut [u8]) -> Result<Arrival, LinkFault> {

@@ -1,13 +1,15 @@
 // A process that is heard, over links in memory.
+use crate::memory_link::somewhere;
 use crate::serve::served;
-use bay_main::host::Host;
+use bay_main::host::{BindFault, Host};
 use bay_serve::link::{Arrival, Link, LinkFault};
+use std::net::SocketAddrV4;
 use std::test::Fail;
 
 /// A link on which either no client connects, or a process that sends some pieces and then its end,
 /// and accepts only one text. It may come again after it is closed.
 #[derive(Drop)]
-struct Scripted {
+pub struct Scripted {
     waits: bool,
     comes_again: bool,
     pieces: [&'static [u8]; 3],
@@ -19,10 +21,10 @@ struct Scripted {
 impl Link for Scripted {
     ghost failures = { λ link. link.failures };
 
-    fn accept(&mut self, _a: u16) -> Result<bool, LinkFault> {
+    fn accept(&mut self, _a: u16) -> Result<Option<SocketAddrV4>, LinkFault> {
         let waits = self.waits;
         self.waits = false;
-        Ok(waits)
+        Ok(waits.then_some(somewhere()))
     }
 
     fn read(&mut self, _a: u16, room: &mut [u8]) -> Result<Arrival, LinkFault> {
@@ -52,24 +54,24 @@ impl Link for Scripted {
 /// A host whose clock advances by a second each time it is read. The process, if there is one, is
 /// at port 9.
 #[derive(Drop)]
-struct Sides {
+pub struct Sides {
     pieces: [&'static [u8]; 3],
-    has_process: bool,
+    pub has_process: bool,
     comes_again: bool,
     now: u64,
 }
 
 impl Host<Scripted> for Sides {
-    fn bind(&mut self, port: u16) -> Option<Scripted> {
+    fn bind(&mut self, port: u16) -> Result<Scripted, BindFault> {
         if port == 9 && !self.has_process {
-            return None;
+            return Err(BindFault::Denied);
         }
-        Some(Scripted {
+        Ok(Scripted {
             waits: port == 9,
             comes_again: self.comes_again,
             pieces: self.pieces,
             at: 0,
-            wanted: b"4000 refused 113\n",
+            wanted: b"3000 refused 113\n",
             failures: 0,
         })
     }
@@ -83,7 +85,7 @@ impl Host<Scripted> for Sides {
 }
 
 /// Returns a host with a process that sends these pieces.
-fn host_of(pieces: [&'static [u8]; 3]) -> Sides {
+pub fn host_of(pieces: [&'static [u8]; 3]) -> Sides {
     Sides {
         pieces,
         has_process: true,
@@ -92,7 +94,8 @@ fn host_of(pieces: [&'static [u8]; 3]) -> Sides {
     }
 }
 
-const WORDS: [&str; 11] = [
+/// The words that serve eight turns with a process at port 9.
+pub const WORDS: [&str; 11] = [
     "serve",
     "--bay",
     "bay",
@@ -111,7 +114,7 @@ fn lines_and_what_is_told(rt: HostRuntime) -> Result<(), Fail> {
     let mut host = host_of([b"0 contact Q 1\n0 con", b"tact X 2\r\n", b""]);
     let (printed, status) = served(rt.alloc(), &mut host, "", WORDS.as_slice());
     let wanted =
-        b"instructions=2 depth=1 budget=2\n1000 process open\n4000 refused 113\n4000 process closed 0\n".as_slice();
+        b"instructions=2 depth=1 budget=2\n1000 process open\n3000 refused 113\n3000 process closed 0\n".as_slice();
     assert!(rt; printed.as_slice() == wanted && status == 0);
     Ok(())
 }
@@ -121,7 +124,7 @@ fn what_is_not_told_in_order(rt: HostRuntime) -> Result<(), Fail> {
     let mut host = host_of([b"0 contact X 1\n", b"", b""]);
     let (printed, status) = served(rt.alloc(), &mut host, "", WORDS.as_slice());
     let wanted =
-        b"instructions=2 depth=1 budget=2\n1000 process open\n3000 refused 113\n3000 process closed 131\n".as_slice();
+        b"instructions=2 depth=1 budget=2\n1000 process open\n2000 refused 113\n2000 process closed 131\n".as_slice();
     assert!(rt; printed.as_slice() == wanted && status == 0);
     Ok(())
 }
@@ -132,7 +135,7 @@ fn lines_that_cannot_be_taken(rt: HostRuntime) -> Result<(), Fail> {
         let mut host = host_of([b"0 contact Q 1\n", b"\n", last]);
         let (printed, status) = served(rt.alloc(), &mut host, "", WORDS.as_slice());
         let wanted =
-            b"instructions=2 depth=1 budget=2\n1000 process open\n4000 process closed 120\n".as_slice();
+            b"instructions=2 depth=1 budget=2\n1000 process open\n3000 process closed 120\n".as_slice();
         assert!(rt; printed.as_slice() == wanted && status == 0);
     }
     Ok(())
@@ -148,14 +151,15 @@ fn a_port_that_cannot_be_had(rt: HostRuntime) -> Result<(), Fail> {
     Ok(())
 }
 
-/// Another process comes only once every switch is bad: here one turn after the closing.
+/// Another process comes only once every switch is bad: here one turn after the closing. A third
+/// one has gone itself by then, and is not taken.
 #[test]
 fn switches_are_bad_behind_a_process(rt: HostRuntime) -> Result<(), Fail> {
-    let mut host = host_of([b"0 contact Q 1\n", b"", b""]);
+    let mut host = host_of([b"0 contact Q 1\n", b"", b"0 contact Q 1\n"]);
     host.comes_again = true;
     let (printed, status) = served(rt.alloc(), &mut host, "", WORDS.as_slice());
     let wanted =
-        b"instructions=2 depth=1 budget=2\n1000 process open\n3000 process closed 0\n5000 process open\n6000 process closed 0\n8000 process open\n".as_slice();
+        b"instructions=2 depth=1 budget=2\n1000 process open\n2000 process closed 0\n4000 process open\n5000 process closed 0\n".as_slice();
     assert!(rt; printed.as_slice() == wanted && status == 0);
     Ok(())
 }

@@ -1,14 +1,18 @@
 // Serving over a link and a host in memory, and over those of the system.
+use crate::memory_link::somewhere;
 use crate::sockets::link_at;
+use bay_io::calls::Sink;
 use bay_io::input::ReadFault;
 use bay_io::reader::WatchedReader;
 use bay_io::writer::WatchedWriter;
 use bay_main::commands::obey;
 use bay_main::files::{FileFault, FileSystem};
-use bay_main::host::{Host, SystemHost};
+use bay_main::host::{BindFault, Host, SystemHost};
 use bay_net::tcp::TcpLink;
 use bay_serve::link::{Arrival, Link, LinkFault};
 use std::alloc::Global;
+use std::io::ErrorKind;
+use std::net::SocketAddrV4;
 use std::test::Fail;
 
 /// A bay file, a program and a trace, each under its own name.
@@ -32,7 +36,7 @@ impl FileSystem for Texts<'_> {
             "bay" => BAY,
             "logic" => LOGIC,
             "trace" => self.trace,
-            _ => return Err(ReadFault::Failed),
+            _ => return Err(ReadFault::Failed(ErrorKind::NotFound)),
         };
         match Vec::from_slice(alloc, text.as_bytes()) {
             Ok(octets) => Ok(octets),
@@ -57,17 +61,17 @@ impl FileSystem for Texts<'_> {
 
 /// A link with one client, which hangs up at once.
 #[derive(Drop)]
-struct Hasty {
+pub struct Hasty {
     waits: bool,
 }
 
 impl Link for Hasty {
     ghost failures = { λ _. 0 };
 
-    fn accept(&mut self, _a: u16) -> Result<bool, LinkFault> {
+    fn accept(&mut self, _a: u16) -> Result<Option<SocketAddrV4>, LinkFault> {
         let waits = self.waits;
         self.waits = false;
-        Ok(waits)
+        Ok(waits.then_some(somewhere()))
     }
 
     fn read(&mut self, _a: u16, _room: &mut [u8]) -> Result<Arrival, LinkFault> {
@@ -84,18 +88,18 @@ impl Link for Hasty {
 /// A host with one port, whose clock advances by a second each time it is read. It counts its
 /// pauses.
 #[derive(Drop)]
-struct Still {
-    has_port: bool,
+pub struct Still {
+    pub has_port: bool,
     now: u64,
     pauses: u32,
 }
 
 impl Host<Hasty> for Still {
-    fn bind(&mut self, _port: u16) -> Option<Hasty> {
+    fn bind(&mut self, _port: u16) -> Result<Hasty, BindFault> {
         if self.has_port {
-            Some(Hasty { waits: true })
+            Ok(Hasty { waits: true })
         } else {
-            None
+            Err(BindFault::InUse)
         }
     }
 
@@ -109,6 +113,19 @@ impl Host<Hasty> for Still {
     }
 }
 
+/// Serves a trace as words ask for it, and returns the exit status.
+pub fn served_by<L: Link + Drop, H: Host<L>, W: Sink>(
+    alloc: Global,
+    host: &mut H,
+    trace: &str,
+    words: &[&str],
+    writer: &mut WatchedWriter<W>,
+) -> u8 {
+    let mut files = Texts { trace };
+    let mut reader = WatchedReader::new(b"".as_slice());
+    obey(alloc, words, &mut files, host, &mut reader, writer).status()
+}
+
 /// Returns what is printed for words that ask to serve a trace, and the exit status.
 pub fn served<L: Link + Drop, H: Host<L>>(
     alloc: Global,
@@ -116,17 +133,15 @@ pub fn served<L: Link + Drop, H: Host<L>>(
     trace: &str,
     words: &[&str],
 ) -> (Vec<u8>, u8) {
-    let mut files = Texts { trace };
     let mut printed = Vec::new(alloc);
-    let mut reader = WatchedReader::new(b"".as_slice());
     let mut writer = WatchedWriter::new(&mut printed);
-    let ended = obey(alloc, words, &mut files, host, &mut reader, &mut writer);
-    let status = ended.status();
+    let status = served_by(alloc, host, trace, words, &mut writer);
+    drop(writer);
     (printed, status)
 }
 
 /// Returns a host whose port can be opened.
-fn ready() -> Still {
+pub fn ready() -> Still {
     Still {
         has_port: true,
         now: 0,

@@ -5,8 +5,9 @@ use std::cell::RefCell;
 use std::env::FillError;
 use std::fmt::Display;
 use std::fs::{Metadata, OpenOptions};
-use std::io::{ErrorKind, Lines};
+use std::io::{ErrorKind, Lines, Write};
 use std::net::{Net, SocketAddr, TcpListener, TcpStream};
+use std::os::fd::{AsRawFd, RawFd};
 use std::rt::{Clock, Env, Files, Runtime};
 use std::test::Fail;
 use std::time::Duration;
@@ -30,6 +31,51 @@ fn keep(kept: &RefCell<Vec<u8>>, octets: &[u8]) -> io::Result<()> {
     };
     all.extend_from_slice(octets)?;
     Ok(())
+}
+
+/// What is printed.
+#[derive(Drop)]
+struct Printed<'a>(Kept<'a>);
+
+/// What is complained of.
+#[derive(Drop)]
+struct Complained<'a>(Kept<'a>);
+
+impl Write for Printed<'_> {
+    fn write(&mut self, buf: &[u8]) -> io::Result<usize> {
+        Print::write_all(&self.0, buf)?;
+        Ok(buf.len())
+    }
+
+    fn flush(&mut self) -> io::Result<()> {
+        Ok(())
+    }
+}
+
+impl Write for Complained<'_> {
+    fn write(&mut self, buf: &[u8]) -> io::Result<usize> {
+        keep(self.0.complaint, buf)?;
+        Ok(buf.len())
+    }
+
+    fn flush(&mut self) -> io::Result<()> {
+        Ok(())
+    }
+}
+
+/// The descriptor of standard error, in whose place the texts are kept.
+const STANDARD_ERROR: RawFd = 2;
+
+impl AsRawFd for Printed<'_> {
+    fn as_raw_fd(&self) -> RawFd {
+        STANDARD_ERROR
+    }
+}
+
+impl AsRawFd for Complained<'_> {
+    fn as_raw_fd(&self) -> RawFd {
+        STANDARD_ERROR
+    }
 }
 
 impl Runtime for Kept<'_> {}
@@ -187,13 +233,14 @@ fn ended(rt: &HostRuntime, words: &[&str], prints: bool) -> Result<String, Fail>
         RefCell::new(Vec::new(rt.alloc())),
         RefCell::new(Vec::new(rt.alloc())),
     );
-    let code = run(&Kept {
+    let kept = Kept {
         host: rt,
         words,
         printed: &printed,
         complaint: &complaint,
         prints,
-    });
+    };
+    let code = run(&kept, Printed(kept), Complained(kept));
     let (printed, complaint) = (printed.into_inner(), complaint.into_inner());
     let said = str::from_utf8(printed.as_slice()).unwrap_or("no text");
     let told = str::from_utf8(complaint.as_slice()).unwrap_or("no text");
@@ -225,6 +272,12 @@ fn a_file_that_is_not_there(rt: HostRuntime) -> Result<(), Fail> {
     let words = ["bayctl", "check", "--bay", "none", "--logic", "none"];
     let wanted = "ExitCode(unix_exit_status(3))|fault 121\n|";
     assert!(rt; with_words(&rt, &words, true, wanted)?);
+    let words = [
+        "bayctl", "check", "--bay", "none", "--logic", "none", "--log",
+    ];
+    let wanted =
+        "ExitCode(unix_exit_status(3))|fault 121\n|bayctl: fault 121: none: there is no such file\n";
+    assert!(rt; with_words(&rt, &words, true, wanted)?);
     Ok(())
 }
 
@@ -232,6 +285,10 @@ fn a_file_that_is_not_there(rt: HostRuntime) -> Result<(), Fail> {
 fn nothing_can_be_printed(rt: HostRuntime) -> Result<(), Fail> {
     let words = ["bayctl", "check", "--bay", "none", "--logic", "none"];
     let wanted = "ExitCode(unix_exit_status(3))||fault 122\n";
+    assert!(rt; with_words(&rt, &words, false, wanted)?);
+    let words = ["bayctl", "replay", "--log"];
+    let wanted =
+        "ExitCode(unix_exit_status(3))||bayctl: fault 122: standard output: it can't be written\nfault 122\n";
     assert!(rt; with_words(&rt, &words, false, wanted)?);
     Ok(())
 }
@@ -246,10 +303,15 @@ fn a_load(rt: HostRuntime) -> Result<(), Fail> {
     let done = ended(&rt, &words, true)?;
     fs::write(&rt, LOGIC, "PROGRAM P\nLD A\nEND_PROGRAM\n")?;
     let refused = ended(&rt, &words, true)?;
+    let words = ["bayctl", "check", "--log", "--bay", BAY, "--logic", LOGIC];
+    let logged = ended(&rt, &words, true)?;
     rt.remove_file(BAY)?;
     rt.remove_file(LOGIC)?;
     let loaded = "ExitCode(unix_exit_status(0))|instructions=2 depth=1 budget=2\n|";
     assert!(rt; done.as_str() == loaded);
     assert!(rt; refused.as_str() == "ExitCode(unix_exit_status(1))|load refused 70 line 2\n|");
+    let why =
+        "ExitCode(unix_exit_status(1))|load refused 70 line 2\n|bayctl: load refused 70 line 2: the name is unknown\n";
+    assert!(rt; logged.as_str() == why);
     Ok(())
 }

@@ -3,8 +3,9 @@ use Rattle.std.specs.Prelude.{string_bytes, option_map, List, ℕ}
 use Rattle.std.specs.Borrow.{Bor}
 use Rattle.bay_words.specs.declared.task.Program.{Program}
 use Rattle.bay_words.specs.declared.task.Program.TheVariants.{Logic, Image}
+use Rattle.bay_words.specs.declared.task.Asked.{Asked}
 use Rattle.bay_words.specs.declared.task.Task.{Task}
-use Rattle.bay_words.specs.declared.task.Task.TheVariants.{Check, Replay, Serve, Compile}
+use Rattle.bay_words.specs.declared.task.Task.TheVariants.{Check, Replay, Serve, Compile, Audit}
 use Rattle.bay_words.specs.declared.words.Job.{Job}
 use Rattle.bay_words.specs.Jobs.{JobData}
 
@@ -16,9 +17,14 @@ program_view (Image name) = Image name.now
 abbrev pub task_view : Task (Bor (List ℕ)) → Task (List ℕ)
 task_view (Check bay program) = Check bay.now (program_view program)
 task_view Replay = Replay
-task_view (Serve bay program port turns trace process) =
+task_view (Serve bay program port turns trace process tells) =
     Serve bay.now (program_view program) port turns (option_map (λ name. name.now) trace) process
+    tells
 task_view (Compile bay logic out) = Compile bay.now logic.now out.now
+task_view (Audit bay program rules) = Audit bay.now (program_view program) rules.now
+
+abbrev pub asked_view : Asked (Bor (List ℕ)) → Asked (List ℕ)
+asked_view asked = record { task = task_view asked.task; log = asked.log }
 
 -- a job, as definitions see it
 abbrev pub job_view : Job → JobData
@@ -29,7 +35,10 @@ job_view job = record {
   image = option_map string_bytes job.image;
   out = option_map string_bytes job.out;
   trace = option_map string_bytes job.trace;
+  rules = option_map string_bytes job.rules;
   port = job.port;
   turns = job.turns;
   process = job.process;
+  tell = option_map string_bytes job.tell;
+  log = job.log;
 }

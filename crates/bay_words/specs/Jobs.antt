@@ -1,58 +1,74 @@
 -- The commands of the program, and what some words ask for.
-use Rattle.std.specs.Prelude.{ℕ, ◌==◌, Bool, true, false, not, List, ◌∷◌, codes, Option, None, Some, option_and_then, option_map, if◌then◌else◌, []}
+use Rattle.std.specs.Prelude.{ℕ, ◌==◌, Bool, ◌&&◌, true, false, not, List, ◌∷◌, codes, Option, None, Some, is_some, option_and_then, option_map, if◌then◌else◌, []}
+use Rattle.std.specs.Option.{option_map_or}
 use Rattle.std.specs.Str.{bytes_eq}
 use Rattle.std.specs.Str.Parse.{digits_value, without_leading_plus}
 use Rattle.clap.specs.Words.{App, Row, Rule, Text, first_of, fault_of, new_app, new_rule, subcommand_of, with_rule, with_subcommand}
 use Rattle.clap.specs.Kinds.{Kinds}
 use Rattle.clap.specs.ValueTests.{is_unsigned_in}
-use Rattle.clap.specs.declared.builder.ArgAction.TheVariants.{Set}
+use Rattle.clap.specs.declared.builder.ArgAction.TheVariants.{Set, SetTrue}
 use Rattle.clap.specs.declared.builder.value_parser.ValueParser.TheVariants as vp
 use Rattle.bay_words.specs.declared.words.Verb.{Verb}
 use Rattle.bay_words.specs.declared.words.Verb.TheVariants as verb
 use Rattle.bay_words.specs.declared.task.Program.{Program}
 use Rattle.bay_words.specs.declared.task.Program.TheVariants.{Logic, Image}
+use Rattle.bay_words.specs.declared.task.Asked.{Asked}
 use Rattle.bay_words.specs.declared.task.Task.{Task}
-use Rattle.bay_words.specs.declared.task.Task.TheVariants.{Check, Replay, Serve, Compile}
+use Rattle.bay_words.specs.declared.task.Task.TheVariants.{Check, Replay, Serve, Compile, Audit}
 
--- `--NAME F`
-abbrev pub file_rule : Text → Rule
-file_rule name = record (new_rule name) { long = Some name; value_names = 1; action = Some Set }
+-- `--NAME TEXT`
+abbrev pub text_rule : Text → Rule
+text_rule name = record (new_rule name) { long = Some name; value_names = 1; action = Some Set }
 
 -- the same, which has to be there
 abbrev pub needed_rule : Text → Rule
-needed_rule name = record (file_rule name) { required = true }
+needed_rule name = record (text_rule name) { required = true }
 
 -- `--NAME N`, a number from the least to the greatest, which has to be there or may
 abbrev pub number_rule : Text → ℕ → ℕ → Bool → Rule
 number_rule name least greatest required =
-    record (file_rule name) { required = required; parser = Some (vp.Unsigned least greatest) }
+    record (text_rule name) { required = required; parser = Some (vp.Unsigned least greatest) }
+
+-- `[--log]`
+abbrev pub log_rule : Rule
+log_rule = record (new_rule (codes "log")) { long = Some (codes "log"); action = Some SetTrue }
 
 -- `[--logic F] [--image F]`
 abbrev pub with_program : App → App
-with_program app = with_rule (with_rule app (file_rule (codes "logic"))) (file_rule (codes "image"))
+with_program app = with_rule (with_rule app (text_rule (codes "logic"))) (text_rule (codes "image"))
 
--- `check --bay F [--logic F] [--image F]`
+-- `check --bay F [--logic F] [--image F] [--log]`
 abbrev pub check_app : App
-check_app = with_program (with_rule (new_app (codes "check")) (needed_rule (codes "bay")))
+check_app =
+    with_rule (with_program (with_rule (new_app (codes "check")) (needed_rule (codes "bay"))))
+    log_rule
 
--- `serve --bay F [--logic F] [--image F] --port N --turns N [--trace F] [--process P]`, with ports
--- from 1 to 65535 and turns below 2 ^ 32
+-- `serve --bay F [--logic F] [--image F] --port N --turns N [--trace F] [--process P]
+-- [--tell WHAT] [--log]`, with ports from 1 to 65535 and turns below 2 ^ 32
 abbrev pub serve_app : App
 serve_app =
     let named = with_program (with_rule (new_app (codes "serve")) (needed_rule (codes "bay"))) in
-    with_rule (with_rule (with_rule (with_rule named (number_rule (codes "port") 1 65535 true))
-    (number_rule (codes "turns") 0 4294967295 true)) (file_rule (codes "trace")))
-    (number_rule (codes "process") 1 65535 false)
+    with_rule (with_rule (with_rule (with_rule (with_rule (with_rule named
+    (number_rule (codes "port") 1 65535 true)) (number_rule (codes "turns") 0 4294967295 true))
+    (text_rule (codes "trace"))) (number_rule (codes "process") 1 65535 false))
+    (text_rule (codes "tell"))) log_rule
 
--- the words of `replay`
+-- `replay [--log]`
 abbrev pub replay_app : App
-replay_app = new_app (codes "replay")
+replay_app = with_rule (new_app (codes "replay")) log_rule
 
--- `compile --bay F --logic F --out F`
+-- `compile --bay F --logic F --out F [--log]`
 abbrev pub compile_app : App
 compile_app =
-    with_rule (with_rule (with_rule (new_app (codes "compile")) (needed_rule (codes "bay")))
-    (needed_rule (codes "logic"))) (needed_rule (codes "out"))
+    with_rule (with_rule (with_rule (with_rule (new_app (codes "compile"))
+    (needed_rule (codes "bay"))) (needed_rule (codes "logic"))) (needed_rule (codes "out")))
+    log_rule
+
+-- `audit --bay F [--logic F] [--image F] --rules F [--log]`
+abbrev pub audit_app : App
+audit_app =
+    with_rule (with_rule (with_program (with_rule (new_app (codes "audit"))
+    (needed_rule (codes "bay")))) (needed_rule (codes "rules"))) log_rule
 
 -- a verb has to be there; with no word at all the answer is the help
 abbrev pub program_app : App
@@ -70,9 +86,9 @@ program_app =
 -- the program with all its commands
 abbrev pub job_app : App
 job_app =
-    with_subcommand (with_subcommand
+    with_subcommand (with_subcommand (with_subcommand
     (with_subcommand (with_subcommand program_app check_app.top) replay_app.top) serve_app.top)
-    compile_app.top
+    compile_app.top) audit_app.top
 
 -- ---- what is to be done
 
@@ -115,22 +131,38 @@ abbrev pub is_apart : ℕ → Option ℕ → Bool
 is_apart port None = true
 is_apart port (Some process) = not (process == port)
 
-abbrev pub serve_task : Text → Program Text → ℕ → ℕ → Option Text → Option ℕ → Option (Task Text)
-serve_task bay program port turns trace process =
-    if is_apart port process then Some (Serve bay program port turns trace process) else None
+-- the process is told of releases, or of nothing else; there has to be one for it
+abbrev pub tells_of : Option ℕ → Option Text → Option Bool
+tells_of process None = Some false
+tells_of process (Some word) =
+    if is_some process && bytes_eq word (codes "releases") then Some true else None
 
--- what `serve` asks for: the same, both numbers, and a trace and a process, if they were named
+abbrev pub serve_task : Text → Program Text → ℕ → ℕ → Option Text → Option ℕ → Bool
+    → Option (Task Text)
+serve_task bay program port turns trace process tells =
+    if is_apart port process then Some (Serve bay program port turns trace process tells) else None
+
+-- what `serve` asks for: the same, both numbers, a trace and a process, if they were named, and
+-- what the process is told
 abbrev pub serve_in : List Row → Option (Task Text)
 serve_in rows =
     option_and_then (λ bay. option_and_then (λ program. option_and_then (λ port. option_and_then
-    (λ turns. serve_task bay program port turns (first_of (codes "trace") rows) (process_in rows))
-    (turns_in rows)) (port_in rows)) (program_in rows)) (first_of (codes "bay") rows)
+    (λ turns. option_and_then
+    (serve_task bay program port turns (first_of (codes "trace") rows) (process_in rows))
+    (tells_of (process_in rows) (first_of (codes "tell") rows))) (turns_in rows)) (port_in rows))
+    (program_in rows)) (first_of (codes "bay") rows)
 
 -- what `compile` asks for: its three files
 abbrev pub compile_in : List Row → Option (Task Text)
 compile_in rows =
     option_and_then (λ bay. option_and_then (λ logic. option_map (λ out. Compile bay logic out)
     (first_of (codes "out") rows)) (first_of (codes "logic") rows)) (first_of (codes "bay") rows)
+
+-- what `audit` asks for: a bay, a program and rules
+abbrev pub audit_in : List Row → Option (Task Text)
+audit_in rows =
+    option_and_then (λ bay. option_and_then (λ program. option_map (λ rules. Audit bay program rules)
+    (first_of (codes "rules") rows)) (program_in rows)) (first_of (codes "bay") rows)
 
 -- what a subcommand asks for with its values
 abbrev pub named_task : Text → List Row → Option (Task Text)
@@ -139,10 +171,20 @@ named_task name rows =
     else if bytes_eq name (codes "replay") then Some Replay
     else if bytes_eq name (codes "serve") then serve_in rows
     else if bytes_eq name (codes "compile") then compile_in rows
+    else if bytes_eq name (codes "audit") then audit_in rows
     else None
 
-abbrev pub entered_task : Option (Text × List Row) → Option (Task Text)
-entered_task = option_and_then (λ p. named_task p.0 p.1)
+-- the log is written
+abbrev pub logs : List Row → Bool
+logs rows = option_map_or (λ value. bytes_eq value (codes "true")) (first_of (codes "log") rows) false
+
+-- the task, and whether the log is written
+abbrev pub named_asked : Text → List Row → Option (Asked Text)
+named_asked name rows =
+    option_map (λ task. record { task = task; log = logs rows }) (named_task name rows)
+
+abbrev pub entered_task : Option (Text × List Row) → Option (Asked Text)
+entered_task = option_and_then (λ p. named_asked p.0 p.1)
 
 -- what was read of words that have these faults as a command line
 abbrev pub faultless : Kinds → Option (Text × List Row) → Option (Text × List Row)
@@ -155,12 +197,13 @@ abbrev pub asked_in : List Text → Option (Text × List Row)
 asked_in words = faultless (fault_of job_app words) (subcommand_of job_app words)
 
 -- what the words ask for
-abbrev pub task_in : List Text → Option (Task Text)
+abbrev pub task_in : List Text → Option (Asked Text)
 task_in words = entered_task (asked_in words)
 
 -- ---- as a record of all options
 
--- what is to be done, the files that were named, and the numbers that were given
+-- what is to be done, the files that were named, the numbers that were given, and whether the log is
+-- written
 pub record JobData : Type 0 where
   pub verb : Verb
   pub bay : Option Text
@@ -168,15 +211,19 @@ pub record JobData : Type 0 where
   pub image : Option Text
   pub out : Option Text
   pub trace : Option Text
+  pub rules : Option Text
   pub port : Option ℕ
   pub turns : Option ℕ
   pub process : Option ℕ
+  pub tell : Option Text
+  pub log : Bool
 
 abbrev pub verb_of : Task Text → Verb
 verb_of (Check bay program) = verb.Check
 verb_of Replay = verb.Replay
-verb_of (Serve bay program port turns trace process) = verb.Serve
+verb_of (Serve bay program port turns trace process tells) = verb.Serve
 verb_of (Compile bay logic out) = verb.Compile
+verb_of (Audit bay program rules) = verb.Audit
 
 -- a verb with the values of its options
 abbrev pub with_options : List Row → Verb → JobData
@@ -187,9 +234,12 @@ with_options rows verb = record {
   image = first_of (codes "image") rows;
   out = first_of (codes "out") rows;
   trace = first_of (codes "trace") rows;
+  rules = first_of (codes "rules") rows;
   port = port_in rows;
   turns = turns_in rows;
   process = process_in rows;
+  tell = first_of (codes "tell") rows;
+  log = logs rows;
 }
 
 -- the job of a subcommand and its values, if they ask for something

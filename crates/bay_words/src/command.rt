@@ -2,7 +2,7 @@
 ghost use Rattle.std.specs.Prelude.{◌≡◌, false, IfOk};
 ghost use Rattle.clap.specs.Words.{app_of, with_rule};
 ghost use Rattle.clap.specs.declared.builder.command.Command.TheViews.{out-Command as fields_of};
-ghost use Rattle.bay_words.specs.Jobs.{file_rule, needed_rule, number_rule, check_app, replay_app, serve_app, compile_app, program_app, job_app};
+ghost use Rattle.bay_words.specs.Jobs.{text_rule, log_rule, needed_rule, number_rule, check_app, replay_app, serve_app, compile_app, audit_app, program_app, job_app};
 ghost use Rattle.bay_words.specs.Jobs as spec;
 
 use clap::builder::ValueParser;
@@ -11,26 +11,27 @@ use std::alloc::{AllocError, Global};
 
 /// The version of the program, of its formats and of its fault numbers. CHANGELOG.md lists the
 /// changes of each version.
-const VERSION: &str = "1.0.0";
+const VERSION: &str = "1.1.0";
 
-/// Adds an optional option `--ID F` to the command.
-fn with_file<'a>(
+/// Adds an optional option `--ID VALUE` to the command.
+fn with_text<'a>(
     alloc: Global,
     command: Command<'a>,
     id: &'a str,
+    value: &'a str,
     help: &'a str,
 ) -> Result<Command<'a>, AllocError>
     ensures app { IfOk result
-        (λ c. app_of c ≡ with_rule (app_of command.entry) (file_rule id.entry.now)) }
+        (λ c. app_of c ≡ with_rule (app_of command.entry) (text_rule id.entry.now)) }
     ensures globals { IfOk result
         (λ c. (fields_of c).has_globals ≡ (fields_of command.entry).has_globals) }
 {
-    let file = Arg::new(alloc, id)
+    let text = Arg::new(alloc, id)
         .long(id)
-        .value_name("F")
+        .value_name(value)
         .help(help)
         .action(ArgAction::Set);
-    let command = command.arg(file)?;
+    let command = command.arg(text)?;
     Ok(command)
 }
 
@@ -85,6 +86,20 @@ fn with_number<'a>(
     Ok(command)
 }
 
+/// Adds the option `--log` to the command.
+fn with_log<'a>(alloc: Global, command: Command<'a>) -> Result<Command<'a>, AllocError>
+    ensures app { IfOk result (λ c. app_of c ≡ with_rule (app_of command.entry) log_rule) }
+    ensures globals { IfOk result
+        (λ c. (fields_of c).has_globals ≡ (fields_of command.entry).has_globals) }
+{
+    let log = Arg::new(alloc, "log")
+        .long("log")
+        .help("Log to standard error what happens, and why")
+        .action(ArgAction::SetTrue);
+    let command = command.arg(log)?;
+    Ok(command)
+}
+
 /// Adds the options of a program to the command. Exactly one of them is required.
 fn with_program<'a>(alloc: Global, command: Command<'a>) -> Result<Command<'a>, AllocError>
     ensures app { IfOk result (λ c. app_of c ≡ spec.with_program (app_of command.entry)) }
@@ -92,9 +107,9 @@ fn with_program<'a>(alloc: Global, command: Command<'a>) -> Result<Command<'a>, 
         (λ c. (fields_of c).has_globals ≡ (fields_of command.entry).has_globals) }
 {
     let command = command.after_help("Exactly one of --logic and --image is wanted.");
-    let command = with_file(alloc, command, "logic", "The program in Instruction List")?;
-    let image = "The compiled program, in place of --logic";
-    let command = with_file(alloc, command, "image", image)?;
+    let command = with_text(alloc, command, "logic", "F", "Program in Instruction List")?;
+    let image = "Compiled program, in place of --logic";
+    let command = with_text(alloc, command, "image", "F", image)?;
     Ok(command)
 }
 
@@ -103,10 +118,11 @@ fn check_command<'a>(alloc: Global) -> Result<Command<'a>, AllocError>
     ensures app { IfOk result (λ c. app_of c ≡ check_app) }
     ensures local { IfOk result (λ c. (fields_of c).has_globals ≡ false) }
 {
-    let about = "Loads a bay with a program, and tells what came of it";
+    let about = "Check a bay file and a program";
     let command = Command::new(alloc, "check").about(about);
-    let command = with_needed_file(alloc, command, "bay", "The bay file")?;
+    let command = with_needed_file(alloc, command, "bay", "Bay file")?;
     let command = with_program(alloc, command)?;
+    let command = with_log(alloc, command)?;
     Ok(command)
 }
 
@@ -115,18 +131,21 @@ fn serve_command<'a>(alloc: Global) -> Result<Command<'a>, AllocError>
     ensures app { IfOk result (λ c. app_of c ≡ serve_app) }
     ensures local { IfOk result (λ c. (fields_of c).has_globals ≡ false) }
 {
-    let about = "Serves clients on 127.0.0.1";
+    let about = "Serve clients on 127.0.0.1";
     let command = Command::new(alloc, "serve").about(about);
-    let command = with_needed_file(alloc, command, "bay", "The bay file")?;
+    let command = with_needed_file(alloc, command, "bay", "Bay file")?;
     let command = with_program(alloc, command)?;
-    let port = "The port on which clients are served";
+    let port = "Port for clients";
     let command = with_number(alloc, command, "port", "N", 1, 65_535, true, port)?;
-    let turns = "How many turns are served";
+    let turns = "Number of turns";
     let command = with_number(alloc, command, "turns", "N", 0, 4_294_967_295, true, turns)?;
-    let trace = "What happens to the process, a line each turn";
-    let command = with_file(alloc, command, "trace", trace)?;
-    let process = "The port on which the process is heard, behind the trace";
+    let trace = "Trace file, one line per turn";
+    let command = with_text(alloc, command, "trace", "F", trace)?;
+    let process = "Port for the process, used when the trace is done";
     let command = with_number(alloc, command, "process", "P", 1, 65_535, false, process)?;
+    let tell = "What else the process is told: releases";
+    let command = with_text(alloc, command, "tell", "WHAT", tell)?;
+    let command = with_log(alloc, command)?;
     Ok(command)
 }
 
@@ -135,20 +154,39 @@ fn compile_command<'a>(alloc: Global) -> Result<Command<'a>, AllocError>
     ensures app { IfOk result (λ c. app_of c ≡ compile_app) }
     ensures local { IfOk result (λ c. (fields_of c).has_globals ≡ false) }
 {
-    let command = Command::new(alloc, "compile").about("Compiles a program for a bay");
-    let command = with_needed_file(alloc, command, "bay", "The bay file")?;
-    let command = with_needed_file(alloc, command, "logic", "The program in Instruction List")?;
-    let out = "Where the compiled program is written";
+    let command = Command::new(alloc, "compile").about("Compile a program for a bay");
+    let command = with_needed_file(alloc, command, "bay", "Bay file")?;
+    let command = with_needed_file(alloc, command, "logic", "Program in Instruction List")?;
+    let out = "File for the compiled program";
     let command = with_needed_file(alloc, command, "out", out)?;
+    let command = with_log(alloc, command)?;
     Ok(command)
 }
 
-/// Builds `replay`, which has no options.
-fn replay_command<'a>(alloc: Global) -> Command<'a>
-    ensures app { app_of result ≡ replay_app }
-    ensures local { (fields_of result).has_globals ≡ false }
+/// Builds `audit` with its options.
+fn audit_command<'a>(alloc: Global) -> Result<Command<'a>, AllocError>
+    ensures app { IfOk result (λ c. app_of c ≡ audit_app) }
+    ensures local { IfOk result (λ c. (fields_of c).has_globals ≡ false) }
 {
-    Command::new(alloc, "replay").about("Replays the scenario on standard input")
+    let about = "Prove or refute rules of a bay and a program";
+    let command = Command::new(alloc, "audit").about(about);
+    let command = with_needed_file(alloc, command, "bay", "Bay file")?;
+    let command = with_program(alloc, command)?;
+    let rules = "Rules file, one rule per line";
+    let command = with_needed_file(alloc, command, "rules", rules)?;
+    let command = with_log(alloc, command)?;
+    Ok(command)
+}
+
+/// Builds `replay` with its option.
+fn replay_command<'a>(alloc: Global) -> Result<Command<'a>, AllocError>
+    ensures app { IfOk result (λ c. app_of c ≡ replay_app) }
+    ensures local { IfOk result (λ c. (fields_of c).has_globals ≡ false) }
+{
+    let about = "Replay the scenario on standard input";
+    let command = Command::new(alloc, "replay").about(about);
+    let command = with_log(alloc, command)?;
+    Ok(command)
 }
 
 /// Builds the program without its commands.
@@ -171,8 +209,9 @@ pub fn job_command<'a>(alloc: Global) -> Result<Command<'a>, AllocError>
 {
     let command = program_command(alloc)?;
     let command = command.subcommand(check_command(alloc)?)?;
-    let command = command.subcommand(replay_command(alloc))?;
+    let command = command.subcommand(replay_command(alloc)?)?;
     let command = command.subcommand(serve_command(alloc)?)?;
     let command = command.subcommand(compile_command(alloc)?)?;
+    let command = command.subcommand(audit_command(alloc)?)?;
     Ok(command)
 }

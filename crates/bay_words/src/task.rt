@@ -7,6 +7,14 @@ pub enum Program<T> {
     Image(T),
 }
 
+/// What a command line asks for.
+#[derive(Clone, Copy, Debug, PartialEq, Eq)]
+pub struct Asked<T> {
+    pub task: Task<T>,
+    /// Whether the log is written.
+    pub log: bool,
+}
+
 /// A task, with the names of its files and its numbers.
 #[derive(Clone, Copy, Debug, PartialEq, Eq)]
 pub enum Task<T> {
@@ -19,7 +27,7 @@ pub enum Task<T> {
     Replay,
     /// Serves clients on a port of 127.0.0.1, from 1 on, for the given number of turns. Reads the
     /// trace of the process line by line, if there is one, and then listens to the process itself
-    /// on a port of its own, if it has one.
+    /// on a port of its own, if it has one, which may be told of releases.
     Serve {
         bay: T,
         program: Program<T>,
@@ -27,6 +35,13 @@ pub enum Task<T> {
         turns: u32,
         trace: Option<T>,
         process: Option<u16>,
+        tells_releases: bool,
+    },
+    /// Answers a text of rules for a bay with a program.
+    Audit {
+        bay: T,
+        program: Program<T>,
+        rules: T,
     },
     /// Compiles a program to a file.
     Compile {

@@ -1,12 +1,13 @@
 // What the words of a command line ask for.
-ghost use Rattle.std.specs.Prelude.{◌≡◌, ◌⊎◌, map, Some, None, IfOk, IfErr, option_map, string_bytes};
+ghost use Rattle.std.specs.Prelude.{◌≡◌, ◌⊎◌, codes, map, Some, None, IfOk, IfErr, option_map, string_bytes};
+ghost use Rattle.std.specs.Str.{bytes_eq};
 ghost use Rattle.clap.specs.Words.{first_of, rows_of, found_of, kind_of, subcommand_rows_of};
-ghost use Rattle.bay_words.specs.Jobs.{asked_in, compile_in, check_in, job_in, number_of, program_in, serve_in, task_in};
+ghost use Rattle.bay_words.specs.Jobs.{asked_in, audit_in, compile_in, check_in, job_in, number_of, program_in, serve_in, task_in};
 ghost use Rattle.bay_words.specs.Jobs as spec;
-ghost use Rattle.bay_words.specs.JobView.{job_view, program_view, task_view};
+ghost use Rattle.bay_words.specs.JobView.{asked_view, job_view, program_view, task_view};
 
 use crate::command::job_command;
-use crate::task::{Program, Task};
+use crate::task::{Asked, Program, Task};
 use clap::error::ErrorKind;
 use clap::{ArgMatches, Error};
 use std::alloc::{AllocError, Global};
@@ -23,6 +24,8 @@ pub enum Verb {
     Serve,
     /// Compiles a program to an image.
     Compile,
+    /// Answers a text of rules.
+    Audit,
 }
 
 /// What a command line asks for: the verb, the names of the files that were given, and the numbers.
@@ -39,12 +42,18 @@ pub struct Job {
     pub out: Option<String>,
     /// The trace of the process to serve, line by line.
     pub trace: Option<String>,
+    /// The rules that are answered.
+    pub rules: Option<String>,
     /// The port of 127.0.0.1 on which clients are served, from 1 on.
     pub port: Option<u16>,
     /// The number of turns to serve.
     pub turns: Option<u32>,
     /// The port of 127.0.0.1 on which the controller listens to the process, from 1 on.
     pub process: Option<u16>,
+    /// What else the process is told.
+    pub tell: Option<String>,
+    /// Whether the log is written.
+    pub log: bool,
 }
 
 /// Why the words ask for no task.
@@ -134,6 +143,33 @@ fn is_apart(port: u16, process: Option<u16>) -> bool
     }
 }
 
+/// Whether a word is `releases`.
+fn is_releases(word: &str) -> bool
+    ensures { result ≡ bytes_eq word.now (codes "releases") }
+{
+    match word {
+        "releases" => true,
+        _ => false,
+    }
+}
+
+/// Returns whether the process is told of releases. Returns `None` if it is to be told anything
+/// else, or if there is no process.
+fn tells_of(process: Option<u16>, word: Option<&str>) -> Option<bool>
+    ensures { result ≡ spec.tells_of process (option_map (λ s. s.now) word.entry) }
+{
+    match word {
+        Some(word) => {
+            if process.is_some() && is_releases(word) {
+                Some(true)
+            } else {
+                None
+            }
+        }
+        None => Some(false),
+    }
+}
+
 /// Returns what `serve` asks for.
 fn serve_from<'a>(found: &ArgMatches<'a>) -> Option<Task<&'a str>>
     ensures { option_map task_view result ≡ serve_in (rows_of (found_of found.now)) }
@@ -144,6 +180,7 @@ fn serve_from<'a>(found: &ArgMatches<'a>) -> Option<Task<&'a str>>
     let turns = turns_in(found)?;
     let trace = value_of(found, "trace");
     let process = process_in(found);
+    let tells_releases = tells_of(process, value_of(found, "tell"))?;
     if !is_apart(port, process) {
         return None;
     }
@@ -154,6 +191,21 @@ fn serve_from<'a>(found: &ArgMatches<'a>) -> Option<Task<&'a str>>
         turns,
         trace,
         process,
+        tells_releases,
+    })
+}
+
+/// Returns what `audit` asks for.
+fn audit_from<'a>(found: &ArgMatches<'a>) -> Option<Task<&'a str>>
+    ensures { option_map task_view result ≡ audit_in (rows_of (found_of found.now)) }
+{
+    let bay = value_of(found, "bay")?;
+    let program = program_from(found)?;
+    let rules = value_of(found, "rules")?;
+    Some(Task::Audit {
+        bay,
+        program,
+        rules,
     })
 }
 
@@ -167,7 +219,27 @@ fn compile_from<'a>(found: &ArgMatches<'a>) -> Option<Task<&'a str>>
     Some(Task::Compile { bay, logic, out })
 }
 
-/// Returns what a subcommand with its options asks for.
+/// Whether the value of a flag is `true`.
+fn is_true(value: &str) -> bool
+    ensures { result ≡ bytes_eq value.now (codes "true") }
+{
+    match value {
+        "true" => true,
+        _ => false,
+    }
+}
+
+/// Returns whether the log is asked for.
+fn logs(found: &ArgMatches<'_>) -> bool
+    ensures { result ≡ spec.logs (rows_of (found_of found.now)) }
+{
+    match value_of(found, "log") {
+        Some(value) => is_true(value),
+        None => false,
+    }
+}
+
+/// Returns the task that a subcommand with its options asks for.
 fn named_task<'a>(name: &str, found: &ArgMatches<'a>) -> Option<Task<&'a str>>
     ensures { option_map task_view result
         ≡ spec.named_task name.now (rows_of (found_of found.now)) }
@@ -177,16 +249,29 @@ fn named_task<'a>(name: &str, found: &ArgMatches<'a>) -> Option<Task<&'a str>>
         "replay" => Some(Task::Replay),
         "serve" => serve_from(found),
         "compile" => compile_from(found),
+        "audit" => audit_from(found),
         _ => None,
     }
 }
 
+/// Returns what a subcommand with its options asks for.
+fn named_asked<'a>(name: &str, found: &ArgMatches<'a>) -> Option<Asked<&'a str>>
+    ensures { option_map asked_view result
+        ≡ spec.named_asked name.now (rows_of (found_of found.now)) }
+{
+    let task = named_task(name, found)?;
+    Some(Asked {
+        task,
+        log: logs(found),
+    })
+}
+
 /// Returns what the parsed words ask for.
-fn task_from<'a>(matches: &ArgMatches<'a>) -> Option<Task<&'a str>>
-    ensures { option_map task_view result ≡ spec.entered_task (subcommand_rows_of matches.now) }
+fn task_from<'a>(matches: &ArgMatches<'a>) -> Option<Asked<&'a str>>
+    ensures { option_map asked_view result ≡ spec.entered_task (subcommand_rows_of matches.now) }
 {
     let (name, found) = matches.subcommand()?;
-    named_task(name, found)
+    named_asked(name, found)
 }
 
 /// Returns the verb of a task.
@@ -198,6 +283,7 @@ fn verb_of(task: &Task<&str>) -> Verb
         Task::Replay => Verb::Replay,
         Task::Serve { .. } => Verb::Serve,
         Task::Compile { .. } => Verb::Compile,
+        Task::Audit { .. } => Verb::Audit,
     }
 }
 
@@ -224,9 +310,11 @@ fn with_options(alloc: Global, found: &ArgMatches<'_>, verb: Verb) -> Result<Job
     let image = option_of(alloc, found, "image")?;
     let out = option_of(alloc, found, "out")?;
     let trace = option_of(alloc, found, "trace")?;
+    let rules = option_of(alloc, found, "rules")?;
     let port = port_in(found);
     let turns = turns_in(found);
     let process = process_in(found);
+    let tell = option_of(alloc, found, "tell")?;
     Ok(Job {
         verb,
         bay,
@@ -234,9 +322,12 @@ fn with_options(alloc: Global, found: &ArgMatches<'_>, verb: Verb) -> Result<Job
         image,
         out,
         trace,
+        rules,
         port,
         turns,
         process,
+        tell,
+        log: logs(found),
     })
 }
 
@@ -269,22 +360,31 @@ fn job_from(alloc: Global, matches: &ArgMatches<'_>) -> Result<Option<Job>, Allo
 fn usage_of(name: &str) -> &'static str {
     match name {
         "serve" => {
-            "bayctl serve --bay <F> <--logic <F>|--image <F>> --port <N> --turns <N> [--trace <F>] [--process <P>]"
+            "bayctl serve --bay <F> <--logic <F>|--image <F>> --port <N> --turns <N> [--trace <F>] [--process <P>] [--tell <WHAT>] [--log]"
         }
-        _ => "bayctl check --bay <F> <--logic <F>|--image <F>>",
+        "audit" => "bayctl audit --bay <F> <--logic <F>|--image <F>> --rules <F> [--log]",
+        _ => "bayctl check --bay <F> <--logic <F>|--image <F>> [--log]",
     }
 }
 
 /// Returns what is wrong with the options of a command, each of which `clap` accepts.
 fn wrong_options(found: &ArgMatches<'_>) -> &'static str {
-    match program_from(found) {
-        Some(_) => "--process wants another port than --port",
-        None => "exactly one of --logic and --image is wanted",
+    if program_from(found).is_none() {
+        return "exactly one of --logic and --image is wanted";
+    }
+    match value_of(found, "tell") {
+        Some(word) if !is_releases(word) => {
+            "invalid value for '--tell <WHAT>'\n  [possible values: releases]"
+        }
+        Some(_) if process_in(found).is_none() => {
+            "the following required arguments were not provided:\n  --process <P>"
+        }
+        _ => "--process wants another port than --port",
     }
 }
 
-/// Makes the refusal of a command with both or neither of a program and an image, or with one port
-/// for both the clients and the process.
+/// Makes the refusal of a command with both or neither of a program and an image, with one port for
+/// both the clients and the process, or with something that a process can't be told.
 fn refused_options(alloc: Global, matches: &ArgMatches<'_>) -> WordsFault {
     let (wrong, usage) = match matches.subcommand() {
         Some((name, found)) => (wrong_options(found), usage_of(name)),
@@ -331,11 +431,13 @@ fn matches_of<'a>(alloc: Global, words: &'a [&'a str]) -> Result<ArgMatches<'a>,
 
 /// Returns what the words after the program's name ask for. A check takes a bay file and either a
 /// program or an image. A replay takes nothing. Serving takes what a check takes, a port and a
-/// number of turns, and optionally a trace and a process on another port. Compiling takes a bay
-/// file, a program and the file for the image. Words that ask for help are refused with the help.
-pub fn task_of<'a>(alloc: Global, words: &'a [&'a str]) -> Result<Task<&'a str>, WordsFault>
+/// number of turns, and optionally a trace and a process on another port, which may be told of
+/// releases. Compiling takes a bay file, a program and the file for the image. An audit takes what
+/// a check takes, and rules. Each may ask for the log. Words that ask for help are refused with the
+/// help.
+pub fn task_of<'a>(alloc: Global, words: &'a [&'a str]) -> Result<Asked<&'a str>, WordsFault>
     ensures ok { IfOk result
-        (λ t. task_in (map (λ w. w.now) words.entry.now) ≡ Some (task_view t)) }
+        (λ t. task_in (map (λ w. w.now) words.entry.now) ≡ Some (asked_view t)) }
     ensures refused { IfErr result
         (λ e. (e ≡ WordsFault.OutOfMemory) ⊎ (task_in (map (λ w. w.now) words.entry.now) ≡ None)) }
 {

@@ -5,5 +5,5 @@ use bay_main::program;
 use std::process::ExitCode;
 
 fn main(rt: HostRuntime) -> ExitCode {
-    program::run(&rt)
+    program::run(&rt, rt.stdout(), rt.stderr())
 }

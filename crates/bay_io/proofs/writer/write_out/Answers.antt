@@ -1,4 +1,4 @@
-use Rattle.std.proofs.Common.{◌≡◌, ◌-◌, nat_lt, ◌||◌, ◌++◌, length, take, drop, sym, ap, subst, ◌∙◌, arith, length-take, take-append-drop}
+use Rattle.std.proofs.Common.{◌≡◌, ◌-◌, nat_lt, ◌||◌, ◌++◌, length, take, drop, refl, sym, ap, subst, ◌∙◌, arith, length-take, take-append-drop}
 use Rattle.std.proofs.Math.Seq.{take-add, take-take}
 use Rattle.std.specs.Io.KnownBytes.{Appends}
 use Rattle.std.proofs.KnownBytes.{Appends-trans}
@@ -28,9 +28,10 @@ loop-done-preserved g c =
           subst (Appends _ _) joined (Appends-trans _ _ _ _ _ before.sent c.in-Ok.ensures.bytes);
       asked =
           Asked-then _ _ _ _ _ _ before.asked
-          (Asked-one _ _ _ _ _ c.write.ensures.call
+          (Asked-one _ _ _ _ _ (c.write.ensures.call, refl)
           (c.write.ensures.failed
           ∙ ap (λ b. c.loop-done.sink.has_failed || b) (write-failed _ c.write.result)));
+      logs = c.write.ensures.logs ∙ before.logs;
     }
 
 pub returns-in-Ok-eq0-clause-err : goal.returns-in-Ok-eq0-clause-err
@@ -56,14 +57,14 @@ returns-then-has_failed-clause-err g c = SendsPart-none _ _
 pub returns-in-Ok-eq0-clause-asked : goal.returns-in-Ok-eq0-clause-asked
 returns-in-Ok-eq0-clause-asked g c =
     Asked-then _ _ _ _ _ _ c.loop-done.invariant.asked
-    (Asked-one _ _ _ _ _ c.write.ensures.call
+    (Asked-one _ _ _ _ _ (c.write.ensures.call, refl)
     (c.write.ensures.failed
     ∙ ap (λ b. c.loop-done.sink.has_failed || b) (write-failed _ c.write.result)))
 
 pub returns-in-Err-clause-asked : goal.returns-in-Err-clause-asked
 returns-in-Err-clause-asked g c =
     Asked-then _ _ _ _ _ _ c.loop-done.invariant.asked
-    (Asked-one _ _ _ _ _ c.write.ensures.call
+    (Asked-one _ _ _ _ _ (c.write.ensures.call, refl)
     (c.write.ensures.failed
     ∙ ap (λ b. c.loop-done.sink.has_failed || b) (write-failed _ c.write.result)))
 

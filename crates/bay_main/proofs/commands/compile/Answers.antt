@@ -17,5 +17,16 @@ returns-in-Err g c =
     inr (
       c.if-is_same.ensures,
       c.if-is_same-2.ensures,
-      (Err c.in-Err.fault, c.in-Err.ensures.err, (c.write_unread.ensures, refl)),
+      (
+        Err c.in-Err.unread.fault,
+        c.in-Err.ensures.err,
+        (
+          record {
+            name = c.in-Err.unread.name.now;
+            is = c.in-Err.ensures.named;
+            told = c.tell_unread.ensures;
+          },
+          refl,
+        ),
+      ),
     )

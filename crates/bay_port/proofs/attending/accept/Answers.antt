@@ -1,19 +1,17 @@
-use Rattle.std.proofs.Common.{Some, None, true, false, refl}
-use Rattle.bay_port.proofs.AttendLemmas.{takes-in}
+use Rattle.std.proofs.Common.{Some, None, refl}
+use Rattle.bay_port.proofs.AttendLemmas.{accepts-none, accepts-one}
 use Rattle.bay_port.proofs.attending.accept.Goals as goal
 
-pub returns-in-Ok-true : goal.returns-in-Ok-true
-returns-in-Ok-true g c =
-    takes-in _ _ _ _ _ _ (Some true)
-    (_, (rw (c.in-Ok-true.is, c.in-Ok-true.field-0-test) at c.accept.ensures.call), refl)
-    c.stand.ensures refl
+pub returns-in-Ok-Some : goal.returns-in-Ok-Some
+returns-in-Ok-Some g c =
+    accepts-one _ _ _ _ _ _ _ _ (rw c.in-Ok-Some.field-0-is at c.in-Ok-Some.ensures.call)
+    c.welcome.ensures
 
-pub returns-in-Ok-false : goal.returns-in-Ok-false
-returns-in-Ok-false g c =
-    takes-in _ _ _ _ _ _ (Some false)
-    (_, (rw (c.in-Ok-false.is, c.in-Ok-false.field-0-test) at c.accept.ensures.call), refl) refl
-    refl
+pub returns-in-Ok-None : goal.returns-in-Ok-None
+returns-in-Ok-None g c =
+    accepts-none _ _ _ _ (Some None) refl
+    (rw c.in-Ok-None.field-0-is at c.in-Ok-None.ensures.call)
 
 pub returns-in-Err : goal.returns-in-Err
 returns-in-Err g c =
-    takes-in _ _ _ _ _ _ None (_, (rw c.in-Err.is at c.accept.ensures.call), refl) refl refl
+    accepts-none _ _ _ _ None refl (rw c.in-Err.is at c.accept.ensures.call)

@@ -13,6 +13,6 @@ returns-in-Ok g c =
 
 pub returns-in-Err : goal.returns-in-Err
 returns-in-Err g c =
-    rw c.stand.ensures
+    rw (c.stand.ensures, c.tells_releases-tells.ensures)
     (attends-closed _ _ _ _ _ _ _ _ _ (sym c.standing.ensures ∙ c.in-Here.is) c.in-Err.ensures
     c.close.ensures)

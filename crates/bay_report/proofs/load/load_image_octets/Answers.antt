@@ -21,3 +21,9 @@ returns-in-Err-clause-refused c =
     let bad : is_utf8 c.args.bay.now ≡ false =
     is-utf8-false c.args.bay.now c.in-Err.ensures.cases.0 in
     λ known. rw bad (ap Err c.from.ensures)
+
+pub returns-in-Ok-clause-loaded : goal.returns-in-Ok-clause-loaded
+returns-in-Ok-clause-loaded c =
+    let text : is_utf8 c.args.bay.now ≡ true =
+    is_utf8-from_IsUtf8 c.args.bay.now c.in-Ok.ensures.cases.1 in
+    rw text (rw c.in-Ok.ensures.cases.0 at c.load_image.ensures.loaded)

@@ -26,7 +26,7 @@ returns-in_err-tell_turn-in-Ok g c =
     c.from_residual.ensures.0
     (turn-goes (λ busy. busy.link) g.L.Link.does g.L.Link.failures g.H.Host.does g.W.Sink.contents
     g.W.Sink.does
-    _ _ _ _ _ _ _ _ _ _ _ _ _ _ _ _ _ _ _ c.octets_of.ensures now c.device-device.ensures
+    _ _ _ _ _ _ _ _ _ _ _ _ _ _ _ _ _ _ _ c.octets_of-octets.ensures now c.device-device.ensures
     c.now-clock.ensures c.in-Ok.ensures.ok c.in_err-tell_turn-in-Ok.ensures (refl, refl, refl))
 
 pub returns-in_err-attend_process-in-Ok : goal.returns-in_err-attend_process-in-Ok
@@ -50,7 +50,7 @@ returns-in_err-attend_process-in-Ok g c =
     c.from_residual-in_err-attend_process-in-Ok.ensures.0
     (turn-goes (λ busy. busy.link) g.L.Link.does g.L.Link.failures g.H.Host.does g.W.Sink.contents
     g.W.Sink.does
-    _ _ _ _ _ _ _ _ _ _ _ _ _ _ _ _ _ _ _ c.octets_of.ensures now c.device-device.ensures
+    _ _ _ _ _ _ _ _ _ _ _ _ _ _ _ _ _ _ _ c.octets_of-octets.ensures now c.device-device.ensures
     c.now-clock.ensures c.in-Ok.ensures.ok c.in_ok-tell_turn-in-Ok.ensures
     c.in_err-attend_process-in-Ok.ensures)
 
@@ -61,7 +61,8 @@ returns-in_ok-attend_process-in-Ok g c =
       c.in_ok-attend_process-in-Ok.field-0,
       rw (c.is_idle-was_idle.ensures.link, c.is_idle-was_idle.ensures.process)
           (turn-goes (λ busy. busy.link) g.L.Link.does g.L.Link.failures g.H.Host.does
-          g.W.Sink.contents g.W.Sink.does _ _ _ _ _ _ _ _ _ _ _ _ _ _ _ _ _ _ _ c.octets_of.ensures
+          g.W.Sink.contents g.W.Sink.does _ _ _ _ _ _ _ _ _ _ _ _ _ _ _ _ _ _ _
+          c.octets_of-octets.ensures
           now
           c.device-device.ensures c.now-clock.ensures c.in-Ok.ensures.ok
           c.in_ok-tell_turn-in-Ok.ensures c.in_ok-attend_process-in-Ok.ensures),

@@ -1,0 +1,162 @@
+"""What the scripts of this folder share: where things are, compiling C, running, ports and times.
+
+Importing it also lets a script import from tools/."""
+import argparse
+import contextlib
+import os
+import pathlib
+import re
+import shutil
+import socket
+import subprocess
+import sys
+import tempfile
+import time
+from collections.abc import Callable, Iterator
+
+TOP = pathlib.Path(__file__).resolve().parent.parent
+CRATES, EXAMPLES = TOP / 'crates', TOP / 'examples'
+PROGRAM = os.path.abspath(os.environ.get('BAYCTL', CRATES / 'bayctl' / 'out' / 'bayctl'))
+MIB = 1_048_576
+sys.path.append(str(TOP / 'tools'))
+
+
+def say_measured() -> None:
+    """Prints the line that stands above the script's figures in bench/RESULTS.md."""
+    from measuring.stamps import stamp_of_script
+    print(stamp_of_script(), end='\n\n', flush=True)
+
+
+def options(text: str) -> argparse.ArgumentParser:
+    """A parser of a script's words, whose help is the script's docstring."""
+    return argparse.ArgumentParser(
+        description=text, formatter_class=argparse.RawDescriptionHelpFormatter)
+
+
+def need(*programs: str | os.PathLike) -> None:
+    """Ends the script where a program is not there."""
+    for program in programs:
+        if shutil.which(program) is None:
+            folder = pathlib.Path(program).parent.parent
+            built = f': `rt run` or `rt test` in crates/{folder.name} builds it'
+            sys.exit(f'{program} is not there' + (built if folder.parent == CRATES else ''))
+
+
+def text_of(path: str | os.PathLike) -> str:
+    """The text in a file."""
+    with open(path, encoding='utf-8') as file:
+        return file.read()
+
+
+def write(path: str | os.PathLike, text: str) -> None:
+    """Writes a text to a file."""
+    with open(path, 'w', encoding='utf-8') as file:
+        file.write(text)
+
+
+def compiled(folder: str, source: str, *words: str) -> str:
+    """Compiles a C file of bench/ with -O2 into a folder, and returns the path of the result."""
+    need('cc')
+    made = os.path.join(folder, pathlib.Path(source).stem)
+    subprocess.run(['cc', '-O2', '-o', made, TOP / 'bench' / source, *words], check=True)
+    return made
+
+
+def kit_compiler() -> pathlib.Path | None:
+    """The compiler of the kit that `rt` belongs to, which has no headers."""
+    rt = shutil.which('rt')
+    clang = rt and pathlib.Path(rt).resolve().parent.parent / 'toolchain' / 'bin' / 'clang'
+    return clang if clang and clang.exists() else None
+
+
+def library(folder: str, source: str) -> str:
+    """Compiles a C file of bench/ as a library to preload, and returns its path. The kit's compiler
+    does it where the file includes nothing, and else `cc`."""
+    clang = kit_compiler()
+    if clang and '#include' not in text_of(TOP / 'bench' / source):
+        made = os.path.join(folder, pathlib.Path(source).stem)
+        subprocess.run([clang, '-O2', '-shared', '-fPIC', '-nostdlib', '-fuse-ld=lld', '-o', made,
+                        TOP / 'bench' / source], check=True)
+        return made
+    return compiled(folder, source, '-shared', '-fPIC', '-ldl')
+
+
+def preloaded(path: str, words: list, given: bytes = b'',
+              **settings: str) -> subprocess.CompletedProcess:
+    """Runs a program with a preloaded library, and the library's settings in the environment. Its
+    standard input is a file, since a pipe may give fewer octets than are asked for."""
+    with tempfile.TemporaryFile() as file:
+        file.write(given)
+        file.seek(0)
+        return subprocess.run(words, stdin=file, capture_output=True, timeout=60,
+                              env={'LD_PRELOAD': path, **settings})
+
+
+def allocations(told: bytes) -> int:
+    """How many allocations trials/failmalloc.c counted, which it says last on standard error."""
+    count = re.search(rb'(?:\A|\s)(\d+)\n\Z', told)
+    return int(count[1]) if count else 0
+
+
+def need_allocations(count: int) -> None:
+    """Ends the script where no allocation was counted."""
+    if not count:
+        sys.exit('no allocation was counted: the program takes its memory elsewhere')
+
+
+def least(run: Callable[[], tuple], times: int = 3) -> tuple:
+    """The least of several runs' results."""
+    return min(run() for _ in range(times))
+
+
+def spent(words: list, given: str, out: str, **more) -> tuple[float, int, int]:
+    """One run from a file to a file: the processor's seconds, the peak of memory in KiB, and the
+    status."""
+    with open(given, 'rb') as source, open(out, 'wb') as sink:
+        child = subprocess.Popen(words, stdin=source, stdout=sink, **more)
+        _, status, usage = os.wait4(child.pid, 0)
+        child.returncode = os.waitstatus_to_exitcode(status)
+    return usage.ru_utime + usage.ru_stime, usage.ru_maxrss, child.returncode
+
+
+def instructions(words: list, given: str, *more: str) -> tuple[bytes, int]:
+    """What a run prints, and the processor's instructions that callgrind counts."""
+    count = ['valgrind', '--tool=callgrind', '--callgrind-out-file=/dev/null', *more]
+    with open(given, 'rb') as source:
+        done = subprocess.run([*count, *words], stdin=source, capture_output=True, check=True)
+    return done.stdout, int(re.search(rb'Collected : (\d+)', done.stderr)[1])
+
+
+@contextlib.contextmanager
+def started(words: list, **more) -> Iterator[subprocess.Popen]:
+    """A program that runs until the block ends."""
+    child = subprocess.Popen(words, **more)
+    try:
+        yield child
+    finally:
+        child.kill()
+        child.wait()
+
+
+def processor_seconds(child: subprocess.Popen) -> float:
+    """The processor's seconds that a running program has taken."""
+    ticks = text_of(f'/proc/{child.pid}/stat').rpartition(')')[2].split()[11:13]
+    return sum(map(int, ticks)) / os.sysconf('SC_CLK_TCK')
+
+
+def free_port() -> int:
+    """A port of this machine on which nothing listens."""
+    with socket.socket() as it:
+        it.bind(('127.0.0.1', 0))
+        return it.getsockname()[1]
+
+
+def await_port(port: int) -> None:
+    """Waits until something listens on a port, and ends the script where nothing does in 5 s."""
+    for _ in range(500):
+        try:
+            socket.create_connection(('127.0.0.1', port)).close()
+            return
+        except OSError:
+            time.sleep(0.01)
+    sys.exit(f'nothing listens on port {port}')

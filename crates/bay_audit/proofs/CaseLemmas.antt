@@ -1,0 +1,287 @@
+-- What a case leaves open has each process of the case.
+use Rattle.std.proofs.Common.{◌≡◌, ℕ, ℤ, pos, negsuc, ◌+ℤ◌, Bool, true, false, not, ◌&&◌, ◌||◌, cond, nat_eq, List, [], ◌∷◌, map, Some, refl, ap, sym, ◌∙◌, arith}
+use Rattle.std.specs.Prelude.{◌≤ℤ◌, int_le, fold}
+use Rattle.std.specs.Bool.{beq}
+use Rattle.std.specs.List.{list_all}
+use Rattle.std.proofs.lemmas.Bool.{and_from, and_parts}
+use Rattle.std.proofs.lemmas.Bool.Decides.{nat_tests}
+use Rattle.std.proofs.lemmas.Int.{ints}
+use Rattle.bay_config.specs.declared.bay.MeterField.{MeterField}
+use Rattle.bay_config.specs.declared.bay.MeterField.TheVariants.{TotW, TotVAr, Hz, PhaseA, PhaseB, PhaseC}
+use Rattle.bay_config.specs.declared.bay.Source.{Source}
+use Rattle.bay_config.specs.declared.bay.Source.TheVariants as source
+use Rattle.bay_config.specs.declared.bay.SwitchPoint.{SwitchPoint}
+use Rattle.bay_config.specs.declared.bay.SwitchPoint.TheVariants.{Position, Open, Closed, EnableOpen, EnableClose}
+use Rattle.bay_process.specs.Values.{position_value}
+use Rattle.bay_rules.specs.Process.{Process, same_position}
+use Rattle.bay_tree.specs.declared.leaf.Dbpos.{Dbpos}
+use Rattle.bay_tree.specs.declared.leaf.Dbpos.TheVariants.{Intermediate, Off, On, Bad}
+use Rattle.bay_tree.specs.declared.leaf.Leaf.TheVariants as leaf
+use Rattle.il_image.specs.declared.value.Value.TheVariants.{Truth}
+use Rattle.il_range.specs.Ranges.{AreIn, IsIn}
+use Rattle.bay_audit.specs.Cases.{allows, answer_of, example_of, grants, high_after, high_by, high_of, input_may, is_in, is_of_field, low_after, low_by, low_of, lowered, may_be, meets, position_range, raised, range_of, same_field, test_allows, test_grants, truth_range}
+use Rattle.bay_audit.specs.Process.{IsProcess, process_value}
+use Rattle.bay_audit.specs.declared.case.Literal.{Literal}
+use Rattle.bay_audit.specs.declared.case.Test.{Test}
+use Rattle.bay_audit.specs.declared.case.Test.TheVariants as test
+
+-- ---- fields and truth values
+
+same-le : (z : ℤ) → z ≤ℤ z
+same-le z = omega (arith, ints)
+
+same-field : (a b : MeterField) → same_field a b ≡ true → a ≡ b
+same-field TotW TotW h = refl
+same-field TotVAr TotVAr h = refl
+same-field Hz Hz h = refl
+same-field PhaseA PhaseA h = refl
+same-field PhaseB PhaseB h = refl
+same-field PhaseC PhaseC h = refl
+same-field a b h = absurd cc
+
+same-place : (j k : ℕ) → nat_eq j k ≡ true → j ≡ k
+same-place j k h = grind (arith, nat_tests)
+
+no-answer : (b : Bool) → beq b false ≡ true → b ≡ false
+no-answer true h = absurd cc
+no-answer false h = refl
+
+yes-answer : (b : Bool) → beq b true ≡ true → b ≡ true
+yes-answer true h = refl
+yes-answer false h = absurd cc
+
+not-true : (b : Bool) → not b ≡ true → b ≡ false
+not-true true h = absurd cc
+not-true false h = refl
+
+pub or-first : (x y z : Bool) → x ≡ true → (x || y || z) ≡ true
+or-first true y z h = refl
+or-first false y z h = absurd cc
+
+pub or-second : (x y z : Bool) → y ≡ true → (x || y || z) ≡ true
+or-second true true z h = refl
+or-second false true z h = refl
+or-second x false z h = absurd cc
+
+pub or-third : (x y z : Bool) → z ≡ true → (x || y || z) ≡ true
+or-third true true true h = refl
+or-third true false true h = refl
+or-third false true true h = refl
+or-third false false true h = refl
+or-third x y false h = absurd cc
+
+module _ (p : Process) where
+  -- ---- lists of literals
+
+  all-pass : (f : Literal → Bool) → ((l : Literal) → meets p l ≡ true → f l ≡ true)
+      → (case : List Literal) → is_in case p ≡ true → list_all f case ≡ true
+  all-pass f each [] h = refl
+  all-pass f each (l ∷ case) h =
+      let parts = and_parts (meets p l) (is_in case p) h in
+      and_from (f l) (list_all f case) (each l parts.0) (all-pass f each case parts.1)
+
+  -- ---- positions and inputs
+
+  position-if : (b : Bool) (j k : ℕ) (which : Dbpos) (value : Bool) → nat_eq j k ≡ b
+      → beq (same_position which (p.position j)) value ≡ true
+      → (not b || beq (same_position which (p.position k)) value) ≡ true
+  position-if false j k which value e h = refl
+  position-if true j k which value e h =
+      ap (λ n. beq (same_position which (p.position n)) value) (sym (same-place j k e)) ∙ h
+
+  position-allowed : (k : ℕ) (t : Test) (value : Bool) → beq (answer_of p t) value ≡ true
+      → test_allows k (p.position k) value t ≡ true
+  position-allowed k (test.Position j which) value h =
+      position-if (nat_eq j k) j k which value refl h
+  position-allowed k (test.Input j) value h = refl
+  position-allowed k (test.AtMost j field most) value h = refl
+
+  pub position-may : (case : List Literal) → is_in case p ≡ true → (k : ℕ)
+      → may_be case k (p.position k) ≡ true
+  position-may case h k =
+      all-pass (allows k (p.position k)) (λ l. position-allowed k l.test l.value) case h
+
+  input-if : (b : Bool) (j k : ℕ) (value : Bool) → nat_eq j k ≡ b → beq (p.input j) value ≡ true
+      → (not b || beq (p.input k) value) ≡ true
+  input-if false j k value e h = refl
+  input-if true j k value e h = ap (λ n. beq (p.input n) value) (sym (same-place j k e)) ∙ h
+
+  input-granted : (k : ℕ) (t : Test) (value : Bool) → beq (answer_of p t) value ≡ true
+      → test_grants k (p.input k) value t ≡ true
+  input-granted k (test.Position j which) value h = refl
+  input-granted k (test.Input j) value h = input-if (nat_eq j k) j k value refl h
+  input-granted k (test.AtMost j field most) value h = refl
+
+  pub input-may : (case : List Literal) → is_in case p ≡ true → (k : ℕ)
+      → input_may case k (p.input k) ≡ true
+  input-may case h k =
+      all-pass (grants k (p.input k)) (λ l. input-granted k l.test l.value) case h
+
+  -- ---- measured values
+
+  module _ (k : ℕ) (field : MeterField) where
+    above : (b : Bool) (low most : ℤ) → low ≤ℤ p.measure k field
+        → (b ≡ true → int_le (p.measure k field) most ≡ false)
+        → cond b (raised low (most +ℤ pos 1)) low ≤ℤ p.measure k field
+    above false low most h more = h
+    above true low most h more =
+        let not_below : int_le (p.measure k field) most ≡ false = more refl in grind (arith, ints)
+
+    below : (b : Bool) (high most : ℤ) → p.measure k field ≤ℤ high
+        → (b ≡ true → int_le (p.measure k field) most ≡ true)
+        → p.measure k field ≤ℤ cond b (lowered high most) high
+    below false high most h less = h
+    below true high most h less =
+        let at_most : int_le (p.measure k field) most ≡ true = less refl in grind (arith, ints)
+
+    of-field : (j : ℕ) (which : MeterField) → is_of_field k field j which ≡ true
+        → p.measure j which ≡ p.measure k field
+    of-field j which h =
+        let parts = and_parts (nat_eq j k) (same_field which field) h in
+        ap (λ n. p.measure n which) (same-place j k parts.0)
+        ∙ ap (λ f. p.measure k f) (same-field which field parts.1)
+
+    low-one : (t : Test) (value : Bool) (low : ℤ) → beq (answer_of p t) value ≡ true
+        → low ≤ℤ p.measure k field → low_by k field low value t ≤ℤ p.measure k field
+    low-one (test.Position j which) value low m h = h
+    low-one (test.Input j) value low m h = h
+    low-one (test.AtMost j which most) value low m h =
+        above (is_of_field k field j which && not value) low most h
+        (λ e. let parts = and_parts (is_of_field k field j which) (not value) e in
+        let answer : beq (int_le (p.measure j which) most) false ≡ true =
+        ap (λ b. beq (int_le (p.measure j which) most) b) (sym (not-true value parts.1)) ∙ m in
+        ap (λ z. int_le z most) (sym (of-field j which parts.0))
+        ∙ no-answer (int_le (p.measure j which) most) answer)
+
+    high-one : (t : Test) (value : Bool) (high : ℤ) → beq (answer_of p t) value ≡ true
+        → p.measure k field ≤ℤ high → p.measure k field ≤ℤ high_by k field high value t
+    high-one (test.Position j which) value high m h = h
+    high-one (test.Input j) value high m h = h
+    high-one (test.AtMost j which most) value high m h =
+        below (is_of_field k field j which && value) high most h
+        (λ e. let parts = and_parts (is_of_field k field j which) value e in
+        let answer : beq (int_le (p.measure j which) most) true ≡ true =
+        ap (λ b. beq (int_le (p.measure j which) most) b) (sym parts.1) ∙ m in
+        ap (λ z. int_le z most) (sym (of-field j which parts.0))
+        ∙ yes-answer (int_le (p.measure j which) most) answer)
+
+    low-all : (case : List Literal) (low : ℤ) → is_in case p ≡ true → low ≤ℤ p.measure k field
+        → fold (low_after k field) low case ≤ℤ p.measure k field
+    low-all [] low h le = le
+    low-all (l ∷ case) low h le =
+        let parts = and_parts (meets p l) (is_in case p) h in
+        low-all case (low_after k field low l) parts.1 (low-one l.test l.value low parts.0 le)
+
+    high-all : (case : List Literal) (high : ℤ) → is_in case p ≡ true → p.measure k field ≤ℤ high
+        → p.measure k field ≤ℤ fold (high_after k field) high case
+    high-all [] high h le = le
+    high-all (l ∷ case) high h le =
+        let parts = and_parts (meets p l) (is_in case p) h in
+        high-all case (high_after k field high l) parts.1 (high-one l.test l.value high parts.0 le)
+
+-- ---- the points
+
+truth-in : (b t f : Bool) → cond b t f ≡ true → IsIn (Truth b) (truth_range t f)
+truth-in true true true h = tt
+truth-in true true false h = tt
+truth-in true false f h = absurd cc
+truth-in false true true h = tt
+truth-in false false true h = tt
+truth-in false t false h = absurd cc
+
+module _ (i o n b : Bool) where
+  abbrev Allowed : Dbpos → Type 0
+  Allowed Intermediate = i ≡ true
+  Allowed Off = o ≡ true
+  Allowed On = n ≡ true
+  Allowed Bad = b ≡ true
+
+  position-number : (d : Dbpos) → Allowed d
+      → IsIn (position_value Position (Some (leaf.Dbpos d))) (position_range Position i o n b)
+  position-number Intermediate h = (grind (arith, ints), grind (arith, ints))
+  position-number Off h = (grind (arith, ints), grind (arith, ints))
+  position-number On h = (grind (arith, ints), grind (arith, ints))
+  position-number Bad h = (grind (arith, ints), grind (arith, ints))
+
+  position-in : (d : Dbpos) → Allowed d → (point : SwitchPoint)
+      → IsIn (position_value point (Some (leaf.Dbpos d))) (position_range point i o n b)
+  position-in d h Position = position-number d h
+  position-in Intermediate h Open = truth-in false o (i || n || b) (or-first i n b h)
+  position-in Off h Open = truth-in true o (i || n || b) h
+  position-in On h Open = truth-in false o (i || n || b) (or-second i n b h)
+  position-in Bad h Open = truth-in false o (i || n || b) (or-third i n b h)
+  position-in Intermediate h Closed = truth-in false n (i || o || b) (or-first i o b h)
+  position-in Off h Closed = truth-in false n (i || o || b) (or-second i o b h)
+  position-in On h Closed = truth-in true n (i || o || b) h
+  position-in Bad h Closed = truth-in false n (i || o || b) (or-third i o b h)
+  position-in d h EnableOpen = tt
+  position-in d h EnableClose = tt
+
+allowed : (case : List Literal) (k : ℕ) (d : Dbpos) → may_be case k d ≡ true
+    → Allowed (may_be case k Intermediate) (may_be case k Off) (may_be case k On)
+    (may_be case k Bad) d
+allowed case k Intermediate h = h
+allowed case k Off h = h
+allowed case k On h = h
+allowed case k Bad h = h
+
+granted : (case : List Literal) (k : ℕ) (b : Bool) → input_may case k b ≡ true
+    → cond b (input_may case k true) (input_may case k false) ≡ true
+granted case k true h = h
+granted case k false h = h
+
+module _ (p : Process) (is : IsProcess p) (case : List Literal) (h : is_in case p ≡ true) where
+  pub low-of : (k : ℕ) (field : MeterField) → low_of case k field ≤ℤ p.measure k field
+  low-of k field = low-all p k field case (negsuc 2147483647) h (is.least k field)
+
+  pub high-of : (k : ℕ) (field : MeterField) → p.measure k field ≤ℤ high_of case k field
+  high-of k field = high-all p k field case (pos 2147483647) h (is.greatest k field)
+
+  range-has : (s : Source) → IsIn (process_value p s) (range_of case s)
+  range-has (source.Switch k point) =
+      position-in (may_be case k Intermediate) (may_be case k Off) (may_be case k On)
+      (may_be case k Bad) (p.position k)
+      (allowed case k (p.position k) (position-may p case h k)) point
+  range-has (source.Input k) =
+      truth-in (p.input k) (input_may case k true) (input_may case k false)
+      (granted case k (p.input k) (input-may p case h k))
+  range-has (source.Meter k field) = (low-of k field, high-of k field)
+
+  pub ranges-have : (reads : List Source)
+      → AreIn (map (process_value p) reads) (map (range_of case) reads)
+  ranges-have [] = tt
+  ranges-have (s ∷ reads) = (range-has s, ranges-have reads)
+
+-- ---- a process of a case
+
+-- no literal makes the least number less
+low-more : (k : ℕ) (field : MeterField) (t : Test) (value : Bool) (low : ℤ)
+    → low ≤ℤ low_by k field low value t
+low-more k field (test.Position j which) value low = same-le low
+low-more k field (test.Input j) value low = same-le low
+low-more k field (test.AtMost j which most) value low =
+    more-if (is_of_field k field j which && not value) low most
+  where
+    more-if : (b : Bool) (low most : ℤ) → low ≤ℤ cond b (raised low (most +ℤ pos 1)) low
+    more-if true low most = grind (arith, ints)
+    more-if false low most = omega (arith, ints)
+
+low-least : (k : ℕ) (field : MeterField) (case : List Literal) (least low : ℤ) → least ≤ℤ low
+    → least ≤ℤ fold (low_after k field) low case
+low-least k field [] least low h = h
+low-least k field (l ∷ case) least low h =
+    let more : low ≤ℤ low_after k field low l = low-more k field l.test l.value low in
+    low-least k field case least (low_after k field low l) (omega (arith, ints, h, more))
+
+within : (low : ℤ) → negsuc 2147483647 ≤ℤ low
+    → (negsuc 2147483647 ≤ℤ lowered (pos 2147483647) low)
+    × (lowered (pos 2147483647) low ≤ℤ pos 2147483647)
+within low h = (grind (arith, ints), grind (arith, ints))
+
+pub example-is : (case : List Literal) → IsProcess (example_of case)
+example-is case = record {
+  least = λ k field. (within (low_of case k field) (low-least k field case (negsuc 2147483647)
+      (negsuc 2147483647) (same-le (negsuc 2147483647)))).0;
+  greatest = λ k field. (within (low_of case k field) (low-least k field case (negsuc 2147483647)
+      (negsuc 2147483647) (same-le (negsuc 2147483647)))).1;
+}

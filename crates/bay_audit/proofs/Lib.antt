@@ -1,0 +1,6 @@
+pub mod CaseLemmas
+pub mod ListLemmas
+pub mod OutlookLemmas
+pub mod ReleaseLemmas
+pub mod RuleLemmas
+pub mod SearchLemmas

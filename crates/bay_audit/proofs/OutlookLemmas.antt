@@ -1,0 +1,156 @@
+-- What a condition may come to in a case has what it is, for each process of the case.
+use Rattle.std.proofs.Common.{◌≡◌, ℕ, ℤ, Bool, true, false, not, ◌&&◌, ◌||◌, List, [], ◌∷◌, refl, arith}
+use Rattle.std.specs.Prelude.{◌≤ℤ◌, int_le, int_lt}
+use Rattle.std.specs.Ordering.{int_eq}
+use Rattle.std.proofs.lemmas.Bool.{and_from, or_left, or_right}
+use Rattle.std.proofs.lemmas.Bool.Decides.{Decides-int_eq}
+use Rattle.std.proofs.lemmas.Int.{ints}
+use Rattle.bay_tree.specs.declared.leaf.Dbpos.{Dbpos}
+use Rattle.bay_tree.specs.declared.leaf.Dbpos.TheVariants.{Intermediate, Off, On, Bad}
+use Rattle.bay_rules.specs.Process.{Process, after_item, after_items, holds, joined, negated, same_position, stands, top}
+use Rattle.bay_rules.specs.declared.rule.Item.{Item}
+use Rattle.bay_rules.specs.declared.rule.Item.TheVariants as items
+use Rattle.bay_rules.specs.declared.rule.Relation.{Relation}
+use Rattle.bay_rules.specs.declared.rule.Relation.TheVariants.{Less, AtMost, Equal, Unequal, AtLeast, Greater}
+use Rattle.bay_audit.specs.Cases.{high_of, input_may, is_in, low_of, may_be}
+use Rattle.bay_audit.specs.Conditions.{both, either, includes, opposed, opposite, outlook, outlook_after, outlook_of, outlooks_after, paired, position_outlook, relation_outlook, top_outlook}
+use Rattle.bay_audit.specs.Process.{IsProcess}
+use Rattle.bay_audit.specs.declared.case.Literal.{Literal}
+use Rattle.bay_audit.specs.declared.outlook.Outlook.{Outlook}
+use Rattle.bay_audit.proofs.CaseLemmas.{high-of, input-may, low-of, or-first, or-second, or-third, position-may}
+
+-- ---- stacks
+
+-- each truth value is one of those that may be
+abbrev Include : List Outlook → List Bool → Type 0
+Include [] [] = Unit {0}
+Include (o ∷ os) (b ∷ bs) = (includes o b ≡ true) × Include os bs
+Include [] (b ∷ bs) = ⊥
+Include (o ∷ os) [] = ⊥
+
+pub of-opposite : (o : Outlook) (b : Bool) → includes o b ≡ true → includes (opposite o) (not b) ≡ true
+of-opposite o true h = h
+of-opposite o false h = h
+
+pub of-both : (o q : Outlook) (a b : Bool) → includes o a ≡ true → includes q b ≡ true
+    → includes (both o q) (a && b) ≡ true
+of-both o q true true h k = and_from o.yes q.yes h k
+of-both o q true false h k = or_right o.no q.no k
+of-both o q false true h k = or_left o.no q.no h
+of-both o q false false h k = or_left o.no q.no h
+
+of-either : (o q : Outlook) (a b : Bool) → includes o a ≡ true → includes q b ≡ true
+    → includes (either o q) (a || b) ≡ true
+of-either o q true true h k = or_left o.yes q.yes h
+of-either o q true false h k = or_left o.yes q.yes h
+of-either o q false true h k = or_right o.yes q.yes k
+of-either o q false false h k = and_from o.no q.no h k
+
+include-opposed : (os : List Outlook) (bs : List Bool) → Include os bs
+    → Include (opposed os) (negated bs)
+include-opposed [] [] h = tt
+include-opposed (o ∷ os) (b ∷ bs) h = (of-opposite o b h.0, h.1)
+include-opposed [] (b ∷ bs) h = absurd h
+include-opposed (o ∷ os) [] h = absurd h
+
+module _ (f : Outlook → Outlook → Outlook) (g : Bool → Bool → Bool)
+    (each : (o q : Outlook) (a b : Bool) → includes o a ≡ true → includes q b ≡ true
+    → includes (f o q) (g a b) ≡ true) where
+  include-joined : (os : List Outlook) (bs : List Bool) → Include os bs
+      → Include (paired f os) (joined g bs)
+  include-joined [] [] h = tt
+  include-joined (o ∷ []) (b ∷ []) h = tt
+  include-joined (o ∷ q ∷ os) (b ∷ a ∷ bs) h = (each q o a b h.1.0 h.0, h.1.1)
+  include-joined [] (b ∷ bs) h = absurd h
+  include-joined (o ∷ []) [] h = absurd h
+  include-joined (o ∷ q ∷ os) [] h = absurd h
+  include-joined (o ∷ []) (b ∷ a ∷ bs) h = absurd h.1
+  include-joined (o ∷ q ∷ os) (b ∷ []) h = absurd h.1
+
+-- ---- facts
+
+module _ (may : Dbpos → Bool) where
+  position-included : (d which : Dbpos) → may d ≡ true
+      → includes (position_outlook which (may Intermediate) (may Off) (may On) (may Bad))
+      (same_position d which) ≡ true
+  position-included Intermediate Intermediate h = h
+  position-included Off Off h = h
+  position-included On On h = h
+  position-included Bad Bad h = h
+  position-included Intermediate Off h = or-first (may Intermediate) (may On) (may Bad) h
+  position-included Intermediate On h = or-first (may Intermediate) (may Off) (may Bad) h
+  position-included Intermediate Bad h = or-first (may Intermediate) (may Off) (may On) h
+  position-included Off Intermediate h = or-first (may Off) (may On) (may Bad) h
+  position-included Off On h = or-second (may Intermediate) (may Off) (may Bad) h
+  position-included Off Bad h = or-second (may Intermediate) (may Off) (may On) h
+  position-included On Intermediate h = or-second (may Off) (may On) (may Bad) h
+  position-included On Off h = or-second (may Intermediate) (may On) (may Bad) h
+  position-included On Bad h = or-third (may Intermediate) (may Off) (may On) h
+  position-included Bad Intermediate h = or-third (may Off) (may On) (may Bad) h
+  position-included Bad Off h = or-third (may Intermediate) (may On) (may Bad) h
+  position-included Bad On h = or-third (may Intermediate) (may Off) (may Bad) h
+
+truth-included : (t f b : Bool) → (b ≡ true → t ≡ true) → (b ≡ false → f ≡ true)
+    → includes (outlook t f) b ≡ true
+truth-included t f true p q = p refl
+truth-included t f false p q = q refl
+
+module _ (low high x n : ℤ) (above : low ≤ℤ x) (below : x ≤ℤ high) where
+  relation-included : (r : Relation)
+      → includes (relation_outlook r low high n) (stands r x n) ≡ true
+  relation-included Less =
+      truth-included _ _ (int_lt x n) (λ e. grind (arith, ints)) (λ e. grind (arith, ints))
+  relation-included AtMost =
+      truth-included _ _ (int_le x n) (λ e. grind (arith, ints)) (λ e. grind (arith, ints))
+  relation-included Equal =
+      truth-included _ _ (int_eq x n) (λ e. grind (arith, ints, Decides-int_eq x n))
+      (λ e. grind (arith, ints, Decides-int_eq x n))
+  relation-included Unequal =
+      truth-included _ _ (not (int_eq x n)) (λ e. grind (arith, ints, Decides-int_eq x n))
+      (λ e. grind (arith, ints, Decides-int_eq x n))
+  relation-included AtLeast =
+      truth-included _ _ (int_le n x) (λ e. grind (arith, ints)) (λ e. grind (arith, ints))
+  relation-included Greater =
+      truth-included _ _ (int_lt n x) (λ e. grind (arith, ints)) (λ e. grind (arith, ints))
+
+-- ---- conditions
+
+module _ (p : Process) (is : IsProcess p) (case : List Literal) (h : is_in case p ≡ true) where
+  input-included : (k : ℕ) (b : Bool) → input_may case k b ≡ true
+      → includes (outlook (input_may case k true) (input_may case k false)) b ≡ true
+  input-included k true e = e
+  input-included k false e = e
+
+  item-included : (i : Item) (os : List Outlook) (bs : List Bool) → Include os bs
+      → Include (outlook_after case i os) (after_item p i bs)
+  item-included items.True os bs all = (refl, all)
+  item-included (items.Position k which) os bs all =
+      (position-included (may_be case k) (p.position k) which (position-may p case h k), all)
+  item-included (items.Input k) os bs all =
+      (input-included k (p.input k) (input-may p case h k), all)
+  item-included (items.Measure k field relation value) os bs all = (
+    relation-included (low_of case k field) (high_of case k field) (p.measure k field) value
+        (low-of p is case h k field) (high-of p is case h k field) relation,
+    all,
+  )
+  item-included items.Not os bs all = include-opposed os bs all
+  item-included items.And os bs all = include-joined both (λ a b. a && b) of-both os bs all
+  item-included items.Or os bs all = include-joined either (λ a b. a || b) of-either os bs all
+
+  items-included : (is : List Item) (os : List Outlook) (bs : List Bool) → Include os bs
+      → Include (outlooks_after case is os) (after_items p is bs)
+  items-included [] os bs all = all
+  items-included (i ∷ is) os bs all =
+      items-included is (outlook_after case i os) (after_item p i bs) (item-included i os bs all)
+
+  top-included : (os : List Outlook) (bs : List Bool) → Include os bs
+      → includes (top_outlook os) (top bs) ≡ true
+  top-included [] [] all = refl
+  top-included (o ∷ os) (b ∷ bs) all = all.0
+  top-included [] (b ∷ bs) all = absurd all
+  top-included (o ∷ os) [] all = absurd all
+
+  -- the condition is one of what it may come to
+  pub condition-included : (is : List Item) → includes (outlook_of case is) (holds is p) ≡ true
+  condition-included is =
+      top-included (outlooks_after case is []) (after_items p is []) (items-included is [] [] tt)

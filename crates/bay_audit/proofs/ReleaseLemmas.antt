@@ -1,0 +1,82 @@
+-- The cases of a release.
+use Rattle.std.proofs.Common.{◌≡◌, ℕ, ◌+◌, Bool, true, false, cond, List, [], ◌∷◌, ◌++◌, map, Result, Ok, sym, ap, subst, ◌∙◌, add-one, append_assoc, arith}
+use Rattle.std.proofs.lemmas.List.{map-append}
+use Rattle.std.proofs.lemmas.List.Sums.{sum_by-append}
+use Rattle.bay_rules.specs.Process.{Process}
+use Rattle.bay_audit.specs.Cases.{is_in}
+use Rattle.bay_audit.specs.Rules.{AreReleases, AreTold, IsRelease, IsToldOf, IsTurn, IsVerdict, Program, case_count, demand, told_count, way_of, ways}
+use Rattle.bay_audit.specs.declared.answer.Release.{Release}
+use Rattle.bay_audit.specs.declared.answer.Told.{Told}
+use Rattle.bay_audit.specs.declared.answer.Told.TheVariants.{Released, Refused, Hangs}
+use Rattle.bay_audit.specs.declared.answer.ToldCase.{ToldCase}
+use Rattle.bay_audit.specs.declared.answer.Verdict.{Verdict}
+use Rattle.bay_audit.specs.declared.answer.Verdict.TheVariants as verdict
+use Rattle.bay_audit.specs.declared.case.Literal.{Literal}
+use Rattle.bay_audit.specs.declared.case.Test.{Test}
+use Rattle.bay_audit.proofs.SearchLemmas.{count-last, count-two, one_if, part, parts-count}
+
+-- ---- what is told
+
+module _ (g : Program) (k : ℕ) (close : Bool) where
+  pub verdict-told : (case : List Literal) (v : Verdict) (told : Told)
+      → IsVerdict g (demand k close) case v
+      → IsTurn v (let r : Result Told Test = Ok told in r) → IsToldOf g k close case told
+  verdict-told case verdict.Obeyed told is turn =
+      let same : told ≡ Released = cc in subst (IsToldOf g k close case) (sym same)
+      (λ p ip inside machine now slots timers image kept leaves.
+      is p ip inside machine now slots timers image kept tt leaves)
+  verdict-told case verdict.Broken told is turn =
+      let same : told ≡ Refused = cc in subst (IsToldOf g k close case) (sym same)
+      (λ p ip inside machine now slots timers image kept leaves.
+      is p ip inside machine now slots timers image kept tt leaves)
+  verdict-told case (verdict.Open kept) told is turn =
+      let same : told ≡ Hangs kept = cc in subst (IsToldOf g k close case) (sym same) tt
+  verdict-told case (verdict.Split test) told is turn = absurd cc
+
+  pub told-more : (cases : List ToldCase) (c : ToldCase) → AreTold g k close cases
+      → IsToldOf g k close c.case c.told → AreTold g k close (cases ++ c ∷ [])
+  told-more [] c all one = (one, tt)
+  told-more (d ∷ cases) c all one = (all.0, told-more cases c all.1 one)
+
+-- ---- how many have a process
+
+-- a case that is told is left no more
+pub one-told : (cases : List ToldCase) (left : List (List Literal)) (c : ToldCase) (p : Process)
+    → told_count cases p + case_count (left ++ c.case ∷ []) p ≡ 1
+    → told_count (cases ++ c ∷ []) p + case_count left p ≡ 1
+one-told cases left c p one =
+    let told : told_count (cases ++ c ∷ []) p ≡ told_count cases p + (0 + one_if (is_in c.case p)) =
+    sum_by-append (λ (d : ToldCase). cond (is_in d.case p) 1 0) cases (c ∷ []) in
+    let e = count-last left c.case p in
+    omega (arith, told, e, one)
+
+-- both parts of a case are left in its place
+pub one-split : (cases : List ToldCase) (left : List (List Literal)) (case : List Literal)
+    (test : Test) (p : Process)
+    → told_count cases p + case_count (left ++ case ∷ []) p ≡ 1
+    → told_count cases p
+    + case_count (left ++ part case test false ∷ part case test true ∷ []) p ≡ 1
+one-split cases left case test p one =
+    let e = count-last left case p in
+    let two = count-two left (part case test false) (part case test true) p in
+    let s = parts-count case test p in
+    omega (arith, e, two, s, one)
+
+-- ---- several releases
+
+pub releases-more : (g : Program) (releases : List Release) (r : Release) → AreReleases g releases
+    → IsRelease g r → AreReleases g (releases ++ r ∷ [])
+releases-more g [] r all one = (one, tt)
+releases-more g (q ∷ releases) r all one = (all.0, releases-more g releases r all.1 one)
+
+pub ways-more : (releases : List Release) (a b : Release) (k : ℕ)
+    → map way_of releases ≡ ways k → way_of a ≡ (k, false) → way_of b ≡ (k, true)
+    → map way_of ((releases ++ a ∷ []) ++ b ∷ []) ≡ ways (k + 1)
+ways-more releases a b k all opens closes =
+    rw add-one
+    (map-append way_of (releases ++ a ∷ []) (b ∷ [])
+    ∙ ap (λ ws. ws ++ way_of b ∷ []) (map-append way_of releases (a ∷ []))
+    ∙ append_assoc (map way_of releases) (way_of a ∷ []) (way_of b ∷ [])
+    ∙ ap (λ ws. ws ++ way_of a ∷ way_of b ∷ []) all
+    ∙ ap (λ (w : ℕ × Bool). ways k ++ w ∷ way_of b ∷ []) opens
+    ∙ ap (λ (w : ℕ × Bool). ways k ++ (k, false) ∷ w ∷ []) closes)

@@ -1,0 +1,254 @@
+-- What a pass tells of a rule.
+use Rattle.std.proofs.Common.{◌≡◌, ◌⊎◌, inl, inr, ℕ, zero, suc, Bool, true, false, not, ◌&&◌, ◌||◌, cond, List, [], ◌∷◌, map, slice_get, Option, Some, None, refl, sym, ap, subst, ◌∙◌, arith}
+use Rattle.std.specs.Prelude.{is_none, position}
+use Rattle.bay_process.specs.Values.{is_point, output_at}
+use Rattle.bay_rules.specs.Process.{Process, holds}
+use Rattle.bay_rules.specs.declared.rule.RuleKind.{RuleKind}
+use Rattle.bay_rules.specs.declared.rule.RuleKind.TheVariants.{Never, Always}
+use Rattle.il_image.specs.declared.image.ImagePoint.{ImagePoint}
+use Rattle.il_image.specs.declared.timer.TimerPhase.{TimerPhase}
+use Rattle.il_image.specs.declared.timer.TimerPhase.TheVariants.{Idle, Held, Since}
+use Rattle.il_image.specs.declared.timer.TimerState.{TimerState}
+use Rattle.il_image.specs.declared.value.Value.{Value}
+use Rattle.il_image.specs.declared.value.Value.TheVariants.{Truth, Short, Long, Wide, Span}
+use Rattle.il_range.specs.Foretold.{AreYoung, ForetellsTimed, IsKept, Leaves, began, began_at}
+use Rattle.il_range.specs.Ranges.{AreIn, IsIn, IsYoung}
+use Rattle.il_range.specs.declared.range.Range.{Range}
+use Rattle.il_range.specs.declared.range.Range.TheVariants.{Any, No, Yes, Either, Between}
+use Rattle.il_scan.specs.Places.{is_true}
+use Rattle.il_scan.specs.Scans.{outputs_of}
+use Rattle.il_scan.specs.Scans as scans
+use Rattle.bay_audit.specs.Cases.{is_in, range_of}
+use Rattle.bay_audit.specs.Conditions.{asked_of, includes, opposite, outlook_of}
+use Rattle.bay_audit.specs.Process.{IsProcess, process_value}
+use Rattle.bay_audit.specs.Rules.{Comes, IsMissed, Program, decide, goal_range, idle_range, is_asked, is_kept, is_lost, is_obeyed, range_at, range_there, reaches, way}
+use Rattle.bay_audit.specs.declared.demand.Demand.{Demand}
+use Rattle.bay_audit.specs.declared.demand.Goal.{Goal}
+use Rattle.bay_audit.specs.declared.demand.Goal.TheVariants as goals
+use Rattle.bay_audit.specs.declared.case.Literal.{Literal}
+use Rattle.bay_audit.specs.declared.outlook.Outlook.{Outlook}
+use Rattle.bay_audit.specs.declared.answer.Decision.{Decision}
+use Rattle.bay_audit.specs.declared.answer.Decision.TheVariants.{Obeyed, Lost, Unknown}
+use Rattle.bay_audit.proofs.CaseLemmas.{ranges-have}
+use Rattle.bay_audit.proofs.OutlookLemmas.{condition-included, of-both, of-opposite}
+
+-- ---- outputs
+
+in-if : (b : Bool) (v : Value) (r : Range) (values : List Value) (ranges : List Range) → IsIn v r
+    → AreIn values ranges → AreIn (cond b (v ∷ values) values) (cond b (r ∷ ranges) ranges)
+in-if true v r values ranges h k = (h, k)
+in-if false v r values ranges h k = k
+
+outputs-in : (points : List ImagePoint) (slots : List Value) (ranges : List Range)
+    → AreIn slots ranges → AreIn (outputs_of points slots) (outputs_of points ranges)
+outputs-in [] slots ranges h = tt
+outputs-in (p ∷ points) [] [] h = tt
+outputs-in (p ∷ points) (v ∷ slots) (r ∷ ranges) h =
+    in-if p.writable v r (outputs_of points slots) (outputs_of points ranges) h.0
+    (outputs-in points slots ranges h.1)
+outputs-in (p ∷ points) [] (r ∷ ranges) h = absurd h
+outputs-in (p ∷ points) (v ∷ slots) [] h = absurd h
+
+-- what a range tells of a truth value
+abbrev Told : Range → Bool → Type 0
+Told No b = b ≡ false
+Told Yes b = b ≡ true
+Told Any b = Unit {0}
+Told Either b = Unit {0}
+Told (Between low high) b = Unit {0}
+
+value-told : (v : Value) (r : Range) → IsIn v r → Told r (is_true (Some v))
+value-told (Truth false) No h = refl
+value-told (Truth true) No h = absurd h
+value-told (Truth true) Yes h = refl
+value-told (Truth false) Yes h = absurd h
+value-told (Short z) No h = absurd h
+value-told (Short z) Yes h = absurd h
+value-told (Long z) No h = absurd h
+value-told (Long z) Yes h = absurd h
+value-told (Wide z) No h = absurd h
+value-told (Wide z) Yes h = absurd h
+value-told (Span n) No h = absurd h
+value-told (Span n) Yes h = absurd h
+value-told v Any h = tt
+value-told v Either h = tt
+value-told v (Between low high) h = tt
+
+there-told : (values : List Value) (ranges : List Range) (n : ℕ) → AreIn values ranges
+    → Told (range_there (slice_get ranges n)) (is_true (slice_get values n))
+there-told [] [] n h = refl
+there-told (v ∷ values) (r ∷ ranges) zero h = value-told v r h.0
+there-told (v ∷ values) (r ∷ ranges) (suc n) h = there-told values ranges n h.1
+there-told [] (r ∷ ranges) n h = absurd h
+there-told (v ∷ values) [] n h = absurd h
+
+place-told : (values : List Value) (ranges : List Range) (place : Option ℕ) → AreIn values ranges
+    → Told (range_at ranges place) (is_true (output_at place values))
+place-told values ranges None h = refl
+place-told values ranges (Some n) h = there-told values ranges n h
+
+-- a limit tells of a delay only that none runs
+young-told : (now : ℕ) (phase : TimerPhase) (below : Option ℕ) → IsYoung now phase below
+    → Told (idle_range (Some below)) (is_none (began phase))
+young-told now phase None y = tt
+young-told now phase (Some (suc n)) y = tt
+young-told now Idle (Some zero) y = refl
+young-told now Held (Some zero) y = refl
+young-told now (Since start) (Some zero) y = absurd (omega (arith, y))
+
+none-told : (o : Option (Option ℕ)) → Told (idle_range o) true
+none-told None = tt
+none-told (Some None) = tt
+none-told (Some (Some zero)) = refl
+none-told (Some (Some (suc n))) = tt
+
+-- ---- decisions
+
+kept-obeyed : (kind : RuleKind) (r : Range) (b : Bool) → is_kept kind r ≡ true → Told r b
+    → is_obeyed kind true b ≡ true
+kept-obeyed Never No b e told = ap not told
+kept-obeyed Always Yes b e told = told
+kept-obeyed Never Yes b e told = absurd cc
+kept-obeyed Never Any b e told = absurd cc
+kept-obeyed Never Either b e told = absurd cc
+kept-obeyed Never (Between x y) b e told = absurd cc
+kept-obeyed Always No b e told = absurd cc
+kept-obeyed Always Any b e told = absurd cc
+kept-obeyed Always Either b e told = absurd cc
+kept-obeyed Always (Between x y) b e told = absurd cc
+
+lost-broken : (kind : RuleKind) (r : Range) (b : Bool) → is_lost kind r ≡ true → Told r b
+    → is_obeyed kind true b ≡ false
+lost-broken Never Yes b e told = ap not told
+lost-broken Always No b e told = told
+lost-broken Never No b e told = absurd cc
+lost-broken Never Any b e told = absurd cc
+lost-broken Never Either b e told = absurd cc
+lost-broken Never (Between x y) b e told = absurd cc
+lost-broken Always Yes b e told = absurd cc
+lost-broken Always Any b e told = absurd cc
+lost-broken Always Either b e told = absurd cc
+lost-broken Always (Between x y) b e told = absurd cc
+
+-- what each decision says of its tests
+is-obeyed : (kept t lost f : Bool)
+    → cond (kept || not t) Obeyed (cond (lost && not f) Lost Unknown) ≡ Obeyed
+    → (kept ≡ true) ⊎ (t ≡ false)
+is-obeyed true t lost f h = inl refl
+is-obeyed false false lost f h = inr refl
+is-obeyed false true true true h = absurd cc
+is-obeyed false true true false h = absurd cc
+is-obeyed false true false f h = absurd cc
+
+is-lost : (kept t lost f : Bool)
+    → cond (kept || not t) Obeyed (cond (lost && not f) Lost Unknown) ≡ Lost
+    → (lost ≡ true) × (f ≡ false)
+is-lost true t lost f h = absurd cc
+is-lost false false lost f h = absurd cc
+is-lost false true true true h = absurd cc
+is-lost false true true false h = (refl, refl)
+is-lost false true false f h = absurd cc
+
+module _ (kind : RuleKind) (o : Outlook) (r : Range) (b : Bool) (told : Told r b) where
+  obeyed-so : (c : Bool) → includes o c ≡ true → decide kind o r ≡ Obeyed
+      → is_obeyed kind c b ≡ true
+  obeyed-so false one e = refl
+  obeyed-so true one e =
+      elim (is-obeyed (is_kept kind r) o.yes (is_lost kind r) o.no e) [
+        | inl kept ↦ kept-obeyed kind r b kept told
+        | inr never ↦ absurd (let f : true ≡ false = sym one ∙ never in cc)
+      ]
+
+  broken-so : (c : Bool) → includes o c ≡ true → decide kind o r ≡ Lost
+      → is_obeyed kind c b ≡ false
+  broken-so true one e =
+      lost-broken kind r b (is-lost (is_kept kind r) o.yes (is_lost kind r) o.no e).0 told
+  broken-so false one e =
+      absurd (let f : true ≡ false =
+      sym one ∙ (is-lost (is_kept kind r) o.yes (is_lost kind r) o.no e).1 in cc)
+
+-- ---- goals
+
+-- what the limit tells of a timer at a place
+idle-told : (now : ℕ) (timers : List TimerState) (limits : List (Option ℕ)) (n : ℕ)
+    → AreYoung now timers limits
+    → Told (idle_range (slice_get limits n)) (is_none (began_at n timers))
+idle-told now timers [] n y = tt
+idle-told now [] (below ∷ limits) n y = none-told (slice_get (below ∷ limits) n)
+idle-told now (t ∷ timers) (below ∷ limits) zero y = young-told now t.phase below y.0
+idle-told now (t ∷ timers) (below ∷ limits) (suc n) y = idle-told now timers limits n y.1
+
+-- what is known of whether a goal is reached tells it
+pub goal-told : (g : Program) (goal : Goal) (now : ℕ) (slots : List Value)
+    (timers : List TimerState) (ranges : List Range) (limits : List (Option ℕ))
+    → AreIn slots ranges → AreYoung now timers limits
+    → Told (goal_range g.image.points g.writes ranges limits goal) (reaches g goal slots timers)
+goal-told g (goals.Release k close) now slots timers ranges limits h y =
+    place-told (outputs_of g.image.points slots) (outputs_of g.image.points ranges)
+    (position (is_point k (way close)) g.writes)
+    (outputs-in g.image.points slots ranges h)
+goal-told g (goals.Idle n) now slots timers ranges limits h y = idle-told now timers limits n y
+
+-- ---- what is asked
+
+pub asked-included : (d : Demand) (p : Process) → IsProcess p → (case : List Literal)
+    → is_in case p ≡ true → includes (asked_of case d.when d.unless) (is_asked d p) ≡ true
+asked-included d p is case inside =
+    of-both (outlook_of case d.when) (opposite (outlook_of case d.unless)) (holds d.when p)
+    (not (holds d.unless p)) (condition-included p is case inside d.when)
+    (of-opposite (outlook_of case d.unless) (holds d.unless p)
+    (condition-included p is case inside d.unless))
+
+-- ---- a pass
+
+module _ (g : Program) (d : Demand) (case : List Literal) (ranges : List Range)
+    (limits : List (Option ℕ))
+    (foretells : ForetellsTimed g.image d.limits (map (range_of case) g.reads) limits ranges)
+    (asked : Outlook) (r : Range) (is-asked : asked ≡ asked_of case d.when d.unless)
+    (is-range : r ≡ goal_range g.image.points g.writes ranges limits d.goal) where
+  module _ (p : Process) (is : IsProcess p) (inside : is_in case p ≡ true) (machine : scans.Held)
+      (now : ℕ) (slots : List Value) (timers : List TimerState) (image : machine.image ≡ g.image)
+      (kept : IsKept machine) (young : AreYoung now machine.timers d.limits)
+      (leaves : Leaves machine (map (process_value p) g.reads) now slots timers)
+    where
+      told : Told r (reaches g d.goal slots timers)
+      told =
+          let end =
+          foretells machine (map (process_value p) g.reads) now slots timers image kept young
+          (ranges-have p is case inside g.reads) leaves in
+          subst (λ (x : Range). Told x (reaches g d.goal slots timers)) (sym is-range)
+          (goal-told g d.goal now slots timers ranges limits end.0 end.1)
+
+      included : includes asked (is_asked d p) ≡ true
+      included = ap (λ (o : Outlook). includes o (is_asked d p)) is-asked
+          ∙ asked-included d p is case inside
+
+  pub obeyed-by : decide d.kind asked r ≡ Obeyed
+      → (p : Process) → IsProcess p → is_in case p ≡ true → Comes true g d p
+  obeyed-by e p is inside machine now slots timers image kept young leaves =
+      obeyed-so d.kind asked r (reaches g d.goal slots timers)
+      (told p is inside machine now slots timers image kept young leaves) (is_asked d p)
+      (included p is inside machine now slots timers image kept young leaves) e
+
+  pub broken-by : decide d.kind asked r ≡ Lost → IsMissed g d case
+  broken-by e p is inside machine now slots timers image kept young leaves =
+      broken-so d.kind asked r (reaches g d.goal slots timers)
+      (told p is inside machine now slots timers image kept young leaves) (is_asked d p)
+      (included p is inside machine now slots timers image kept young leaves) e
+
+pub not-true : (b : Bool) → not b ≡ true → b ≡ false
+not-true true h = absurd cc
+not-true false h = refl
+
+-- a demand is met where nothing is asked
+idle-so : (kind : RuleKind) (o : Outlook) (c b : Bool) → o.yes ≡ false → includes o c ≡ true
+    → is_obeyed kind c b ≡ true
+idle-so kind o false b never one = refl
+idle-so kind o true b never one = absurd (let f : true ≡ false = sym one ∙ never in cc)
+
+pub idle-in : (g : Program) (d : Demand) (case : List Literal)
+    → (asked_of case d.when d.unless).yes ≡ false → (p : Process) → IsProcess p
+    → is_in case p ≡ true → Comes true g d p
+idle-in g d case never p is inside machine now slots timers image kept young leaves =
+    idle-so d.kind (asked_of case d.when d.unless) (is_asked d p) (reaches g d.goal slots timers)
+    never (asked-included d p is case inside)

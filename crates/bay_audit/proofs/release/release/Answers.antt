@@ -1,0 +1,70 @@
+use Rattle.std.proofs.Common.{◌≡◌, ◌+◌, ◌++◌, ◌∷◌, [], List, sym, ap, ◌∙◌, subst}
+use Rattle.std.proofs.lemmas.List.{append-nil}
+use Rattle.bay_rules.specs.Process.{Process}
+use Rattle.bay_audit.specs.declared.demand.Demand.{Demand}
+use Rattle.bay_audit.specs.Rules.{AreTold, IsVerdict, case_count, program, told_count}
+use Rattle.bay_audit.specs.declared.answer.ToldCase.{ToldCase}
+use Rattle.bay_audit.specs.declared.case.Literal.{Literal}
+use Rattle.bay_audit.proofs.ReleaseLemmas.{one-split, one-told, told-more, verdict-told}
+use Rattle.bay_audit.proofs.release.release.Goals as goal
+use Rattle.bay_audit.proofs.release.release.Goals.{in-Ok+in_ok-push-in-Ok, in-Err+in_ok-split-in-Err, else-loop-test, then-loop-test+in_default}
+
+pub loop-preserved : goal.loop-preserved
+loop-preserved c =
+    let g = program c.args.verified.now c.args.wires.now.reads.items c.args.wires.now.writes.items
+    in
+    let k = c.args.switch in
+    let close = c.args.close in
+    let case = c.in-Some.case in
+    let before : (p : Process) → told_count c.loop.cases.items p
+    + case_count (c.pop.new.self.items ++ case ∷ []) p ≡ 1 =
+    λ p. subst (λ (cs : List (List Literal)). told_count c.loop.cases.items p + case_count cs p ≡ 1)
+    c.in-Some.ensures.items (c.loop.invariant.one p) in
+    elim c.match-told_by.branch [
+      | in-Ok+in_ok-push-in-Ok w ↦
+          let cases = ap (λ v. v.items) w.cases-is ∙ w.in_ok-push-in-Ok.ensures.items in
+          record {
+            told = subst (AreTold g k close) (sym cases)
+                (told-more g k close c.loop.cases.items
+                (record { case = case; told = w.in-Ok.told })
+                c.loop.invariant.told
+                (verdict-told g k close case c.in_ok-verdict.field-0 w.in-Ok.told
+                (subst (λ (d : Demand). IsVerdict g d case c.in_ok-verdict.field-0)
+                c.in_ok-demand.ensures c.in_ok-verdict.ensures) w.in-Ok.ensures));
+            one = λ p. subst (λ (ds : List ToldCase). told_count ds p
+                + case_count c.match-told_by.left.items p ≡ 1) (sym cases)
+                (subst (λ (cs : List (List Literal)).
+                told_count (c.loop.cases.items ++ record { case = case; told = w.in-Ok.told } ∷ [])
+                p
+                + case_count cs p ≡ 1) (sym (ap (λ v. v.items) w.left-is))
+                (one-told c.loop.cases.items c.pop.new.self.items
+                (record { case = case; told = w.in-Ok.told }) p (before p)));
+          }
+      | in-Err+in_ok-split-in-Err w ↦
+          let cases = ap (λ v. v.items) w.cases-is in
+          record {
+            told = subst (AreTold g k close) (sym cases) c.loop.invariant.told;
+            one = λ p. subst (λ (ds : List ToldCase). told_count ds p
+                + case_count c.match-told_by.left.items p ≡ 1) (sym cases)
+                (subst (λ (cs : List (List Literal)). told_count c.loop.cases.items p
+                + case_count cs p ≡ 1)
+                (sym (ap (λ v. v.items) w.left-is ∙ w.in_ok-split-in-Err.ensures))
+                (one-split c.loop.cases.items c.pop.new.self.items case w.in-Err.test p
+                (before p)));
+          }
+    ]
+
+pub returns-clause-right : goal.returns-clause-right
+returns-clause-right c =
+    let left : c.loop.left.items ≡ c.loop-test.left.items =
+    elim c.loop-test.branch [
+      | else-loop-test w ↦ sym (ap (λ v. v.items) w.left-is)
+      | then-loop-test+in_default w ↦
+          w.in_default.ensures.items ∙ append-nil w.pop.new.self.items
+          ∙ sym (ap (λ v. v.items) w.left-is)
+    ] in
+    record {
+      told = c.loop.invariant.told;
+      one = λ p. subst (λ (cs : List (List Literal)). told_count c.loop.cases.items p
+          + case_count cs p ≡ 1) left (c.loop.invariant.one p);
+    }

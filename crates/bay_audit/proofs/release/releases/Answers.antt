@@ -1,0 +1,25 @@
+use Rattle.std.proofs.Common.{◌≡◌, ◌++◌, ◌∷◌, [], List, map, sym, ap, ◌∙◌, subst}
+use Rattle.bay_audit.specs.Rules.{AreReleases, program, way_of}
+use Rattle.bay_audit.specs.declared.answer.Release.{Release}
+use Rattle.bay_audit.proofs.ReleaseLemmas.{releases-more, ways-more}
+use Rattle.bay_audit.proofs.release.releases.Goals as goal
+
+pub loop-switch-preserved : goal.loop-switch-preserved
+loop-switch-preserved c =
+    let g = program c.args.verified.now c.args.wires.now.reads.items c.args.wires.now.writes.items
+    in
+    let before = c.loop-switch.releases.items in
+    let a = c.in_ok-release.field-0 in
+    let b = c.in_ok-release-2.field-0 in
+    let items : c.push-in-loop-switch.new.self.items ≡ (before ++ a ∷ []) ++ b ∷ [] =
+    c.in_ok-push-2.ensures.items
+    ∙ ap (λ (rs : List Release). rs ++ b ∷ []) c.in_ok-push.ensures.items in
+    record {
+      right = subst (AreReleases g) (sym items)
+          (releases-more g (before ++ a ∷ []) b
+          (releases-more g before a c.loop-switch.invariant.right c.in_ok-release.ensures.right)
+          c.in_ok-release-2.ensures.right);
+      all = ap (map way_of) items
+          ∙ ways-more before a b c.loop-switch.switch c.loop-switch.invariant.all
+          c.in_ok-release.ensures.way c.in_ok-release-2.ensures.way;
+    }

@@ -1,0 +1,16 @@
+use Rattle.std.proofs.Common.{sym, ◌∙◌, ap, ap₂}
+use Rattle.bay_audit.specs.Conditions.{asked_of}
+use Rattle.bay_audit.specs.Rules.{program}
+use Rattle.bay_audit.specs.declared.outlook.Outlook.{Outlook}
+use Rattle.bay_audit.proofs.verdict.verdict.Goals as goal
+use Rattle.bay_audit.proofs.RuleLemmas.{idle-in, not-true}
+
+pub returns-then-not-asked : goal.returns-then-not-asked
+returns-then-not-asked c =
+    idle-in
+    (program c.args.verified.now c.args.wires.now.reads.items c.args.wires.now.writes.items)
+    c.args.demand.now c.args.case.now
+    (ap (λ (o : Outlook). o.yes)
+    (sym (c.in_ok-asked.ensures
+    ∙ ap₂ (asked_of c.args.case.now) c.as_slice.ensures c.as_slice-2.ensures))
+    ∙ not-true c.in_ok-asked.asked.yes c.if-not-asked.true)

@@ -1,0 +1,152 @@
+-- A case of what the process reports: some tests of it have these answers.
+use Rattle.std.specs.Prelude.{ℕ, ℤ, ◌+ℤ◌, negsuc, pos, int_le, int_lt, Bool, true, false, not, ◌&&◌, ◌||◌, ◌==◌, List, fold, if◌then◌else◌}
+use Rattle.std.specs.Bool.{beq}
+use Rattle.std.specs.List.{list_all}
+use Rattle.bay_config.specs.declared.bay.MeterField.{MeterField}
+use Rattle.bay_config.specs.declared.bay.MeterField.TheVariants.{TotW, TotVAr, Hz, PhaseA, PhaseB, PhaseC}
+use Rattle.bay_config.specs.declared.bay.Source.{Source}
+use Rattle.bay_config.specs.declared.bay.Source.TheVariants as source
+use Rattle.bay_config.specs.declared.bay.SwitchPoint.{SwitchPoint}
+use Rattle.bay_config.specs.declared.bay.SwitchPoint.TheVariants.{Position, Open, Closed, EnableOpen, EnableClose}
+use Rattle.bay_tree.specs.declared.leaf.Dbpos.{Dbpos}
+use Rattle.bay_tree.specs.declared.leaf.Dbpos.TheVariants.{Intermediate, Off, On, Bad}
+use Rattle.il_range.specs.declared.range.Range.{Range}
+use Rattle.il_range.specs.declared.range.Range.TheVariants.{No, Yes, Either, Between}
+use Rattle.bay_rules.specs.Process.{Process, same_position}
+use Rattle.bay_audit.specs.declared.case.Literal.{Literal}
+use Rattle.bay_audit.specs.declared.case.Test.{Test}
+use Rattle.bay_audit.specs.declared.case.Test.TheVariants as test
+
+-- ---- what a case is
+
+-- the answer of a test: the switch has this position, the input is TRUE, the measured value is this
+-- or less
+abbrev pub answer_of : Process → Test → Bool
+answer_of p (test.Position k position) = same_position position (p.position k)
+answer_of p (test.Input k) = p.input k
+answer_of p (test.AtMost k field most) = int_le (p.measure k field) most
+
+-- the test of the literal has its answer
+abbrev pub meets : Process → Literal → Bool
+meets p l = beq (answer_of p l.test) l.value
+
+-- the process is one of the case
+abbrev pub is_in : List Literal → Process → Bool
+is_in case p = list_all (meets p) case
+
+-- ---- what a case leaves open
+
+-- two fields of a meter are one
+abbrev pub same_field : MeterField → MeterField → Bool
+same_field TotW TotW = true
+same_field TotVAr TotVAr = true
+same_field Hz Hz = true
+same_field PhaseA PhaseA = true
+same_field PhaseB PhaseB = true
+same_field PhaseC PhaseC = true
+same_field a b = false
+
+-- a switch may have the position, by one literal and by all
+abbrev pub test_allows : ℕ → Dbpos → Bool → Test → Bool
+test_allows k position value (test.Position j which) =
+    not (j == k) || beq (same_position which position) value
+test_allows k position value (test.Input j) = true
+test_allows k position value (test.AtMost j field most) = true
+
+abbrev pub allows : ℕ → Dbpos → Literal → Bool
+allows k position l = test_allows k position l.value l.test
+
+abbrev pub may_be : List Literal → ℕ → Dbpos → Bool
+may_be case k position = list_all (allows k position) case
+
+-- an input may have the value
+abbrev pub test_grants : ℕ → Bool → Bool → Test → Bool
+test_grants k wanted value (test.Position j which) = true
+test_grants k wanted value (test.Input j) = not (j == k) || beq wanted value
+test_grants k wanted value (test.AtMost j field most) = true
+
+abbrev pub grants : ℕ → Bool → Literal → Bool
+grants k wanted l = test_grants k wanted l.value l.test
+
+abbrev pub input_may : List Literal → ℕ → Bool → Bool
+input_may case k wanted = list_all (grants k wanted) case
+
+-- the least and the greatest number that a measured value may have
+abbrev pub is_of_field : ℕ → MeterField → ℕ → MeterField → Bool
+is_of_field k field j which = j == k && same_field which field
+
+abbrev pub raised : ℤ → ℤ → ℤ
+raised low other = if int_lt low other then other else low
+
+abbrev pub lowered : ℤ → ℤ → ℤ
+lowered high other = if int_lt other high then other else high
+
+abbrev pub low_by : ℕ → MeterField → ℤ → Bool → Test → ℤ
+low_by k field low value (test.Position j which) = low
+low_by k field low value (test.Input j) = low
+low_by k field low value (test.AtMost j which most) =
+    if is_of_field k field j which && not value then raised low (most +ℤ pos 1) else low
+
+abbrev pub low_after : ℕ → MeterField → ℤ → Literal → ℤ
+low_after k field low l = low_by k field low l.value l.test
+
+abbrev pub high_by : ℕ → MeterField → ℤ → Bool → Test → ℤ
+high_by k field high value (test.Position j which) = high
+high_by k field high value (test.Input j) = high
+high_by k field high value (test.AtMost j which most) =
+    if is_of_field k field j which && value then lowered high most else high
+
+abbrev pub high_after : ℕ → MeterField → ℤ → Literal → ℤ
+high_after k field high l = high_by k field high l.value l.test
+
+abbrev pub low_of : List Literal → ℕ → MeterField → ℤ
+low_of case k field = fold (low_after k field) (negsuc 2147483647) case
+
+abbrev pub high_of : List Literal → ℕ → MeterField → ℤ
+high_of case k field = fold (high_after k field) (pos 2147483647) case
+
+-- ---- a process of a case
+
+-- the first position that a switch may have
+abbrev pub first_position : Bool → Bool → Bool → Dbpos
+first_position i o n = if i then Intermediate else if o then Off else if n then On else Bad
+
+-- of each point the first value that it may have
+abbrev pub example_of : List Literal → Process
+example_of case = record {
+  position = λ k. first_position (may_be case k Intermediate) (may_be case k Off)
+      (may_be case k On);
+  input = λ k. input_may case k true;
+  measure = λ k field. lowered (pos 2147483647) (low_of case k field);
+}
+
+-- ---- what is known of the points
+
+-- what is known of a truth value that may be TRUE, and may be FALSE
+abbrev pub truth_range : Bool → Bool → Range
+truth_range true false = Yes
+truth_range true true = Either
+truth_range false true = No
+truth_range false false = Either
+
+-- what is known of a position's number
+abbrev pub least_position : Bool → Bool → Bool → ℤ
+least_position i o n = if i then pos 0 else if o then pos 1 else if n then pos 2 else pos 3
+
+abbrev pub greatest_position : Bool → Bool → Bool → ℤ
+greatest_position o n b = if b then pos 3 else if n then pos 2 else if o then pos 1 else pos 0
+
+abbrev pub position_range : SwitchPoint → Bool → Bool → Bool → Bool → Range
+position_range Position i o n b = Between (least_position i o n) (greatest_position o n b)
+position_range Open i o n b = truth_range o (i || n || b)
+position_range Closed i o n b = truth_range n (i || o || b)
+position_range EnableOpen i o n b = No
+position_range EnableClose i o n b = No
+
+-- what is known of what a point stands for
+abbrev pub range_of : List Literal → Source → Range
+range_of case (source.Switch k point) =
+    position_range point (may_be case k Intermediate) (may_be case k Off) (may_be case k On)
+    (may_be case k Bad)
+range_of case (source.Input k) = truth_range (input_may case k true) (input_may case k false)
+range_of case (source.Meter k field) = Between (low_of case k field) (high_of case k field)

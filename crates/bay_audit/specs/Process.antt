@@ -1,0 +1,21 @@
+-- What the points of a program read of what the process reports.
+use Rattle.std.specs.Prelude.{ℕ, ◌≤ℤ◌, negsuc, pos, Some}
+use Rattle.bay_config.specs.declared.bay.MeterField.{MeterField}
+use Rattle.bay_config.specs.declared.bay.Source.{Source}
+use Rattle.bay_config.specs.declared.bay.Source.TheVariants as source
+use Rattle.bay_process.specs.Values.{position_value}
+use Rattle.bay_rules.specs.Process.{Process}
+use Rattle.bay_tree.specs.declared.leaf.Leaf.TheVariants as leaf
+use Rattle.il_image.specs.declared.value.Value.{Value}
+use Rattle.il_image.specs.declared.value.Value.TheVariants.{Truth, Long}
+
+-- Each measured value has 32 bits, as a process can give it.
+pub record IsProcess (p : Process) : Type 0 where
+  pub least : (meter : ℕ) (field : MeterField) → negsuc 2147483647 ≤ℤ p.measure meter field
+  pub greatest : (meter : ℕ) (field : MeterField) → p.measure meter field ≤ℤ pos 2147483647
+
+-- the value that the process gives to what a point stands for
+abbrev pub process_value : Process → Source → Value
+process_value p (source.Switch k point) = position_value point (Some (leaf.Dbpos (p.position k)))
+process_value p (source.Input k) = Truth (p.input k)
+process_value p (source.Meter k field) = Long (p.measure k field)

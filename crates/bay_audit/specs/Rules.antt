@@ -1,0 +1,345 @@
+-- Which rules hold of a program: in every state, whatever the process reports.
+use Rattle.std.specs.Prelude.{ℕ, zero, suc, ◌+◌, ◌++◌, ◌≡◌, Bool, true, false, not, ◌&&◌, ◌||◌, List, [], ◌∷◌, map, position, replicate, MatchOption, Option, None, Some, is_none, slice_get, Result, Ok, Err, if◌then◌else◌}
+use Rattle.std.specs.List.{count_by}
+use Rattle.bay_config.specs.declared.bay.Bay.{Bay}
+use Rattle.bay_config.specs.declared.bay.Source.{Source}
+use Rattle.bay_config.specs.declared.bay.SwitchPoint.{SwitchPoint}
+use Rattle.bay_config.specs.declared.bay.SwitchPoint.TheVariants.{EnableOpen, EnableClose}
+use Rattle.bay_process.specs.Sources.{sources_of}
+use Rattle.bay_process.specs.Values.{is_point, output_of}
+use Rattle.bay_rules.specs.Process.{Process, holds}
+use Rattle.bay_rules.specs.declared.rule.Item.{Item}
+use Rattle.bay_rules.specs.declared.rule.Item.TheVariants as items
+use Rattle.bay_rules.specs.declared.rule.Rule.{Rule}
+use Rattle.bay_rules.specs.declared.rule.RuleKind.{RuleKind}
+use Rattle.bay_rules.specs.declared.rule.RuleKind.TheVariants.{Never, Always}
+use Rattle.bay_rules.specs.declared.rule.Timing.{Timing}
+use Rattle.il_image.specs.declared.image.ImagePoint.{ImagePoint}
+use Rattle.il_image.specs.declared.timer.TimerState.{TimerState}
+use Rattle.il_image.specs.declared.value.Value.{Value}
+use Rattle.il_image.specs.Images.{Image}
+use Rattle.il_range.specs.Foretold.{AreYoung, IsKept, Leaves, began_at}
+use Rattle.il_range.specs.declared.range.Range.{Range}
+use Rattle.il_range.specs.declared.range.Range.TheVariants as range
+use Rattle.il_scan.specs.Scans.{Held, outputs_of}
+use Rattle.bay_audit.specs.Cases.{is_in}
+use Rattle.bay_audit.specs.Process.{IsProcess, process_value}
+use Rattle.bay_audit.specs.declared.answer.Answer.{Answer}
+use Rattle.bay_audit.specs.declared.answer.Answer.TheVariants.{Holds, Broken, Open, TooMany, Since, Timed}
+use Rattle.bay_audit.specs.declared.case.Literal.{Literal}
+use Rattle.bay_audit.specs.declared.case.Test.{Test}
+use Rattle.bay_audit.specs.declared.answer.Release.{Release}
+use Rattle.bay_audit.specs.declared.demand.Demand.{Demand}
+use Rattle.bay_audit.specs.declared.demand.Goal.{Goal}
+use Rattle.bay_audit.specs.declared.demand.Goal.TheVariants as goals
+use Rattle.bay_audit.specs.declared.answer.Told.{Told}
+use Rattle.bay_audit.specs.declared.answer.Told.TheVariants.{Released, Refused, Hangs}
+use Rattle.bay_audit.specs.declared.answer.ToldCase.{ToldCase}
+use Rattle.bay_audit.specs.declared.outlook.Outlook.{Outlook}
+use Rattle.bay_audit.specs.declared.answer.Decision.{Decision}
+use Rattle.bay_audit.specs.declared.answer.Decision.TheVariants.{Obeyed, Lost, Unknown}
+use Rattle.bay_audit.specs.declared.answer.Verdict.{Verdict}
+use Rattle.bay_audit.specs.declared.answer.Verdict.TheVariants as verdict
+
+-- ---- programs
+
+-- a program on a bay: its image, and what its points stand for that it only reads, and those that
+-- it may write
+pub record Program : Type 0 where
+  pub image : Image
+  pub reads : List Source
+  pub writes : List Source
+
+abbrev pub program : Image → List Source → List Source → Program
+program image reads writes = record { image = image; reads = reads; writes = writes }
+
+abbrev pub program_of : Bay → Image → Program
+program_of bay image =
+    program image (sources_of false bay.points image.points)
+    (sources_of true bay.points image.points)
+
+-- the point by which a direction is released
+abbrev pub way : Bool → SwitchPoint
+way true = EnableClose
+way false = EnableOpen
+
+-- whether slots release the switch in this direction; they do not where the program does not name
+-- its point
+abbrev pub releases : Program → ℕ → Bool → List Value → Bool
+releases g k close slots = output_of k (way close) g.writes (outputs_of g.image.points slots)
+
+-- ---- rules
+
+-- a rule of this kind is obeyed, by its condition and the release
+abbrev pub is_obeyed : RuleKind → Bool → Bool → Bool
+is_obeyed kind false release = true
+is_obeyed Never true release = not release
+is_obeyed Always true release = release
+
+-- slots and timers come to the goal: the switch is released, or no delay of the timer runs
+abbrev pub reaches : Program → Goal → List Value → List TimerState → Bool
+reaches g (goals.Release k close) slots timers = releases g k close slots
+reaches g (goals.Idle n) slots timers = is_none (began_at n timers)
+
+-- something is demanded, while the process reports this
+abbrev pub is_asked : Demand → Process → Bool
+is_asked d p = holds d.when p && not (holds d.unless p)
+
+-- slots and timers meet a demand, while the process reports this
+abbrev pub obeys : Program → Demand → Process → List Value → List TimerState → Bool
+obeys g d p slots timers = is_obeyed d.kind (is_asked d p) (reaches g d.goal slots timers)
+
+-- Each scan that is meant, from what the process reports, at each moment and whatever the program
+-- keeps of the scans before it, ends with the demand met, or not.
+abbrev pub Comes : Bool → Program → Demand → Process → Type 0
+Comes b g d p =
+    (machine : Held) (now : ℕ) (slots : List Value) (timers : List TimerState)
+    → machine.image ≡ g.image → IsKept machine → AreYoung now machine.timers d.limits
+    → Leaves machine (map (process_value p) g.reads) now slots timers
+    → obeys g d p slots timers ≡ b
+
+-- A demand is met: whatever a process reports, in each state.
+abbrev pub IsMet : Program → Demand → Type 0
+IsMet g d = (p : Process) → IsProcess p → Comes true g d p
+
+-- A demand is missed in a case: by each process of the case, in each state.
+abbrev pub IsMissed : Program → Demand → List Literal → Type 0
+IsMissed g d case = (p : Process) → IsProcess p → is_in case p ≡ true → Comes false g d p
+
+-- what a rule demands, but for its time
+abbrev pub plain_demand : Rule → Demand
+plain_demand rule = record {
+  kind = rule.kind;
+  goal = goals.Release rule.switch rule.close;
+  when = rule.when;
+  unless = [];
+  limits = [];
+}
+
+-- A rule holds: whatever a process reports, in each state, it is obeyed.
+abbrev pub IsRule : Program → Rule → Type 0
+IsRule g rule = IsMet g (plain_demand rule)
+
+-- A rule is broken in a case: by each process of the case, in each state.
+abbrev pub IsBroken : Program → Rule → List Literal → Type 0
+IsBroken g rule case = IsMissed g (plain_demand rule) case
+
+-- ---- rules with a time
+
+-- the limit of one timer
+abbrev pub limit_of : ℕ → ℕ → List (Option ℕ)
+limit_of n time = replicate n None ++ Some time ∷ []
+
+-- the switch is not released where the timer's delay began less than the time ago
+abbrev pub late : Rule → ℕ → ℕ → Demand
+late rule time n = record {
+  kind = Never;
+  goal = goals.Release rule.switch rule.close;
+  when = rule.when;
+  unless = [];
+  limits = limit_of n time;
+}
+
+-- the switch is not released while the condition does not hold
+abbrev pub there : Rule → List Item → Demand
+there rule condition = record {
+  kind = Never;
+  goal = goals.Release rule.switch rule.close;
+  when = rule.when;
+  unless = condition;
+  limits = [];
+}
+
+-- no delay of the timer runs while the condition does not hold
+abbrev pub idle : List Item → ℕ → Demand
+idle condition n = record {
+  kind = Always;
+  goal = goals.Idle n;
+  when = items.True ∷ [];
+  unless = condition;
+  limits = [];
+}
+
+-- A timer bears the rule that a switch is not released until a condition has held for a time: its
+-- delay runs only while the condition holds, and a release waits for it.
+pub record IsByTimer (g : Program) (rule : Rule) (timing : Timing) (n : ℕ) : Type 0 where
+  pub late_so : IsMet g (late rule timing.time n)
+  pub there_so : IsMet g (there rule timing.condition)
+  pub idle_so : IsMet g (idle timing.condition n)
+
+-- An answer to such a rule is right.
+abbrev pub IsUntil : Program → Rule → Timing → Answer → Type 0
+IsUntil g rule timing (Since n cases) = (rule.kind ≡ Never) × IsByTimer g rule timing n
+IsUntil g rule timing Timed = Unit {0}
+IsUntil g rule timing (Holds cases) = ⊥
+IsUntil g rule timing (Broken case) = ⊥
+IsUntil g rule timing (Open case kept) = ⊥
+IsUntil g rule timing TooMany = ⊥
+
+-- ---- answers
+
+-- A process is one of the case.
+abbrev pub HasProcess : List Literal → Type 0
+HasProcess case = (p : Process) × IsProcess p × (is_in case p ≡ true)
+
+-- An answer to a demand is right.
+abbrev pub IsAnswer : Program → Demand → Answer → Type 0
+IsAnswer g d (Holds cases) = IsMet g d
+IsAnswer g d (Broken case) = IsMissed g d case × HasProcess case
+IsAnswer g d (Open case kept) = Unit {0}
+IsAnswer g d TooMany = Unit {0}
+IsAnswer g d (Since n cases) = ⊥
+IsAnswer g d Timed = ⊥
+
+-- An answer to a rule is right.
+abbrev pub IsRight : Program → Rule → Answer → Type 0
+IsRight g rule answer =
+    MatchOption rule.timed (IsAnswer g (plain_demand rule) answer)
+    (λ timing. IsUntil g rule timing answer)
+
+-- There is an answer for each rule, in their order, and it is right.
+abbrev pub AreRight : Program → List Rule → List Answer → Type 0
+AreRight g [] [] = Unit {0}
+AreRight g (r ∷ rules) (a ∷ answers) = IsRight g r a × AreRight g rules answers
+AreRight g [] (a ∷ answers) = ⊥
+AreRight g (r ∷ rules) [] = ⊥
+
+-- ---- releases
+
+-- Each scan from what the process reports, in each state, releases the switch in this direction, or
+-- does not.
+abbrev pub Gives : Bool → Program → ℕ → Bool → Process → Type 0
+Gives b g k close p =
+    (machine : Held) (now : ℕ) (slots : List Value) (timers : List TimerState)
+    → machine.image ≡ g.image → IsKept machine
+    → Leaves machine (map (process_value p) g.reads) now slots timers → releases g k close slots ≡ b
+
+-- What is told of a case of a release is so.
+abbrev pub IsToldOf : Program → ℕ → Bool → List Literal → Told → Type 0
+IsToldOf g k close case Released =
+    (p : Process) → IsProcess p → is_in case p ≡ true → Gives true g k close p
+IsToldOf g k close case Refused =
+    (p : Process) → IsProcess p → is_in case p ≡ true → Gives false g k close p
+IsToldOf g k close case (Hangs kept) = Unit {0}
+
+abbrev pub AreTold : Program → ℕ → Bool → List ToldCase → Type 0
+AreTold g k close [] = Unit {0}
+AreTold g k close (c ∷ cases) = IsToldOf g k close c.case c.told × AreTold g k close cases
+
+-- how many of the cases have a process
+abbrev pub told_count : List ToldCase → Process → ℕ
+told_count cases p = count_by (λ c. is_in c.case p) cases
+
+abbrev pub case_count : List (List Literal) → Process → ℕ
+case_count cases p = count_by (λ case. is_in case p) cases
+
+-- The cases of a release are right, and each process is in just one of them, or in one of those
+-- that are left.
+pub record IsRelease (g : Program) (r : Release) : Type 0 where
+  pub told : AreTold g r.switch r.close r.cases.items
+  pub one : (p : Process) → told_count r.cases.items p + case_count r.left.items p ≡ 1
+
+-- Each is so.
+abbrev pub AreReleases : Program → List Release → Type 0
+AreReleases g [] = Unit {0}
+AreReleases g (r ∷ releases) = IsRelease g r × AreReleases g releases
+
+-- what is released of so many switches: opening and closing of each
+abbrev pub ways : ℕ → List (ℕ × Bool)
+ways zero = []
+ways (suc k) = ways k ++ (k, false) ∷ (k, true) ∷ []
+
+abbrev pub way_of : Release → ℕ × Bool
+way_of r = (r.switch, r.close)
+
+-- that a switch is always released in a direction
+abbrev pub demand : ℕ → Bool → Demand
+demand k close = record {
+  kind = Always;
+  goal = goals.Release k close;
+  when = items.True ∷ [];
+  unless = [];
+  limits = [];
+}
+
+-- ---- how they are found
+
+-- a verdict on a demand in a case
+abbrev pub IsVerdict : Program → Demand → List Literal → Verdict → Type 0
+IsVerdict g d case verdict.Obeyed =
+    (p : Process) → IsProcess p → is_in case p ≡ true → Comes true g d p
+IsVerdict g d case verdict.Broken = IsMissed g d case
+IsVerdict g d case (verdict.Split test) = Unit {0}
+IsVerdict g d case (verdict.Open kept) = Unit {0}
+
+-- it tells neither
+abbrev pub IsUndecided : Verdict → Type 0
+IsUndecided verdict.Obeyed = ⊥
+IsUndecided verdict.Broken = ⊥
+IsUndecided (verdict.Split test) = Unit {0}
+IsUndecided (verdict.Open kept) = Unit {0}
+
+-- with such a release a rule of this kind is surely obeyed where its condition holds, or surely
+-- broken
+abbrev pub is_kept : RuleKind → Range → Bool
+is_kept Never range.No = true
+is_kept Always range.Yes = true
+is_kept kind r = false
+
+abbrev pub is_lost : RuleKind → Range → Bool
+is_lost Never range.Yes = true
+is_lost Always range.No = true
+is_lost kind r = false
+
+-- what is known of a rule, by what its condition may come to and by the range of the release
+abbrev pub decide : RuleKind → Outlook → Range → Decision
+decide kind o r =
+    if is_kept kind r || not o.yes then Obeyed
+    else if is_lost kind r && not o.no then Lost else Unknown
+
+-- the range of what the program writes to a point; FALSE where it does not name it
+abbrev pub range_there : Option Range → Range
+range_there None = range.No
+range_there (Some r) = r
+
+abbrev pub range_at : List Range → Option ℕ → Range
+range_at outputs None = range.No
+range_at outputs (Some place) = range_there (slice_get outputs place)
+
+-- the range of a release
+abbrev pub release_range : List ImagePoint → List Source → List Range → ℕ → Bool → Range
+release_range points writes ranges k close =
+    range_at (outputs_of points ranges) (position (is_point k (way close)) writes)
+
+-- whether no delay runs, by the limit: none runs that began less than 0 ago
+abbrev pub idle_range : Option (Option ℕ) → Range
+idle_range None = range.Either
+idle_range (Some None) = range.Either
+idle_range (Some (Some zero)) = range.Yes
+idle_range (Some (Some (suc n))) = range.Either
+
+-- what is known of whether a scan comes to a goal
+abbrev pub goal_range : List ImagePoint → List Source → List Range → List (Option ℕ) → Goal → Range
+goal_range points writes ranges limits (goals.Release k close) =
+    release_range points writes ranges k close
+goal_range points writes ranges limits (goals.Idle n) = idle_range (slice_get limits n)
+
+-- A demand is met by each process that none of these cases has.
+abbrev pub IsLeft : Program → Demand → List (List Literal) → Type 0
+IsLeft g d cases = (p : Process) → IsProcess p → case_count cases p ≡ 0 → Comes true g d p
+
+-- what a verdict on a demand tells, or the test that it hangs on
+abbrev pub IsTurn : Verdict → Result Told Test → Type 0
+IsTurn verdict.Obeyed r = r ≡ Ok Released
+IsTurn verdict.Broken r = r ≡ Ok Refused
+IsTurn (verdict.Open kept) r = r ≡ Ok (Hangs kept)
+IsTurn (verdict.Split test) r = r ≡ Err test
+
+-- the answer where a demand is missed in a case
+abbrev pub IsBrokenIn : List Literal → Answer → Type 0
+IsBrokenIn case (Broken told) = (told ≡ case) × HasProcess case
+IsBrokenIn case (Open told kept) = Unit {0}
+IsBrokenIn case (Holds cases) = ⊥
+IsBrokenIn case TooMany = ⊥
+IsBrokenIn case (Since n cases) = ⊥
+IsBrokenIn case Timed = ⊥

@@ -1,0 +1,321 @@
+// A case of what the process reports, and what it leaves open.
+ghost use Rattle.std.specs.Prelude.{◌≡◌, IfOk, ◌++◌, ◌∷◌, []};
+ghost use Rattle.bay_audit.specs.Cases as spec;
+
+use bay_config::bay::{MeterField, Source, SwitchPoint};
+use bay_tree::leaf::Dbpos;
+use il_range::range::Range;
+use std::alloc::{AllocError, Global};
+use std::marker::Model;
+
+/// A test of what the process reports.
+#[derive(Clone, Copy, Debug, PartialEq, Eq)]
+pub enum Test {
+    /// The switch at this index, counted from 0, has this position.
+    Position {
+        switch: usize,
+        position: Dbpos,
+    },
+    /// The input at this index is TRUE.
+    Input {
+        input: usize,
+    },
+    /// The measured value of a field of the meter at this index is this or less.
+    AtMost {
+        meter: usize,
+        field: MeterField,
+        most: i32,
+    },
+}
+
+/// A test with its answer.
+#[derive(Clone, Copy, Debug, PartialEq, Eq)]
+pub struct Literal {
+    pub test: Test,
+    pub value: bool,
+}
+
+impl Literal {
+    // Whether the switch may have the position.
+    fn allows(self, switch: usize, position: Dbpos) -> bool
+        ensures { result ≡ spec.allows switch position self }
+    {
+        match self.test {
+            Test::Position {
+                switch: at,
+                position: which,
+            } => at != switch || (which == position) == self.value,
+            Test::Input { .. } | Test::AtMost { .. } => true,
+        }
+    }
+
+    // Whether the input may have the value.
+    fn grants(self, input: usize, wanted: bool) -> bool
+        ensures { result ≡ spec.grants input wanted self }
+    {
+        match self.test {
+            Test::Input { input: at } => at != input || wanted == self.value,
+            Test::Position { .. } | Test::AtMost { .. } => true,
+        }
+    }
+
+    // The least number of a measured value that was at least `low`.
+    fn low_after(self, meter: usize, field: MeterField, low: i64) -> i64
+        ensures { result ≡ spec.low_after meter field low self }
+    {
+        match self.test {
+            Test::AtMost {
+                meter: at,
+                field: which,
+                most,
+            } => {
+                if at == meter && which == field && !self.value {
+                    raised(low, i64::from(most) + 1)
+                } else {
+                    low
+                }
+            }
+            Test::Position { .. } | Test::Input { .. } => low,
+        }
+    }
+
+    // The greatest number of a measured value that was at most `high`.
+    fn high_after(self, meter: usize, field: MeterField, high: i64) -> i64
+        ensures { result ≡ spec.high_after meter field high self }
+    {
+        match self.test {
+            Test::AtMost {
+                meter: at,
+                field: which,
+                most,
+            } => {
+                if at == meter && which == field && self.value {
+                    lowered(high, i64::from(most))
+                } else {
+                    high
+                }
+            }
+            Test::Position { .. } | Test::Input { .. } => high,
+        }
+    }
+}
+
+// The greater of both.
+fn raised(low: i64, other: i64) -> i64
+    ensures { result ≡ spec.raised low other }
+{
+    if low < other { other } else { low }
+}
+
+// The lesser of both.
+fn lowered(high: i64, other: i64) -> i64
+    ensures { result ≡ spec.lowered high other }
+{
+    if other < high { other } else { high }
+}
+
+// The first position that a switch may have.
+fn first_position(intermediate: bool, off: bool, on: bool) -> Dbpos
+    ensures { result ≡ spec.first_position intermediate off on }
+{
+    if intermediate {
+        Dbpos::Intermediate
+    } else if off {
+        Dbpos::Off
+    } else if on {
+        Dbpos::On
+    } else {
+        Dbpos::Bad
+    }
+}
+
+// What is known of a truth value that may be TRUE, and may be FALSE.
+fn truth_range(yes: bool, no: bool) -> Range
+    ensures { result ≡ spec.truth_range yes no }
+{
+    match (yes, no) {
+        (true, false) => Range::Yes,
+        (false, true) => Range::No,
+        _ => Range::Either,
+    }
+}
+
+// The number of the first position that a switch may have.
+fn least_position(intermediate: bool, off: bool, on: bool) -> i64
+    ensures { result ≡ spec.least_position intermediate off on }
+{
+    if intermediate {
+        0
+    } else if off {
+        1
+    } else if on {
+        2
+    } else {
+        3
+    }
+}
+
+// The number of the last position that a switch may have.
+fn greatest_position(off: bool, on: bool, bad: bool) -> i64
+    ensures { result ≡ spec.greatest_position off on bad }
+{
+    if bad {
+        3
+    } else if on {
+        2
+    } else if off {
+        1
+    } else {
+        0
+    }
+}
+
+// What is known of a point of a switch that may have these positions.
+fn position_range(point: SwitchPoint, intermediate: bool, off: bool, on: bool, bad: bool) -> Range
+    ensures { result ≡ spec.position_range point intermediate off on bad }
+{
+    match point {
+        SwitchPoint::Position => Range::Between(
+            least_position(intermediate, off, on),
+            greatest_position(off, on, bad),
+        ),
+        SwitchPoint::Open => truth_range(off, intermediate || on || bad),
+        SwitchPoint::Closed => truth_range(on, intermediate || off || bad),
+        SwitchPoint::EnableOpen | SwitchPoint::EnableClose => Range::No,
+    }
+}
+
+/// A case: tests of what the process reports, each with its answer. A process is one of the case if
+/// it gives these answers.
+#[derive(Drop)]
+pub struct Case {
+    literals: Vec<Literal>,
+}
+
+impl Model for Case {
+    ghost use Rattle.std.specs.Prelude.{List};
+    ghost use Rattle.bay_audit.specs.declared.case.Literal.{Literal};
+
+    ghost Value = { List Literal };
+
+    ghost view = { λ c. c.literals.items };
+}
+
+impl Case {
+    /// Makes the case of all processes. Does not allocate.
+    pub fn new(alloc: Global) -> Self
+        ensures { result ≡ [] }
+    {
+        Case {
+            literals: Vec::new(alloc),
+        }
+    }
+
+    /// Returns the tests with their answers.
+    pub fn literals(&self) -> &[Literal]
+        ensures { result.now ≡ self.now }
+    {
+        self.literals.as_slice()
+    }
+
+    /// Returns the part of the case in which a test has this answer.
+    pub fn with(&self, alloc: Global, test: Test, value: bool) -> Result<Case, AllocError>
+        ensures { IfOk result (λ case. case ≡ self.now
+            ++ record { test = test; value = value } ∷ []) }
+    {
+        let mut literals = Vec::from_slice(alloc, self.literals.as_slice())?;
+        literals.push(Literal { test, value })?;
+        Ok(Case { literals })
+    }
+
+    /// Returns whether the switch at an index may have a position.
+    pub fn may_be(&self, switch: usize, position: Dbpos) -> bool
+        ensures { result ≡ spec.may_be self.now switch position }
+    {
+        self.literals
+            .iter()
+            .all(|literal| literal.allows(switch, position))
+    }
+
+    /// Returns whether the input at an index may have a value.
+    pub fn input_may(&self, input: usize, wanted: bool) -> bool
+        ensures { result ≡ spec.input_may self.now input wanted }
+    {
+        self.literals
+            .iter()
+            .all(|literal| literal.grants(input, wanted))
+    }
+
+    /// Returns the least number that a field of a meter may have.
+    pub fn low_of(&self, meter: usize, field: MeterField) -> i64
+        ensures { result ≡ spec.low_of self.now meter field }
+    {
+        let mut low = i64::from(i32::MIN);
+        for literal in self.literals.as_slice() {
+            low = literal.low_after(meter, field, low);
+        }
+        low
+    }
+
+    /// Returns the greatest number that a field of a meter may have.
+    pub fn high_of(&self, meter: usize, field: MeterField) -> i64
+        ensures { result ≡ spec.high_of self.now meter field }
+    {
+        let mut high = i64::from(i32::MAX);
+        for literal in self.literals.as_slice() {
+            high = literal.high_after(meter, field, high);
+        }
+        high
+    }
+
+    // The answer of a test where each point has the first value that it may have.
+    fn answer_of(&self, test: Test) -> bool
+        ensures { result ≡ spec.answer_of (spec.example_of self.now) test }
+    {
+        match test {
+            Test::Position { switch, position } => {
+                position
+                    == first_position(
+                        self.may_be(switch, Dbpos::Intermediate),
+                        self.may_be(switch, Dbpos::Off),
+                        self.may_be(switch, Dbpos::On),
+                    )
+            }
+            Test::Input { input } => self.input_may(input, true),
+            Test::AtMost { meter, field, most } => {
+                lowered(i64::from(i32::MAX), self.low_of(meter, field)) <= i64::from(most)
+            }
+        }
+    }
+
+    /// Returns whether the process is one of the case in which each point has the first value that
+    /// it may have.
+    pub fn has_example(&self) -> bool
+        ensures { result ≡ spec.is_in self.now (spec.example_of self.now) }
+    {
+        self.literals
+            .iter()
+            .all(|literal| self.answer_of(literal.test) == literal.value)
+    }
+
+    /// Returns what is known of what a point stands for.
+    pub fn range_of(&self, source: Source) -> Range
+        ensures { result ≡ spec.range_of self.now source }
+    {
+        match source {
+            Source::Switch { switch, point } => position_range(
+                point,
+                self.may_be(switch, Dbpos::Intermediate),
+                self.may_be(switch, Dbpos::Off),
+                self.may_be(switch, Dbpos::On),
+                self.may_be(switch, Dbpos::Bad),
+            ),
+            Source::Input { input } => {
+                truth_range(self.input_may(input, true), self.input_may(input, false))
+            }
+            Source::Meter { meter, field } => {
+                Range::Between(self.low_of(meter, field), self.high_of(meter, field))
+            }
+        }
+    }
+}

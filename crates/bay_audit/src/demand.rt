@@ -1,0 +1,27 @@
+// What is demanded of each scan.
+use bay_base::listing::Listing;
+use bay_rules::rule::{Item, RuleKind};
+
+/// What a scan may come to.
+#[derive(Clone, Copy, Debug, PartialEq, Eq)]
+pub enum Goal {
+    /// The switch at this index of the bay is released, for closing or else for opening.
+    Release { switch: usize, close: bool },
+    /// No delay of the timer at this place of the image runs.
+    Idle { timer: usize },
+}
+
+/// What is demanded of each scan that is meant.
+#[derive(Drop)]
+pub struct Demand {
+    /// Whether the scan must come to the goal, or must not.
+    pub kind: RuleKind,
+    pub goal: Goal,
+    /// The condition, in postfix order: nothing is demanded while it does not hold.
+    pub when: Listing<Item>,
+    /// The exception, in postfix order: nothing is demanded while it holds. No item is no exception.
+    pub unless: Listing<Item>,
+    /// Scans are meant whose timers have delays that began less than so many milliseconds ago, where
+    /// there is a number; the first one for the first timer.
+    pub limits: Listing<Option<u32>>,
+}

@@ -1,0 +1,242 @@
+// On what a case is split where a pass does not tell. Any test is right, so no clause says which it
+// is.
+ghost use Rattle.std.specs.Prelude.{IfOk};
+ghost use Rattle.bay_audit.specs.Rules.{IsUndecided};
+
+use crate::answer::{Kept, Verdict};
+use crate::case::{Case, Test};
+use crate::demand::{Demand, Goal};
+use crate::verdict::{Wires, release_place};
+use bay_config::bay::{MeterField, Source, SwitchPoint};
+use bay_rules::rule::{Item, Relation};
+use bay_tree::leaf::Dbpos;
+use il_image::image::ImagePoint;
+use il_image::instr::Instr;
+use il_image::read::instr_at;
+use il_image::value::Value;
+use il_range::scan::Forecast;
+use il_verify::verify::Verified;
+use std::alloc::{AllocError, Global};
+
+const POSITIONS: [Dbpos; 4] = [Dbpos::Off, Dbpos::On, Dbpos::Intermediate, Dbpos::Bad];
+
+// Whether a case has both a switch with this position and one without.
+fn is_open_at(case: &Case, switch: usize, position: Dbpos) -> bool {
+    case.may_be(switch, position)
+        && POSITIONS
+            .iter()
+            .any(|other| *other != position && case.may_be(switch, *other))
+}
+
+// The test of a switch's position that its case leaves open, if one is.
+fn position_test(case: &Case, switch: usize, position: Dbpos) -> Option<Test> {
+    if is_open_at(case, switch, position) {
+        Some(Test::Position { switch, position })
+    } else {
+        None
+    }
+}
+
+// The test of the first position of a switch that its case leaves open.
+fn any_position_test(case: &Case, switch: usize) -> Option<Test> {
+    POSITIONS
+        .iter()
+        .find(|position| is_open_at(case, switch, **position))
+        .map(|position| Test::Position {
+            switch,
+            position: *position,
+        })
+}
+
+// The test of an input that its case leaves open.
+fn input_test(case: &Case, input: usize) -> Option<Test> {
+    if case.input_may(input, true) && case.input_may(input, false) {
+        Some(Test::Input { input })
+    } else {
+        None
+    }
+}
+
+// The test whether a measured value is at most this, where its case leaves it open.
+fn at_most_test(case: &Case, meter: usize, field: MeterField, most: i32) -> Option<Test> {
+    let number = i64::from(most);
+    if case.low_of(meter, field) <= number && number < case.high_of(meter, field) {
+        Some(Test::AtMost { meter, field, most })
+    } else {
+        None
+    }
+}
+
+// The test whether a measured value is below this, or else at most this.
+fn measure_test(case: &Case, meter: usize, field: MeterField, number: i32) -> Option<Test> {
+    number
+        .checked_sub(1)
+        .and_then(|below| at_most_test(case, meter, field, below))
+        .or_else(|| at_most_test(case, meter, field, number))
+}
+
+// The test of a relation to a number.
+fn relation_test(
+    case: &Case,
+    meter: usize,
+    field: MeterField,
+    relation: Relation,
+    number: i32,
+) -> Option<Test> {
+    match relation {
+        Relation::AtMost | Relation::Greater => at_most_test(case, meter, field, number),
+        Relation::Less | Relation::AtLeast | Relation::Equal | Relation::Unequal => {
+            measure_test(case, meter, field, number)
+        }
+    }
+}
+
+// The test of an item of a condition that its case leaves open.
+fn item_test(case: &Case, item: Item) -> Option<Test> {
+    match item {
+        Item::Position { switch, position } => position_test(case, switch, position),
+        Item::Input { input } => input_test(case, input),
+        Item::Measure {
+            meter,
+            field,
+            relation,
+            value,
+        } => relation_test(case, meter, field, relation, value),
+        Item::True | Item::Not | Item::And | Item::Or => None,
+    }
+}
+
+// The first test of a condition that its case leaves open.
+fn condition_split(case: &Case, items: &[Item]) -> Option<Test> {
+    items.iter().find_map(|item| item_test(case, *item))
+}
+
+// The test of a measured value at the first constant of the program that its case leaves open.
+fn constant_test(code: &[u8], case: &Case, meter: usize, field: MeterField) -> Option<Test> {
+    let mut next = 0;
+    for place in 0..code.len() {
+        if place == next {
+            let (instr, after) = instr_at(code, place)?;
+            next = after;
+            if let Instr::Push(Value::Long(number)) = instr {
+                let test = measure_test(case, meter, field, number);
+                if test.is_some() {
+                    return test;
+                }
+            }
+        }
+    }
+    None
+}
+
+// The test of what a point stands for that its case leaves open.
+fn source_test(code: &[u8], case: &Case, source: Source) -> Option<Test> {
+    match source {
+        Source::Switch { switch, point } => match point {
+            SwitchPoint::Open => position_test(case, switch, Dbpos::Off),
+            SwitchPoint::Closed => position_test(case, switch, Dbpos::On),
+            SwitchPoint::Position => any_position_test(case, switch),
+            SwitchPoint::EnableOpen | SwitchPoint::EnableClose => None,
+        },
+        Source::Input { input } => input_test(case, input),
+        Source::Meter { meter, field } => constant_test(code, case, meter, field),
+    }
+}
+
+// The slot of the writable point at a place among those.
+fn slot_of(points: &[ImagePoint], place: usize) -> Option<usize> {
+    let mut left = place;
+    for (slot, point) in points.iter().enumerate() {
+        if point.writable {
+            if left == 0 {
+                return Some(slot);
+            }
+            left -= 1;
+        }
+    }
+    None
+}
+
+// The first test of what a goal hangs on, by its slot, that its case leaves open.
+fn program_split(
+    verified: &Verified,
+    reads: &[Source],
+    case: &Case,
+    forecast: &Forecast,
+    goal: usize,
+) -> Option<Test> {
+    let image = verified.image();
+    let slots = image
+        .points()
+        .iter()
+        .enumerate()
+        .filter(|(_, point)| !point.writable);
+    for ((slot, _), source) in slots.zip(reads.iter()) {
+        if forecast.sources.on_slot(goal, slot) {
+            let test = source_test(image.code(), case, *source);
+            if test.is_some() {
+                return test;
+            }
+        }
+    }
+    None
+}
+
+// The slot of a goal: that of a release, or the one that a timer counts as.
+fn goal_slot(verified: &Verified, writes: &[Source], goal: Goal, forecast: &Forecast) -> usize {
+    match goal {
+        Goal::Release { switch, close } => release_place(writes, switch, close)
+            .and_then(|place| slot_of(verified.image().points(), place))
+            .unwrap_or(0),
+        Goal::Idle { timer } => forecast.ranges.len().saturating_add(timer),
+    }
+}
+
+// The slots and the timers that a goal hangs on, by its slot.
+fn hangs_on(
+    alloc: Global,
+    verified: &Verified,
+    forecast: &Forecast,
+    goal: usize,
+) -> Result<Kept, AllocError> {
+    let mut slots = Vec::new(alloc);
+    for slot in 0..forecast.ranges.len() {
+        if forecast.sources.on_slot(goal, slot) {
+            slots.push(slot)?;
+        }
+    }
+    let mut timers = Vec::new(alloc);
+    for timer in 0..verified.image().timers().len() {
+        if forecast.sources.on_timer(goal, timer) {
+            timers.push(timer)?;
+        }
+    }
+    Ok(Kept { slots, timers })
+}
+
+/// Returns how to go on where a pass does not tell: the next test, or what the goal hangs on
+/// alone.
+pub fn undecided(
+    alloc: Global,
+    verified: &Verified,
+    wires: &Wires,
+    demand: &Demand,
+    case: &Case,
+    forecast: &Forecast,
+) -> Result<Verdict, AllocError>
+    ensures { IfOk result IsUndecided }
+{
+    let asked = condition_split(case, demand.when.as_slice()).or_else(|| condition_split(
+        case,
+        demand.unless.as_slice(),
+    ));
+    if let Some(test) = asked {
+        return Ok(Verdict::Split(test));
+    }
+    let slot = goal_slot(verified, wires.writes.as_slice(), demand.goal, forecast);
+    if let Some(test) = program_split(verified, wires.reads.as_slice(), case, forecast, slot) {
+        return Ok(Verdict::Split(test));
+    }
+    let kept = hangs_on(alloc, verified, forecast, slot)?;
+    Ok(Verdict::Open(kept))
+}

@@ -1,0 +1,240 @@
+// One pass over a case: whether a demand is met there, is not, or hangs on something.
+ghost use Rattle.std.specs.Prelude.{◌≡◌, ◌≤◌, IfOk, length, map, position, slice_get};
+ghost use Rattle.bay_process.specs.Values as spec_values;
+ghost use Rattle.il_scan.specs.Scans.{outputs_of};
+ghost use Rattle.bay_audit.specs.Cases as spec_cases;
+ghost use Rattle.bay_audit.specs.Conditions as spec_outlook;
+ghost use Rattle.bay_audit.specs.Rules.{IsVerdict, goal_range, program};
+ghost use Rattle.bay_audit.specs.Rules as spec;
+
+use crate::answer::{Decision, Verdict};
+use crate::case::Case;
+use crate::demand::{Demand, Goal};
+use crate::outlook::{Outlook, asked_of};
+use crate::split::undecided;
+use bay_config::bay::{Source, SwitchPoint};
+use bay_rules::rule::RuleKind;
+use il_image::image::ImagePoint;
+use il_range::range::Range;
+use il_range::scan::{Forecast, scan_timed};
+use il_verify::verify::Verified;
+use std::alloc::{AllocError, Global};
+
+/// What the points of a program stand for: those that it only reads, in the order of its points,
+/// and those that it may write.
+#[derive(Drop)]
+pub struct Wires {
+    pub reads: Vec<Source>,
+    pub writes: Vec<Source>,
+}
+
+// Returns what is known of the points that the program only reads.
+fn given(alloc: Global, case: &Case, reads: &[Source]) -> Result<Vec<Range>, AllocError>
+    ensures { IfOk result (λ ranges. ranges.items ≡ map (spec_cases.range_of case.now) reads.now) }
+{
+    reads
+        .iter()
+        .map(|source| case.range_of(*source))
+        .collect(alloc)
+}
+
+// Returns the point by which a direction is released.
+fn way(close: bool) -> SwitchPoint
+    ensures { result ≡ spec.way close }
+{
+    if close {
+        SwitchPoint::EnableClose
+    } else {
+        SwitchPoint::EnableOpen
+    }
+}
+
+// Returns whether a source is this point of the switch at an index.
+fn is_point(source: Source, switch: usize, point: SwitchPoint) -> bool
+    ensures { result ≡ spec_values.is_point switch point source }
+{
+    match source {
+        Source::Switch {
+            switch: at,
+            point: which,
+        } => at == switch && which == point,
+        Source::Input { .. } | Source::Meter { .. } => false,
+    }
+}
+
+/// Returns the place of a release among the writable points, if the program names it.
+pub(crate) fn release_place(writes: &[Source], switch: usize, close: bool) -> Option<usize>
+    ensures { result ≡ position (spec_values.is_point switch (spec.way close)) writes.now }
+{
+    let point = way(close);
+    writes
+        .iter()
+        .position(|source| is_point(*source, switch, point))
+}
+
+// Returns the ranges of the writable points.
+fn outputs_of(
+    alloc: Global,
+    points: &[ImagePoint],
+    ranges: &[Range],
+) -> Result<Vec<Range>, AllocError>
+    requires { length points.now ≤ length ranges.now }
+    ensures { IfOk result (λ outputs. outputs.items ≡ outputs_of points.now ranges.now) }
+{
+    let mut outputs = Vec::new(alloc);
+    for (slot, point) in points.iter().enumerate() {
+        if point.writable {
+            outputs.push(ranges[slot])?;
+        }
+    }
+    Ok(outputs)
+}
+
+// Returns the range at a place; FALSE where the program does not name the point.
+fn range_at(outputs: &[Range], place: Option<usize>) -> Range
+    ensures { result ≡ spec.range_at outputs.now place }
+{
+    match place {
+        Some(place) => outputs.get(place).copied().unwrap_or(Range::No),
+        None => Range::No,
+    }
+}
+
+// Whether a rule is surely obeyed with such a release, where its condition holds.
+fn is_kept(kind: RuleKind, release: Range) -> bool
+    ensures { result ≡ spec.is_kept kind release }
+{
+    match (kind, release) {
+        (RuleKind::Never, Range::No) | (RuleKind::Always, Range::Yes) => true,
+        _ => false,
+    }
+}
+
+// Whether it is surely broken.
+fn is_lost(kind: RuleKind, release: Range) -> bool
+    ensures { result ≡ spec.is_lost kind release }
+{
+    match (kind, release) {
+        (RuleKind::Never, Range::Yes) | (RuleKind::Always, Range::No) => true,
+        _ => false,
+    }
+}
+
+// Decides a rule by what its condition may come to, and by what is known of the release.
+fn decide(kind: RuleKind, when: Outlook, release: Range) -> Decision
+    ensures { result ≡ spec.decide kind when release }
+{
+    if is_kept(kind, release) || !when.yes {
+        Decision::Obeyed
+    } else if is_lost(kind, release) && !when.no {
+        Decision::Lost
+    } else {
+        Decision::Unknown
+    }
+}
+
+// Returns the range of a release.
+fn release_range(
+    alloc: Global,
+    verified: &Verified,
+    writes: &[Source],
+    switch: usize,
+    close: bool,
+    ranges: &[Range],
+) -> Result<Range, AllocError>
+    requires { length verified.now.points ≤ length ranges.now }
+    ensures { IfOk result (λ r. r
+        ≡ spec.release_range verified.now.points writes.now ranges.now switch close) }
+{
+    let outputs = outputs_of(alloc, verified.image().points(), ranges)?;
+    Ok(range_at(outputs.as_slice(), release_place(writes, switch, close)))
+}
+
+// Returns whether no delay of a timer runs, by the limits of all: TRUE where that is known.
+fn idle_range(limits: &[Option<u32>], timer: usize) -> Range
+    ensures { result ≡ spec.idle_range (slice_get limits.now timer) }
+{
+    match limits.get(timer).copied() {
+        Some(Some(0)) => Range::Yes,
+        _ => Range::Either,
+    }
+}
+
+// Returns what is known of whether a scan comes to a goal.
+fn range_of_goal(
+    alloc: Global,
+    verified: &Verified,
+    writes: &[Source],
+    goal: Goal,
+    forecast: &Forecast,
+) -> Result<Range, AllocError>
+    requires { length verified.now.points ≤ length forecast.now.ranges.items }
+    ensures { IfOk result (λ r. r ≡ goal_range verified.now.points writes.now
+        forecast.now.ranges.items forecast.now.limits.items goal) }
+{
+    match goal {
+        Goal::Release { switch, close } => {
+            release_range(
+                alloc,
+                verified,
+                writes,
+                switch,
+                close,
+                forecast.ranges.as_slice(),
+            )
+        }
+        Goal::Idle { timer } => Ok(idle_range(forecast.limits.as_slice(), timer)),
+    }
+}
+
+// Returns the verdict of a pass, where what is asked may come to this.
+fn pass(
+    alloc: Global,
+    verified: &Verified,
+    wires: &Wires,
+    demand: &Demand,
+    case: &Case,
+    asked: Outlook,
+) -> Result<Verdict, AllocError>
+    requires { asked ≡ spec_outlook.asked_of case.now demand.now.when demand.now.unless }
+    ensures { IfOk result (IsVerdict (program verified.now wires.now.reads.items
+        wires.now.writes.items) demand.now case.now) }
+{
+    let given = given(alloc, case, wires.reads.as_slice())?;
+    let forecast = scan_timed(alloc, verified, demand.limits.as_slice(), given.as_slice())?;
+    let range = range_of_goal(
+        alloc,
+        verified,
+        wires.writes.as_slice(),
+        demand.goal,
+        &forecast,
+    )?;
+    match decide(demand.kind, asked, range) {
+        Decision::Obeyed => Ok(Verdict::Obeyed),
+        Decision::Lost => Ok(Verdict::Broken),
+        Decision::Unknown => undecided(alloc, verified, wires, demand, case, &forecast),
+    }
+}
+
+/// Returns what one pass tells of a demand in a case.
+pub fn verdict(
+    alloc: Global,
+    verified: &Verified,
+    wires: &Wires,
+    demand: &Demand,
+    case: &Case,
+) -> Result<Verdict, AllocError>
+    ensures { IfOk result (IsVerdict (program verified.now wires.now.reads.items
+        wires.now.writes.items) demand.now case.now) }
+{
+    let asked = asked_of(
+        alloc,
+        case,
+        demand.when.as_slice(),
+        demand.unless.as_slice(),
+    )?;
+    if !asked.yes {
+        return Ok(Verdict::Obeyed);
+    }
+    pass(alloc, verified, wires, demand, case, asked)
+}

@@ -1,0 +1,178 @@
+-- The scans and the commands of a device, by a rule that holds of its program.
+use Rattle.std.specs.Prelude.{ℕ, ℤ, ◌-◌, ◌≤◌, ◌≤ℤ◌, negsuc, pos, [], ◌∷◌, ◌≡◌, ◌<◌, ◌⊎◌, Bool, true, false, All, List, length, slice_get, unwrap_or, Result, Ok, Err, IfOk, IsSomeAnd, OnOk}
+use Rattle.bay_config.specs.Laws.{IsBay}
+use Rattle.bay_config.specs.declared.bay.Bay.{Bay}
+use Rattle.bay_tree.specs.Rows.{leaf_of}
+use Rattle.bay_process.specs.Values.{is_truth, measure_leaf, number_of_leaf, position_leaf}
+use Rattle.bay_rules.specs.Process.{Process, holds}
+use Rattle.bay_rules.specs.declared.rule.Item.{Item}
+use Rattle.bay_rules.specs.declared.rule.Rule.{Rule}
+use Rattle.bay_rules.specs.declared.rule.RuleKind.TheVariants.{Never}
+use Rattle.bay_rules.specs.declared.rule.Timing.{Timing}
+use Rattle.bay_services.specs.Controls.{dbpos_of}
+use Rattle.bay_services.specs.Released.{releasing}
+use Rattle.bay_services.specs.declared.answer.Command.{Command}
+use Rattle.il_image.specs.Images.{Image}
+use Rattle.bay_device.specs.Device.{State}
+use Rattle.bay_device.specs.Load.{initial_device}
+use Rattle.bay_device.specs.Meaning.{HaltsAt}
+use Rattle.bay_device.specs.Steps.{EachStep, Steps}
+use Rattle.bay_device.specs.declared.event.Event.{Event}
+use Rattle.bay_device.specs.declared.event.Event.TheVariants.{Open, Recv, Close, Contact, Input, Measure, Scan}
+use Rattle.bay_device.specs.declared.event.Step.{Step}
+use Rattle.bay_device.specs.declared.fault.StepFault.{StepFault}
+use Rattle.bay_audit.specs.Rules.{IsByTimer, IsRule, is_obeyed, program_of}
+
+-- ---- a device
+
+-- what the process last reported, as the device has it: a switch without a report is neither open
+-- nor closed, an input FALSE, a measured value 0
+abbrev pub process_of : State → Process
+process_of s = record {
+  position = λ k. dbpos_of (position_leaf s.switches s.rows k (slice_get s.switches k));
+  input = λ k. unwrap_or (slice_get s.input_values k) false;
+  measure = λ k field. number_of_leaf (measure_leaf s.rows k field (slice_get s.meters k));
+}
+
+-- whether the switch is released in this direction: EnaCls of its CILO for closing, EnaOpn for
+-- opening
+abbrev pub is_released : State → ℕ → Bool → Bool
+is_released s k close = is_truth true (leaf_of (releasing k close) s.rows)
+
+-- The interlocking values obey a rule, while the process reports what the device has of it.
+abbrev pub RowsObey : Rule → State → Type 0
+RowsObey rule s =
+    is_obeyed rule.kind (holds rule.when (process_of s)) (is_released s rule.switch rule.close)
+    ≡ true
+
+-- ---- events
+
+-- A number has 32 bits.
+pub record Has32Bits (z : ℤ) : Type 0 where
+  pub least : negsuc 2147483647 ≤ℤ z
+  pub greatest : z ≤ℤ pos 2147483647
+
+-- A measured value that an event brings has 32 bits, as its type has.
+abbrev pub IsOfType : Event → Type 0
+IsOfType (Open a) = Unit {0}
+IsOfType (Recv a octets) = Unit {0}
+IsOfType (Close a) = Unit {0}
+IsOfType (Contact k position) = Unit {0}
+IsOfType (Input k value) = Unit {0}
+IsOfType (Measure k field value) = Has32Bits value
+IsOfType Scan = Unit {0}
+
+abbrev pub AreOfTypes : List (ℕ × Event) → Type 0
+AreOfTypes [] = Unit {0}
+AreOfTypes (e ∷ es) = IsOfType e.1 × AreOfTypes es
+
+-- A scan that is done leaves the interlocking values so that they obey a rule.
+abbrev pub ScanObeysAt : Rule → ℕ → Event → State → Result Step StepFault → State → Type 0
+ScanObeysAt rule now event old answer new =
+    event ≡ Scan → OnOk answer (RowsObey rule new)
+
+-- A command that a rule forbids while its condition holds is issued while it does not, of what the
+-- process last reported.
+abbrev pub IsAllowed : Rule → State → Command → Type 0
+IsAllowed rule s command =
+    rule.kind ≡ Never → command.switch ≡ rule.switch → command.on ≡ rule.close
+    → holds rule.when (process_of s) ≡ false
+
+abbrev pub CommandsObeyAt : Rule → ℕ → Event → State → Result Step StepFault → State → Type 0
+CommandsObeyAt rule now event old answer new =
+    IfOk answer (λ step. All (IsAllowed rule old) step.commands)
+
+-- ---- the laws
+
+-- What is said of each event holds in each run of a device, from load on of a bay and an image,
+-- where a rule holds of that program.
+abbrev pub Always : (Rule → ℕ → Event → State → Result Step StepFault → State → Type 0) → Type 0
+Always Does =
+    (bay : Bay) (image : Image) (rule : Rule) → IsBay bay
+    → rule.switch < length bay.switches → IsRule (program_of bay image) rule
+    → (events : List (ℕ × Event)) (answers : List (Result Step StepFault)) (last : State)
+    → AreOfTypes events → EachStep HaltsAt events (initial_device bay image) answers last
+    → EachStep (Does rule) events (initial_device bay image) answers last
+
+abbrev pub ScansObey : Type 0
+ScansObey = Always ScanObeysAt
+
+abbrev pub CommandsObey : Type 0
+CommandsObey = Always CommandsObeyAt
+
+-- ---- rules with a time
+
+-- the scans that were done, the last one first: the moment of each, and whether a condition held of
+-- what the process had last reported
+abbrev pub scan_noted : List Item → ℕ → State → Result Step StepFault → List (ℕ × Bool)
+    → List (ℕ × Bool)
+scan_noted condition now s (Ok step) scans = (now, holds condition (process_of s)) ∷ scans
+scan_noted condition now s (Err fault) scans = scans
+
+abbrev pub scans_after : List Item → ℕ → Event → State → Result Step StepFault → List (ℕ × Bool)
+    → List (ℕ × Bool)
+scans_after condition now (Open a) s answer scans = scans
+scans_after condition now (Recv a octets) s answer scans = scans
+scans_after condition now (Close a) s answer scans = scans
+scans_after condition now (Contact k position) s answer scans = scans
+scans_after condition now (Input k value) s answer scans = scans
+scans_after condition now (Measure k field value) s answer scans = scans
+scans_after condition now Scan s answer scans = scan_noted condition now s answer scans
+
+-- The condition has held for a time, at a moment: at the last scan, and at each before it up to one
+-- that is as long ago.
+abbrev pub HasHeld : ℕ → ℕ → List (ℕ × Bool) → Type 0
+HasHeld time now [] = ⊥
+HasHeld time now (scan ∷ scans) =
+    (scan.1 ≡ true) × ((time ≤ now - scan.0) ⊎ HasHeld time now scans)
+
+-- A scan that is done releases the switch, while the rule is asked, only where the condition has
+-- held for the time.
+abbrev pub ScanWaitsAt : Rule → Timing → List (ℕ × Bool) → ℕ → Event → State
+    → Result Step StepFault → State → Type 0
+ScanWaitsAt rule timing scans now event old answer new =
+    event ≡ Scan → OnOk answer (holds rule.when (process_of new) ≡ true
+    → is_released new rule.switch rule.close ≡ true
+    → HasHeld timing.time now (scans_after timing.condition now event old answer scans))
+
+-- A command to move it so is issued, while the rule is asked of what the process last reported, only
+-- where at the last scan the condition had held for the time.
+abbrev pub HasWaited : Rule → Timing → List (ℕ × Bool) → State → Command → Type 0
+HasWaited rule timing scans s command =
+    command.switch ≡ rule.switch → command.on ≡ rule.close
+    → holds rule.when (process_of s) ≡ true
+    → IsSomeAnd s.last_scan (λ m. HasHeld timing.time m scans)
+
+abbrev pub CommandsWaitAt : Rule → Timing → List (ℕ × Bool) → ℕ → Event → State
+    → Result Step StepFault → State → Type 0
+CommandsWaitAt rule timing scans now event old answer new =
+    IfOk answer (λ step. All (HasWaited rule timing scans old) step.commands)
+
+-- Each event is a step of which this is so, by the scans before it.
+abbrev pub EachAfter : (List (ℕ × Bool) → ℕ → Event → State → Result Step StepFault → State → Type 0)
+    → List Item → List (ℕ × Event) → List (ℕ × Bool) → State → List (Result Step StepFault)
+    → State → Type 0
+EachAfter Does condition [] scans s [] last = last ≡ s
+EachAfter Does condition [] scans s (answer ∷ answers) last = ⊥
+EachAfter Does condition (e ∷ es) scans s [] last = ⊥
+EachAfter Does condition (e ∷ es) scans s (answer ∷ answers) last =
+    (new : State) × Steps e.0 e.1 s answer new × Does scans e.0 e.1 s answer new
+    × EachAfter Does condition es (scans_after condition e.0 e.1 s answer scans) new answers last
+
+-- What is said holds in each run of a device, from load on of a bay and an image, where a timer
+-- bears a rule with a time.
+abbrev pub Waits : (Rule → Timing → List (ℕ × Bool) → ℕ → Event → State → Result Step StepFault
+    → State → Type 0) → Type 0
+Waits Does =
+    (bay : Bay) (image : Image) (rule : Rule) (timing : Timing) (n : ℕ) → IsBay bay
+    → rule.switch < length bay.switches → IsByTimer (program_of bay image) rule timing n
+    → (events : List (ℕ × Event)) (answers : List (Result Step StepFault)) (last : State)
+    → AreOfTypes events → EachStep HaltsAt events (initial_device bay image) answers last
+    → EachAfter (Does rule timing) timing.condition events [] (initial_device bay image) answers
+    last
+
+abbrev pub ScansWait : Type 0
+ScansWait = Waits ScanWaitsAt
+
+abbrev pub CommandsWait : Type 0
+CommandsWait = Waits CommandsWaitAt

@@ -1,0 +1,5 @@
+-- What a rule that holds of a program says of a device with it.
+--
+-- `Laws` is the main file: what the process last reported, as a device has it; that each scan
+-- leaves the interlocking values as a rule has it, and that each command goes by it.
+pub mod Laws

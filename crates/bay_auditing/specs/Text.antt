@@ -1,0 +1,204 @@
+-- The lines of an audit.
+use Rattle.std.specs.Prelude.{ℕ, ◌-◌, ◌==◌, ℤ, pos, negsuc, Bool, true, false, ◌&&◌, ◌||◌, List, [], ◌∷◌, ◌++◌, codes, Option, None, Some, slice_get, length, map, flat_map, if◌then◌else◌}
+use Rattle.std.specs.Ordering.{int_eq}
+use Rattle.std.specs.Fmt.{decimal, signed_decimal}
+use Rattle.bay_audit.specs.declared.answer.Answer.{Answer}
+use Rattle.bay_audit.specs.declared.answer.Answer.TheVariants as answer
+use Rattle.bay_audit.specs.declared.answer.Kept.{Kept}
+use Rattle.bay_audit.specs.declared.answer.Release.{Release}
+use Rattle.bay_audit.specs.declared.answer.Told.{Told}
+use Rattle.bay_audit.specs.declared.answer.Told.TheVariants as told
+use Rattle.bay_audit.specs.declared.answer.ToldCase.{ToldCase}
+use Rattle.bay_audit.specs.Cases.{may_be, input_may, low_of, high_of}
+use Rattle.bay_audit.specs.declared.case.Literal.{Literal}
+use Rattle.bay_config.specs.declared.bay.Bay.{Bay}
+use Rattle.bay_config.specs.declared.bay.MeterField.{MeterField}
+use Rattle.bay_config.specs.declared.bay.Point.{Point}
+use Rattle.bay_config.specs.declared.bay.Source.{Source}
+use Rattle.bay_config.specs.declared.bay.Source.TheVariants as source
+use Rattle.bay_config.specs.declared.bay.SwitchPoint.{SwitchPoint}
+use Rattle.bay_config.specs.declared.bay.SwitchPoint.TheVariants.{Position, Open, Closed, EnableOpen, EnableClose}
+use Rattle.bay_nodes.specs.declared.switch.Switch.{Switch}
+use Rattle.bay_rules.specs.Code.{code_of, line_of}
+use Rattle.bay_rules.specs.declared.fault.RuleFault.{RuleFault}
+use Rattle.bay_rules.specs.declared.rule.Rule.{Rule}
+use Rattle.il_image.specs.declared.image.ImagePoint.{ImagePoint}
+use Rattle.bay_tree.specs.declared.leaf.Dbpos.TheVariants.{Intermediate, Off, On, Bad}
+
+-- ---- a case
+
+-- the digit of a position that a switch may have, behind a bar where another stands before it
+abbrev pub position_text : Bool → Bool → List ℕ → List ℕ
+position_text false behind digit = []
+position_text true behind digit = if behind then codes "|" ++ digit else digit
+
+-- the positions that a switch may have: 0 intermediate, 1 open, 2 closed, 3 bad
+abbrev pub positions_of : Bool → Bool → Bool → Bool → List ℕ
+positions_of i o n b =
+    position_text i false (codes "0") ++ (position_text o i (codes "1")
+    ++ (position_text n (i || o) (codes "2") ++ position_text b (i || (o || n)) (codes "3")))
+
+abbrev pub positions_text : List Literal → ℕ → List ℕ
+positions_text case k =
+    positions_of (may_be case k Intermediate) (may_be case k Off) (may_be case k On)
+    (may_be case k Bad)
+
+abbrev pub is_any_position : List Literal → ℕ → Bool
+is_any_position case k =
+    may_be case k Intermediate && (may_be case k Off && (may_be case k On && may_be case k Bad))
+
+abbrev pub name_text : List ℕ → List ℕ
+name_text name = codes " " ++ name ++ codes "="
+
+abbrev pub known_text : List Literal → ℕ → List ℕ → List ℕ
+known_text case k id =
+    if is_any_position case k then [] else name_text id ++ positions_text case k
+
+abbrev pub switch_text : List Literal → ℕ → Option Switch → List ℕ
+switch_text case k None = []
+switch_text case k (Some switch) = known_text case k switch.id
+
+abbrev pub input_text : List Literal → ℕ → List ℕ → List ℕ
+input_text case k name =
+    if input_may case k true && input_may case k false then []
+    else name_text name ++ (if input_may case k true then codes "1" else codes "0")
+
+-- a range of numbers
+abbrev pub range_text : ℤ → ℤ → List ℕ
+range_text low high =
+    if int_eq low high then signed_decimal low
+    else signed_decimal low ++ codes ".." ++ signed_decimal high
+
+abbrev pub measure_of : ℤ → ℤ → List ℕ → List ℕ
+measure_of low high name =
+    if int_eq low (negsuc 2147483647) && int_eq high (pos 2147483647) then []
+    else name_text name ++ range_text low high
+
+abbrev pub measure_text : List Literal → ℕ → MeterField → List ℕ → List ℕ
+measure_text case k field name = measure_of (low_of case k field) (high_of case k field) name
+
+-- what a case says of a switch stands at the point of its position
+abbrev pub switch_point_text : Bay → List Literal → ℕ → SwitchPoint → List ℕ
+switch_point_text bay case k Position = switch_text case k (slice_get bay.switches k)
+switch_point_text bay case k Open = []
+switch_point_text bay case k Closed = []
+switch_point_text bay case k EnableOpen = []
+switch_point_text bay case k EnableClose = []
+
+abbrev pub source_text : Bay → List Literal → List ℕ → Source → List ℕ
+source_text bay case name (source.Switch k point) = switch_point_text bay case k point
+source_text bay case name (source.Input k) = input_text case k name
+source_text bay case name (source.Meter k field) = measure_text case k field name
+
+abbrev pub point_text : Bay → List Literal → Point → List ℕ
+point_text bay case point = source_text bay case point.name point.source
+
+abbrev pub case_text : Bay → List Literal → List ℕ
+case_text bay case = flat_map (point_text bay case) bay.points
+
+-- ---- what a program keeps
+
+pub record Known : Type 0 where
+  pub points : List ImagePoint
+  pub variables : List (List ℕ)
+  pub timers : List (List ℕ)
+
+-- a name, or else a word and the number
+abbrev pub named_text : List ℕ → ℕ → Option (List ℕ) → List ℕ
+named_text word k None = codes " " ++ (word ++ decimal k)
+named_text word k (Some name) = codes " " ++ name
+
+abbrev pub variable_text : Known → ℕ → List ℕ
+variable_text names k = named_text (codes "variable") k (slice_get names.variables k)
+
+-- a slot is that of a point, or of a variable behind them
+abbrev pub slot_of : Known → ℕ → Option ImagePoint → List ℕ
+slot_of names k None = variable_text names (k - length names.points)
+slot_of names k (Some point) = codes " " ++ point.name
+
+abbrev pub slot_text : Known → ℕ → List ℕ
+slot_text names k = slot_of names k (slice_get names.points k)
+
+abbrev pub timer_text : Known → ℕ → List ℕ
+timer_text names k = named_text (codes "timer") k (slice_get names.timers k)
+
+abbrev pub kept_text : Known → Kept → List ℕ
+kept_text names kept =
+    codes " by" ++ (flat_map (slot_text names) kept.slots.items ++ flat_map (timer_text names) kept.timers.items)
+
+-- ---- answers
+
+abbrev pub front_text : ℕ → List ℕ → List ℕ
+front_text line word = codes "rule " ++ (decimal line ++ word)
+
+abbrev pub said_text : Bay → Known → ℕ → Answer → List ℕ
+said_text bay names line (answer.Holds cases) = front_text line (codes " holds cases=") ++ decimal cases
+said_text bay names line (answer.Broken case) = front_text line (codes " broken") ++ case_text bay case
+said_text bay names line (answer.Open case kept) =
+    front_text line (codes " open") ++ (case_text bay case ++ kept_text names kept)
+said_text bay names line (answer.Since n cases) =
+    front_text line (codes " holds cases=") ++ (decimal cases ++ (codes " by" ++ timer_text names n))
+said_text bay names line answer.TooMany = front_text line (codes " many")
+said_text bay names line answer.Timed = front_text line (codes " timed")
+
+abbrev pub answer_text : Bay → Known → Rule × Answer → List ℕ
+answer_text bay names pair = said_text bay names pair.0.line pair.1 ++ codes "\n"
+
+abbrev pub answers_text : Bay → Known → List (Rule × Answer) → List ℕ
+answers_text bay names pairs = flat_map (answer_text bay names) pairs
+
+-- a rule holds, or has a time and is not answered
+abbrev pub is_passed : Answer → Bool
+is_passed (answer.Holds cases) = true
+is_passed (answer.Broken case) = false
+is_passed (answer.Open case kept) = false
+is_passed answer.TooMany = false
+is_passed (answer.Since n cases) = true
+is_passed answer.Timed = true
+
+-- ---- releases
+
+-- a case in which a switch is released, in which it is not, or in which that hangs on what is kept
+abbrev pub told_of : Bay → Known → List Literal → Told → List ℕ
+told_of bay names case told.Released = codes "released" ++ case_text bay case
+told_of bay names case told.Refused = codes "blocked" ++ case_text bay case
+told_of bay names case (told.Hangs kept) =
+    codes "hangs" ++ case_text bay case ++ kept_text names kept
+
+abbrev pub told_text : Bay → Known → ToldCase → List ℕ
+told_text bay names c = told_of bay names c.case c.told ++ codes "\n"
+
+abbrev pub cases_text : Bay → Known → List ToldCase → List ℕ
+cases_text bay names cases =
+    codes " cases=" ++ decimal (length cases) ++ codes "\n" ++ flat_map (told_text bay names) cases
+
+abbrev pub found_text : Bay → Known → Release → List ℕ
+found_text bay names r =
+    if length r.left.items == 0 then cases_text bay names r.cases.items else codes " many\n"
+
+abbrev pub release_of : Bay → Known → List ℕ → Release → List ℕ
+release_of bay names id r =
+    codes "release " ++ id ++ (if r.close then codes " close" else codes " open")
+    ++ found_text bay names r
+
+-- the lines of a release of a switch that the bay has
+abbrev pub switch_release : Bay → Known → Release → Option Switch → List ℕ
+switch_release bay names r None = []
+switch_release bay names r (Some switch) = release_of bay names switch.id r
+
+abbrev pub release_text : Bay → Known → Release → List ℕ
+release_text bay names r = switch_release bay names r (slice_get bay.switches r.switch)
+
+-- ---- rules that are refused
+
+abbrev pub refused_text : ℕ → ℕ → List ℕ
+refused_text code line =
+    codes "rules refused " ++ (decimal code ++ (codes " line " ++ (decimal line ++ codes "\n")))
+
+-- the line of a fault; want of memory has another
+abbrev pub numbered_text : Option ℕ → ℕ → List ℕ
+numbered_text None line = []
+numbered_text (Some code) line = refused_text code line
+
+abbrev pub refusal_text : RuleFault → List ℕ
+refusal_text fault = numbered_text (code_of fault) (line_of fault)

@@ -1,0 +1,223 @@
+// Files are read and loaded, and rules are answered.
+ghost use Rattle.std.specs.Prelude.{◌≡◌, ◌++◌, Ok, true, is_ok, IfOk};
+ghost use Rattle.bay_report.specs.Load.{file_of};
+ghost use Rattle.bay_report.specs.Report.{IsLast, Prints, report_text};
+ghost use Rattle.bay_auditing.specs.Auditing.{Answers, Audits, AuditsOctets, AuditsRead, DeviceReport, SaysFor, SaysOf};
+ghost use Rattle.bay_auditing.specs.Text.{refusal_text};
+
+use crate::kept::names_of;
+use crate::text::{are_passed, put_answers, put_refused, put_releases};
+use bay_audit::audit::audit;
+use bay_config::bay::Bay;
+use bay_config::fault::BayFault;
+use bay_config::read::read_bay;
+use bay_device::device::Device;
+use bay_device::report::Report;
+use bay_files::files::{BothFiles, FileSystem, read_file, read_files};
+use bay_io::calls::Sink;
+use bay_io::outbox::WriteFault;
+use bay_io::writer::WatchedWriter;
+use bay_report::load::{Form, load_program};
+use bay_report::log::{tell_refusal, tell_unread};
+use bay_report::output::{CLEAN, FAULT, NO_MEMORY, REFUSED, finish};
+use bay_report::report::put_report;
+use bay_rules::fault::RuleFault;
+use bay_rules::read::read_rules;
+use bay_rules::rule::Rule;
+use il_verify::verify::Verified;
+use std::alloc::{AllocError, Global};
+
+/// The most passes over the code for one rule.
+const PASSES: u32 = 10_000;
+
+/// The exit status where a rule is broken, open, or takes too many passes.
+const UNPROVED: u8 = 4;
+
+/// The lines behind a load's line, and the exit status.
+#[derive(Drop)]
+struct Said {
+    text: Vec<u8>,
+    status: u8,
+}
+
+/// Returns the lines of the answers to rules.
+fn answers_said(
+    alloc: Global,
+    bay: &Bay,
+    verified: &Verified,
+    form: Form,
+    program: &[u8],
+    rules: &[Rule],
+) -> Result<Said, AllocError>
+    ensures { IfOk result
+        (λ said. Answers bay.now verified.now rules.now said.text.items said.status) }
+{
+    let names = names_of(alloc, verified.image().points(), form, program)?;
+    let found = audit(alloc, bay, verified, rules, PASSES)?;
+    let answers = found.answers.as_slice();
+    let mut text = Vec::new(alloc);
+    put_answers(&mut text, bay, &names, rules, answers)?;
+    put_releases(&mut text, bay, &names, found.releases.as_slice())?;
+    let status = if are_passed(answers) { CLEAN } else { UNPROVED };
+    Ok(Said { text, status })
+}
+
+/// Returns the line of rules that are refused.
+fn refusal_said(alloc: Global, fault: RuleFault) -> Result<Said, AllocError>
+    ensures { IfOk result
+        (λ said. (said.text.items ≡ refusal_text fault) × (said.status ≡ 1)) }
+{
+    let mut text = Vec::new(alloc);
+    if let Some(code) = fault.code() {
+        put_refused(&mut text, code, fault.line())?;
+    }
+    Ok(Said {
+        text,
+        status: REFUSED,
+    })
+}
+
+/// Returns what is printed for a text of rules.
+fn rules_said(
+    alloc: Global,
+    bay: &Bay,
+    verified: &Verified,
+    form: Form,
+    program: &[u8],
+    rules: &[u8],
+) -> Result<Said, AllocError>
+    ensures { IfOk result (λ said. SaysFor (Ok bay.now) rules.now verified.now said.text.items
+        said.status) }
+{
+    match read_rules(alloc, bay, rules) {
+        Ok(rules) => answers_said(alloc, bay, verified, form, program, rules.as_slice()),
+        Err(RuleFault::OutOfMemory) => Err(AllocError),
+        Err(fault) => refusal_said(alloc, fault),
+    }
+}
+
+/// Reads once more the bay of a file that was loaded.
+fn bay_again(alloc: Global, octets: &[u8]) -> Result<Bay, AllocError>
+    requires { is_ok (file_of octets.now) ≡ true }
+    ensures { IfOk result (λ bay. file_of octets.now ≡ Ok bay) }
+{
+    let Ok(text) = std::str::from_utf8(octets) else {
+        unreachable!()
+    };
+    match read_bay(alloc, text) {
+        Ok(bay) => Ok(bay),
+        Err(BayFault::OutOfMemory) => Err(AllocError),
+        Err(_) => unreachable!(),
+    }
+}
+
+/// Returns what is printed behind the line of a load.
+fn device_said(
+    alloc: Global,
+    both: &BothFiles,
+    form: Form,
+    rules: &[u8],
+    device: &Device,
+) -> Result<Said, AllocError>
+    requires { is_ok (file_of both.now.bay.items) ≡ true }
+    ensures { IfOk result (λ said. SaysFor (file_of both.now.bay.items) rules.now
+        device.now.machine.image said.text.items said.status) }
+{
+    let bay = bay_again(alloc, both.bay.as_slice())?;
+    let program = both.program.as_slice();
+    rules_said(alloc, &bay, device.verified(), form, program, rules)
+}
+
+/// Writes the line of a load and the text behind it.
+fn write_said<W: Sink>(
+    writer: &mut WatchedWriter<W>,
+    report: Report,
+    text: &[u8],
+    status: u8,
+) -> Result<u8, WriteFault>
+    ensures { Prints W.contents W.does (IsLast (report_text report ++ text.now) status) writer.old
+        writer.new result }
+{
+    put_report(writer, report);
+    writer.put(text);
+    finish(writer, status)
+}
+
+/// Writes the line of a device's load, and the answers to a text of rules.
+fn audit_device<W: Sink>(
+    alloc: Global,
+    both: &BothFiles,
+    form: Form,
+    rules: &[u8],
+    device: &Device,
+    writer: &mut WatchedWriter<W>,
+) -> Result<u8, WriteFault>
+    requires { is_ok (file_of both.now.bay.items) ≡ true }
+    ensures { Prints W.contents W.does
+        (DeviceReport (file_of both.now.bay.items) rules.now device.now) writer.old writer.new
+        result }
+{
+    let report = device.report();
+    match device_said(alloc, both, form, rules, device) {
+        Ok(said) => write_said(writer, report, said.text.as_slice(), said.status),
+        Err(AllocError) => write_said(writer, report, NO_MEMORY, FAULT),
+    }
+}
+
+/// Loads what was read, and answers a text of rules.
+fn audit_octets<W: Sink>(
+    alloc: Global,
+    both: &BothFiles,
+    form: Form,
+    rules: &[u8],
+    writer: &mut WatchedWriter<W>,
+) -> Result<u8, WriteFault>
+    ensures { AuditsOctets W.contents W.does both.now.bay.items form both.now.program.items
+        rules.now writer.old writer.new result }
+{
+    match load_program(alloc, both.bay.as_slice(), form, both.program.as_slice()) {
+        Ok(device) => audit_device(alloc, both, form, rules, &device, writer),
+        Err(fault) => tell_refusal(writer, fault),
+    }
+}
+
+/// Reads the rules, and answers them for what was read.
+fn audit_both<F: FileSystem, W: Sink>(
+    alloc: Global,
+    both: &BothFiles,
+    form: Form,
+    rules: &str,
+    files: &F,
+    writer: &mut WatchedWriter<W>,
+) -> Result<u8, WriteFault>
+    ensures { AuditsRead F.reads W.contents W.does form
+        (record { bay = both.now.bay.items; program = both.now.program.items }) rules.now files.now
+        writer.old writer.new result }
+{
+    match read_file(alloc, files, rules) {
+        Ok(octets) => audit_octets(alloc, both, form, octets.as_slice(), writer),
+        Err(unread) => tell_unread(writer, unread.name, unread.fault),
+    }
+}
+
+/// Answers a text of rules for a bay file and a program or an image, by the names of their files.
+/// Writes the line of the load, and a line for each rule. The exit status is 0 if each rule holds
+/// or has a time, 4 if not, 1 if the load or the rules are refused, and 3 if a file can't be read,
+/// or memory runs out.
+pub fn audit_files<F: FileSystem, W: Sink>(
+    alloc: Global,
+    bay: &str,
+    form: Form,
+    program: &str,
+    rules: &str,
+    files: &F,
+    writer: &mut WatchedWriter<W>,
+) -> Result<u8, WriteFault>
+    ensures { Audits F.reads W.contents W.does bay.now form program.now rules.now files.now
+        writer.old writer.new result }
+{
+    match read_files(alloc, files, bay, program) {
+        Ok(both) => audit_both(alloc, &both, form, rules, files, writer),
+        Err(unread) => tell_unread(writer, unread.name, unread.fault),
+    }
+}

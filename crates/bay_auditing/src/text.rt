@@ -1,0 +1,457 @@
+// The lines of an audit.
+ghost use Rattle.std.specs.Prelude.{◌≡◌, ◌++◌, codes, OnOk, slice_get, map, zip};
+ghost use Rattle.std.specs.Fmt.{decimal, signed_decimal};
+ghost use Rattle.std.specs.List.{flat_map, list_all};
+ghost use Rattle.bay_auditing.specs.Text as spec;
+
+use crate::kept::Names;
+use bay_audit::answer::{Answer, Kept, Release, Told, ToldCase};
+use bay_audit::case::Case;
+use bay_config::bay::{Bay, MeterField, Point, Source, SwitchPoint};
+use bay_rules::rule::Rule;
+use bay_tree::leaf::Dbpos;
+use itoa::Buffer;
+use std::alloc::AllocError;
+
+/// Adds a number.
+fn put_number(text: &mut Vec<u8>, number: u64) -> Result<(), AllocError>
+    ensures { OnOk result (text.new.items ≡ text.old.items ++ decimal number) }
+{
+    text.extend_from_slice(Buffer::new().format(number).as_bytes())
+}
+
+/// Adds a number with its sign.
+fn put_signed(text: &mut Vec<u8>, number: i64) -> Result<(), AllocError>
+    ensures { OnOk result (text.new.items ≡ text.old.items ++ signed_decimal number) }
+{
+    text.extend_from_slice(Buffer::new().format(number).as_bytes())
+}
+
+/// Adds the digit of a position that a switch may have, behind a bar if another stands before it.
+fn put_position(
+    text: &mut Vec<u8>,
+    may_be: bool,
+    is_behind: bool,
+    digit: &[u8],
+) -> Result<(), AllocError>
+    ensures { OnOk result
+        (text.new.items ≡ text.old.items ++ spec.position_text may_be is_behind digit.now) }
+{
+    if !may_be {
+        return Ok(());
+    }
+    if is_behind {
+        text.extend_from_slice(b"|")?;
+    }
+    text.extend_from_slice(digit)
+}
+
+/// Adds the positions that a switch may have.
+fn put_positions(text: &mut Vec<u8>, case: &Case, switch: usize) -> Result<(), AllocError>
+    ensures { OnOk result
+        (text.new.items ≡ text.old.items ++ spec.positions_text case.now switch) }
+{
+    let intermediate = case.may_be(switch, Dbpos::Intermediate);
+    let off = case.may_be(switch, Dbpos::Off);
+    let on = case.may_be(switch, Dbpos::On);
+    let bad = case.may_be(switch, Dbpos::Bad);
+    put_position(text, intermediate, false, b"0")?;
+    put_position(text, off, intermediate, b"1")?;
+    put_position(text, on, intermediate || off, b"2")?;
+    put_position(text, bad, intermediate || off || on, b"3")
+}
+
+/// Whether a switch may have each position.
+fn is_any_position(case: &Case, switch: usize) -> bool
+    ensures { result ≡ spec.is_any_position case.now switch }
+{
+    case.may_be(switch, Dbpos::Intermediate)
+        && case.may_be(switch, Dbpos::Off)
+        && case.may_be(switch, Dbpos::On)
+        && case.may_be(switch, Dbpos::Bad)
+}
+
+/// Adds ` NAME=`.
+fn put_name(text: &mut Vec<u8>, name: &str) -> Result<(), AllocError>
+    ensures { OnOk result (text.new.items ≡ text.old.items ++ spec.name_text name.now) }
+{
+    text.extend_from_slice(b" ")?;
+    text.extend_from_slice(name.as_bytes())?;
+    text.extend_from_slice(b"=")
+}
+
+/// Adds what a case says of the switch with this id.
+fn put_known(text: &mut Vec<u8>, case: &Case, switch: usize, id: &str) -> Result<(), AllocError>
+    ensures { OnOk result
+        (text.new.items ≡ text.old.items ++ spec.known_text case.now switch id.now) }
+{
+    if is_any_position(case, switch) {
+        return Ok(());
+    }
+    put_name(text, id)?;
+    put_positions(text, case, switch)
+}
+
+/// Adds what a case says of a switch.
+fn put_switch(text: &mut Vec<u8>, bay: &Bay, case: &Case, switch: usize) -> Result<(), AllocError>
+    ensures { OnOk result (text.new.items ≡ text.old.items
+        ++ spec.switch_text case.now switch (slice_get bay.now.switches switch)) }
+{
+    match bay.switches.as_slice().get(switch) {
+        Some(found) => put_known(text, case, switch, found.id.as_str()),
+        None => Ok(()),
+    }
+}
+
+/// Adds what a case says of an input.
+fn put_input(text: &mut Vec<u8>, case: &Case, input: usize, name: &str) -> Result<(), AllocError>
+    ensures { OnOk result
+        (text.new.items ≡ text.old.items ++ spec.input_text case.now input name.now) }
+{
+    let is_true = case.input_may(input, true);
+    if is_true && case.input_may(input, false) {
+        return Ok(());
+    }
+    put_name(text, name)?;
+    let digit: &[u8] = if is_true { b"1" } else { b"0" };
+    text.extend_from_slice(digit)
+}
+
+/// Adds a range of numbers.
+fn put_range(text: &mut Vec<u8>, low: i64, high: i64) -> Result<(), AllocError>
+    ensures { OnOk result (text.new.items ≡ text.old.items ++ spec.range_text low high) }
+{
+    put_signed(text, low)?;
+    if low == high {
+        return Ok(());
+    }
+    text.extend_from_slice(b"..")?;
+    put_signed(text, high)
+}
+
+/// Adds what a case says of a measured value.
+fn put_measure(
+    text: &mut Vec<u8>,
+    case: &Case,
+    meter: usize,
+    field: MeterField,
+    name: &str,
+) -> Result<(), AllocError>
+    ensures { OnOk result
+        (text.new.items ≡ text.old.items ++ spec.measure_text case.now meter field name.now) }
+{
+    let low = case.low_of(meter, field);
+    let high = case.high_of(meter, field);
+    if low == i64::from(i32::MIN) && high == i64::from(i32::MAX) {
+        return Ok(());
+    }
+    put_name(text, name)?;
+    put_range(text, low, high)
+}
+
+/// Adds what a case says of what a point stands for. What is said of a switch stands at its
+/// position.
+fn put_point(text: &mut Vec<u8>, bay: &Bay, case: &Case, point: &Point) -> Result<(), AllocError>
+    ensures { OnOk result
+        (text.new.items ≡ text.old.items ++ spec.point_text bay.now case.now point.now) }
+{
+    match point.source {
+        Source::Switch {
+            switch,
+            point: SwitchPoint::Position,
+        } => put_switch(text, bay, case, switch),
+        Source::Switch { .. } => Ok(()),
+        Source::Input { input } => put_input(text, case, input, point.name.as_str()),
+        Source::Meter { meter, field } => {
+            put_measure(text, case, meter, field, point.name.as_str())
+        }
+    }
+}
+
+/// Adds what a case says: ` ID=P`, ` NAME=V`, ` NAME=N` or ` NAME=N..M` for each switch, input and
+/// measured value of which it says anything, in the order of the bay file.
+pub fn put_case(text: &mut Vec<u8>, bay: &Bay, case: &Case) -> Result<(), AllocError>
+    ensures { OnOk result (text.new.items ≡ text.old.items ++ spec.case_text bay.now case.now) }
+{
+    for point in bay.points.as_slice() {
+        put_point(text, bay, case, point)?;
+    }
+    Ok(())
+}
+
+/// Adds the name at an index, or else a word and the index.
+fn put_named(
+    text: &mut Vec<u8>,
+    names: &[&str],
+    index: usize,
+    word: &[u8],
+) -> Result<(), AllocError>
+    ensures { OnOk result (text.new.items ≡ text.old.items
+        ++ spec.named_text word.now index (slice_get (map (λ n. n.now) names.now) index)) }
+{
+    text.extend_from_slice(b" ")?;
+    match names.get(index) {
+        Some(name) => text.extend_from_slice(name.as_bytes()),
+        None => {
+            text.extend_from_slice(word)?;
+            put_number(text, index as u64)
+        }
+    }
+}
+
+/// Adds the name of a slot: that of a point, or of a variable.
+fn put_slot(text: &mut Vec<u8>, names: &Names<'_>, slot: usize) -> Result<(), AllocError>
+    ensures { OnOk result
+        (text.new.items ≡ text.old.items ++ spec.slot_text names.now slot) }
+{
+    if slot < names.points.len() {
+        text.extend_from_slice(b" ")?;
+        return text.extend_from_slice(names.points[slot].name.as_str().as_bytes());
+    }
+    put_named(
+        text,
+        names.variables.as_slice(),
+        slot - names.points.len(),
+        b"variable",
+    )
+}
+
+/// Adds what a release hangs on: ` by` and the names of points, variables and timers.
+fn put_kept(text: &mut Vec<u8>, names: &Names<'_>, kept: &Kept) -> Result<(), AllocError>
+    ensures { OnOk result
+        (text.new.items ≡ text.old.items ++ spec.kept_text names.now kept.now) }
+{
+    text.extend_from_slice(b" by")?;
+    for slot in kept.slots.as_slice() {
+        put_slot(text, names, *slot)?;
+    }
+    for timer in kept.timers.as_slice() {
+        put_named(text, names.timers.as_slice(), *timer, b"timer")?;
+    }
+    Ok(())
+}
+
+/// Adds the front of the line of a rule's answer.
+fn put_front(text: &mut Vec<u8>, rule: &Rule, word: &[u8]) -> Result<(), AllocError>
+    ensures { OnOk result
+        (text.new.items ≡ text.old.items ++ spec.front_text rule.now.line word.now) }
+{
+    text.extend_from_slice(b"rule ")?;
+    put_number(text, rule.line as u64)?;
+    text.extend_from_slice(word)
+}
+
+/// Adds what an answer says behind the line of its rule.
+fn put_said(
+    text: &mut Vec<u8>,
+    bay: &Bay,
+    names: &Names<'_>,
+    rule: &Rule,
+    answer: &Answer,
+) -> Result<(), AllocError>
+    ensures { OnOk result (text.new.items ≡ text.old.items
+        ++ spec.said_text bay.now names.now rule.now.line answer.now) }
+{
+    match answer {
+        Answer::Holds { cases } => {
+            put_front(text, rule, b" holds cases=")?;
+            put_number(text, u64::from(*cases))
+        }
+        Answer::Broken { case } => {
+            put_front(text, rule, b" broken")?;
+            put_case(text, bay, case)
+        }
+        Answer::Open { case, kept } => {
+            put_front(text, rule, b" open")?;
+            put_case(text, bay, case)?;
+            put_kept(text, names, kept)
+        }
+        Answer::Since { timer, cases } => {
+            put_front(text, rule, b" holds cases=")?;
+            put_number(text, u64::from(*cases))?;
+            text.extend_from_slice(b" by")?;
+            put_named(text, names.timers.as_slice(), *timer, b"timer")
+        }
+        Answer::TooMany => put_front(text, rule, b" many"),
+        Answer::Timed => put_front(text, rule, b" timed"),
+    }
+}
+
+/// Adds the line of a rule's answer.
+fn put_answer(
+    text: &mut Vec<u8>,
+    bay: &Bay,
+    names: &Names<'_>,
+    rule: &Rule,
+    answer: &Answer,
+) -> Result<(), AllocError>
+    ensures { OnOk result (text.new.items ≡ text.old.items
+        ++ spec.answer_text bay.now names.now (rule.now, answer.now)) }
+{
+    put_said(text, bay, names, rule, answer)?;
+    text.extend_from_slice(b"\n")
+}
+
+/// Adds the lines of the answers to rules.
+pub fn put_answers(
+    text: &mut Vec<u8>,
+    bay: &Bay,
+    names: &Names<'_>,
+    rules: &[Rule],
+    answers: &[Answer],
+) -> Result<(), AllocError>
+    ensures { OnOk result (text.new.items ≡ text.old.items
+        ++ spec.answers_text bay.now names.now (zip rules.now answers.now)) }
+{
+    for i in 0..rules.len() {
+        let Some(answer) = answers.get(i) else {
+            return Ok(());
+        };
+        put_answer(text, bay, names, &rules[i], answer)?;
+    }
+    Ok(())
+}
+
+/// Adds a word and what a case says.
+fn put_word(text: &mut Vec<u8>, bay: &Bay, word: &[u8], case: &Case) -> Result<(), AllocError>
+    ensures { OnOk result
+        (text.new.items ≡ text.old.items ++ (word.now ++ spec.case_text bay.now case.now)) }
+{
+    text.extend_from_slice(word)?;
+    put_case(text, bay, case)
+}
+
+/// Adds what is told of a release in a case.
+fn put_told(
+    text: &mut Vec<u8>,
+    bay: &Bay,
+    names: &Names<'_>,
+    told: &ToldCase,
+) -> Result<(), AllocError>
+    ensures { OnOk result (text.new.items ≡ text.old.items
+        ++ spec.told_of bay.now names.now told.now.case told.now.told) }
+{
+    match &told.told {
+        Told::Released => put_word(text, bay, b"released", &told.case),
+        Told::Refused => put_word(text, bay, b"blocked", &told.case),
+        Told::Hangs(kept) => {
+            put_word(text, bay, b"hangs", &told.case)?;
+            put_kept(text, names, kept)
+        }
+    }
+}
+
+/// Adds the line of a case of a release.
+fn put_told_line(
+    text: &mut Vec<u8>,
+    bay: &Bay,
+    names: &Names<'_>,
+    told: &ToldCase,
+) -> Result<(), AllocError>
+    ensures { OnOk result
+        (text.new.items ≡ text.old.items ++ spec.told_text bay.now names.now told.now) }
+{
+    put_told(text, bay, names, told)?;
+    text.extend_from_slice(b"\n")
+}
+
+/// Adds the number of the cases of a release and the line of each.
+fn put_cases(
+    text: &mut Vec<u8>,
+    bay: &Bay,
+    names: &Names<'_>,
+    cases: &[ToldCase],
+) -> Result<(), AllocError>
+    ensures { OnOk result
+        (text.new.items ≡ text.old.items ++ spec.cases_text bay.now names.now cases.now) }
+{
+    text.extend_from_slice(b" cases=")?;
+    put_number(text, cases.len() as u64)?;
+    text.extend_from_slice(b"\n")?;
+    for told in cases {
+        put_told_line(text, bay, names, told)?;
+    }
+    Ok(())
+}
+
+/// Adds the lines of a release of the switch with this id.
+fn put_release(
+    text: &mut Vec<u8>,
+    bay: &Bay,
+    names: &Names<'_>,
+    id: &str,
+    release: &Release,
+) -> Result<(), AllocError>
+    ensures { OnOk result (text.new.items ≡ text.old.items
+        ++ spec.release_of bay.now names.now id.now release.now) }
+{
+    let way: &[u8] = if release.close { b" close" } else { b" open" };
+    text.extend_from_slice(b"release ")?;
+    text.extend_from_slice(id.as_bytes())?;
+    text.extend_from_slice(way)?;
+    if release.left.as_slice().is_empty() {
+        put_cases(text, bay, names, release.cases.as_slice())
+    } else {
+        text.extend_from_slice(b" many\n")
+    }
+}
+
+/// Adds the lines of a release, if the bay has its switch.
+fn put_release_of(
+    text: &mut Vec<u8>,
+    bay: &Bay,
+    names: &Names<'_>,
+    release: &Release,
+) -> Result<(), AllocError>
+    ensures { OnOk result
+        (text.new.items ≡ text.old.items ++ spec.release_text bay.now names.now release.now) }
+{
+    match bay.switches.as_slice().get(release.switch) {
+        Some(found) => put_release(text, bay, names, found.id.as_str(), release),
+        None => Ok(()),
+    }
+}
+
+/// Adds the lines of the releases.
+pub fn put_releases(
+    text: &mut Vec<u8>,
+    bay: &Bay,
+    names: &Names<'_>,
+    releases: &[Release],
+) -> Result<(), AllocError>
+    ensures { OnOk result (text.new.items ≡ text.old.items
+        ++ flat_map (spec.release_text bay.now names.now) releases.now) }
+{
+    for release in releases {
+        put_release_of(text, bay, names, release)?;
+    }
+    Ok(())
+}
+
+/// Adds the line of rules that are refused.
+pub fn put_refused(text: &mut Vec<u8>, code: u8, line: usize) -> Result<(), AllocError>
+    ensures { OnOk result (text.new.items ≡ text.old.items ++ spec.refused_text code line) }
+{
+    text.extend_from_slice(b"rules refused ")?;
+    put_number(text, u64::from(code))?;
+    text.extend_from_slice(b" line ")?;
+    put_number(text, line as u64)?;
+    text.extend_from_slice(b"\n")
+}
+
+/// Whether an answer leaves its rule unbroken: it holds, or has a time and was not asked.
+fn is_passed(answer: &Answer) -> bool
+    ensures { result ≡ spec.is_passed answer.now }
+{
+    match answer {
+        Answer::Holds { .. } | Answer::Since { .. } | Answer::Timed => true,
+        Answer::Broken { .. } | Answer::Open { .. } | Answer::TooMany => false,
+    }
+}
+
+/// Whether each rule holds, or has a time and is not answered.
+pub fn are_passed(answers: &[Answer]) -> bool
+    ensures { result ≡ list_all spec.is_passed answers.now }
+{
+    answers.iter().all(|answer| is_passed(answer))
+}

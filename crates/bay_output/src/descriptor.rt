@@ -1,0 +1,142 @@
+// A descriptor of the system as a sink.
+use bay_io::calls::{Part, Sink};
+use mio::unix::SourceFd;
+use mio::{Events, Interest, Poll, Token};
+use std::alloc::Global;
+use std::io;
+use std::io::{ErrorKind, Write};
+use std::net::Net;
+use std::os::fd::{AsRawFd, RawFd};
+use std::time::Duration;
+
+/// The most octets that a descriptor which is ready takes without waiting: one page of a pipe
+/// (Linux, pipe(7), PIPE_BUF).
+const PIECE: usize = 4_096;
+
+/// The token of the one descriptor that is registered.
+const TOKEN: Token = Token(0);
+
+/// What tells whether a descriptor is ready.
+#[derive(Drop)]
+struct Readiness {
+    poll: Poll,
+    events: Events<Global>,
+}
+
+/// What is known of a descriptor.
+#[derive(Drop)]
+enum Gate {
+    /// Nothing was written yet.
+    Unknown,
+    /// It is always ready, as a file is.
+    Open,
+    Polled(Readiness),
+}
+
+/// A writer over a descriptor.
+#[derive(Drop)]
+pub struct Descriptor<'a, R, W> {
+    rt: &'a R,
+    writer: W,
+    waits: bool,
+    gate: Gate,
+}
+
+impl Readiness {
+    /// Registers a descriptor.
+    fn new<R: Net + AllocGlobal>(rt: &R, descriptor: RawFd) -> io::Result<Readiness> {
+        let poll = Poll::new(rt)?;
+        let events = Events::with_capacity(rt.alloc(), 1)?;
+        let mut source = SourceFd(&descriptor);
+        poll.registry()
+            .register(&mut source, TOKEN, Interest::WRITABLE)?;
+        Ok(Readiness { poll, events })
+    }
+
+    /// Waits until the descriptor is ready or the time is up. Returns whether it is ready.
+    fn wait(&mut self, descriptor: RawFd, most: Duration) -> io::Result<bool> {
+        let mut source = SourceFd(&descriptor);
+        // The system reports a change. Registering anew, it reports what is.
+        self.poll
+            .registry()
+            .reregister(&mut source, TOKEN, Interest::WRITABLE)?;
+        self.poll.poll(&mut self.events, Some(most))?;
+        Ok(!self.events.is_empty())
+    }
+}
+
+impl Gate {
+    /// Returns what there is to know of a descriptor.
+    fn of<R: Net + AllocGlobal>(rt: &R, descriptor: RawFd) -> io::Result<Gate> {
+        match Readiness::new(rt, descriptor) {
+            Ok(readiness) => Ok(Gate::Polled(readiness)),
+            // What the system can't report is a file or the like.
+            Err(error) if error.kind() == ErrorKind::PermissionDenied => Ok(Gate::Open),
+            Err(error) => Err(error),
+        }
+    }
+}
+
+impl<'a, R, W> Descriptor<'a, R, W> {
+    /// A descriptor whose writes wait until it takes octets.
+    pub fn new(rt: &'a R, writer: W) -> Self {
+        Descriptor {
+            rt,
+            writer,
+            waits: true,
+            gate: Gate::Unknown,
+        }
+    }
+
+    /// From now on no write waits: a descriptor that takes nothing at once takes 0 octets.
+    pub fn stop_waiting(&mut self) {
+        self.waits = false;
+    }
+}
+
+impl<R: Net + AllocGlobal, W: AsRawFd> Descriptor<'_, R, W> {
+    /// Waits until the descriptor is ready or the time is up.
+    pub fn wait(&mut self, most: Duration) -> io::Result<()> {
+        self.is_ready(most)?;
+        Ok(())
+    }
+
+    /// Waits until the descriptor is ready or the time is up. Returns whether it is ready.
+    fn is_ready(&mut self, most: Duration) -> io::Result<bool> {
+        let descriptor = self.writer.as_raw_fd();
+        if matches!(&self.gate, Gate::Unknown) {
+            self.gate = Gate::of(self.rt, descriptor)?;
+        }
+        match &mut self.gate {
+            Gate::Polled(readiness) => readiness.wait(descriptor, most),
+            _ => Ok(true),
+        }
+    }
+}
+
+/// Whether a call would have blocked.
+fn would_wait(error: &io::Error) -> bool {
+    error.kind() == ErrorKind::WouldBlock || error.kind() == ErrorKind::Interrupted
+}
+
+impl<R: Net + AllocGlobal, W: Write + AsRawFd> Sink for Descriptor<'_, R, W> {
+    fn write_octets(&mut self, octets: &[u8]) -> io::Result<usize> {
+        if self.waits {
+            return self.writer.write(octets);
+        }
+        if !self.is_ready(Duration::ZERO)? {
+            return Ok(0);
+        }
+        match self.writer.write(&octets[..octets.len().min(PIECE)]) {
+            Err(error) if would_wait(&error) => Ok(0),
+            answer => answer,
+        }
+    }
+
+    fn flush_octets(&mut self) -> io::Result<()> {
+        self.writer.flush()
+    }
+
+    /// A descriptor has no log.
+    fn log_line(&mut self, _parts: &[Part<'_>]) {}
+}

@@ -1,0 +1,161 @@
+// What is logged of a fault: one line, in the form `bayctl: FAULT: WHAT`.
+ghost use Rattle.std.specs.Prelude.{◌≡◌, None, Some};
+ghost use Rattle.bay_io.specs.Sent.{Logs};
+ghost use Rattle.bay_report.specs.LogLines.{LogsPrints, LogsSome, refused_line, unread_line, unwritten_line};
+ghost use Rattle.bay_report.specs.LogLines as spec;
+ghost use Rattle.bay_report.specs.Report.{Refuses, UnreadReport};
+
+use crate::output::{write_refusal, write_unread};
+use bay_device::fault::LoadFault;
+use bay_io::calls::{Part, Sink};
+use bay_io::input::ReadFault;
+use bay_io::outbox::WriteFault;
+use bay_io::writer::WatchedWriter;
+use std::io::ErrorKind;
+
+/// Returns why the system can't read, in words.
+fn kind_words(kind: ErrorKind) -> &'static [u8]
+    ensures { result.now ≡ spec.kind_words kind }
+{
+    match kind {
+        ErrorKind::NotFound => b"there is no such file",
+        ErrorKind::PermissionDenied => b"permission denied",
+        ErrorKind::IsADirectory => b"it is a folder",
+        ErrorKind::NotADirectory => b"a part of its name is no folder",
+        ErrorKind::FilesystemLoop => b"too many links",
+        ErrorKind::InvalidFilename => b"its name is too long",
+        _ => b"the system can't read it",
+    }
+}
+
+/// Returns what a fault of a load means, by its number.
+fn fault_words(code: u8) -> &'static [u8]
+    ensures { result.now ≡ spec.fault_words code }
+{
+    match code {
+        50 => b"the text is not a TOML document, or is too long",
+        51 => b"a section or a key is missing",
+        52 => b"a key is unknown, or the kind of control excludes it",
+        53 => b"a value is of a wrong kind or out of its range",
+        54 => b"two points have one name",
+        55 => b"a section has too many entries",
+        60 => b"a token cannot be read",
+        61 => b"a line cannot be read",
+        62 => b"parentheses are too deep",
+        63 => b"a literal is out of range",
+        64 => b"the program is too long",
+        70 => b"the name is unknown",
+        71 => b"the name is declared twice",
+        72 => b"the type is not the one that is wanted",
+        73 => b"the result is not set",
+        74 => b"the jump goes backward",
+        75 => b"the label is unknown",
+        76 => b"the instruction can't be reached",
+        77 => b"the variable may only be read",
+        78 => b"the divisor is not a literal other than 0",
+        79 => b"too many names are declared, or parentheses are too deep",
+        80 => b"this is no image",
+        81 => b"the version of the image is not known",
+        82 => b"an octet of the image stands for nothing",
+        83 => b"the image ends too early or too late",
+        85 => b"the image of the program would have more than 65,535 octets",
+        90 => b"too few values lie on the stack",
+        91 => b"too many values lie on the stack",
+        92 => b"a value is of a wrong kind",
+        93 => b"a divisor may be zero",
+        94 => b"there is no such slot",
+        95 => b"there is no such timer",
+        96 => b"a jump leads to no instruction",
+        97 => b"an instruction is not reached",
+        98 => b"stacks of two depths meet",
+        99 => b"the code does not end at a HALT or a JUMP",
+        100 => b"the image does not fit the bay",
+        _ => b"the text cannot be loaded",
+    }
+}
+
+/// Logs why a file can't be read.
+fn log_unread<W: Sink>(writer: &mut WatchedWriter<W>, name: &str, fault: &ReadFault)
+    ensures { LogsSome W.contents W.does writer.old (unread_line name.now fault.now) writer.new }
+{
+    let what = Part::Text(name.as_bytes());
+    match fault {
+        ReadFault::OutOfMemory => {}
+        ReadFault::TooLong => {
+            let why = Part::Text(b": it is longer than 16,777,216 bytes\n");
+            writer.log(&[Part::Text(b"bayctl: fault 121: "), what, why]);
+        }
+        ReadFault::Failed(kind) => writer.log(&[
+            Part::Text(b"bayctl: fault 121: "),
+            what,
+            Part::Text(b": "),
+            Part::Text(kind_words(*kind)),
+            Part::Text(b"\n"),
+        ]),
+    }
+}
+
+/// Logs why a load is refused.
+fn log_refusal<W: Sink>(writer: &mut WatchedWriter<W>, fault: LoadFault)
+    ensures { LogsSome W.contents W.does writer.old (refused_line fault) writer.new }
+{
+    let LoadFault::Refused { code, line } = fault else {
+        return;
+    };
+    let number = Part::Number(u64::from(code));
+    let words = Part::Text(fault_words(code));
+    if line == 0 {
+        let colon = Part::Text(b": ");
+        writer.log(&[
+            Part::Text(b"bayctl: load refused "),
+            number,
+            colon,
+            words,
+            Part::Text(b"\n"),
+        ]);
+    } else {
+        writer.log(&[
+            Part::Text(b"bayctl: load refused "),
+            number,
+            Part::Text(b" line "),
+            Part::Number(line as u64),
+            Part::Text(b": "),
+            words,
+            Part::Text(b"\n"),
+        ]);
+    }
+}
+
+/// Logs that a file can't be written.
+pub fn log_unwritten<W: Sink>(writer: &mut WatchedWriter<W>, name: &str)
+    ensures { Logs W.contents W.does writer.old (unwritten_line name.now) writer.new }
+{
+    let what = Part::Text(name.as_bytes());
+    let why = Part::Text(b": it can't be written\n");
+    writer.log(&[Part::Text(b"bayctl: fault 122: "), what, why]);
+}
+
+/// Logs why a file can't be read, and writes that it can't.
+pub fn tell_unread<W: Sink>(
+    writer: &mut WatchedWriter<W>,
+    name: &str,
+    fault: ReadFault,
+) -> Result<u8, WriteFault>
+    ensures { LogsPrints W.contents W.does (unread_line name.now fault) (UnreadReport fault)
+        writer.old writer.new result }
+{
+    log_unread(writer, name, &fault);
+    write_unread(fault, writer)
+}
+
+/// Logs why a load is refused, and writes the line of the refusal.
+pub fn tell_refusal<W: Sink>(
+    writer: &mut WatchedWriter<W>,
+    fault: LoadFault,
+) -> Result<u8, WriteFault>
+    ensures { LogsPrints W.contents W.does (refused_line fault) (Refuses fault) writer.old writer.new
+        result }
+{
+    log_refusal(writer, fault);
+    write_refusal(writer, fault)
+}

@@ -1,0 +1,9 @@
+pub mod ConditionLemmas
+pub mod GrammarLemmas
+pub mod LawLemmas
+pub mod NumberLemmas
+pub mod PieceLemmas
+pub mod ReadLemmas
+pub mod SayingLemmas
+pub mod TextLemmas
+pub mod WordLemmas

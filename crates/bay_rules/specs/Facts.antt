@@ -1,0 +1,68 @@
+-- What a name with a value behind it says, in items.
+use Rattle.std.specs.Prelude.{ℤ, pos, Bool, true, false, not, List, [], ◌∷◌, ◌++◌, Option, None, Some, option_map, option_and_then, if◌then◌else◌}
+use Rattle.std.specs.Ordering.{int_eq}
+use Rattle.bay_rules.specs.declared.rule.Item.{Item}
+use Rattle.bay_rules.specs.declared.rule.Item.TheVariants as items
+use Rattle.bay_rules.specs.declared.rule.Relation.{Relation}
+use Rattle.bay_rules.specs.declared.rule.Relation.TheVariants.{Equal}
+use Rattle.bay_rules.specs.declared.token.Named.{Named}
+use Rattle.bay_rules.specs.declared.token.Thing.{Thing}
+use Rattle.bay_rules.specs.declared.token.Thing.TheVariants as things
+use Rattle.bay_rules.specs.declared.token.Value.{Value}
+use Rattle.bay_rules.specs.declared.token.Value.TheVariants.{Position, Truth, Number}
+
+-- the items of a condition, in postfix order; none where a name can't have what stands behind it
+abbrev pub Items : Type 0
+Items = Option (List Item)
+
+-- those items, and behind them these
+infixl 10 ◌⊕◌
+abbrev pub ◌⊕◌ : Items → Items → Items
+None ⊕ d = None
+(Some c) ⊕ None = None
+(Some c) ⊕ (Some d) = Some (c ++ d)
+
+abbrev pub item : Item → Items
+item i = Some (i ∷ [])
+
+-- nothing, or a negation
+abbrev pub negation : Bool → Items
+negation false = Some []
+negation true = item items.Not
+
+-- the input is TRUE, or FALSE
+abbrev pub input_items : Option Thing → Bool → Items
+input_items (Some (things.Input input)) truth = item (items.Input input) ⊕ negation (not truth)
+input_items (Some (things.Measure meter field)) truth = None
+input_items None truth = None
+
+-- the measured value stands so to a number
+abbrev pub measure_items : Option Thing → Relation → ℤ → Items
+measure_items (Some (things.Measure meter field)) relation n =
+    item (items.Measure meter field relation n)
+measure_items (Some (things.Input input)) relation n = None
+measure_items None relation n = None
+
+-- the truth that a number is
+abbrev pub truth_of : ℤ → Option Bool
+truth_of n = if int_eq n (pos 0) then Some false else if int_eq n (pos 1) then Some true else None
+
+-- an input is 0 or 1, a measured value a number
+abbrev pub number_items : Option Thing → ℤ → Items
+number_items (Some (things.Input input)) n =
+    option_and_then (input_items (Some (things.Input input))) (truth_of n)
+number_items (Some (things.Measure meter field)) n =
+    measure_items (Some (things.Measure meter field)) Equal n
+number_items None n = None
+
+-- a name and a value: a position of the switch, a truth of the input, a number of either of the
+-- input and the measure
+abbrev pub value_items : Named → Value → Items
+value_items named (Position position) =
+    option_map (λ switch. items.Position switch position ∷ []) named.switch
+value_items named (Truth truth) = input_items named.thing truth
+value_items named (Number n) = option_and_then (number_items named.thing) n
+
+-- a name, a relation and a number
+abbrev pub relation_items : Named → Relation → Option ℤ → Items
+relation_items named relation n = option_and_then (measure_items named.thing relation) n

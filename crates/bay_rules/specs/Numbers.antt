@@ -1,0 +1,53 @@
+-- Numbers and times as a line writes them.
+use Rattle.std.specs.Prelude.{ℕ, ℤ, pos, neg_ℤ, ◌==◌, ◌&&◌, ◌+◌, ◌*◌, ◌^◌, nat_lt, nat_le, List, [], ◌∷◌, length, codes, Option, None, Some, option_map, if◌then◌else◌}
+use Rattle.std.specs.Str.{all_ascii_digits}
+use Rattle.std.specs.Str.Parse.{digits_value}
+use Rattle.bay_base.specs.Names.{same_name}
+use Rattle.bay_base.specs.Options.{◌>>=◌}
+use Rattle.bay_rules.specs.Pieces.{pieces}
+use Rattle.bay_rules.specs.declared.pieces.Cut.TheVariants.{Time}
+
+-- the number that one or more decimal digits write
+abbrev pub digits_in : List ℕ → Option ℕ
+digits_in word =
+    if all_ascii_digits word && nat_lt 0 (length word) then Some (digits_value 10 word) else None
+
+-- a number and its opposite, from -(2 ^ 31) to 2 ^ 31 - 1
+abbrev pub positive_of : ℕ → Option ℤ
+positive_of n = if nat_lt n (2 ^ 31) then Some (pos n) else None
+
+abbrev pub negative_of : ℕ → Option ℤ
+negative_of n = if nat_le n (2 ^ 31) then Some (neg_ℤ (pos n)) else None
+
+-- a number, before which a `-` may stand; it may be out of range
+abbrev pub number_in : List ℕ → Option (Option ℤ)
+number_in [] = None
+number_in (b ∷ bs) =
+    if b == 45 then option_map negative_of (digits_in bs)
+    else option_map positive_of (digits_in (b ∷ bs))
+
+-- the milliseconds of a unit
+abbrev pub unit_of : List ℕ → Option ℕ
+unit_of word =
+    if same_name word (codes "ms") then Some 1
+    else if same_name word (codes "s") then Some 1000
+    else if same_name word (codes "m") then Some 60000
+    else if same_name word (codes "h") then Some 3600000
+    else if same_name word (codes "d") then Some 86400000
+    else None
+
+-- the milliseconds of numbers that have a unit each
+abbrev pub time_of : List (List ℕ) → Option ℕ
+time_of [] = Some 0
+time_of (n ∷ []) = None
+time_of (n ∷ u ∷ parts) =
+    digits_in n >>= λ number. unit_of u >>= λ unit. option_map (λ t. number * unit + t) (time_of
+    parts)
+
+-- a time that a timer has: 1 to 2 ^ 31 - 1 milliseconds
+abbrev pub timer_time : ℕ → Option ℕ
+timer_time t = if nat_lt 0 t && nat_lt t (2 ^ 31) then Some t else None
+
+-- a time; it may be out of range
+abbrev pub time_in : List ℕ → Option (Option ℕ)
+time_in word = option_map timer_time (time_of (pieces Time word))

@@ -1,0 +1,232 @@
+// The items of a condition that is being read.
+ghost use Rattle.std.specs.Prelude.{◌≡◌, ◌∷◌, [], Some, None, OnOk, IfOk, option_map};
+ghost use Rattle.bay_rules.specs.declared.rule.Item.TheVariants as items;
+ghost use Rattle.bay_rules.specs.Facts.{truth_of};
+
+use crate::rule::{Item, Relation};
+use crate::token::{Named, Thing, Value};
+use std::alloc::{AllocError, Global};
+use std::marker::Model;
+
+/// Items in postfix order, as long as each name can have what stands behind it.
+#[derive(Drop)]
+pub struct Draft {
+    items: Vec<Item>,
+    fits: bool,
+}
+
+impl Model for Draft {
+    ghost use Rattle.std.specs.Prelude.{Some, None, if◌then◌else◌};
+    ghost use Rattle.bay_rules.specs.Facts.{Items};
+
+    ghost Value = { Items };
+
+    ghost view = { λ d. if d.fits then Some d.items.items else None };
+}
+
+/// Returns the truth that a number is of an input.
+fn truth(number: i32) -> Option<bool>
+    ensures { result ≡ truth_of number }
+{
+    match number {
+        0 => Some(false),
+        1 => Some(true),
+        _ => None,
+    }
+}
+
+impl Draft {
+    ghost use Rattle.bay_rules.specs.Facts.{◌⊕◌, item, negation, input_items, measure_items, number_items, value_items, relation_items};
+
+    /// Begins without items. Does not allocate.
+    pub fn new(alloc: Global) -> Self
+        ensures { result ≡ Some [] }
+    {
+        Draft {
+            items: Vec::new(alloc),
+            fits: true,
+        }
+    }
+
+    /// Appends an item.
+    pub fn push(&mut self, one: Item) -> Result<(), AllocError>
+        ensures { OnOk result (self.new ≡ self.old ⊕ item one) }
+    {
+        if self.fits {
+            self.items.push(one)?;
+        }
+        Ok(())
+    }
+
+    /// Appends a negation, if there is one.
+    pub fn push_negation(&mut self, negated: bool) -> Result<(), AllocError>
+        ensures { OnOk result (self.new ≡ self.old ⊕ negation negated) }
+    {
+        if negated {
+            self.push(Item::Not)?;
+        }
+        Ok(())
+    }
+
+    /// Drops all items: a name can't have what stands behind it.
+    fn refuse(&mut self)
+        ensures { self.new ≡ None }
+    {
+        self.fits = false;
+    }
+
+    /// Appends that an input has this truth.
+    fn push_input(&mut self, thing: Option<Thing>, truth: bool) -> Result<(), AllocError>
+        ensures { OnOk result (self.new ≡ self.old ⊕ input_items thing truth) }
+    {
+        match thing {
+            Some(Thing::Input(input)) => {
+                self.push(Item::Input { input })?;
+                self.push_negation(!truth)?;
+            }
+            _ => self.refuse(),
+        }
+        Ok(())
+    }
+
+    /// Appends that a measured value stands so to a number.
+    fn push_measure(
+        &mut self,
+        thing: Option<Thing>,
+        relation: Relation,
+        value: i32,
+    ) -> Result<(), AllocError>
+        ensures { OnOk result (self.new ≡ self.old ⊕ measure_items thing relation value) }
+    {
+        match thing {
+            Some(Thing::Measure { meter, field }) => self.push(Item::Measure {
+                meter,
+                field,
+                relation,
+                value,
+            })?,
+            _ => self.refuse(),
+        }
+        Ok(())
+    }
+
+    /// Appends that an input or a measured value is this number.
+    fn push_number(&mut self, thing: Option<Thing>, number: i32) -> Result<(), AllocError>
+        ensures { OnOk result (self.new ≡ self.old ⊕ number_items thing number) }
+    {
+        match thing {
+            Some(Thing::Input(_)) => match truth(number) {
+                Some(truth) => self.push_input(thing, truth)?,
+                None => self.refuse(),
+            },
+            _ => self.push_measure(thing, Relation::Equal, number)?,
+        }
+        Ok(())
+    }
+
+    /// Appends that what is named has this value.
+    pub fn push_value(&mut self, named: Named, value: Value) -> Result<(), AllocError>
+        ensures { OnOk result (self.new ≡ self.old ⊕ value_items named value) }
+    {
+        match value {
+            Value::Position(position) => match named.switch {
+                Some(switch) => self.push(Item::Position { switch, position })?,
+                None => self.refuse(),
+            },
+            Value::Truth(truth) => self.push_input(named.thing, truth)?,
+            Value::Number(Some(number)) => self.push_number(named.thing, number)?,
+            Value::Number(None) => self.refuse(),
+        }
+        Ok(())
+    }
+
+    /// Appends that what is named has this value, or that what stands before holds.
+    pub fn push_other(&mut self, named: Named, value: Value) -> Result<(), AllocError>
+        ensures { OnOk result (self.new ≡ self.old ⊕ value_items named value ⊕ item items.Or) }
+    {
+        self.push_value(named, value)?;
+        self.push(Item::Or)
+    }
+
+    /// Appends that the measured value that is named stands so to a number.
+    pub fn push_relation(
+        &mut self,
+        named: Named,
+        relation: Relation,
+        number: Option<i32>,
+    ) -> Result<(), AllocError>
+        ensures { OnOk result (self.new ≡ self.old ⊕ relation_items named relation number) }
+    {
+        match number {
+            Some(number) => self.push_measure(named.thing, relation, number)?,
+            None => self.refuse(),
+        }
+        Ok(())
+    }
+
+    /// Returns the items, or `None` if a name can't have what stands behind it.
+    pub fn into_items(self) -> Option<Vec<Item>>
+        ensures { option_map (λ items. items.items) result ≡ self }
+    {
+        if self.fits { Some(self.items) } else { None }
+    }
+}
+
+/// An operator that waits for its operand, or a parenthesis that waits for its end.
+#[derive(Clone, Copy)]
+pub enum Pending {
+    Begin,
+    Not,
+    And,
+    Or,
+}
+
+/// What waits, the last first.
+#[derive(Drop)]
+pub struct Stack {
+    pending: Vec<Pending>,
+}
+
+impl Model for Stack {
+    ghost use Rattle.std.specs.Prelude.{List, reverse};
+    ghost use Rattle.bay_rules.specs.declared.draft.Pending.{Pending};
+
+    ghost Value = { List Pending };
+
+    ghost view = { λ s. reverse s.pending.items };
+}
+
+impl Stack {
+    ghost use Rattle.bay_rules.specs.Running.{first_of, rest_of};
+
+    /// Begins with nothing. Does not allocate.
+    pub fn new(alloc: Global) -> Self
+        ensures { result ≡ [] }
+    {
+        Stack {
+            pending: Vec::new(alloc),
+        }
+    }
+
+    /// Puts one on top.
+    pub fn push(&mut self, one: Pending) -> Result<(), AllocError>
+        ensures { OnOk result (self.new ≡ one ∷ self.old) }
+    {
+        self.pending.push(one)?;
+        Ok(())
+    }
+
+    /// Returns the top.
+    pub fn top(&self) -> Option<Pending>
+        ensures { result ≡ first_of self.now }
+    {
+        self.pending.last().copied()
+    }
+
+    /// Takes the top away.
+    pub fn pop(&mut self)
+        ensures { self.new ≡ rest_of self.old }
+    {
+        let _ = self.pending.pop();
+    }
+}

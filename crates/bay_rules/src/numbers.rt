@@ -1,0 +1,145 @@
+// Numbers and times as a line writes them.
+ghost use Rattle.std.specs.Prelude.{◌≡◌, ℕ, ◌+◌, ◌*◌, ◌-◌, ◌^◌, ◌<◌, ◌≤◌, min, length, Some, None, option_map, IfSome, MatchOption, if◌then◌else◌};
+ghost use Rattle.std.specs.Char.{is_ascii_digit};
+ghost use Rattle.bay_rules.specs.Numbers.{digits_in, positive_of, negative_of, number_in, unit_of, time_of, timer_time, time_in};
+ghost use Rattle.bay_rules.specs.Pieces.{pieces};
+ghost use Rattle.bay_rules.specs.declared.pieces.Cut.TheVariants.{Time};
+
+use crate::pieces::{Cut, cut_piece};
+use bay_base::names::same_letters;
+
+/// Greater numbers, and greater times, are taken as this one, 2^32.
+const ENOUGH: u64 = 4_294_967_296;
+
+/// Returns a number, at most `ENOUGH`.
+fn enough(number: u64) -> u64
+    ensures { result ≡ min (2 ^ 32) number }
+{
+    if number < ENOUGH { number } else { ENOUGH }
+}
+
+/// Appends a decimal digit to a number, or returns `None` if the octet is not a digit.
+fn with_digit(number: u64, octet: u8) -> Option<u64>
+    requires { number ≤ 2 ^ 32 }
+    ensures { result
+        ≡ if is_ascii_digit octet then Some (min (2 ^ 32) (number * 10 + (octet - 48))) else None }
+{
+    if !octet.is_ascii_digit() {
+        return None;
+    }
+    Some(enough(number * 10 + u64::from(octet - b'0')))
+}
+
+/// Reads one or more decimal digits.
+fn digits(word: &[u8]) -> Option<u64>
+    ensures { result ≡ option_map (min (2 ^ 32)) (digits_in word.now) }
+{
+    if word.is_empty() {
+        return None;
+    }
+    let mut number = 0;
+    for octet in word {
+        number = with_digit(number, *octet)?;
+    }
+    Some(number)
+}
+
+/// Returns the number as a value if it is below 2^31.
+fn positive(number: u64) -> Option<i32>
+    ensures { result ≡ positive_of number }
+{
+    if number < 2_147_483_648 {
+        Some(number as i32)
+    } else {
+        None
+    }
+}
+
+/// Returns the negated number as a value if it is not below -2^31.
+fn negative(number: u64) -> Option<i32>
+    ensures { result ≡ negative_of number }
+{
+    if number <= 2_147_483_648 {
+        Some((-(number as i64)) as i32)
+    } else {
+        None
+    }
+}
+
+/// Reads a number, optionally with a `-` before it. One out of range is `Some(None)`.
+pub fn number(word: &[u8]) -> Option<Option<i32>>
+    ensures { result ≡ number_in word.now }
+{
+    match word {
+        [b'-', rest @ ..] => Some(negative(digits(rest)?)),
+        _ => Some(positive(digits(word)?)),
+    }
+}
+
+/// Returns the milliseconds of a unit.
+fn unit(word: &[u8]) -> Option<u64>
+    ensures { result ≡ unit_of word.now }
+{
+    if same_letters(word, b"ms") {
+        Some(1)
+    } else if same_letters(word, b"s") {
+        Some(1_000)
+    } else if same_letters(word, b"m") {
+        Some(60_000)
+    } else if same_letters(word, b"h") {
+        Some(3_600_000)
+    } else if same_letters(word, b"d") {
+        Some(86_400_000)
+    } else {
+        None
+    }
+}
+
+/// Reads a number and its unit, and returns what follows them.
+fn part(word: &[u8]) -> Option<(u64, &[u8])>
+    requires { 0 < length word.now }
+    ensures read { MatchOption result (time_of (pieces Time word.now) ≡ None)
+        (λ part. option_map (min (2 ^ 32)) (time_of (pieces Time word.now))
+        ≡ option_map (λ t. min (2 ^ 32) (part.0 + t)) (time_of (pieces Time part.1.now))) }
+    ensures less { IfSome result (λ part. length part.1.now < length word.now) }
+    ensures few { IfSome result (λ part. part.0 ≤ 2 ^ 32) }
+{
+    let (number, behind) = cut_piece(Cut::Time, word);
+    if behind.is_empty() {
+        return None;
+    }
+    let (name, rest) = cut_piece(Cut::Time, behind);
+    Some((enough(digits(number)? * unit(name)?), rest))
+}
+
+/// Reads numbers that have a unit each.
+fn milliseconds(word: &[u8]) -> Option<u64>
+    ensures { result ≡ option_map (min (2 ^ 32)) (time_of (pieces Time word.now)) }
+{
+    let mut total = 0;
+    let mut rest = word;
+    while !rest.is_empty() {
+        let (time, behind) = part(rest)?;
+        total = enough(total + time);
+        rest = behind;
+    }
+    Some(total)
+}
+
+/// Returns a time that a timer has.
+fn timer(time: u64) -> Option<u32>
+    ensures { result ≡ timer_time time }
+{
+    if 0 < time && time < 2_147_483_648 {
+        Some(time as u32)
+    } else {
+        None
+    }
+}
+
+/// Reads a time. One that no timer has is `Some(None)`.
+pub fn time(word: &[u8]) -> Option<Option<u32>>
+    ensures { result ≡ time_in word.now }
+{
+    Some(timer(milliseconds(word)?))
+}

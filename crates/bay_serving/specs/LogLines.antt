@@ -1,0 +1,139 @@
+-- What is logged of a server, line by line.
+use Rattle.std.specs.Prelude.{ℕ, ◌==◌, List, [], ◌∷◌, ◌++◌, codes, map, slice_index, Option, None, Some, if◌then◌else◌}
+use Rattle.std.specs.Fmt.{decimal}
+use Rattle.std.specs.Net.Addr.{ipv4_octets}
+use Rattle.std.specs.Net.Socket.{v4_ip, v4_port}
+use Rattle.std.specs.declared.net.socket_addr.SocketAddrV4.{SocketAddrV4}
+use Rattle.bay_lines.specs.Shown.{shown_text}
+use Rattle.bay_port.specs.Code.{code_of as port_code_of}
+use Rattle.bay_port.specs.declared.news.News.{News}
+use Rattle.bay_port.specs.declared.news.News.TheVariants.{Opened, Closed}
+use Rattle.bay_port.specs.declared.news.Parting.{Parting}
+use Rattle.bay_port.specs.declared.news.Parting.TheVariants as parting
+use Rattle.bay_serve.specs.Code.{code_of}
+use Rattle.bay_serve.specs.declared.fault.ServeFault.{ServeFault}
+use Rattle.bay_serve.specs.declared.fault.ServeFault.TheVariants.{BadLine, MomentTooLarge}
+use Rattle.bay_serve.specs.declared.told.Closing.{Closing}
+use Rattle.bay_serve.specs.declared.told.Closing.TheVariants as closing
+use Rattle.bay_serve.specs.declared.told.Turn.{Turn}
+use Rattle.bay_serving.specs.declared.host.BindFault.{BindFault}
+use Rattle.bay_serving.specs.declared.host.BindFault.TheVariants.{InUse, Denied, NoDescriptor, Failed}
+
+-- these texts, one after the other
+abbrev pub joined : List (List ℕ) → List ℕ
+joined [] = []
+joined (text ∷ texts) = text ++ joined texts
+
+-- ---- ports
+
+-- why a port can't be opened
+abbrev pub reason_of : BindFault → List ℕ
+reason_of InUse = codes "another program uses it"
+reason_of Denied = codes "permission denied"
+reason_of NoDescriptor = codes "too many open files"
+reason_of Failed = codes "the system does not open it"
+
+abbrev pub unbound_log : ℕ → BindFault → List ℕ
+unbound_log port fault =
+    joined (codes "bayctl: fault 121: port " ∷ decimal port ∷ codes ": " ∷ reason_of fault
+    ∷ codes "\n" ∷ [])
+
+-- the ports that are listened on: that of the clients, and that of the process, if there is one
+abbrev pub ports_log : ℕ → ℕ → Option ℕ → List ℕ
+ports_log now port None =
+    joined (decimal now ∷ codes " clients on 127.0.0.1:" ∷ decimal port ∷ codes "\n" ∷ [])
+ports_log now port (Some process) =
+    joined (decimal now ∷ codes " clients on 127.0.0.1:" ∷ decimal port
+    ∷ codes ", process on 127.0.0.1:" ∷ decimal process ∷ codes "\n" ∷ [])
+
+-- ---- associations
+
+-- what the number of the device's fault means
+abbrev pub fault_words : ℕ → List ℕ
+fault_words code =
+    if code == 10 then codes "no TPKT"
+    else if code == 11 then codes "a TPDU that is malformed, unknown or out of place"
+    else if code == 12 then codes "a transport class other than 0"
+    else if code == 13 then codes "a TSDU of more than 70,000 octets"
+    else if code == 20 then codes "no SPDU"
+    else if code == 21 then codes "a malformed PPDU"
+    else if code == 22 then codes "a presentation context that was not offered or accepted"
+    else if code == 23 then codes "an APDU that can't be read"
+    else if code == 24 then codes "an SPDU out of place"
+    else if code == 25 then codes "a PDU size below 256"
+    else codes "octets that can't be read"
+
+abbrev pub closing_words : Closing → List ℕ
+closing_words closing.Ended = codes "its client ended it"
+closing_words (closing.Fault code) = fault_words code
+closing_words closing.QueueFull = codes "a reply does not fit its queue"
+closing_words closing.LinkFailed = codes "its connection failed, or sent nothing"
+
+-- one of the four octets of an address
+abbrev pub octet_text : SocketAddrV4 → ℕ → List ℕ
+octet_text from k = decimal (slice_index (ipv4_octets (v4_ip from)) k)
+
+-- one was opened from an address
+abbrev pub opened_line : ℕ → ℕ × SocketAddrV4 → List ℕ
+opened_line now opened =
+    joined (decimal now ∷ codes " association " ∷ decimal opened.0 ∷ codes " open from "
+    ∷ octet_text opened.1 0 ∷ codes "." ∷ octet_text opened.1 1 ∷ codes "." ∷ octet_text opened.1 2
+    ∷ codes "." ∷ octet_text opened.1 3 ∷ codes ":" ∷ decimal (v4_port opened.1) ∷ codes "\n" ∷ [])
+
+abbrev pub opened_log : ℕ → Option (ℕ × SocketAddrV4) → List (List ℕ)
+opened_log now None = []
+opened_log now (Some opened) = opened_line now opened ∷ []
+
+-- one was closed
+abbrev pub closed_line : ℕ → ℕ × Closing → List ℕ
+closed_line now closed =
+    joined (decimal now ∷ codes " association " ∷ decimal closed.0 ∷ codes " closed "
+    ∷ decimal (code_of closed.1) ∷ codes ": " ∷ closing_words closed.1 ∷ codes "\n" ∷ [])
+
+-- one was closed for want of memory
+abbrev pub memory_line : ℕ → ℕ → List ℕ
+memory_line now a =
+    joined (decimal now ∷ codes " association " ∷ decimal a ∷ codes " closed memory\n" ∷ [])
+
+-- ---- turns
+
+-- the device refused what a line told
+abbrev pub refused_line : ℕ → ℕ → List ℕ → List ℕ
+refused_line now code line =
+    joined (decimal now ∷ codes " refused " ∷ decimal code ∷ codes ": " ∷ shown_text line
+    ∷ codes "\n" ∷ [])
+
+abbrev pub refused_log : ℕ → Option ℕ → List ℕ → List (List ℕ)
+refused_log now None line = []
+refused_log now (Some code) line = refused_line now code line ∷ []
+
+-- A turn with this line: an association was opened, the line was refused, associations were closed.
+abbrev pub turn_log : ℕ → List ℕ → Turn → List (List ℕ)
+turn_log now line turn =
+    opened_log now turn.opened ++ refused_log now turn.refused line
+    ++ map (closed_line now) turn.closed ++ map (memory_line now) turn.memory
+
+-- a turn was not done, with this line of the trace, by its number
+abbrev pub unserved_log : ServeFault → ℕ → List ℕ → List ℕ
+unserved_log BadLine k line =
+    joined (codes "bayctl: fault 120 line " ∷ decimal k ∷ codes ": " ∷ shown_text line ∷ codes "\n"
+    ∷ [])
+unserved_log MomentTooLarge k line = codes "bayctl: fault 114: the clock is past the last moment\n"
+
+-- all turns were served
+abbrev pub used_up_log : ℕ → List ℕ
+used_up_log now = joined (decimal now ∷ codes " all turns are served\n" ∷ [])
+
+-- ---- the process
+
+abbrev pub parting_words : Parting → List ℕ
+parting_words parting.Ended = codes "it ended its connection"
+parting_words (parting.BadLine line) = line
+parting_words parting.QueueFull = codes "what it is told does not fit its queue"
+parting_words parting.LinkFailed = codes "its connection failed, or sent nothing"
+
+abbrev pub news_log : ℕ → News → List ℕ
+news_log now Opened = joined (decimal now ∷ codes " process open\n" ∷ [])
+news_log now (Closed why) =
+    joined (decimal now ∷ codes " process closed " ∷ decimal (port_code_of why) ∷ codes ": "
+    ∷ parting_words why ∷ codes "\n" ∷ [])

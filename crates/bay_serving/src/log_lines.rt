@@ -1,0 +1,297 @@
+// What is logged of a server.
+ghost use Rattle.std.specs.Prelude.{◌≡◌, Some, map};
+ghost use Rattle.bay_io.specs.Sent.{Logs};
+ghost use Rattle.bay_serving.specs.Logging.{LogsAll};
+ghost use Rattle.bay_serving.specs.LogLines.{closed_line, memory_line, news_log, opened_line, opened_log, ports_log, reason_of, refused_line, refused_log, turn_log, unbound_log, unserved_log, used_up_log};
+ghost use Rattle.bay_serving.specs.LogLines as spec;
+ghost use Rattle.bay_port.specs.declared.news.News.TheVariants.{Closed};
+ghost use Rattle.bay_serve.specs.declared.fault.ServeFault.TheVariants.{BadLine};
+
+use crate::host::BindFault;
+use bay_io::calls::{Part, Sink};
+use bay_io::writer::WatchedWriter;
+use bay_lines::shown::Shown;
+use bay_port::news::{News, Parting};
+use bay_serve::fault::ServeFault;
+use bay_serve::told::{Closing, Turn};
+use std::net::SocketAddrV4;
+
+/// Logs why a port can't be opened.
+pub fn log_unbound<W: Sink>(writer: &mut WatchedWriter<W>, port: u16, fault: BindFault)
+    ensures { Logs W.contents W.does writer.old (unbound_log port fault) writer.new }
+{
+    writer.log(&[
+        Part::Text(b"bayctl: fault 121: port "),
+        Part::Number(u64::from(port)),
+        Part::Text(b": "),
+        Part::Text(fault.reason()),
+        Part::Text(b"\n"),
+    ]);
+}
+
+/// Logs the ports of the clients and of the process.
+fn log_both_ports<W: Sink>(writer: &mut WatchedWriter<W>, moment: u64, port: u16, process: u16)
+    ensures { Logs W.contents W.does writer.old (ports_log moment port (Some process)) writer.new }
+{
+    writer.log(&[
+        Part::Number(moment),
+        Part::Text(b" clients on 127.0.0.1:"),
+        Part::Number(u64::from(port)),
+        Part::Text(b", process on 127.0.0.1:"),
+        Part::Number(u64::from(process)),
+        Part::Text(b"\n"),
+    ]);
+}
+
+/// Logs the port of the clients, and that of the process, if there is one.
+pub fn log_ports<W: Sink>(
+    writer: &mut WatchedWriter<W>,
+    moment: u64,
+    port: u16,
+    process: Option<u16>,
+)
+    ensures { Logs W.contents W.does writer.old (ports_log moment port process) writer.new }
+{
+    match process {
+        Some(process) => log_both_ports(writer, moment, port, process),
+        None => writer.log(&[
+            Part::Number(moment),
+            Part::Text(b" clients on 127.0.0.1:"),
+            Part::Number(u64::from(port)),
+            Part::Text(b"\n"),
+        ]),
+    }
+}
+
+/// Returns what the number of the device's fault means.
+fn fault_words(code: u8) -> &'static [u8]
+    ensures { result.now ≡ spec.fault_words code }
+{
+    match code {
+        10 => b"no TPKT",
+        11 => b"a TPDU that is malformed, unknown or out of place",
+        12 => b"a transport class other than 0",
+        13 => b"a TSDU of more than 70,000 octets",
+        20 => b"no SPDU",
+        21 => b"a malformed PPDU",
+        22 => b"a presentation context that was not offered or accepted",
+        23 => b"an APDU that can't be read",
+        24 => b"an SPDU out of place",
+        25 => b"a PDU size below 256",
+        _ => b"octets that can't be read",
+    }
+}
+
+/// Returns why an association was closed, in words.
+fn closing_words(closing: Closing) -> &'static [u8]
+    ensures { result.now ≡ spec.closing_words closing }
+{
+    match closing {
+        Closing::Ended => b"its client ended it",
+        Closing::Fault(code) => fault_words(code),
+        Closing::QueueFull => b"a reply does not fit its queue",
+        Closing::LinkFailed => b"its connection failed, or sent nothing",
+    }
+}
+
+/// Logs that an association was opened, and from where.
+fn log_open<W: Sink>(writer: &mut WatchedWriter<W>, moment: u64, opened: (u16, SocketAddrV4))
+    ensures { Logs W.contents W.does writer.old (opened_line moment opened) writer.new }
+{
+    let (association, from) = opened;
+    let octets = from.ip().octets();
+    writer.log(&[
+        Part::Number(moment),
+        Part::Text(b" association "),
+        Part::Number(u64::from(association)),
+        Part::Text(b" open from "),
+        Part::Number(u64::from(octets[0])),
+        Part::Text(b"."),
+        Part::Number(u64::from(octets[1])),
+        Part::Text(b"."),
+        Part::Number(u64::from(octets[2])),
+        Part::Text(b"."),
+        Part::Number(u64::from(octets[3])),
+        Part::Text(b":"),
+        Part::Number(u64::from(from.port())),
+        Part::Text(b"\n"),
+    ]);
+}
+
+/// Logs that an association was opened, if one was.
+fn log_opened<W: Sink>(
+    writer: &mut WatchedWriter<W>,
+    moment: u64,
+    opened: Option<(u16, SocketAddrV4)>,
+)
+    ensures { LogsAll W.contents W.does writer.old (opened_log moment opened) writer.new }
+{
+    match opened {
+        Some(opened) => log_open(writer, moment, opened),
+        None => {}
+    }
+}
+
+/// Logs that the device refused what a line told.
+fn log_refusal<W: Sink>(writer: &mut WatchedWriter<W>, moment: u64, code: u8, line: &[u8])
+    ensures { Logs W.contents W.does writer.old (refused_line moment code line.now) writer.new }
+{
+    let line = Shown::new(line);
+    writer.log(&[
+        Part::Number(moment),
+        Part::Text(b" refused "),
+        Part::Number(u64::from(code)),
+        Part::Text(b": "),
+        Part::Text(line.as_slice()),
+        Part::Text(b"\n"),
+    ]);
+}
+
+/// Logs that the device refused what a line told, if it did.
+fn log_refused<W: Sink>(
+    writer: &mut WatchedWriter<W>,
+    moment: u64,
+    refused: Option<u8>,
+    line: &[u8],
+)
+    ensures { LogsAll W.contents W.does writer.old (refused_log moment refused line.now)
+        writer.new }
+{
+    match refused {
+        Some(code) => log_refusal(writer, moment, code, line),
+        None => {}
+    }
+}
+
+/// Logs that an association was closed, and why.
+fn log_closed<W: Sink>(writer: &mut WatchedWriter<W>, moment: u64, closed: (u16, Closing))
+    ensures { Logs W.contents W.does writer.old (closed_line moment closed) writer.new }
+{
+    let (association, closing) = closed;
+    writer.log(&[
+        Part::Number(moment),
+        Part::Text(b" association "),
+        Part::Number(u64::from(association)),
+        Part::Text(b" closed "),
+        Part::Number(u64::from(closing.code())),
+        Part::Text(b": "),
+        Part::Text(closing_words(closing)),
+        Part::Text(b"\n"),
+    ]);
+}
+
+/// Logs the associations that were closed.
+fn log_closings<W: Sink>(writer: &mut WatchedWriter<W>, moment: u64, closed: &[(u16, Closing)])
+    ensures { LogsAll W.contents W.does writer.old (map (closed_line moment) closed.now)
+        writer.new }
+{
+    for entry in closed {
+        log_closed(writer, moment, *entry);
+    }
+}
+
+/// Logs that an association was closed because the device was out of memory.
+fn log_memory<W: Sink>(writer: &mut WatchedWriter<W>, moment: u64, association: u16)
+    ensures { Logs W.contents W.does writer.old (memory_line moment association) writer.new }
+{
+    writer.log(&[
+        Part::Number(moment),
+        Part::Text(b" association "),
+        Part::Number(u64::from(association)),
+        Part::Text(b" closed memory\n"),
+    ]);
+}
+
+/// Logs the associations that were closed because the device was out of memory.
+fn log_memories<W: Sink>(writer: &mut WatchedWriter<W>, moment: u64, memory: &[u16])
+    ensures { LogsAll W.contents W.does writer.old (map (memory_line moment) memory.now)
+        writer.new }
+{
+    for association in memory {
+        log_memory(writer, moment, *association);
+    }
+}
+
+/// Logs what a turn with this line reports, but for its commands.
+pub fn log_turn<W: Sink>(writer: &mut WatchedWriter<W>, moment: u64, line: &[u8], turn: &Turn)
+    ensures { LogsAll W.contents W.does writer.old (turn_log moment line.now turn.now) writer.new }
+{
+    log_opened(writer, moment, turn.opened);
+    log_refused(writer, moment, turn.refused, line);
+    log_closings(writer, moment, turn.closed.as_slice());
+    log_memories(writer, moment, turn.memory.as_slice());
+}
+
+/// Logs which line of the trace is not valid.
+fn log_bad_line<W: Sink>(writer: &mut WatchedWriter<W>, number: usize, line: &[u8])
+    ensures { Logs W.contents W.does writer.old (unserved_log BadLine number line.now) writer.new }
+{
+    let line = Shown::new(line);
+    writer.log(&[
+        Part::Text(b"bayctl: fault 120 line "),
+        Part::Number(number as u64),
+        Part::Text(b": "),
+        Part::Text(line.as_slice()),
+        Part::Text(b"\n"),
+    ]);
+}
+
+/// Logs why a turn was not done, with its line of the trace.
+pub fn log_unserved<W: Sink>(
+    writer: &mut WatchedWriter<W>,
+    fault: ServeFault,
+    number: usize,
+    line: &[u8],
+)
+    ensures { Logs W.contents W.does writer.old (unserved_log fault number line.now) writer.new }
+{
+    match fault {
+        ServeFault::BadLine => log_bad_line(writer, number, line),
+        ServeFault::MomentTooLarge => writer.log(&[Part::Text(
+            b"bayctl: fault 114: the clock is past the last moment\n",
+        )]),
+    }
+}
+
+/// Logs that all turns were served.
+pub fn log_used_up<W: Sink>(writer: &mut WatchedWriter<W>, moment: u64)
+    ensures { Logs W.contents W.does writer.old (used_up_log moment) writer.new }
+{
+    writer.log(&[Part::Number(moment), Part::Text(b" all turns are served\n")]);
+}
+
+/// Returns why the connection of the process was closed, in words.
+fn parting_words(why: &Parting) -> &[u8]
+    ensures { result.now ≡ spec.parting_words why.now }
+{
+    match why {
+        Parting::Ended => b"it ended its connection",
+        Parting::BadLine(line) => line.as_slice(),
+        Parting::QueueFull => b"what it is told does not fit its queue",
+        Parting::LinkFailed => b"its connection failed, or sent nothing",
+    }
+}
+
+/// Logs that the connection of the process was closed, and why.
+fn log_parting<W: Sink>(writer: &mut WatchedWriter<W>, moment: u64, why: &Parting)
+    ensures { Logs W.contents W.does writer.old (news_log moment (Closed why.now)) writer.new }
+{
+    writer.log(&[
+        Part::Number(moment),
+        Part::Text(b" process closed "),
+        Part::Number(u64::from(why.code())),
+        Part::Text(b": "),
+        Part::Text(parting_words(why)),
+        Part::Text(b"\n"),
+    ]);
+}
+
+/// Logs what happened to the connection of the process.
+pub fn log_news<W: Sink>(writer: &mut WatchedWriter<W>, moment: u64, news: &News)
+    ensures { Logs W.contents W.does writer.old (news_log moment news.now) writer.new }
+{
+    match news {
+        News::Opened => writer.log(&[Part::Number(moment), Part::Text(b" process open\n")]),
+        News::Closed(why) => log_parting(writer, moment, why),
+    }
+}

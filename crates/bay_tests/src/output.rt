@@ -1,0 +1,82 @@
+// Output whose readers take nothing for a while.
+use bay_io::calls::{Part, Sink};
+use bay_output::output::Output;
+use bay_output::queue::Queue;
+use std::cell::{Cell, RefCell};
+use std::io;
+use std::io::Write;
+use std::test::Fail;
+
+/// A reader that takes what is written while it is open.
+#[derive(Drop)]
+struct Reader<'a> {
+    is_open: &'a Cell<bool>,
+    taken: &'a RefCell<Vec<u8>>,
+}
+
+impl Write for Reader<'_> {
+    fn write(&mut self, buf: &[u8]) -> io::Result<usize> {
+        if !self.is_open.get() {
+            return Ok(0);
+        }
+        self.taken.try_borrow_mut()?.extend_from_slice(buf)?;
+        Ok(buf.len())
+    }
+
+    fn flush(&mut self) -> io::Result<()> {
+        Ok(())
+    }
+}
+
+/// 65,536 octets, the most that are written at once.
+const PIECE: [u8; 65_536] = [b'a'; 65_536];
+
+#[test]
+fn a_queue_that_is_full(rt: HostRuntime) -> Result<(), Fail> {
+    let (is_open, taken) = (Cell::new(false), RefCell::new(Vec::new(rt.alloc())));
+    let (out, err) = (
+        Reader {
+            is_open: &is_open,
+            taken: &taken,
+        },
+        Reader {
+            is_open: &is_open,
+            taken: &taken,
+        },
+    );
+    let mut output = Output::new(out, err, Some(Queue::new(rt.alloc())?));
+    for _ in 0..16 {
+        assert!(rt; output.write_octets(&PIECE)? == 65_536);
+    }
+    assert!(rt; output.write_octets(b"b").is_err());
+    is_open.set(true);
+    assert!(rt; output.write_octets(b"b")? == 1);
+    output.flush_octets()?;
+    let all = taken.into_inner();
+    assert!(rt; all.len() == 1_048_577 && all.last() == Some(&b'b'));
+    Ok(())
+}
+
+#[test]
+fn a_log_that_nobody_reads(rt: HostRuntime) -> Result<(), Fail> {
+    let (is_open, taken) = (Cell::new(false), RefCell::new(Vec::new(rt.alloc())));
+    let (out, err) = (
+        Reader {
+            is_open: &is_open,
+            taken: &taken,
+        },
+        Reader {
+            is_open: &is_open,
+            taken: &taken,
+        },
+    );
+    let mut output = Output::new(out, err, None);
+    output.log_line(&[Part::Text(b"first "), Part::Number(1), Part::Text(b"\n")]);
+    output.log_line(&[Part::Text(&PIECE)]);
+    output.log_line(&[Part::Text(&PIECE)]);
+    is_open.set(true);
+    output.log_line(&[Part::Text(b"last\n")]);
+    let all = taken.into_inner();
+    assert!(rt; all.as_slice() == b"first 1\n2 lines of the log were lost\nlast\n".as_slice());
+    Ok(())
+}

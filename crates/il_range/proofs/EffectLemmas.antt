@@ -1,0 +1,446 @@
+-- The effect of an instruction without a jump stands for its step, unless that traps.
+use Rattle.std.proofs.Common.{◌≡◌, ℕ, ◌≤◌, Bool, true, false, cond, List, [], ◌∷◌, length, refl, sym, subst, arith, Option, Some, None, slice_get, slice_set}
+use Rattle.std.specs.Prelude.{◌&&◌, ◌||◌, not, nat_lt, option_and_then}
+use Rattle.std.specs.Ordering.{int_eq}
+use Rattle.std.proofs.lemmas.Option.{same_Some}
+use Rattle.il_image.specs.declared.arithmetic.Operation.{Operation}
+use Rattle.il_image.specs.declared.arithmetic.Width.{Width}
+use Rattle.il_image.specs.declared.arithmetic.Width.TheVariants as width
+use Rattle.il_image.specs.declared.instr.Instr.{Instr}
+use Rattle.il_image.specs.declared.instr.Instr.TheVariants.{Halt, Push, Drop, Slot, Not, Combine, Compute, Compare, Widen, Jump, Timer}
+use Rattle.il_image.specs.declared.opcode.SlotUse.TheVariants.{Load, Store, SetIf, ResetIf}
+use Rattle.il_image.specs.declared.opcode.Widening.{Widening}
+use Rattle.il_image.specs.declared.opcode.Widening.TheVariants.{IntToDint, DintToLint}
+use Rattle.il_image.specs.declared.opcode.TimerUse.TheVariants.{SetInput, SetPreset, Run, LoadOutput, LoadElapsed}
+use Rattle.il_image.specs.declared.timer.TimerState.{TimerState}
+use Rattle.il_image.specs.declared.value.Value.{Value}
+use Rattle.il_image.specs.declared.value.Value.TheVariants.{Truth, Short, Long, Wide, Span}
+use Rattle.il_image.specs.declared.arithmetic.Comparison.{Comparison}
+use Rattle.il_image.specs.declared.opcode.Connective.{Connective}
+use Rattle.il_image.specs.declared.opcode.TimerUse.{TimerUse}
+use Rattle.bay_base.specs.Types.{same_type}
+use Rattle.il_image.specs.Arithmetic.{comparison_holds, computation_of, logic_of}
+use Rattle.il_image.specs.Values.{number_of, type_of}
+use Rattle.il_image.specs.Machine.{State, Trap, Turn, Goes, Halts, Traps, FullStack, WrongKind, MissingSlot, MissingTimer, ZeroDivisor, act, as_number, as_truth, divides, is_comparable, pushes, stores, value_of_width, with_slot}
+use Rattle.il_image.specs.Machine as machine
+use Rattle.std.specs.Prelude.{ℤ, pos}
+use Rattle.il_image.specs.Timers.{after_call}
+use Rattle.il_range.specs.declared.timer.KnownTimer.{KnownTimer}
+use Rattle.il_range.proofs.TimerLemmas.{timer-called}
+use Rattle.il_range.specs.declared.range.Range.{Range}
+use Rattle.il_range.specs.declared.range.Range.TheVariants.{Any, No, Yes, Either, Between}
+use Rattle.il_range.specs.declared.known.Known.{Known}
+use Rattle.il_range.specs.Ranges.{AreTimersIn, IsIn, IsTimerIn, AreIn}
+use Rattle.il_range.specs.Effects.{Plain, both, compared, computed, connected, effect, either, exactly, negated, called, slot_of, timer_of, with_cells, with_input, with_preset, with_timer}
+use Rattle.il_range.specs.Pending.{Arrives, Covers, CoversAt, Held, Lands, Moves, held}
+use Rattle.il_range.proofs.RangeLemmas.{in-exactly, of-both, of-compared, of-connected, of-either, of-negated}
+use Rattle.il_range.proofs.NumberLemmas.{of-computed}
+use Rattle.il_range.proofs.ListLemmas.{are-get, are-set, each-get, each-set}
+
+-- the step goes to the next place, with what is covered there; or it traps
+abbrev NextIs : Turn → ℕ → ℕ → Plain → Type 0
+NextIs (Goes s) now next p = (s.place ≡ next) × Covers p (held now s)
+NextIs Halts now next p = ⊥
+NextIs (Traps trap) now next p = Unit {0}
+
+next-if : (b : Bool) (t : Turn) (trap : Trap) (now next : ℕ) (p : Plain) → NextIs t now next p
+    → NextIs (cond b t (Traps trap)) now next p
+next-if true t trap now next p h = h
+next-if false t trap now next p h = tt
+
+next-unless : (b : Bool) (t : Turn) (trap : Trap) (now next : ℕ) (p : Plain) → NextIs t now next p
+    → NextIs (cond b (Traps trap) t) now next p
+next-unless true t trap now next p h = tt
+next-unless false t trap now next p h = h
+
+next-slot : (n : ℕ) (s : State) (f : Value → Turn) (now next : ℕ) (p : Plain)
+    → ((v : Value) → slice_get s.slots n ≡ Some v → NextIs (f v) now next p)
+    → NextIs (with_slot n s f) now next p
+next-slot n s f now next p h = go (slice_get s.slots n) refl
+  where
+    go : (o : Option Value) → slice_get s.slots n ≡ o
+        → NextIs (elim o [ None ↦ Traps MissingSlot | Some v ↦ f v ]) now next p
+    go None e = tt
+    go (Some v) e = h v e
+
+next-timer : (n : ℕ) (s : State) (f : TimerState → Turn) (now next : ℕ) (p : Plain)
+    → ((t : TimerState) → slice_get s.timers n ≡ Some t → NextIs (f t) now next p)
+    → NextIs (machine.with_timer n s f) now next p
+next-timer n s f now next p h = go (slice_get s.timers n) refl
+  where
+    go : (o : Option TimerState) → slice_get s.timers n ≡ o
+        → NextIs (elim o [ None ↦ Traps MissingTimer | Some t ↦ f t ]) now next p
+    go None e = tt
+    go (Some t) e = h t e
+
+-- the range of a slot, and what its effect gives
+record Has (n : ℕ) (us : List Range) (f : Range → Option Plain) (p : Plain) : Type 0 where
+  range : Range
+  at : slice_get us n ≡ Some range
+  gives : f range ≡ Some p
+
+has : (n : ℕ) (us : List Range) (f : Range → Option Plain) (p : Plain)
+    → slot_of n us f ≡ Some p → Has n us f p
+has n us f p e = go (slice_get us n) refl e
+  where
+    go : (o : Option Range) → slice_get us n ≡ o → option_and_then f o ≡ Some p → Has n us f p
+    go None at e = absurd (cc)
+    go (Some r) at e = record { range = r; at = at; gives = e }
+
+abbrev state_of : ℕ → List Value → List Value → List TimerState → State
+state_of place cells slots timers =
+    record { place = place; cells = cells; slots = slots; timers = timers }
+
+-- the known of a timer, and what its effect gives
+record HasTimer (n : ℕ) (us : List KnownTimer) (f : KnownTimer → Option Plain) (p : Plain)
+    : Type 0 where
+  known : KnownTimer
+  at : slice_get us n ≡ Some known
+  gives : f known ≡ Some p
+
+has-timer : (n : ℕ) (us : List KnownTimer) (f : KnownTimer → Option Plain) (p : Plain)
+    → timer_of n us f ≡ Some p → HasTimer n us f p
+has-timer n us f p e = go (slice_get us n) refl e
+  where
+    go : (o : Option KnownTimer) → slice_get us n ≡ o → option_and_then f o ≡ Some p
+        → HasTimer n us f p
+    go None at e = absurd (cc)
+    go (Some r) at e = record { known = r; at = at; gives = e }
+
+module _ (now next place : ℕ) (timers : List TimerState) (ts : List KnownTimer)
+    (fits : AreTimersIn now timers ts) (p : Plain) where
+  abbrev plain_of : List Range → List Range → Plain
+  plain_of rs us = record { cells = rs; slots = us; timers = ts }
+
+  -- the state is covered with these cells, slots and timers
+  abbrev DoneWith : List Value → List Value → List TimerState → Type 0
+  DoneWith cells slots after =
+      Covers p (record { now = now; cells = cells; slots = slots; timers = after })
+
+  abbrev Done : List Value → List Value → Type 0
+  Done cells slots = DoneWith cells slots timers
+
+  covers-with : (q : Plain) (cells slots : List Value) (after : List TimerState) → Some q ≡ Some p
+      → AreIn cells q.cells → AreIn slots q.slots → AreTimersIn now after q.timers
+      → DoneWith cells slots after
+  covers-with q cells slots after e h k t =
+      subst (λ (r : Plain). Covers r (record { now = now; cells = cells; slots = slots; timers = after }))
+      (same_Some q p e) (record { cells = h; slots = k; timers = t })
+
+  covers-along : (rs us : List Range) (cells slots : List Value) → Some (plain_of rs us) ≡ Some p
+      → AreIn cells rs → AreIn slots us → Done cells slots
+  covers-along rs us cells slots e h k = covers-with (plain_of rs us) cells slots timers e h k fits
+
+  timers-get : (n : ℕ) (t : TimerState) (u : KnownTimer) → slice_get timers n ≡ Some t
+      → slice_get ts n ≡ Some u → IsTimerIn now t u
+  timers-get n t u at there = each-get (IsTimerIn now) timers ts n t u fits at there
+
+  -- a timer has changed
+  timer-done : (rs us : List Range) (n : ℕ) (t : TimerState) (u : KnownTimer)
+      (cells slots : List Value) → with_timer rs n u (plain_of rs us) ≡ Some p
+      → AreIn cells rs → AreIn slots us → IsTimerIn now t u
+      → DoneWith cells slots (slice_set timers n t)
+  timer-done rs us n t u cells slots e h k is =
+      covers-with (record { cells = rs; slots = us; timers = slice_set ts n u }) cells slots
+      (slice_set timers n t) e h k (each-set (IsTimerIn now) timers ts n t u fits is)
+
+  -- what the step of an instruction comes to
+  abbrev Comes : Instr → List Value → List Value → Type 0
+  Comes i cells slots = NextIs (act now i next (state_of place cells slots timers)) now next p
+
+  comes-load : (n : ℕ) (rs us : List Range) → effect (Slot Load n) (plain_of rs us) ≡ Some p
+      → (cells slots : List Value) → AreIn cells rs → AreIn slots us
+      → Comes (Slot Load n) cells slots
+  unfolding act
+  comes-load n rs us e cells slots h k =
+      let g = has n us (λ r. with_cells (r ∷ rs) (plain_of rs us)) p e in
+      next-slot n (state_of place cells slots timers) _ now next p
+      (λ v at. next-if (nat_lt (length cells) 32) _ FullStack now next p (
+        refl,
+        covers-along (g.range ∷ rs) us (v ∷ cells) slots g.gives
+            (are-get slots us n v g.range k at g.at, h) k,
+      ))
+
+  comes-store : (n : ℕ) (rs us : List Range) → effect (Slot Store n) (plain_of rs us) ≡ Some p
+      → (cells slots : List Value) → AreIn cells rs → AreIn slots us
+      → Comes (Slot Store n) cells slots
+  unfolding act
+  comes-store n rs us e [] slots h k =
+      next-slot n (state_of place [] slots timers) _ now next p (λ v at. tt)
+  comes-store n [] us e (v ∷ cells) slots h k = absurd h
+  comes-store n (r ∷ rs) us e (v ∷ cells) slots h k =
+      let g = has n us (λ old. Some (plain_of (r ∷ rs) (slice_set us n r))) p e in
+      let done : Done (v ∷ cells) (slice_set slots n v) =
+      covers-along (r ∷ rs) (slice_set us n r) (v ∷ cells) (slice_set slots n v)
+      g.gives h (are-set slots us n v r k h.0) in
+      next-slot n (state_of place (v ∷ cells) slots timers) _ now next p
+      (λ old at. next-if (same_type (type_of v) (type_of old))
+      (stores n v next (state_of place (v ∷ cells) slots timers)) WrongKind now next p (refl, done))
+
+  -- a slot of a truth changes
+  change-next : (old : Value) (n : ℕ) (f : Bool → Bool) (s : State) (range : Range)
+      → IsIn old range
+      → ((o : Bool) → IsIn (Truth o) range
+      → DoneWith s.cells (slice_set s.slots n (Truth (f o))) s.timers)
+      → NextIs (as_truth old (λ o. stores n (Truth (f o)) next s)) now next p
+  change-next (Truth o) n f s range h k = (refl, k o h)
+  change-next old n f s range h k = tt
+
+  comes-set : (n : ℕ) (rs us : List Range) → effect (Slot SetIf n) (plain_of rs us) ≡ Some p
+      → (cells slots : List Value) → AreIn cells rs → AreIn slots us
+      → Comes (Slot SetIf n) cells slots
+  unfolding act
+  comes-set n [] us e (v ∷ cells) slots h k = absurd h
+  comes-set n (r ∷ rs) us e (Truth b ∷ cells) slots h k =
+      let g = has n us (λ old. Some (plain_of (r ∷ rs) (slice_set us n (either r old)))) p e in
+      next-slot n (state_of place (Truth b ∷ cells) slots timers) _ now next p
+      (λ old at. change-next old n (λ o. b || o) (state_of place (Truth b ∷ cells) slots timers)
+      g.range (are-get slots us n old g.range k at g.at)
+      (λ o is. covers-along (r ∷ rs) (slice_set us n (either r g.range))
+      (Truth b ∷ cells) (slice_set slots n (Truth (b || o))) g.gives h
+      (are-set slots us n (Truth (b || o)) (either r g.range) k (of-either b o r g.range h.0 is))))
+  comes-set n rs us e cells slots h k =
+      next-slot n (state_of place cells slots timers) _ now next p (λ v at. tt)
+
+  comes-reset : (n : ℕ) (rs us : List Range) → effect (Slot ResetIf n) (plain_of rs us) ≡ Some p
+      → (cells slots : List Value) → AreIn cells rs → AreIn slots us
+      → Comes (Slot ResetIf n) cells slots
+  unfolding act
+  comes-reset n [] us e (v ∷ cells) slots h k = absurd h
+  comes-reset n (r ∷ rs) us e (Truth b ∷ cells) slots h k =
+      let g = has n us (λ old. Some (plain_of (r ∷ rs) (slice_set us n (both (negated r) old)))) p e
+      in
+      next-slot n (state_of place (Truth b ∷ cells) slots timers) _ now next p
+      (λ old at. change-next old n (λ o. not b && o) (state_of place (Truth b ∷ cells) slots timers)
+      g.range (are-get slots us n old g.range k at g.at)
+      (λ o is. covers-along (r ∷ rs) (slice_set us n (both (negated r) g.range))
+      (Truth b ∷ cells) (slice_set slots n (Truth (not b && o))) g.gives h
+      (are-set slots us n (Truth (not b && o)) (both (negated r) g.range) k
+      (of-both (not b) o (negated r) g.range (of-negated b r h.0) is))))
+  comes-reset n rs us e cells slots h k =
+      next-slot n (state_of place cells slots timers) _ now next p (λ v at. tt)
+
+  comes-combine : (c : Connective) (rs us : List Range)
+      → effect (Combine c) (plain_of rs us) ≡ Some p
+      → (cells slots : List Value) → AreIn cells rs → AreIn slots us → Comes (Combine c) cells slots
+  unfolding act
+  comes-combine c [] us e cells slots h k = absurd (cc)
+  comes-combine c (r ∷ []) us e cells slots h k = absurd (cc)
+  comes-combine c (rb ∷ ra ∷ rs) us e (Truth b ∷ Truth a ∷ cells) slots h k = (
+    refl,
+    covers-along (connected c ra rb ∷ rs) us (Truth (logic_of c a b) ∷ cells) slots e
+        (of-connected c a b ra rb h.1.0 h.0, h.1.1) k,
+  )
+  comes-combine c (rb ∷ ra ∷ rs) us e [] slots h k = tt
+  comes-combine c (rb ∷ ra ∷ rs) us e (v ∷ []) slots h k = tt
+  comes-combine c (rb ∷ ra ∷ rs) us e (v ∷ u ∷ cells) slots h k = tt
+
+  comes-compare : (c : Comparison) (rs us : List Range)
+      → effect (Compare c) (plain_of rs us) ≡ Some p
+      → (cells slots : List Value) → AreIn cells rs → AreIn slots us → Comes (Compare c) cells slots
+  unfolding act
+  comes-compare c [] us e cells slots h k = absurd (cc)
+  comes-compare c (r ∷ []) us e cells slots h k = absurd (cc)
+  comes-compare c (rb ∷ ra ∷ rs) us e [] slots h k = tt
+  comes-compare c (rb ∷ ra ∷ rs) us e (v ∷ []) slots h k = tt
+  comes-compare c (rb ∷ ra ∷ rs) us e (v ∷ u ∷ cells) slots h k =
+      let x = Truth (comparison_holds c (number_of u) (number_of v)) in
+      let done : Done (x ∷ cells) slots =
+      covers-along (compared c ra rb ∷ rs) us (x ∷ cells) slots e
+      (of-compared c u v ra rb h.1.0 h.0, h.1.1) k in
+      next-if (is_comparable c u v)
+      (Goes (state_of next (x ∷ cells) slots timers)) WrongKind now next p (refl, done)
+
+  number-next : (w : Width) (v : Value) (f : ℤ → Turn)
+      → ((z : ℤ) → number_of v ≡ z → NextIs (f z) now next p) → NextIs (as_number w v f) now next p
+  number-next width.Int (Short z) f h = h z refl
+  number-next width.Dint (Long z) f h = h z refl
+  number-next width.Lint (Wide z) f h = h z refl
+  number-next w v f h = tt
+
+  comes-compute : (o : Operation) (w : Width) (rs us : List Range)
+      → effect (Compute o w) (plain_of rs us) ≡ Some p
+      → (cells slots : List Value) → AreIn cells rs → AreIn slots us
+      → Comes (Compute o w) cells slots
+  unfolding act
+  comes-compute o w [] us e cells slots h k = absurd (cc)
+  comes-compute o w (r ∷ []) us e cells slots h k = absurd (cc)
+  comes-compute o w (rb ∷ ra ∷ rs) us e [] slots h k = tt
+  comes-compute o w (rb ∷ ra ∷ rs) us e (v ∷ []) slots h k = tt
+  comes-compute o w (rb ∷ ra ∷ rs) us e (v ∷ u ∷ cells) slots h k =
+      number-next w v _ (λ b is_b. number-next w u _
+      (λ a is_a. let x = value_of_width w (computation_of o w a b) in
+      let done : Done (x ∷ cells) slots =
+      covers-along (computed o w ra rb ∷ rs) us (x ∷ cells) slots e
+      (of-computed o w u v a b ra rb is_a is_b h.1.0 h.0, h.1.1) k in
+      next-unless (divides o && int_eq b (pos 0))
+      (Goes (state_of next (x ∷ cells) slots timers)) ZeroDivisor now next p (refl, done)))
+
+  short-long : (z : ℤ) (r : Range) → IsIn (Short z) r → IsIn (Long z) r
+  short-long z Any h = h
+  short-long z No h = h
+  short-long z Yes h = h
+  short-long z Either h = h
+  short-long z (Between l m) h = h
+
+  long-wide : (z : ℤ) (r : Range) → IsIn (Long z) r → IsIn (Wide z) r
+  long-wide z Any h = h
+  long-wide z No h = h
+  long-wide z Yes h = h
+  long-wide z Either h = h
+  long-wide z (Between l m) h = h
+
+  comes-widen : (w : Widening) (rs us : List Range)
+      → effect (Widen w) (plain_of rs us) ≡ Some p
+      → (cells slots : List Value) → AreIn cells rs → AreIn slots us → Comes (Widen w) cells slots
+  unfolding act
+  comes-widen w [] us e (v ∷ cells) slots h k = absurd h
+  comes-widen IntToDint (r ∷ rs) us e (Short z ∷ cells) slots h k =
+      (refl, covers-along (r ∷ rs) us (Long z ∷ cells) slots e (short-long z r h.0, h.1) k)
+  comes-widen DintToLint (r ∷ rs) us e (Long z ∷ cells) slots h k =
+      (refl, covers-along (r ∷ rs) us (Wide z ∷ cells) slots e (long-wide z r h.0, h.1) k)
+  comes-widen w rs us e cells slots h k = tt
+
+  comes-input : (n : ℕ) (rs us : List Range)
+      → effect (Timer SetInput n) (plain_of rs us) ≡ Some p
+      → (cells slots : List Value) → AreIn cells rs → AreIn slots us
+      → Comes (Timer SetInput n) cells slots
+  unfolding act
+  comes-input n rs us e [] slots h k =
+      next-timer n (state_of place [] slots timers) _ now next p (λ t at. tt)
+  comes-input n [] us e (v ∷ cells) slots h k = absurd h
+  comes-input n (r ∷ rs) us e (Truth b ∷ cells) slots h k =
+      let g = has-timer n ts (λ u. with_timer rs n (with_input r u) (plain_of rs us)) p e in
+      next-timer n (state_of place (Truth b ∷ cells) slots timers) _ now next p
+      (λ t at. let was = timers-get n t g.known at g.at in (
+        refl,
+        timer-done rs us n (record t { input = b }) (with_input r g.known) cells slots g.gives
+            h.1 k
+            (record {
+              of_kind = was.of_kind;
+              in_input = h.0;
+              in_preset = was.in_preset;
+              in_output = was.in_output;
+              in_elapsed = was.in_elapsed;
+              young = was.young;
+            }),
+      ))
+  comes-input n rs us e (v ∷ cells) slots h k =
+      next-timer n (state_of place (v ∷ cells) slots timers) _ now next p (λ t at. tt)
+
+  comes-preset : (n : ℕ) (rs us : List Range)
+      → effect (Timer SetPreset n) (plain_of rs us) ≡ Some p
+      → (cells slots : List Value) → AreIn cells rs → AreIn slots us
+      → Comes (Timer SetPreset n) cells slots
+  unfolding act
+  comes-preset n rs us e [] slots h k =
+      next-timer n (state_of place [] slots timers) _ now next p (λ t at. tt)
+  comes-preset n [] us e (v ∷ cells) slots h k = absurd h
+  comes-preset n (r ∷ rs) us e (Span d ∷ cells) slots h k =
+      let g = has-timer n ts (λ u. with_timer rs n (with_preset r u) (plain_of rs us)) p e in
+      next-timer n (state_of place (Span d ∷ cells) slots timers) _ now next p
+      (λ t at. let was = timers-get n t g.known at g.at in (
+        refl,
+        timer-done rs us n (record t { preset = d }) (with_preset r g.known) cells slots g.gives
+            h.1 k
+            (record {
+              of_kind = was.of_kind;
+              in_input = was.in_input;
+              in_preset = h.0;
+              in_output = was.in_output;
+              in_elapsed = was.in_elapsed;
+              young = was.young;
+            }),
+      ))
+  comes-preset n rs us e (v ∷ cells) slots h k =
+      next-timer n (state_of place (v ∷ cells) slots timers) _ now next p (λ t at. tt)
+
+  -- what is known of a timer is pushed
+  comes-read : (n : ℕ) (rs us : List Range) (read : KnownTimer → Range) (f : TimerState → Value)
+      → ((t : TimerState) (u : KnownTimer) → IsTimerIn now t u → IsIn (f t) (read u))
+      → timer_of n ts (λ u. with_cells (read u ∷ rs) (plain_of rs us)) ≡ Some p
+      → (cells slots : List Value) → AreIn cells rs → AreIn slots us
+      → NextIs (machine.with_timer n (state_of place cells slots timers)
+      (λ t. pushes (f t) next (state_of place cells slots timers))) now next p
+  comes-read n rs us read f fits_in e cells slots h k =
+      let g = has-timer n ts (λ u. with_cells (read u ∷ rs) (plain_of rs us)) p e in
+      next-timer n (state_of place cells slots timers) _ now next p
+      (λ t at. let done : Done (f t ∷ cells) slots =
+      covers-along (read g.known ∷ rs) us (f t ∷ cells) slots g.gives
+      (fits_in t g.known (timers-get n t g.known at g.at), h) k in
+      next-if (nat_lt (length cells) 32)
+      (Goes (state_of next (f t ∷ cells) slots timers)) FullStack now next p (refl, done))
+
+  comes-timer : (t : TimerUse) (n : ℕ) (rs us : List Range)
+      → effect (Timer t n) (plain_of rs us) ≡ Some p
+      → (cells slots : List Value) → AreIn cells rs → AreIn slots us → Comes (Timer t n) cells slots
+  unfolding act
+  comes-timer SetInput n rs us e cells slots h k = comes-input n rs us e cells slots h k
+  comes-timer SetPreset n rs us e cells slots h k = comes-preset n rs us e cells slots h k
+  comes-timer Run n rs us e cells slots h k =
+      let g = has-timer n ts (λ u. with_timer rs n (called u) (plain_of rs us)) p e in
+      next-timer n (state_of place cells slots timers) _ now next p
+      (λ t at. (
+        refl,
+        timer-done rs us n (after_call t now) (called g.known) cells slots g.gives h k
+            (timer-called t g.known now (timers-get n t g.known at g.at)),
+      ))
+  comes-timer LoadOutput n rs us e cells slots h k =
+      comes-read n rs us (λ u. u.output) (λ t. Truth t.output) (λ t u is. is.in_output) e cells
+      slots
+      h k
+  comes-timer LoadElapsed n rs us e cells slots h k =
+      comes-read n rs us (λ u. u.elapsed) (λ t. Span t.elapsed) (λ t u is. is.in_elapsed) e cells
+      slots h k
+
+  comes : (i : Instr) (rs us : List Range) → effect i (plain_of rs us) ≡ Some p
+      → (cells slots : List Value) → AreIn cells rs → AreIn slots us → Comes i cells slots
+  unfolding act
+  comes Halt rs us e cells slots h k = absurd (cc)
+  comes (Push v) rs us e cells slots h k =
+      let done : Done (v ∷ cells) slots =
+      covers-along (exactly v ∷ rs) us (v ∷ cells) slots e (in-exactly v, h) k in
+      next-if (nat_lt (length cells) 32) (Goes (state_of next (v ∷ cells) slots timers)) FullStack
+      now next p (refl, done)
+  comes Drop [] us e cells slots h k = absurd (cc)
+  comes Drop (r ∷ rs) us e [] slots h k = tt
+  comes Drop (r ∷ rs) us e (v ∷ cells) slots h k =
+      (refl, covers-along rs us cells slots e h.1 k)
+  comes (Slot Load n) rs us e cells slots h k = comes-load n rs us e cells slots h k
+  comes (Slot Store n) rs us e cells slots h k = comes-store n rs us e cells slots h k
+  comes (Slot SetIf n) rs us e cells slots h k = comes-set n rs us e cells slots h k
+  comes (Slot ResetIf n) rs us e cells slots h k = comes-reset n rs us e cells slots h k
+  comes Not [] us e cells slots h k = absurd (cc)
+  comes Not (r ∷ rs) us e (Truth b ∷ cells) slots h k = (
+    refl,
+    covers-along (negated r ∷ rs) us (Truth (not b) ∷ cells) slots e
+        (of-negated b r h.0, h.1) k,
+  )
+  comes Not (r ∷ rs) us e cells slots h k = tt
+  comes (Combine c) rs us e cells slots h k = comes-combine c rs us e cells slots h k
+  comes (Compute o w) rs us e cells slots h k = comes-compute o w rs us e cells slots h k
+  comes (Compare c) rs us e cells slots h k = comes-compare c rs us e cells slots h k
+  comes (Widen w) rs us e cells slots h k = comes-widen w rs us e cells slots h k
+  comes (Jump when distance) rs us e cells slots h k = absurd (cc)
+  comes (Timer t n) rs us e cells slots h k = comes-timer t n rs us e cells slots h k
+
+next-lands : (t : Turn) (next end : ℕ) (h : Held) (p : Plain) (old new : List (Option Known))
+    → Arrives old new next p → NextIs t h.now next p → Lands t next end h new
+next-lands (Goes s) next end h p old new a is =
+    let least : next ≤ s.place = (let at = is.0 in omega arith) in (
+      least,
+      subst (λ (n : ℕ). CoversAt new n (held h.now s)) (sym is.0)
+          (a.brings (held h.now s) is.1),
+    )
+next-lands Halts next end h p old new a is = absurd is
+next-lands (Traps trap) next end h p old new a is = tt
+
+pub step-moves : (instr : Instr) (next : ℕ) (come after : Plain) (old new : List (Option Known))
+    → effect instr come ≡ Some after → Arrives old new next after → Moves instr next come old new
+step-moves instr next come after old new e a = record {
+  keeps = a.keeps;
+  lands = λ now end s c.
+      next-lands (act now instr next s) next end (held now s) after old new a
+      (comes now next s.place s.timers come.timers c.timers after instr come.cells come.slots e
+      s.cells s.slots c.cells c.slots);
+}

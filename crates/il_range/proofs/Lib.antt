@@ -1,0 +1,9 @@
+pub mod RangeLemmas
+pub mod ListLemmas
+pub mod TimerLemmas
+pub mod NumberLemmas
+pub mod EffectLemmas
+pub mod PendingLemmas
+pub mod PassLemmas
+pub mod KeepLemmas
+pub mod StartLemmas

@@ -1,0 +1,208 @@
+-- What is pending.
+use Rattle.std.proofs.Common.{◌≡◌, ℕ, ◌+◌, ◌<◌, ◌≤◌, Bool, true, false, cond, List, [], ◌∷◌, length, reverse, refl, sym, ap, subst, ◌∙◌, arith, Option, Some, slice_get, slice_set, inl, inr}
+use Rattle.std.specs.Prelude.{zero, suc, not}
+use Rattle.std.proofs.lemmas.Bool.{cases_eq}
+use Rattle.std.proofs.lemmas.List.{length-reverse}
+use Rattle.il_image.specs.declared.instr.Instr.TheVariants.{Jump}
+use Rattle.il_image.specs.declared.opcode.When.TheVariants.{Always, IfTrue, IfFalse}
+use Rattle.il_image.specs.declared.timer.TimerState.{TimerState}
+use Rattle.il_image.specs.declared.value.Value.{Value}
+use Rattle.il_image.specs.declared.value.Value.TheVariants.{Truth}
+use Rattle.il_image.specs.Machine.{Goes, act, jumps_where}
+use Rattle.il_range.specs.declared.known.Known.{Known}
+use Rattle.il_range.specs.declared.range.Range.{Range}
+use Rattle.il_range.specs.declared.range.Range.TheVariants.{No, Yes}
+use Rattle.il_range.specs.Effects.{Plain, join, join_timer, joined, negated}
+use Rattle.il_range.specs.Ranges.{AreIn, AreTimersIn, IsIn, IsTimerIn}
+use Rattle.il_range.specs.Pending.{Branches, Held, held, Covers, CoversAt, IsJoin, IsUnder, Arrives, Lands, Moves, plain}
+use Rattle.il_range.proofs.RangeLemmas.{in-join_left, in-join_right, of-negated}
+use Rattle.il_range.proofs.ListLemmas.{each-left, each-right, joined-reverse}
+use Rattle.il_range.proofs.TimerLemmas.{timer-join_left, timer-join_right}
+
+pub set-here : {A : Type 0} (xs : List A) (i : ℕ) (v : A) → i < length xs
+    → slice_get (slice_set xs i v) i ≡ Some v
+set-here [] i v h = absurd (omega arith)
+set-here (x ∷ xs) zero v h = refl
+set-here (x ∷ xs) (suc i) v h = set-here xs i v (omega arith)
+
+pub set-elsewhere : {A : Type 0} (xs : List A) (i j : ℕ) (v : A) → (j ≡ i → ⊥)
+    → slice_get (slice_set xs i v) j ≡ slice_get xs j
+set-elsewhere [] i j v ne = refl
+set-elsewhere (x ∷ xs) zero zero v ne = absurd (ne refl)
+set-elsewhere (x ∷ xs) zero (suc j) v ne = refl
+set-elsewhere (x ∷ xs) (suc i) zero v ne = refl
+set-elsewhere (x ∷ xs) (suc i) (suc j) v ne = set-elsewhere xs i j v (λ e. ne (ap suc e))
+
+pub set-twice : {A : Type 0} (xs : List A) (i : ℕ) (v w : A)
+    → slice_set (slice_set xs i v) i w ≡ slice_set xs i w
+set-twice [] i v w = refl
+set-twice (x ∷ xs) zero v w = refl
+set-twice {A = A} (x ∷ xs) (suc i) v w = ap (λ (l : List A). x ∷ l) (set-twice xs i v w)
+
+-- ---- joins
+
+cells-joined : (one other both : Known) → IsJoin one other both
+    → reverse both.cells.items ≡ joined join (reverse one.cells.items) (reverse other.cells.items)
+cells-joined one other both j =
+    ap reverse j.cells ∙ joined-reverse join one.cells.items other.cells.items j.depth
+
+pub under-left : (one other both : Known) → IsJoin one other both → IsUnder (plain one) (plain both)
+under-left one other both j h c = record {
+  cells = subst (AreIn h.cells) (sym (cells-joined one other both j))
+      (each-left IsIn join in-join_left h.cells (reverse one.cells.items)
+      (reverse other.cells.items) c.cells);
+  slots = subst (AreIn h.slots) (sym j.slots)
+      (each-left IsIn join in-join_left h.slots one.slots.items other.slots.items c.slots);
+  timers = subst (AreTimersIn h.now h.timers) (sym j.timers)
+      (each-left (IsTimerIn h.now) join_timer (timer-join_left h.now) h.timers one.timers.items other.timers.items
+      c.timers);
+}
+
+pub under-right : (one other both : Known) → IsJoin one other both
+    → IsUnder (plain other) (plain both)
+under-right one other both j h c = record {
+  cells = subst (AreIn h.cells) (sym (cells-joined one other both j))
+      (each-right IsIn join in-join_right h.cells (reverse one.cells.items)
+      (reverse other.cells.items)
+      (length-reverse one.cells.items ∙ j.depth ∙ sym (length-reverse other.cells.items)) c.cells);
+  slots = subst (AreIn h.slots) (sym j.slots)
+      (each-right IsIn join in-join_right h.slots one.slots.items other.slots.items j.size c.slots);
+  timers = subst (AreTimersIn h.now h.timers) (sym j.timers)
+      (each-right (IsTimerIn h.now) join_timer (timer-join_right h.now) h.timers one.timers.items
+      other.timers.items j.count c.timers);
+}
+
+-- ---- a path comes to a place
+
+pub covers-elsewhere : (old : List (Option Known)) (place q : ℕ) (w : Option Known) (h : Held)
+    → (q ≡ place → ⊥) → CoversAt old q h → CoversAt (slice_set old place w) q h
+covers-elsewhere old place q w h ne c = record {
+  known = c.known;
+  here = set-elsewhere old place q w ne ∙ c.here;
+  covers = c.covers;
+}
+
+pub arrived : (old : List (Option Known)) (place : ℕ) (o w : Option Known) (come known : Known)
+    → place < length old → slice_get old place ≡ Some o → IsUnder (plain known) (plain come)
+    → ((s : Known) → o ≡ Some s → IsUnder (plain s) (plain come))
+    → Arrives old (slice_set (slice_set old place w) place (Some come)) place (plain known)
+arrived old place o w come known less was brings keeps =
+    subst (λ (new : List (Option Known)). Arrives old new place (plain known))
+    (sym (set-twice old place w (Some come)))
+    (record {
+      keeps = λ q h c. elim (cases_eq q place) [
+        | inl e ↦
+            (let is : o ≡ Some c.known =
+            (let at : slice_get old place ≡ Some (Some c.known) =
+            subst (λ (n : ℕ). slice_get old n ≡ Some (Some c.known)) e c.here in cc) in
+            record {
+              known = come;
+              here = subst (λ (n : ℕ). slice_get (slice_set old place (Some come)) n
+                  ≡ Some (Some come)) (sym e) (set-here old place (Some come) less);
+              covers = keeps c.known is h c.covers;
+            })
+        | inr ne ↦ covers-elsewhere old place q (Some come) h ne c
+      ];
+      brings = λ h c. record {
+        known = come;
+        here = set-here old place (Some come) less;
+        covers = brings h c;
+      };
+    })
+
+-- ---- jumps
+
+pub always-moves : (distance next : ℕ) (come : Plain) (old new : List (Option Known))
+    → Arrives old new (next + distance) come → Moves (Jump Always distance) next come old new
+unfolding act
+always-moves distance next come old new a = record {
+  keeps = a.keeps;
+  lands = λ now end s c.
+      let least : next ≤ next + distance = omega arith in (least, a.brings (held now s) c);
+}
+
+-- where a jump that depends on a truth lands
+lands-by : (jumps : Range) (distance next end place : ℕ) (come : Plain)
+    (old new : List (Option Known)) (h : Held) → Branches jumps distance next come old new
+    → Covers come h → (j : Bool) → IsIn (Truth j) jumps
+    → place ≡ cond j (next + distance) next
+    → Lands (Goes (record { place = place; cells = h.cells; slots = h.slots; timers = h.timers }))
+    next end h new
+lands-by jumps distance next end place come old new h b c true may e =
+    let least : next ≤ place = omega arith in
+    (least, subst (λ (n : ℕ). CoversAt new n h) (sym e) (b.far may h c))
+lands-by jumps distance next end place come old new h b c false may e =
+    let least : next ≤ place = omega arith in
+    (least, subst (λ (n : ℕ). CoversAt new n h) (sym e) (b.near may h c))
+
+-- a jump where the top is this
+jump-lands : (to : Bool → ℕ) (jumps_of : Bool → Bool) (r jumps : Range) (distance next : ℕ)
+    (below : List Range) (come : Plain) (old new : List (Option Known))
+    → ((b : Bool) → to b ≡ cond (jumps_of b) (next + distance) next)
+    → ((b : Bool) → IsIn (Truth b) r → IsIn (Truth (jumps_of b)) jumps)
+    → come.cells ≡ r ∷ below → Branches jumps distance next come old new
+    → (now place end : ℕ) (cells slots : List Value) (timers : List TimerState)
+    → AreIn cells (r ∷ below)
+    → Covers come (record { now = now; cells = cells; slots = slots; timers = timers })
+    → Lands (jumps_where to
+    (record { place = place; cells = cells; slots = slots; timers = timers })) next end
+    (record { now = now; cells = cells; slots = slots; timers = timers }) new
+jump-lands to jumps_of r jumps distance next below come old new leads tells is b now place end []
+    slots timers i c = tt
+jump-lands to jumps_of r jumps distance next below come old new leads tells is b now place end
+    (Truth x ∷ cells) slots timers i c =
+    lands-by jumps distance next end (to x) come old new
+    (record { now = now; cells = Truth x ∷ cells; slots = slots; timers = timers }) b c
+    (jumps_of x)
+    (tells x i.0) (leads x)
+jump-lands to jumps_of r jumps distance next below come old new leads tells is b now place end
+    (v ∷ cells) slots timers i c = tt
+
+same-if : (b : Bool) (m n : ℕ) → cond (not b) m n ≡ cond b n m
+same-if true m n = refl
+same-if false m n = refl
+
+pub if-true-moves : (r : Range) (distance next : ℕ) (below : List Range) (come : Plain)
+    (old new : List (Option Known)) → come.cells ≡ r ∷ below
+    → Branches r distance next come old new → Moves (Jump IfTrue distance) next come old new
+unfolding act
+if-true-moves r distance next below come old new is b = record {
+  keeps = b.keeps;
+  lands = λ now end s c.
+      jump-lands (λ x. cond x (next + distance) next) (λ x. x) r r distance next below come old new
+      (λ x. refl) (λ x h. h) is b now s.place end s.cells s.slots s.timers
+      (subst (AreIn s.cells) is c.cells) c;
+}
+
+pub if-false-moves : (r : Range) (distance next : ℕ) (below : List Range) (come : Plain)
+    (old new : List (Option Known)) → come.cells ≡ r ∷ below
+    → Branches (negated r) distance next come old new
+    → Moves (Jump IfFalse distance) next come old new
+unfolding act
+if-false-moves r distance next below come old new is b = record {
+  keeps = b.keeps;
+  lands = λ now end s c.
+      jump-lands (λ x. cond x next (next + distance)) not r (negated r) distance next below come old
+      new (λ x. sym (same-if x (next + distance) next)) (λ x h. of-negated x r h) is b now s.place
+      end
+      s.cells s.slots s.timers (subst (AreIn s.cells) is c.cells) c;
+}
+
+pub branches-yes : (distance next : ℕ) (come : Plain) (old new : List (Option Known))
+    → Arrives old new (next + distance) come → Branches Yes distance next come old new
+branches-yes distance next come old new a =
+    record { keeps = a.keeps; far = λ may. a.brings; near = λ may h c. absurd may }
+
+pub branches-no : (distance next : ℕ) (come : Plain) (old new : List (Option Known))
+    → Arrives old new next come → Branches No distance next come old new
+branches-no distance next come old new a =
+    record { keeps = a.keeps; far = λ may h c. absurd may; near = λ may. a.brings }
+
+pub branches-both : (jumps : Range) (distance next : ℕ) (come : Plain)
+    (old mid new : List (Option Known)) → Arrives old mid (next + distance) come
+    → Arrives mid new next come → Branches jumps distance next come old new
+branches-both jumps distance next come old mid new a b = record {
+  keeps = λ q h c. b.keeps q h (a.keeps q h c);
+  far = λ may h c. b.keeps (next + distance) h (a.brings h c);
+  near = λ may. b.brings;
+}

@@ -1,0 +1,284 @@
+-- The values that a range stands for, under what is done with one value or two.
+use Rattle.std.proofs.Common.{◌≡◌, ℤ, pos, Bool, true, false, refl, ap, subst, arith, Option, Some, None}
+use Rattle.std.specs.Prelude.{◌≤ℤ◌, ◌<ℤ◌, ◌&&◌, ◌||◌, not, int_lt, int_le}
+use Rattle.std.specs.Ordering.{int_eq}
+use Rattle.std.proofs.lemmas.Int.{ints}
+use Rattle.std.proofs.lemmas.Bool.Decides.{Decides-int_eq}
+use Rattle.il_image.specs.declared.arithmetic.Comparison.{Comparison}
+use Rattle.il_image.specs.declared.arithmetic.Comparison.TheVariants.{Gt, Ge, Eq, Ne, Le, Lt}
+use Rattle.il_image.specs.declared.opcode.Connective.{Connective}
+use Rattle.il_image.specs.declared.opcode.Connective.TheVariants.{And, Or, Xor}
+use Rattle.il_image.specs.declared.value.Value.{Value}
+use Rattle.il_image.specs.declared.value.Value.TheVariants.{Truth, Short, Long, Wide, Span}
+use Rattle.il_image.specs.Arithmetic.{comparison_holds, logic_of}
+use Rattle.il_image.specs.Values.{number_of}
+use Rattle.il_range.specs.declared.range.Range.{Range}
+use Rattle.il_range.specs.declared.range.Range.TheVariants.{Any, No, Yes, Either, Between}
+use Rattle.il_range.specs.Effects.{both, compared, connected, either, exactly, high_of, join, low_of, lower, negated, one_of, surely, surely_le, surely_lt, told, upper}
+use Rattle.il_range.specs.Ranges.{IsFalseValue, IsIn, IsTrueValue, IsTruth}
+
+same-le : (z : ℤ) → z ≤ℤ z
+same-le z = omega (arith, ints)
+
+pub in-exactly : (v : Value) → IsIn v (exactly v)
+in-exactly (Truth true) = tt
+in-exactly (Truth false) = tt
+in-exactly (Short z) = (same-le z, same-le z)
+in-exactly (Long z) = (same-le z, same-le z)
+in-exactly (Wide z) = (same-le z, same-le z)
+in-exactly (Span n) = (same-le (pos n), same-le (pos n))
+
+false-truth : (v : Value) → IsFalseValue v → IsTruth v
+false-truth (Truth false) h = tt
+false-truth (Truth true) h = absurd h
+false-truth (Short z) h = absurd h
+false-truth (Long z) h = absurd h
+false-truth (Wide z) h = absurd h
+false-truth (Span n) h = absurd h
+
+true-truth : (v : Value) → IsTrueValue v → IsTruth v
+true-truth (Truth true) h = tt
+true-truth (Truth false) h = absurd h
+true-truth (Short z) h = absurd h
+true-truth (Long z) h = absurd h
+true-truth (Wide z) h = absurd h
+true-truth (Span n) h = absurd h
+
+lower-left : (a c n : ℤ) → a ≤ℤ n → lower a c ≤ℤ n
+lower-left a c n h = grind (arith, ints)
+
+lower-right : (a c n : ℤ) → c ≤ℤ n → lower a c ≤ℤ n
+lower-right a c n h = grind (arith, ints)
+
+upper-left : (b d n : ℤ) → n ≤ℤ b → n ≤ℤ upper b d
+upper-left b d n h = grind (arith, ints)
+
+upper-right : (b d n : ℤ) → n ≤ℤ d → n ≤ℤ upper b d
+upper-right b d n h = grind (arith, ints)
+
+pub in-join_left : (v : Value) (r s : Range) → IsIn v r → IsIn v (join r s)
+in-join_left v No No h = h
+in-join_left v No Yes h = false-truth v h
+in-join_left v No Either h = false-truth v h
+in-join_left v Yes Yes h = h
+in-join_left v Yes No h = true-truth v h
+in-join_left v Yes Either h = true-truth v h
+in-join_left v Either No h = h
+in-join_left v Either Yes h = h
+in-join_left v Either Either h = h
+in-join_left v (Between a b) (Between c d) h =
+    (lower-left a c (number_of v) h.0, upper-left b d (number_of v) h.1)
+in-join_left v r s h = tt
+
+pub in-join_right : (v : Value) (r s : Range) → IsIn v s → IsIn v (join r s)
+in-join_right v No No h = h
+in-join_right v No Yes h = true-truth v h
+in-join_right v No Either h = h
+in-join_right v Yes Yes h = h
+in-join_right v Yes No h = false-truth v h
+in-join_right v Yes Either h = h
+in-join_right v Either No h = false-truth v h
+in-join_right v Either Yes h = true-truth v h
+in-join_right v Either Either h = h
+in-join_right v (Between a b) (Between c d) h =
+    (lower-right a c (number_of v) h.0, upper-right b d (number_of v) h.1)
+in-join_right v r s h = tt
+
+-- ---- truths
+
+pub of-negated : (b : Bool) (r : Range) → IsIn (Truth b) r → IsIn (Truth (not b)) (negated r)
+of-negated true Yes h = tt
+of-negated false Yes h = absurd h
+of-negated true No h = absurd h
+of-negated false No h = tt
+of-negated b r h = tt
+
+pub of-both : (a b : Bool) (r s : Range) → IsIn (Truth a) r → IsIn (Truth b) s
+    → IsIn (Truth (a && b)) (both r s)
+of-both true b No s h k = absurd h
+of-both false b No s h k = tt
+of-both a true r No h k = absurd k
+of-both true false r No h k = tt
+of-both false false r No h k = tt
+of-both true true Yes Yes h k = tt
+of-both false b Yes Yes h k = absurd h
+of-both true false Yes Yes h k = absurd k
+of-both a b r s h k = tt
+
+de-morgan : (a b : Bool) → not (not a && not b) ≡ a || b
+de-morgan true b = refl
+de-morgan false true = refl
+de-morgan false false = refl
+
+pub of-either : (a b : Bool) (r s : Range) → IsIn (Truth a) r → IsIn (Truth b) s
+    → IsIn (Truth (a || b)) (either r s)
+of-either a b r s h k =
+    subst (λ (x : Bool). IsIn (Truth x) (either r s)) (de-morgan a b)
+    (of-negated (not a && not b) (both (negated r) (negated s))
+    (of-both (not a) (not b) (negated r) (negated s) (of-negated a r h) (of-negated b s k)))
+
+of-one_of : (a b : Bool) (r s : Range) → IsIn (Truth a) r → IsIn (Truth b) s
+    → IsIn (Truth (logic_of Xor a b)) (one_of r s)
+of-one_of true b No No h k = absurd h
+of-one_of false true No No h k = absurd k
+of-one_of false false No No h k = tt
+of-one_of true b No Yes h k = absurd h
+of-one_of false true No Yes h k = tt
+of-one_of false false No Yes h k = absurd k
+of-one_of false b Yes No h k = absurd h
+of-one_of true true Yes No h k = absurd k
+of-one_of true false Yes No h k = tt
+of-one_of false b Yes Yes h k = absurd h
+of-one_of true true Yes Yes h k = tt
+of-one_of true false Yes Yes h k = absurd k
+of-one_of a b r s h k = tt
+
+pub of-connected : (c : Connective) (a b : Bool) (r s : Range) → IsIn (Truth a) r
+    → IsIn (Truth b) s → IsIn (Truth (logic_of c a b)) (connected c r s)
+of-connected And a b r s h k = of-both a b r s h k
+of-connected Or a b r s h k = of-either a b r s h k
+of-connected Xor a b r s h k = of-one_of a b r s h k
+
+-- ---- comparisons
+
+in-low : (v : Value) (r : Range) (l : ℤ) → IsIn v r → low_of r ≡ Some l → l ≤ℤ number_of v
+in-low v Any l h e = absurd (cc)
+in-low (Truth false) No l h e = let is : pos 0 ≡ l =
+    cc in subst (λ (z : ℤ). z ≤ℤ pos 0) is (same-le (pos 0))
+in-low (Truth true) Yes l h e = let is : pos 1 ≡ l =
+    cc in subst (λ (z : ℤ). z ≤ℤ pos 1) is (same-le (pos 1))
+in-low (Truth false) Either l h e = let is : pos 0 ≡ l =
+    cc in subst (λ (z : ℤ). z ≤ℤ pos 0) is (same-le (pos 0))
+in-low (Truth true) Either l h e =
+    let is : pos 0 ≡ l = cc in
+    let less : pos 0 ≤ℤ pos 1 = omega (arith, ints) in subst (λ (z : ℤ). z ≤ℤ pos 1) is less
+in-low v (Between low high) l h e =
+    let is : low ≡ l = cc in subst (λ (z : ℤ). z ≤ℤ number_of v) is h.0
+in-low v r l h e = absurd h
+
+in-high : (v : Value) (r : Range) (l : ℤ) → IsIn v r → high_of r ≡ Some l → number_of v ≤ℤ l
+in-high v Any l h e = absurd (cc)
+in-high (Truth false) No l h e = let is : pos 0 ≡ l =
+    cc in subst (λ (z : ℤ). pos 0 ≤ℤ z) is (same-le (pos 0))
+in-high (Truth true) Yes l h e = let is : pos 1 ≡ l =
+    cc in subst (λ (z : ℤ). pos 1 ≤ℤ z) is (same-le (pos 1))
+in-high (Truth true) Either l h e = let is : pos 1 ≡ l =
+    cc in subst (λ (z : ℤ). pos 1 ≤ℤ z) is (same-le (pos 1))
+in-high (Truth false) Either l h e =
+    let is : pos 1 ≡ l = cc in
+    let less : pos 0 ≤ℤ pos 1 = omega (arith, ints) in subst (λ (z : ℤ). pos 0 ≤ℤ z) is less
+in-high v (Between low high) l h e =
+    let is : high ≡ l = cc in subst (λ (z : ℤ). number_of v ≤ℤ z) is h.1
+in-high v r l h e = absurd h
+
+lt-told : (a b : ℤ) → int_lt a b ≡ true → a <ℤ b
+lt-told a b e = grind (arith, ints)
+
+pub le-told : (a b : ℤ) → int_le a b ≡ true → a ≤ℤ b
+le-told a b e = grind (arith, ints)
+
+is-lt : (v u : Value) (r s : Range) → IsIn v r → IsIn u s → surely_lt r s ≡ true
+    → number_of v <ℤ number_of u
+is-lt v u r s h k e = go (high_of r) (low_of s) refl refl e
+  where
+    go : (x y : Option ℤ) → high_of r ≡ x → low_of s ≡ y → surely int_lt x y ≡ true
+        → number_of v <ℤ number_of u
+    go None y ex ey e = absurd (cc)
+    go (Some a) None ex ey e = absurd (cc)
+    go (Some a) (Some b) ex ey e =
+        let below : number_of v ≤ℤ a = in-high v r a h ex in
+        let above : b ≤ℤ number_of u = in-low u s b k ey in
+        let less : a <ℤ b = lt-told a b e in omega (arith, ints)
+
+is-le : (v u : Value) (r s : Range) → IsIn v r → IsIn u s → surely_le r s ≡ true
+    → number_of v ≤ℤ number_of u
+is-le v u r s h k e = go (high_of r) (low_of s) refl refl e
+  where
+    go : (x y : Option ℤ) → high_of r ≡ x → low_of s ≡ y → surely int_le x y ≡ true
+        → number_of v ≤ℤ number_of u
+    go None y ex ey e = absurd (cc)
+    go (Some a) None ex ey e = absurd (cc)
+    go (Some a) (Some b) ex ey e =
+        let below : number_of v ≤ℤ a = in-high v r a h ex in
+        let above : b ≤ℤ number_of u = in-low u s b k ey in
+        let less : a ≤ℤ b = le-told a b e in omega (arith, ints)
+
+told-in : (x is_yes is_no : Bool) → (is_yes ≡ true → x ≡ true) → (is_no ≡ true → x ≡ false)
+    → IsIn (Truth x) (told is_yes is_no)
+told-in true true n f g = tt
+told-in false true n f g = absurd (let e = f refl in cc)
+told-in false false true f g = tt
+told-in true false true f g = absurd (let e = g refl in cc)
+told-in x false false f g = tt
+
+lt-true : (a b : ℤ) → a <ℤ b → int_lt a b ≡ true
+lt-true a b h = grind (arith, ints)
+
+lt-false : (a b : ℤ) → b ≤ℤ a → int_lt a b ≡ false
+lt-false a b h = grind (arith, ints)
+
+le-true : (a b : ℤ) → a ≤ℤ b → int_le a b ≡ true
+le-true a b h = grind (arith, ints)
+
+le-false : (a b : ℤ) → b <ℤ a → int_le a b ≡ false
+le-false a b h = grind (arith, ints)
+
+eq-true : (a b : ℤ) → a ≤ℤ b → b ≤ℤ a → int_eq a b ≡ true
+eq-true a b h k = let e : a ≡ b = omega (arith, ints) in (Decides-int_eq a b).1 e
+
+eq-false : (a b : ℤ) → (a ≡ b → ⊥) → int_eq a b ≡ false
+eq-false a b ne = go (int_eq a b) (Decides-int_eq a b).0
+  where
+    go : (t : Bool) → (t ≡ true → a ≡ b) → t ≡ false
+    go true h = absurd (ne (h refl))
+    go false h = refl
+
+both-true : (s t : Bool) → (s && t) ≡ true → (s ≡ true) × (t ≡ true)
+both-true true true e = (refl, refl)
+both-true true false e = absurd (cc)
+both-true false t e = absurd (cc)
+
+equal : (v u : Value) (r s : Range) → IsIn v r → IsIn u s
+    → (surely_le r s && surely_le s r) ≡ true → int_eq (number_of v) (number_of u) ≡ true
+equal v u r s h k e =
+    let t = both-true (surely_le r s) (surely_le s r) e in
+    eq-true (number_of v) (number_of u) (is-le v u r s h k t.0) (is-le u v s r k h t.1)
+
+unequal : (v u : Value) (r s : Range) → IsIn v r → IsIn u s
+    → (surely_lt r s || surely_lt s r) ≡ true → int_eq (number_of v) (number_of u) ≡ false
+unequal v u r s h k e = go (surely_lt r s) (surely_lt s r) refl refl e
+  where
+    go : (x y : Bool) → surely_lt r s ≡ x → surely_lt s r ≡ y → (x || y) ≡ true
+        → int_eq (number_of v) (number_of u) ≡ false
+    go true y ex ey e =
+        let less : number_of v <ℤ number_of u = is-lt v u r s h k ex in
+        eq-false (number_of v) (number_of u) (λ same. omega (arith, ints))
+    go false true ex ey e =
+        let less : number_of u <ℤ number_of v = is-lt u v s r k h ey in
+        eq-false (number_of v) (number_of u) (λ same. omega (arith, ints))
+    go false false ex ey e = absurd (cc)
+
+pub of-compared : (c : Comparison) (v u : Value) (r s : Range) → IsIn v r → IsIn u s
+    → IsIn (Truth (comparison_holds c (number_of v) (number_of u))) (compared c r s)
+of-compared Lt v u r s h k =
+    told-in _ (surely_lt r s) (surely_le s r)
+    (λ e. lt-true (number_of v) (number_of u) (is-lt v u r s h k e))
+    (λ e. lt-false (number_of v) (number_of u) (is-le u v s r k h e))
+of-compared Gt v u r s h k =
+    told-in _ (surely_lt s r) (surely_le r s)
+    (λ e. lt-true (number_of u) (number_of v) (is-lt u v s r k h e))
+    (λ e. lt-false (number_of u) (number_of v) (is-le v u r s h k e))
+of-compared Le v u r s h k =
+    told-in _ (surely_le r s) (surely_lt s r)
+    (λ e. le-true (number_of v) (number_of u) (is-le v u r s h k e))
+    (λ e. le-false (number_of v) (number_of u) (is-lt u v s r k h e))
+of-compared Ge v u r s h k =
+    told-in _ (surely_le s r) (surely_lt r s)
+    (λ e. le-true (number_of u) (number_of v) (is-le u v s r k h e))
+    (λ e. le-false (number_of u) (number_of v) (is-lt v u r s h k e))
+of-compared Eq v u r s h k =
+    told-in _ (surely_le r s && surely_le s r) (surely_lt r s || surely_lt s r)
+    (equal v u r s h k) (unequal v u r s h k)
+of-compared Ne v u r s h k =
+    told-in _ (surely_lt r s || surely_lt s r) (surely_le r s && surely_le s r)
+    (λ e. ap not (unequal v u r s h k e)) (λ e. ap not (equal v u r s h k e))

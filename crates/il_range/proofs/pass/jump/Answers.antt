@@ -1,0 +1,49 @@
+use Rattle.std.proofs.Common.{OnOk, subst, sym}
+use Rattle.std.proofs.lemmas.Result.{on_ok_weaker}
+use Rattle.il_image.specs.declared.instr.Instr.TheVariants.{Jump}
+use Rattle.il_image.specs.declared.opcode.When.{When}
+use Rattle.il_range.specs.declared.range.Range.{Range}
+use Rattle.il_range.specs.Effects.{Plain}
+use Rattle.il_range.specs.Pending.{Branches, Moves, plain}
+use Rattle.il_range.proofs.PendingLemmas.{always-moves, if-false-moves, if-true-moves}
+use Rattle.il_range.proofs.pass.jump.Goals as goal
+
+pub returns-in-Always-clause-ok : goal.returns-in-Always-clause-ok
+returns-in-Always-clause-ok c =
+    let old = c.args.pending.now.items in
+    let new = c.leap.new.pending.items in
+    subst (λ (w : When). OnOk c.leap.result
+    (Moves (Jump w c.args.distance) c.args.next (plain c.args.here) old new)) (sym c.in-Always.is)
+    (on_ok_weaker c.leap.result
+    (always-moves c.args.distance c.args.next (plain c.args.here) old new) c.leap.ensures.ok)
+
+pub returns-in_ok-top-in-IfTrue-clause-ok : goal.returns-in_ok-top-in-IfTrue-clause-ok
+returns-in_ok-top-in-IfTrue-clause-ok c =
+    let come = plain c.args.here in
+    let old = c.args.pending.now.items in
+    let new = c.branch-alloc.new.pending.items in
+    let r = c.in_ok-top-in-IfTrue.top in
+    subst (λ (w : When). OnOk c.branch-alloc.result
+    (Moves (Jump w c.args.distance) c.args.next come old new)) (sym c.in-IfTrue.is)
+    (on_ok_weaker c.branch-alloc.result
+    (λ b. if-true-moves r c.args.distance c.args.next c.in_ok-top-in-IfTrue.ensures.top.0 come old
+    new c.in_ok-top-in-IfTrue.ensures.top.1
+    (subst (λ (p : Plain). Branches r c.args.distance c.args.next p old new)
+    c.in_ok-top-in-IfTrue.ensures.same b))
+    c.branch-alloc.ensures.ok)
+
+pub returns-in_ok-top-in-IfFalse-clause-ok : goal.returns-in_ok-top-in-IfFalse-clause-ok
+returns-in_ok-top-in-IfFalse-clause-ok c =
+    let come = plain c.args.here in
+    let old = c.args.pending.now.items in
+    let new = c.branch-alloc-in-IfFalse.new.pending.items in
+    let r = c.in_ok-top-in-IfFalse.top in
+    subst (λ (w : When). OnOk c.branch-alloc-in-IfFalse.result
+    (Moves (Jump w c.args.distance) c.args.next come old new)) (sym c.in-IfFalse.is)
+    (on_ok_weaker c.branch-alloc-in-IfFalse.result
+    (λ b. if-false-moves r c.args.distance c.args.next c.in_ok-top-in-IfFalse.ensures.top.0 come old
+    new c.in_ok-top-in-IfFalse.ensures.top.1
+    (subst (λ (j : Range). Branches j c.args.distance c.args.next come old new) c.negated.ensures
+    (subst (λ (p : Plain). Branches c.negated.result c.args.distance c.args.next p old new)
+    c.in_ok-top-in-IfFalse.ensures.same b)))
+    c.branch-alloc-in-IfFalse.ensures.ok)

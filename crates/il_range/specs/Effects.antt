@@ -1,0 +1,344 @@
+-- Inner: what an instruction without a jump does to ranges.
+use Rattle.std.specs.Prelude.{ℕ, ℤ, pos, negsuc, ◌+ℤ◌, ◌-ℤ◌, max, Bool, true, false, List, [], ◌∷◌, ◌&&◌, ◌||◌, int_lt, int_le, slice_get, slice_set, Option, Some, None, option_and_then, option_map, if◌then◌else◌}
+use Rattle.il_image.specs.declared.arithmetic.Comparison.{Comparison}
+use Rattle.il_image.specs.declared.arithmetic.Comparison.TheVariants.{Gt, Ge, Eq, Ne, Le, Lt}
+use Rattle.il_image.specs.declared.arithmetic.Operation.{Operation}
+use Rattle.il_image.specs.declared.arithmetic.Operation.TheVariants.{Add, Sub}
+use Rattle.il_image.specs.declared.arithmetic.Width.{Width}
+use Rattle.il_image.specs.declared.arithmetic.Width.TheVariants as width
+use Rattle.il_image.specs.declared.instr.Instr.{Instr}
+use Rattle.il_image.specs.declared.instr.Instr.TheVariants.{Halt, Push, Drop, Slot, Not, Combine, Compute, Compare, Widen, Jump, Timer}
+use Rattle.il_image.specs.declared.opcode.Connective.{Connective}
+use Rattle.il_image.specs.declared.opcode.Connective.TheVariants.{And, Or, Xor}
+use Rattle.il_image.specs.declared.opcode.SlotUse.TheVariants.{Load, Store, SetIf, ResetIf}
+use Rattle.il_image.specs.declared.opcode.TimerUse.TheVariants.{SetInput, SetPreset, Run, LoadOutput, LoadElapsed}
+use Rattle.il_image.specs.declared.value.Value.{Value}
+use Rattle.il_image.specs.declared.value.Value.TheVariants.{Truth, Short, Long, Wide, Span}
+use Rattle.bay_base.specs.declared.types.TimerKind.{TimerKind}
+use Rattle.bay_base.specs.declared.types.TimerKind.TheVariants.{OnDelay, OffDelay}
+use Rattle.il_range.specs.declared.timer.KnownTimer.{KnownTimer}
+use Rattle.il_range.specs.declared.range.Range.{Range}
+use Rattle.il_range.specs.declared.range.Range.TheVariants.{Any, No, Yes, Either, Between}
+
+abbrev pub exactly : Value → Range
+exactly (Truth true) = Yes
+exactly (Truth false) = No
+exactly (Short z) = Between z z
+exactly (Long z) = Between z z
+exactly (Wide z) = Between z z
+exactly (Span n) = Between (pos n) (pos n)
+
+abbrev pub lower : ℤ → ℤ → ℤ
+lower a b = if int_le a b then a else b
+
+abbrev pub upper : ℤ → ℤ → ℤ
+upper a b = if int_le a b then b else a
+
+-- what stands for each value of both
+abbrev pub join : Range → Range → Range
+join No No = No
+join No Yes = Either
+join No Either = Either
+join No Any = Any
+join No (Between c d) = Any
+join Yes Yes = Yes
+join Yes No = Either
+join Yes Either = Either
+join Yes Any = Any
+join Yes (Between c d) = Any
+join Either No = Either
+join Either Yes = Either
+join Either Either = Either
+join Either Any = Any
+join Either (Between c d) = Any
+join (Between a b) (Between c d) = Between (lower a c) (upper b d)
+join (Between a b) No = Any
+join (Between a b) Yes = Any
+join (Between a b) Either = Any
+join (Between a b) Any = Any
+join Any b = Any
+
+-- the join of two lists, place by place
+abbrev pub joined : {A : Type 0} → (A → A → A) → List A → List A → List A
+joined join [] others = []
+joined join (a ∷ items) [] = a ∷ items
+joined join (a ∷ items) (b ∷ others) = join a b ∷ joined join items others
+
+-- ---- timers
+
+abbrev pub join_kind : Option TimerKind → Option TimerKind → Option TimerKind
+join_kind (Some OnDelay) (Some OnDelay) = Some OnDelay
+join_kind (Some OffDelay) (Some OffDelay) = Some OffDelay
+join_kind a b = None
+
+abbrev pub join_below : Option ℕ → Option ℕ → Option ℕ
+join_below (Some a) (Some b) = Some (max a b)
+join_below (Some a) None = None
+join_below None b = None
+
+abbrev pub join_timer : KnownTimer → KnownTimer → KnownTimer
+join_timer a b =
+    record {
+      kind = join_kind a.kind b.kind;
+      input = join a.input b.input;
+      preset = join a.preset b.preset;
+      output = join a.output b.output;
+      elapsed = join a.elapsed b.elapsed;
+      below = join_below a.below b.below;
+    }
+
+-- Less than this has passed since the delay of a TON began, after a call: where IN is FALSE none
+-- runs, and one that begins with the call has run for no time.
+abbrev pub below_after : Option TimerKind → Range → Option ℕ → Option ℕ
+below_after None input below = None
+below_after (Some OffDelay) input below = None
+below_after (Some OnDelay) No below = Some 0
+below_after (Some OnDelay) Yes below = option_map (max 1) below
+below_after (Some OnDelay) Either below = option_map (max 1) below
+below_after (Some OnDelay) Any below = option_map (max 1) below
+below_after (Some OnDelay) (Between l h) below = option_map (max 1) below
+
+-- a delay that has run for less than this has run for less than PT
+abbrev pub is_short : Option ℕ → Range → Bool
+is_short (Some below) (Between low high) = int_le (pos below) low
+is_short below preset = false
+
+-- Q after a call: a TON whose IN is FALSE has FALSE, and so has one whose delay is short; and a TOF
+-- whose IN is TRUE has TRUE
+abbrev pub output_after : Option TimerKind → Range → Bool → Range
+output_after (Some OnDelay) No short = No
+output_after (Some OffDelay) Yes short = Yes
+output_after (Some OnDelay) input short = if short then No else Either
+output_after kind input short = Either
+
+-- what is at most PT, where that is known
+abbrev pub up_to : Range → Range
+up_to (Between low high) = Between (pos 0) high
+up_to No = Any
+up_to Yes = Any
+up_to Either = Any
+up_to Any = Any
+
+-- ET after a call: 0 where no delay runs, and never more than PT
+abbrev pub elapsed_after : Option TimerKind → Range → Range → Range
+elapsed_after (Some OnDelay) No preset = Between (pos 0) (pos 0)
+elapsed_after (Some OffDelay) Yes preset = Between (pos 0) (pos 0)
+elapsed_after kind input preset = up_to preset
+
+abbrev pub called : KnownTimer → KnownTimer
+called u =
+    let below = below_after u.kind u.input u.below in
+    record {
+      kind = u.kind;
+      input = u.input;
+      preset = u.preset;
+      output = output_after u.kind u.input (is_short below u.preset);
+      elapsed = elapsed_after u.kind u.input u.preset;
+      below = below;
+    }
+
+abbrev pub with_input : Range → KnownTimer → KnownTimer
+with_input input u =
+    record {
+      kind = u.kind;
+      input = input;
+      preset = u.preset;
+      output = u.output;
+      elapsed = u.elapsed;
+      below = u.below;
+    }
+
+abbrev pub with_preset : Range → KnownTimer → KnownTimer
+with_preset preset u =
+    record {
+      kind = u.kind;
+      input = u.input;
+      preset = preset;
+      output = u.output;
+      elapsed = u.elapsed;
+      below = u.below;
+    }
+
+-- ---- truths
+
+abbrev pub negated : Range → Range
+negated No = Yes
+negated Yes = No
+negated Any = Either
+negated Either = Either
+negated (Between low high) = Either
+
+abbrev pub both : Range → Range → Range
+both No b = No
+both Yes No = No
+both Yes Yes = Yes
+both Yes Any = Either
+both Yes Either = Either
+both Yes (Between c d) = Either
+both Any No = No
+both Any Yes = Either
+both Any Any = Either
+both Any Either = Either
+both Any (Between c d) = Either
+both Either No = No
+both Either Yes = Either
+both Either Any = Either
+both Either Either = Either
+both Either (Between c d) = Either
+both (Between l h) No = No
+both (Between l h) Yes = Either
+both (Between l h) Any = Either
+both (Between l h) Either = Either
+both (Between l h) (Between c d) = Either
+
+abbrev pub either : Range → Range → Range
+either a b = negated (both (negated a) (negated b))
+
+abbrev pub one_of : Range → Range → Range
+one_of No No = No
+one_of No Yes = Yes
+one_of Yes No = Yes
+one_of Yes Yes = No
+one_of a b = Either
+
+abbrev pub connected : Connective → Range → Range → Range
+connected And a b = both a b
+connected Or a b = either a b
+connected Xor a b = one_of a b
+
+-- ---- comparisons
+
+abbrev pub low_of : Range → Option ℤ
+low_of Any = None
+low_of No = Some (pos 0)
+low_of Yes = Some (pos 1)
+low_of Either = Some (pos 0)
+low_of (Between low high) = Some low
+
+abbrev pub high_of : Range → Option ℤ
+high_of Any = None
+high_of No = Some (pos 0)
+high_of Yes = Some (pos 1)
+high_of Either = Some (pos 1)
+high_of (Between low high) = Some high
+
+abbrev pub surely : (ℤ → ℤ → Bool) → Option ℤ → Option ℤ → Bool
+surely test (Some a) (Some b) = test a b
+surely test (Some a) None = false
+surely test None b = false
+
+abbrev pub surely_lt : Range → Range → Bool
+surely_lt a b = surely int_lt (high_of a) (low_of b)
+
+abbrev pub surely_le : Range → Range → Bool
+surely_le a b = surely int_le (high_of a) (low_of b)
+
+abbrev pub told : Bool → Bool → Range
+told is_yes is_no = if is_yes then Yes else (if is_no then No else Either)
+
+abbrev pub compared : Comparison → Range → Range → Range
+compared Lt a b = told (surely_lt a b) (surely_le b a)
+compared Gt a b = told (surely_lt b a) (surely_le a b)
+compared Le a b = told (surely_le a b) (surely_lt b a)
+compared Ge a b = told (surely_le b a) (surely_lt a b)
+compared Eq a b = told (surely_le a b && surely_le b a) (surely_lt a b || surely_lt b a)
+compared Ne a b = told (surely_lt a b || surely_lt b a) (surely_le a b && surely_le b a)
+
+-- ---- arithmetic
+
+-- the least and the greatest number of a width
+abbrev pub least_of : Width → ℤ
+least_of width.Int = negsuc 0x7FFF
+least_of width.Dint = negsuc 0x7FFF_FFFF
+least_of width.Lint = negsuc 0x7FFF_FFFF_FFFF_FFFF
+
+abbrev pub greatest_of : Width → ℤ
+greatest_of width.Int = pos 0x7FFF
+greatest_of width.Dint = pos 0x7FFF_FFFF
+greatest_of width.Lint = pos 0x7FFF_FFFF_FFFF_FFFF
+
+-- all numbers of a width
+abbrev pub all_of : Width → Range
+all_of w = Between (least_of w) (greatest_of w)
+
+-- the number is one of the width
+abbrev pub fits_in : Width → ℤ → Bool
+fits_in w z = int_le (least_of w) z && int_le z (greatest_of w)
+
+-- what numbers between these two wrap to
+abbrev pub wrapped : Width → ℤ → ℤ → Range
+wrapped w low high = if fits_in w low && fits_in w high then Between low high else all_of w
+
+-- the same of numbers that 64 bits may not hold
+abbrev pub wrapped_of : Width → Option ℤ → Option ℤ → Range
+wrapped_of w (Some low) (Some high) = wrapped w low high
+wrapped_of w (Some low) None = all_of w
+wrapped_of w None high = all_of w
+
+abbrev pub computed : Operation → Width → Range → Range → Range
+computed Add w (Between a b) (Between c d) = wrapped w (a +ℤ c) (b +ℤ d)
+computed Sub w (Between a b) (Between c d) = wrapped w (a -ℤ d) (b -ℤ c)
+computed o w a b = all_of w
+
+-- ---- instructions
+
+-- the ranges of the stack, the top first, and of the slots, and what is known of the timers
+pub record Plain : Type 0 where
+  pub cells : List Range
+  pub slots : List Range
+  pub timers : List KnownTimer
+
+abbrev pub with_cells : List Range → Plain → Option Plain
+with_cells cells p = Some (record { cells = cells; slots = p.slots; timers = p.timers })
+
+abbrev pub top_of : List Range → (Range → List Range → Option Plain) → Option Plain
+top_of [] act = None
+top_of (top ∷ below) act = act top below
+
+abbrev pub slot_of : ℕ → List Range → (Range → Option Plain) → Option Plain
+slot_of n slots act = option_and_then act (slice_get slots n)
+
+-- a slot changes by what is on top, which stays
+abbrev pub slot_by : (Range → Range → Range) → ℕ → Plain → Option Plain
+slot_by change n p =
+    slot_of n p.slots (λ old. top_of p.cells
+    (λ top below. Some (record {
+      cells = p.cells;
+      slots = slice_set p.slots n (change top old);
+      timers = p.timers;
+    })))
+
+abbrev pub two_of : (Range → Range → Range) → Plain → Option Plain
+two_of f p =
+    top_of p.cells (λ b rest. top_of rest (λ a below. with_cells (f a b ∷ below) p))
+
+abbrev pub timer_of : ℕ → List KnownTimer → (KnownTimer → Option Plain) → Option Plain
+timer_of n timers act = option_and_then act (slice_get timers n)
+
+-- a timer changes, and the stack with it
+abbrev pub with_timer : List Range → ℕ → KnownTimer → Plain → Option Plain
+with_timer cells n u p =
+    Some (record { cells = cells; slots = p.slots; timers = slice_set p.timers n u })
+
+abbrev pub effect : Instr → Plain → Option Plain
+effect Halt p = None
+effect (Push v) p = with_cells (exactly v ∷ p.cells) p
+effect Drop p = top_of p.cells (λ top below. with_cells below p)
+effect (Slot Load n) p = slot_of n p.slots (λ r. with_cells (r ∷ p.cells) p)
+effect (Slot Store n) p = slot_by (λ top old. top) n p
+effect (Slot SetIf n) p = slot_by either n p
+effect (Slot ResetIf n) p = slot_by (λ top old. both (negated top) old) n p
+effect Not p = top_of p.cells (λ top below. with_cells (negated top ∷ below) p)
+effect (Combine c) p = two_of (connected c) p
+effect (Compute o w) p = two_of (computed o w) p
+effect (Compare c) p = two_of (compared c) p
+effect (Widen w) p = Some p
+effect (Jump when distance) p = None
+effect (Timer SetInput n) p =
+    timer_of n p.timers (λ u. top_of p.cells (λ top below. with_timer below n (with_input top u) p))
+effect (Timer SetPreset n) p =
+    timer_of n p.timers (λ u. top_of p.cells
+    (λ top below. with_timer below n (with_preset top u) p))
+effect (Timer Run n) p = timer_of n p.timers (λ u. with_timer p.cells n (called u) p)
+effect (Timer LoadOutput n) p = timer_of n p.timers (λ u. with_cells (u.output ∷ p.cells) p)
+effect (Timer LoadElapsed n) p = timer_of n p.timers (λ u. with_cells (u.elapsed ∷ p.cells) p)

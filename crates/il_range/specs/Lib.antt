@@ -1,0 +1,14 @@
+-- What a scan may leave in the slots of a machine.
+--
+-- `Ranges` says which values a range stands for. `Foretold` is the main file: what a machine keeps
+-- from scan to scan, what a scan leaves, and which ranges foretell it. `Laws`: slots keep their
+-- types and timers their kinds.
+
+pub mod Foretold
+pub mod Laws
+pub mod Ranges
+-- Inner ones, which private functions, invariants and proofs cite, and no public clause.
+pub mod Effects
+pub mod Outcomes
+pub mod Pending
+pub mod Starts

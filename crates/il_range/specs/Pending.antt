@@ -1,0 +1,91 @@
+-- Inner: what the pass keeps of places that are still to come.
+use Rattle.std.specs.Prelude.{ℕ, ◌≡◌, ◌≢◌, ◌+◌, ◌≤◌, true, false, List, length, reverse, slice_get, Option, Some}
+use Rattle.il_image.specs.declared.instr.Instr.{Instr}
+use Rattle.il_image.specs.declared.value.Value.{Value}
+use Rattle.il_image.specs.declared.value.Value.TheVariants.{Truth}
+use Rattle.il_image.specs.declared.timer.TimerState.{TimerState}
+use Rattle.il_image.specs.Machine.{State, Turn, Goes, Halts, Traps, act}
+use Rattle.il_image.specs.Reading.{instr_at}
+use Rattle.il_range.specs.declared.range.Range.{Range}
+use Rattle.il_range.specs.declared.known.Known.{Known}
+use Rattle.il_range.specs.Effects.{Plain, join, join_timer, joined}
+use Rattle.il_range.specs.Ranges.{AreIn, AreTimersIn, IsIn}
+
+-- what is known, as lists
+abbrev pub plain : Known → Plain
+plain s = record { cells = reverse s.cells.items; slots = s.slots.items; timers = s.timers.items }
+
+-- what a run holds at its moment: the cells with the top first, the slots and the timers
+pub record Held : Type 0 where
+  pub now : ℕ
+  pub cells : List Value
+  pub slots : List Value
+  pub timers : List TimerState
+
+abbrev pub held : ℕ → State → Held
+held now s = record { now = now; cells = s.cells; slots = s.slots; timers = s.timers }
+
+-- These are some of those that it stands for.
+pub record Covers (p : Plain) (h : Held) : Type 0 where
+  pub cells : AreIn h.cells p.cells
+  pub slots : AreIn h.slots p.slots
+  pub timers : AreTimersIn h.now h.timers p.timers
+
+-- What the one stands for, the other does too.
+abbrev pub IsUnder : Plain → Plain → Type 0
+IsUnder p q = (h : Held) → Covers p h → Covers q h
+
+-- What is known where one of both is so: the joins, place by place.
+pub record IsJoin (one other both : Known) : Type 0 where
+  pub depth : length one.cells.items ≡ length other.cells.items
+  pub size : length one.slots.items ≡ length other.slots.items
+  pub count : length one.timers.items ≡ length other.timers.items
+  pub cells : both.cells.items ≡ joined join one.cells.items other.cells.items
+  pub slots : both.slots.items ≡ joined join one.slots.items other.slots.items
+  pub timers : both.timers.items ≡ joined join_timer one.timers.items other.timers.items
+
+-- Something is known at the place, and it stands for these.
+pub record CoversAt (pending : List (Option Known)) (place : ℕ) (h : Held) : Type 0 where
+  pub known : Known
+  pub here : slice_get pending place ≡ Some (Some known)
+  pub covers : Covers (plain known) h
+
+-- What was covered at a place stays so.
+abbrev pub Keeps : List (Option Known) → List (Option Known) → Type 0
+Keeps old new = (q : ℕ) (h : Held) → CoversAt old q h → CoversAt new q h
+
+-- What is known comes to a place, and nothing is lost elsewhere.
+pub record Arrives (old new : List (Option Known)) (place : ℕ) (come : Plain) : Type 0 where
+  pub keeps : Keeps old new
+  pub brings : (h : Held) → Covers come h → CoversAt new place h
+
+-- A jump that is done where this is so: what is known comes to both places, or to one alone where
+-- the other is ruled out.
+pub record Branches (jumps : Range) (distance next : ℕ) (come : Plain)
+    (old new : List (Option Known))
+    : Type 0 where
+  pub keeps : Keeps old new
+  pub far : IsIn (Truth true) jumps → (h : Held) → Covers come h → CoversAt new (next + distance) h
+  pub near : IsIn (Truth false) jumps → (h : Held) → Covers come h → CoversAt new next h
+
+-- A step goes to a place from this one on, where it is covered; or it halts, and is covered at the
+-- end; or it traps.
+abbrev pub Lands : Turn → ℕ → ℕ → Held → List (Option Known) → Type 0
+Lands (Goes s) next end h pending = (next ≤ s.place) × CoversAt pending s.place (held h.now s)
+Lands Halts next end h pending = CoversAt pending end h
+Lands (Traps trap) next end h pending = Unit {0}
+
+-- Each step of the instruction from what is known lands, and nothing is lost elsewhere.
+pub record Moves (instr : Instr) (next : ℕ) (come : Plain) (old new : List (Option Known))
+    : Type 0 where
+  pub keeps : Keeps old new
+  pub lands : (now end : ℕ) (s : State) → Covers come (held now s)
+      → Lands (act now instr next s) next end (held now s) new
+
+-- Each step of the instruction at a place from what is pending there lands behind it, and nothing
+-- is lost elsewhere. The end of the code stands for the end of a run.
+pub record Visits (code : List ℕ) (place : ℕ) (old new : List (Option Known)) : Type 0 where
+  pub keeps : (q : ℕ) → q ≢ place → (h : Held) → CoversAt old q h → CoversAt new q h
+  pub lands : (instr : Instr) (next now : ℕ) (s : State)
+      → instr_at code place ≡ Some (instr, next) → CoversAt old place (held now s)
+      → Lands (act now instr next s) (place + 1) (length code) (held now s) new

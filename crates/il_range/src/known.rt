@@ -1,0 +1,367 @@
+// What is known of the stack and of the slots before an instruction.
+ghost use Rattle.std.specs.Prelude.{◌≡◌, ◌∷◌, List, length, OnOk, IfOk, Some};
+ghost use Rattle.il_range.specs.Effects.{effect, joined};
+ghost use Rattle.il_range.specs.Effects as spec;
+ghost use Rattle.il_range.specs.Pending.{Arrives, IsJoin, plain};
+
+use crate::range::{Range, both, compared, computed, connected, either, exactly, join, negated};
+use crate::stop::Stop;
+use crate::timer::{KnownTimer, called, join_timer};
+use crate::traces::Traces;
+use il_image::arithmetic::{Comparison, Operation, Width};
+use il_image::instr::Instr;
+use il_image::opcode::{Connective, SlotUse, TimerUse};
+use std::alloc::Global;
+
+/// What is known of the stack, the top last, and of the slots.
+#[derive(Drop)]
+pub(crate) struct Known {
+    pub cells: Vec<Range>,
+    pub slots: Vec<Range>,
+    pub timers: Vec<KnownTimer>,
+    /// What all these hang on. No clause speaks of it.
+    pub traces: Traces,
+}
+
+fn pushed(known: &mut Known, range: Range) -> Result<(), Stop>
+    ensures cells { OnOk result ((plain known.new).cells ≡ range ∷ (plain known.old).cells) }
+    ensures slots { known.new.slots ≡ known.old.slots }
+    ensures timers { known.new.timers ≡ known.old.timers }
+{
+    known.cells.push(range)?;
+    Ok(())
+}
+
+fn popped(known: &mut Known) -> Result<Range, Stop>
+    ensures cells { IfOk result (λ r. (plain known.old).cells ≡ r ∷ (plain known.new).cells) }
+    ensures slots { known.new.slots ≡ known.old.slots }
+    ensures timers { known.new.timers ≡ known.old.timers }
+{
+    match known.cells.pop() {
+        Some(range) => Ok(range),
+        None => Err(Stop::Undecided),
+    }
+}
+
+/// The top, which stays, and on which the way hangs from here on.
+pub(crate) fn top_of(known: &mut Known) -> Result<Range, Stop>
+    ensures same { OnOk result (plain known.new ≡ plain known.old) }
+    ensures top { IfOk result (λ r. (below : List Range) × ((plain known.old).cells ≡ r ∷ below)) }
+{
+    known.traces.turn();
+    let top = popped(known)?;
+    pushed(known, top)?;
+    Ok(top)
+}
+
+fn load(known: &mut Known, n: u16) -> Result<(), Stop>
+    ensures { OnOk result (effect (Instr.Slot SlotUse.Load n) (plain known.old)
+        ≡ Some (plain known.new)) }
+{
+    let n = usize::from(n);
+    if n >= known.slots.len() {
+        return Err(Stop::Undecided);
+    }
+    let range = known.slots[n];
+    pushed(known, range)
+}
+
+fn store(known: &mut Known, n: u16) -> Result<(), Stop>
+    ensures { OnOk result (effect (Instr.Slot SlotUse.Store n) (plain known.old)
+        ≡ Some (plain known.new)) }
+{
+    let n = usize::from(n);
+    if n >= known.slots.len() {
+        return Err(Stop::Undecided);
+    }
+    let top = popped(known)?;
+    known.slots[n] = top;
+    pushed(known, top)
+}
+
+fn set_if(known: &mut Known, n: u16) -> Result<(), Stop>
+    ensures { OnOk result (effect (Instr.Slot SlotUse.SetIf n) (plain known.old)
+        ≡ Some (plain known.new)) }
+{
+    let n = usize::from(n);
+    if n >= known.slots.len() {
+        return Err(Stop::Undecided);
+    }
+    let top = popped(known)?;
+    let changed = either(top, known.slots[n]);
+    known.slots[n] = changed;
+    pushed(known, top)
+}
+
+fn reset_if(known: &mut Known, n: u16) -> Result<(), Stop>
+    ensures { OnOk result (effect (Instr.Slot SlotUse.ResetIf n) (plain known.old)
+        ≡ Some (plain known.new)) }
+{
+    let n = usize::from(n);
+    if n >= known.slots.len() {
+        return Err(Stop::Undecided);
+    }
+    let top = popped(known)?;
+    let changed = both(negated(top), known.slots[n]);
+    known.slots[n] = changed;
+    pushed(known, top)
+}
+
+fn use_slot(known: &mut Known, slot_use: SlotUse, n: u16) -> Result<(), Stop>
+    ensures { OnOk result (effect (Instr.Slot slot_use n) (plain known.old)
+        ≡ Some (plain known.new)) }
+{
+    match slot_use {
+        SlotUse::Load => load(known, n),
+        SlotUse::Store => store(known, n),
+        SlotUse::SetIf => set_if(known, n),
+        SlotUse::ResetIf => reset_if(known, n),
+    }
+}
+
+fn connect(known: &mut Known, connective: Connective) -> Result<(), Stop>
+    ensures { OnOk result (effect (Instr.Combine connective) (plain known.old)
+        ≡ Some (plain known.new)) }
+{
+    let b = popped(known)?;
+    let a = popped(known)?;
+    pushed(known, connected(connective, a, b))
+}
+
+fn compare(known: &mut Known, comparison: Comparison) -> Result<(), Stop>
+    ensures { OnOk result (effect (Instr.Compare comparison) (plain known.old)
+        ≡ Some (plain known.new)) }
+{
+    let b = popped(known)?;
+    let a = popped(known)?;
+    pushed(known, compared(comparison, a, b))
+}
+
+fn compute(known: &mut Known, operation: Operation, width: Width) -> Result<(), Stop>
+    ensures { OnOk result (effect (Instr.Compute operation width) (plain known.old)
+        ≡ Some (plain known.new)) }
+{
+    let b = popped(known)?;
+    let a = popped(known)?;
+    pushed(known, computed(operation, width, a, b))
+}
+
+fn invert(known: &mut Known) -> Result<(), Stop>
+    ensures { OnOk result (effect Instr.Not (plain known.old) ≡ Some (plain known.new)) }
+{
+    let top = popped(known)?;
+    pushed(known, negated(top))
+}
+
+fn drop_top(known: &mut Known) -> Result<(), Stop>
+    ensures { OnOk result (effect Instr.Drop (plain known.old) ≡ Some (plain known.new)) }
+{
+    let _top = popped(known)?;
+    Ok(())
+}
+
+fn set_input(known: &mut Known, n: u16) -> Result<(), Stop>
+    ensures { OnOk result (effect (Instr.Timer TimerUse.SetInput n) (plain known.old)
+        ≡ Some (plain known.new)) }
+{
+    let n = usize::from(n);
+    if n >= known.timers.len() {
+        return Err(Stop::Undecided);
+    }
+    let top = popped(known)?;
+    let timer = known.timers[n];
+    known.timers[n] = KnownTimer {
+        kind: timer.kind,
+        input: top,
+        preset: timer.preset,
+        output: timer.output,
+        elapsed: timer.elapsed,
+        below: timer.below,
+    };
+    Ok(())
+}
+
+fn set_preset(known: &mut Known, n: u16) -> Result<(), Stop>
+    ensures { OnOk result (effect (Instr.Timer TimerUse.SetPreset n) (plain known.old)
+        ≡ Some (plain known.new)) }
+{
+    let n = usize::from(n);
+    if n >= known.timers.len() {
+        return Err(Stop::Undecided);
+    }
+    let top = popped(known)?;
+    let timer = known.timers[n];
+    known.timers[n] = KnownTimer {
+        kind: timer.kind,
+        input: timer.input,
+        preset: top,
+        output: timer.output,
+        elapsed: timer.elapsed,
+        below: timer.below,
+    };
+    Ok(())
+}
+
+fn call(known: &mut Known, n: u16) -> Result<(), Stop>
+    ensures { OnOk result (effect (Instr.Timer TimerUse.Run n) (plain known.old)
+        ≡ Some (plain known.new)) }
+{
+    let n = usize::from(n);
+    if n >= known.timers.len() {
+        return Err(Stop::Undecided);
+    }
+    let timer = called(known.timers[n]);
+    known.timers[n] = timer;
+    Ok(())
+}
+
+fn load_output(known: &mut Known, n: u16) -> Result<(), Stop>
+    ensures { OnOk result (effect (Instr.Timer TimerUse.LoadOutput n) (plain known.old)
+        ≡ Some (plain known.new)) }
+{
+    let n = usize::from(n);
+    if n >= known.timers.len() {
+        return Err(Stop::Undecided);
+    }
+    let output = known.timers[n].output;
+    pushed(known, output)
+}
+
+fn load_elapsed(known: &mut Known, n: u16) -> Result<(), Stop>
+    ensures { OnOk result (effect (Instr.Timer TimerUse.LoadElapsed n) (plain known.old)
+        ≡ Some (plain known.new)) }
+{
+    let n = usize::from(n);
+    if n >= known.timers.len() {
+        return Err(Stop::Undecided);
+    }
+    let elapsed = known.timers[n].elapsed;
+    pushed(known, elapsed)
+}
+
+fn use_timer(known: &mut Known, timer_use: TimerUse, n: u16) -> Result<(), Stop>
+    ensures { OnOk result (effect (Instr.Timer timer_use n) (plain known.old)
+        ≡ Some (plain known.new)) }
+{
+    match timer_use {
+        TimerUse::SetInput => set_input(known, n),
+        TimerUse::SetPreset => set_preset(known, n),
+        TimerUse::Run => call(known, n),
+        TimerUse::LoadOutput => load_output(known, n),
+        TimerUse::LoadElapsed => load_elapsed(known, n),
+    }
+}
+
+/// What an instruction without a jump does.
+pub(crate) fn apply(known: &mut Known, instr: Instr) -> Result<(), Stop>
+    ensures { OnOk result (effect instr (plain known.old) ≡ Some (plain known.new)) }
+{
+    match instr {
+        Instr::Push(value) => pushed(known, exactly(value)),
+        Instr::Slot(slot_use, n) => use_slot(known, slot_use, n),
+        Instr::Combine(connective) => connect(known, connective),
+        Instr::Compute(operation, width) => compute(known, operation, width),
+        Instr::Compare(comparison) => compare(known, comparison),
+        Instr::Not => invert(known),
+        Instr::Drop => drop_top(known),
+        Instr::Widen(_) => Ok(()),
+        Instr::Timer(timer_use, n) => use_timer(known, timer_use, n),
+        Instr::Jump(_, _) | Instr::Halt => Err(Stop::Undecided),
+    }
+}
+
+/// Follows an instruction in what the values hang on.
+pub(crate) fn follow(known: &mut Known, instr: Instr) -> Result<(), Stop>
+    ensures { plain known.new ≡ plain known.old }
+{
+    known.traces.step(instr)?;
+    known
+        .traces
+        .settle(instr, known.cells.as_slice(), known.slots.as_slice());
+    Ok(())
+}
+
+// Joins each value with the other at its place.
+fn join_all(ranges: &mut Vec<Range>, others: &[Range])
+    requires { length ranges.old.items ≡ length others.now }
+    ensures { ranges.new.items ≡ joined spec.join ranges.old.items others.now }
+{
+    for i in 0..others.len() {
+        ranges[i] = join(ranges[i], others[i]);
+    }
+}
+
+// Joins each timer with the other at its place.
+fn join_timers(timers: &mut Vec<KnownTimer>, others: &[KnownTimer])
+    requires { length timers.old.items ≡ length others.now }
+    ensures { timers.new.items ≡ joined spec.join_timer timers.old.items others.now }
+{
+    for i in 0..others.len() {
+        timers[i] = join_timer(timers[i], others[i]);
+    }
+}
+
+// What is known where one of both is so.
+fn merged(one: Known, other: Known) -> Result<Known, Stop>
+    ensures { IfOk result (λ both. IsJoin one other both) }
+{
+    if one.cells.len() != other.cells.len() || one.slots.len() != other.slots.len() {
+        return Err(Stop::Undecided);
+    }
+    if one.timers.len() != other.timers.len() {
+        return Err(Stop::Undecided);
+    }
+    let Known {
+        mut cells,
+        mut slots,
+        mut timers,
+        mut traces,
+    } = one;
+    traces.join_cells(&other.traces, cells.as_slice(), other.cells.as_slice());
+    traces.join_slots(&other.traces, slots.as_slice(), other.slots.as_slice());
+    join_all(&mut cells, other.cells.as_slice());
+    join_all(&mut slots, other.slots.as_slice());
+    join_timers(&mut timers, other.timers.as_slice());
+    Ok(Known {
+        cells,
+        slots,
+        timers,
+        traces,
+    })
+}
+
+/// A path comes to a place.
+pub(crate) fn arrive(
+    pending: &mut Vec<Option<Known>>,
+    place: usize,
+    known: Known,
+) -> Result<(), Stop>
+    ensures size { length pending.new.items ≡ length pending.old.items }
+    ensures ok { OnOk result (Arrives pending.old.items pending.new.items place (plain known)) }
+{
+    if place >= pending.len() {
+        return Err(Stop::Undecided);
+    }
+    let come = match pending[place].take() {
+        None => known,
+        Some(other) => merged(other, known)?,
+    };
+    pending[place] = Some(come);
+    Ok(())
+}
+
+/// A copy of what is known.
+pub(crate) fn copy_of(alloc: Global, known: &Known) -> Result<Known, Stop>
+    ensures { IfOk result (λ s. plain s ≡ plain known.now) }
+{
+    let cells = Vec::from_slice(alloc, known.cells.as_slice())?;
+    let slots = Vec::from_slice(alloc, known.slots.as_slice())?;
+    let timers = Vec::from_slice(alloc, known.timers.as_slice())?;
+    let traces = known.traces.copy(alloc)?;
+    Ok(Known {
+        cells,
+        slots,
+        timers,
+        traces,
+    })
+}

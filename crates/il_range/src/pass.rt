@@ -1,0 +1,162 @@
+// The pass over the places of the code, in their order.
+ghost use Rattle.std.specs.Prelude.{◌≡◌, ◌+◌, ◌<◌, [], List, length, slice_get, slice_set, IfOk, OnOk, Some, None, Vec};
+ghost use Rattle.std.specs.Global.{Global};
+ghost use Rattle.il_range.specs.Outcomes.{Predicts};
+ghost use Rattle.il_range.specs.Pending.{Arrives, Branches, Moves, Visits, plain};
+
+use crate::known::{Known, apply, arrive, copy_of, follow, top_of};
+use crate::range::{Range, negated};
+use crate::stop::Stop;
+use il_image::instr::Instr;
+use il_image::opcode::When;
+use il_image::read::instr_at;
+use std::alloc::Global;
+
+// An instruction without a jump.
+fn step(
+    instr: Instr,
+    next: usize,
+    here: Known,
+    pending: &mut Vec<Option<Known>>,
+) -> Result<(), Stop>
+    ensures size { length pending.new.items ≡ length pending.old.items }
+    ensures ok { OnOk result (Moves instr next (plain here) pending.old.items pending.new.items) }
+{
+    let mut here = here;
+    apply(&mut here, instr)?;
+    follow(&mut here, instr)?;
+    arrive(pending, next, here)
+}
+
+// A jump so many octets past the next instruction.
+fn leap(
+    distance: u16,
+    next: usize,
+    here: Known,
+    pending: &mut Vec<Option<Known>>,
+) -> Result<(), Stop>
+    ensures size { length pending.new.items ≡ length pending.old.items }
+    ensures ok { OnOk result
+        (Arrives pending.old.items pending.new.items (next + distance) (plain here)) }
+{
+    let Some(to) = next.checked_add(usize::from(distance)) else {
+        return Err(Stop::Undecided);
+    };
+    arrive(pending, to, here)
+}
+
+// Jumps where this is so.
+fn branch(
+    alloc: Global,
+    jumps: Range,
+    distance: u16,
+    next: usize,
+    here: Known,
+    pending: &mut Vec<Option<Known>>,
+) -> Result<(), Stop>
+    ensures size { length pending.new.items ≡ length pending.old.items }
+    ensures ok { OnOk result
+        (Branches jumps distance next (plain here) pending.old.items pending.new.items) }
+{
+    match jumps {
+        Range::Yes => leap(distance, next, here, pending),
+        Range::No => arrive(pending, next, here),
+        _ => {
+            let other = copy_of(alloc, &here)?;
+            leap(distance, next, other, pending)?;
+            arrive(pending, next, here)
+        }
+    }
+}
+
+// A jump, which looks at the top and leaves it.
+fn jump(
+    alloc: Global,
+    when: When,
+    distance: u16,
+    next: usize,
+    here: Known,
+    pending: &mut Vec<Option<Known>>,
+) -> Result<(), Stop>
+    ensures size { length pending.new.items ≡ length pending.old.items }
+    ensures ok { OnOk result
+        (Moves (Instr.Jump when distance) next (plain here) pending.old.items pending.new.items) }
+{
+    let mut here = here;
+    match when {
+        When::Always => leap(distance, next, here, pending),
+        When::IfTrue => {
+            let top = top_of(&mut here)?;
+            branch(alloc, top, distance, next, here, pending)
+        }
+        When::IfFalse => {
+            let top = top_of(&mut here)?;
+            branch(alloc, negated(top), distance, next, here, pending)
+        }
+    }
+}
+
+// What is pending at a place, which no longer is.
+fn taken(pending: &mut Vec<Option<Known>>, place: usize) -> Option<Known>
+    requires { place < length pending.old.items }
+    ensures value { slice_get pending.old.items place ≡ Some result }
+    ensures after { pending.new.items ≡ slice_set pending.old.items place None }
+    ensures size { length pending.new.items ≡ length pending.old.items }
+{
+    pending[place].take()
+}
+
+// The instruction at a place, from what is pending there. The end of the code stands for the end
+// of a run.
+fn visit(
+    alloc: Global,
+    code: &[u8],
+    place: usize,
+    pending: &mut Vec<Option<Known>>,
+) -> Result<(), Stop>
+    requires { place < length pending.old.items }
+    ensures size { length pending.new.items ≡ length pending.old.items }
+    ensures ok { OnOk result (Visits code.now place pending.old.items pending.new.items) }
+{
+    let Some(here) = taken(pending, place) else {
+        return Ok(());
+    };
+    let Some((instr, next)) = instr_at(code, place) else {
+        return Err(Stop::Undecided);
+    };
+    match instr {
+        Instr::Halt => arrive(pending, code.len(), here),
+        Instr::Jump(when, distance) => jump(alloc, when, distance, next, here, pending),
+        _ => step(instr, next, here, pending),
+    }
+}
+
+// So many places where nothing is pending.
+fn nothing(alloc: Global, count: usize) -> Result<Vec<Option<Known>>, Stop>
+    ensures { IfOk result (λ v. length v.items ≡ count) }
+{
+    let mut pending = Vec::new(alloc);
+    for _ in 0..count {
+        pending.push(None)?;
+    }
+    Ok(pending)
+}
+
+/// Returns what is known at the end of a run of the code, at any moment, from what is known at its
+/// start.
+pub(crate) fn outcome(alloc: Global, code: &[u8], first: Known) -> Result<Known, Stop>
+    requires { first.cells.items ≡ [] }
+    ensures { IfOk result
+        (λ end. Predicts code.now first.timers.items first.slots.items end.timers.items
+        end.slots.items) }
+{
+    let mut pending = nothing(alloc, code.len() + 1)?;
+    arrive(&mut pending, 0, first)?;
+    for place in 0..code.len() {
+        visit(alloc, code, place, &mut pending)?;
+    }
+    match taken(&mut pending, code.len()) {
+        Some(end) => Ok(end),
+        None => Err(Stop::Undecided),
+    }
+}

@@ -1,0 +1,233 @@
+// What the values of a run hang on, beside what is known of them. It follows the instructions as
+// the pass does, and no clause speaks of it.
+use crate::range::Range;
+use crate::sources::SourceSet;
+use il_image::instr::Instr;
+use il_image::opcode::{SlotUse, TimerUse};
+use std::alloc::{AllocError, Global};
+
+/// What the cells of the stack, the top last, the slots and the timers hang on, and what the way
+/// to here does.
+#[derive(Drop)]
+pub(crate) struct Traces {
+    pub cells: Vec<SourceSet>,
+    pub slots: Vec<SourceSet>,
+    pub timers: Vec<SourceSet>,
+    pub way: SourceSet,
+}
+
+// The set at a place.
+fn at(sets: &[SourceSet], n: usize) -> SourceSet {
+    if n < sets.len() {
+        sets[n]
+    } else {
+        SourceSet::new()
+    }
+}
+
+// Puts a set at a place.
+fn put(sets: &mut Vec<SourceSet>, n: usize, set: SourceSet) {
+    if n < sets.len() {
+        sets[n] = set;
+    }
+}
+
+// Whether the range has one value.
+fn is_known(range: Range) -> bool {
+    match range {
+        Range::No | Range::Yes => true,
+        Range::Between(low, high) => low == high,
+        Range::Any | Range::Either => false,
+    }
+}
+
+// Joins the sets of two ways, where these are the ranges on the one and on the other. A value that
+// differs hangs on the way too.
+fn join_sets(
+    sets: &mut Vec<SourceSet>,
+    others: &[SourceSet],
+    ranges: &[Range],
+    other_ranges: &[Range],
+    way: SourceSet,
+) {
+    for n in 0..sets.len() {
+        if n < others.len() && n < ranges.len() && n < other_ranges.len() {
+            let is_same = sets[n] == others[n] && ranges[n] == other_ranges[n];
+            if !is_same {
+                sets[n] = sets[n].or(others[n]).or(way);
+            }
+        }
+    }
+}
+
+// Joins the sets of timers of two ways.
+fn join_timers(sets: &mut Vec<SourceSet>, others: &[SourceSet], way: SourceSet) {
+    for n in 0..sets.len() {
+        if n < others.len() && sets[n] != others[n] {
+            sets[n] = sets[n].or(others[n]).or(way);
+        }
+    }
+}
+
+// What each slot hangs on at the start of a scan.
+fn slot_sets(alloc: Global, ranges: &[Range]) -> Result<Vec<SourceSet>, AllocError> {
+    let mut sets = Vec::new(alloc);
+    for n in 0..ranges.len() {
+        if is_known(ranges[n]) {
+            sets.push(SourceSet::new())?;
+        } else {
+            sets.push(SourceSet::of_slot(n))?;
+        }
+    }
+    Ok(sets)
+}
+
+// What each timer hangs on at the start of a scan.
+fn timer_sets(alloc: Global, timers: usize) -> Result<Vec<SourceSet>, AllocError> {
+    let mut sets = Vec::new(alloc);
+    for n in 0..timers {
+        sets.push(SourceSet::of_timer(n))?;
+    }
+    Ok(sets)
+}
+
+impl Traces {
+    /// Creates the traces at the start of a scan, whose slots are in these ranges: each slot and
+    /// each of so many timers hangs on itself.
+    pub(crate) fn new(
+        alloc: Global,
+        ranges: &[Range],
+        timers: usize,
+    ) -> Result<Traces, AllocError> {
+        Ok(Traces {
+            cells: Vec::new(alloc),
+            slots: slot_sets(alloc, ranges)?,
+            timers: timer_sets(alloc, timers)?,
+            way: SourceSet::new(),
+        })
+    }
+
+    /// Returns what the top hangs on.
+    pub(crate) fn top(&self) -> SourceSet {
+        match self.cells.last() {
+            Some(set) => *set,
+            None => SourceSet::new(),
+        }
+    }
+
+    fn pop(&mut self) -> SourceSet {
+        match self.cells.pop() {
+            Some(set) => set,
+            None => SourceSet::new(),
+        }
+    }
+
+    fn push(&mut self, set: SourceSet) -> Result<(), AllocError> {
+        self.cells.push(set)?;
+        Ok(())
+    }
+
+    // One value is made of two.
+    fn combine(&mut self) -> Result<(), AllocError> {
+        let second = self.pop();
+        let first = self.pop();
+        self.push(first.or(second))
+    }
+
+    fn use_slot(&mut self, slot_use: SlotUse, n: usize) -> Result<(), AllocError> {
+        let slot = at(self.slots.as_slice(), n);
+        let top = self.top();
+        match slot_use {
+            SlotUse::Load => return self.push(slot),
+            SlotUse::Store => put(&mut self.slots, n, top),
+            SlotUse::SetIf | SlotUse::ResetIf => put(&mut self.slots, n, slot.or(top)),
+        }
+        Ok(())
+    }
+
+    fn use_timer(&mut self, timer_use: TimerUse, n: usize) -> Result<(), AllocError> {
+        let timer = at(self.timers.as_slice(), n);
+        match timer_use {
+            TimerUse::SetInput | TimerUse::SetPreset => {
+                let top = self.pop();
+                put(&mut self.timers, n, timer.or(top));
+            }
+            TimerUse::LoadOutput | TimerUse::LoadElapsed => return self.push(timer),
+            TimerUse::Run => {}
+        }
+        Ok(())
+    }
+
+    /// Follows an instruction.
+    pub(crate) fn step(&mut self, instr: Instr) -> Result<(), AllocError> {
+        match instr {
+            Instr::Push(_) => self.push(SourceSet::new()),
+            Instr::Drop => {
+                self.pop();
+                Ok(())
+            }
+            Instr::Slot(slot_use, n) => self.use_slot(slot_use, usize::from(n)),
+            Instr::Combine(_) | Instr::Compute(_, _) | Instr::Compare(_) => self.combine(),
+            Instr::Timer(timer_use, n) => self.use_timer(timer_use, usize::from(n)),
+            Instr::Halt | Instr::Not | Instr::Widen(_) | Instr::Jump(_, _) => Ok(()),
+        }
+    }
+
+    /// Forgets what the top and a slot that was used hang on, where they have one value.
+    pub(crate) fn settle(&mut self, instr: Instr, cells: &[Range], slots: &[Range]) {
+        if let Some(top) = cells.last() {
+            if is_known(*top) {
+                put(&mut self.cells, cells.len() - 1, SourceSet::new());
+            }
+        }
+        if let Instr::Slot(_, n) = instr {
+            let n = usize::from(n);
+            if n < slots.len() && is_known(slots[n]) {
+                put(&mut self.slots, n, SourceSet::new());
+            }
+        }
+    }
+
+    /// The way hangs on the top.
+    pub(crate) fn turn(&mut self) {
+        self.way = self.way.or(self.top());
+    }
+
+    /// Joins what the cells hang on with another way's, whose cells are in the other ranges.
+    pub(crate) fn join_cells(&mut self, other: &Traces, ranges: &[Range], other_ranges: &[Range]) {
+        self.way = self.way.or(other.way);
+        let way = self.way;
+        join_sets(
+            &mut self.cells,
+            other.cells.as_slice(),
+            ranges,
+            other_ranges,
+            way,
+        );
+    }
+
+    /// Joins what the slots and the timers hang on with another way's, whose slots are in the other
+    /// ranges.
+    pub(crate) fn join_slots(&mut self, other: &Traces, ranges: &[Range], other_ranges: &[Range]) {
+        self.way = self.way.or(other.way);
+        let way = self.way;
+        join_sets(
+            &mut self.slots,
+            other.slots.as_slice(),
+            ranges,
+            other_ranges,
+            way,
+        );
+        join_timers(&mut self.timers, other.timers.as_slice(), way);
+    }
+
+    /// Returns a copy.
+    pub(crate) fn copy(&self, alloc: Global) -> Result<Traces, AllocError> {
+        Ok(Traces {
+            cells: Vec::from_slice(alloc, self.cells.as_slice())?,
+            slots: Vec::from_slice(alloc, self.slots.as_slice())?,
+            timers: Vec::from_slice(alloc, self.timers.as_slice())?,
+            way: self.way,
+        })
+    }
+}

@@ -1,0 +1,179 @@
+"""What `bayctl audit` answers, read from what it prints:
+
+    instructions=20 depth=2 budget=20
+    rule 4 holds cases=3
+    rule 5 broken QA1=0|2|3 ES=1
+    rule 6 open QA1=1 M1_AA=6..2147483647 by t1 LOCK
+    rule 7 timed
+    rule 9 holds cases=12 by t1
+    rule 8 many
+    release QB1 open cases=3
+    released QA1=1 QC1=1
+    hangs QA1=2 by t1
+    blocked QA1=0|3
+    release QB1 close many
+
+A rule with a time that holds names the timer that bears it. A line of rules that is about opening
+and closing has two answers. In a case a switch has its
+positions as numbers, an input 0 or 1, a measure a number or a range; what it does not name is free.
+The cases of a release are those in which it is given whatever the program keeps from scan to scan,
+those in which it depends on what stands behind `by`, and those in which it is not given. That are
+variables, timers, and measures with which the program calculates in a way that is not followed;
+nothing stands there if it calculates so with the values of the case. The word before a case may be
+left out where `by` tells the first two apart, and cases in which it is not given need not be
+told."""
+import re
+from dataclasses import dataclass, field
+
+from bay.rules import INPUT, MEASURE, SWITCH
+from common.texts import raised
+
+LEAST, MOST = -2 ** 31, 2 ** 31 - 1
+WAYS = ('open', 'close')
+VALUES = re.compile(r'(-?[0-9]{1,10})(?:\.\.(-?[0-9]{1,10}))?', re.ASCII)
+BROKEN, MANY, OPEN, TIMED, HOLDS = 'broken', 'many', 'open', 'timed', 'holds'
+RELEASED, HANGS, BLOCKED = 'released', 'hangs', 'blocked'
+COMPUTED = 'what the program calculates'  # what a case depends on where no name is told
+WORST = [BROKEN, MANY, OPEN, TIMED, HOLDS]  # of the answers of one line, the worst first
+
+
+class Bad(Exception):
+    """A line that is none of an answer."""
+
+
+@dataclass(frozen=True)
+class Case:
+    """The values of some things, each as ranges (least, most); all others are free. `kept` are the
+    variables, timers and measures on which the answer depends, or COMPUTED."""
+    values: dict
+    kept: tuple = ()
+
+    def allows(self, key, value: int) -> bool:
+        ranges = self.values.get(key)
+        return ranges is None or any(least <= value <= most for least, most in ranges)
+
+
+@dataclass(frozen=True)
+class Proof:
+    """The answer on a rule for one direction; `timer` is the one that bears a rule with a time."""
+    line: int
+    verdict: str
+    cases: int = 0
+    case: Case = Case({})
+    timer: str = ''
+
+
+@dataclass
+class Release:
+    """The cases in which a switch may be opened or closed, or which hang on what is kept, and as
+    far as they are told those in which it may not be; none are known where these are too many."""
+    name: str
+    way: int
+    cases: list[Case] = field(default_factory=list)
+    blocked: list[Case] = field(default_factory=list)
+    is_known: bool = True
+
+    def take(self, line: str, words: list[str], keys: set) -> None:
+        """Takes the line of a case."""
+        state = words[0] if words and '=' not in words[0] and words[0] != 'by' else ''
+        case = case_of(line, words[1:] if state else words, keys)
+        is_right = {RELEASED: not case.kept, HANGS: bool(case.kept), BLOCKED: not case.kept}
+        if not is_right.get(state, not state):
+            raise Bad(line)
+        (self.blocked if state == BLOCKED else self.cases).append(case)
+
+
+@dataclass
+class Answer:
+    """All that bayctl says: of each rule, and of each release."""
+    report: str
+    rules: list[Proof] = field(default_factory=list)
+    releases: list[Release] = field(default_factory=list)
+
+    def of_line(self, line: int) -> Proof | None:
+        """The answer on a line of rules: the worst, where it has several."""
+        found = [it for it in self.rules if it.line == line]
+        return min(found, key=lambda it: WORST.index(it.verdict), default=None)
+
+
+def read(printed: str, keys: set) -> Answer:
+    """The answer in what was printed. `keys` are the things of the bay, as rules know them."""
+    lines = printed.split('\n')
+    if lines and not lines[-1]:
+        lines.pop()
+    if not lines or not lines[0].startswith('instructions='):
+        raise Bad(lines[0] if lines else 'nothing')
+    found, at = Answer(lines[0]), 1
+    while at < len(lines):
+        words = lines[at].split(' ')
+        if words[0] == 'rule':
+            found.rules.append(proof_of(lines[at], words[1:], keys))
+            at += 1
+        elif words[0] == 'release':
+            release, count = release_of(lines[at], words[1:], keys)
+            cases = lines[at + 1:at + 1 + count]
+            if len(cases) < count:
+                raise Bad(f'{lines[at]}, and {len(cases)} cases')
+            for line in cases:
+                release.take(line, line.split(), keys)
+            found.releases.append(release)
+            at += 1 + count
+        else:
+            raise Bad(lines[at])
+    return found
+
+
+def proof_of(line: str, words: list[str], keys: set) -> Proof:
+    """The answer on a rule."""
+    if len(words) < 2 or not words[0].isdecimal() or words[1] not in WORST:
+        raise Bad(line)
+    number, verdict, *rest = int(words[0]), *words[1:]
+    if verdict == HOLDS and len(rest) == 1:
+        return Proof(number, verdict, count_of(line, rest[0]))
+    if verdict == HOLDS and len(rest) == 3 and rest[1] == 'by':
+        return Proof(number, verdict, count_of(line, rest[0]), timer=rest[2])
+    if verdict in (BROKEN, OPEN):
+        return Proof(number, verdict, case=case_of(line, rest, keys))
+    if rest or verdict == HOLDS:
+        raise Bad(line)
+    return Proof(number, verdict)
+
+
+def release_of(line: str, words: list[str], keys: set) -> tuple[Release, int]:
+    if len(words) != 3 or words[1] not in WAYS or (SWITCH, raised(words[0])) not in keys:
+        raise Bad(line)
+    release = Release(raised(words[0]), WAYS.index(words[1]))
+    if words[2] == MANY:
+        release.is_known = False
+        return release, 0
+    return release, count_of(line, words[2])
+
+
+def count_of(line: str, word: str) -> int:
+    found = re.fullmatch('cases=([0-9]{1,9})', word, re.ASCII)
+    if not found:
+        raise Bad(line)
+    return int(found[1])
+
+
+def case_of(line: str, words: list[str], keys: set) -> Case:
+    """A case: names with their values, and behind `by` what it depends on."""
+    at = words.index('by') if 'by' in words else len(words)
+    values = {}
+    for word in words[:at]:
+        name, sign, text = word.partition('=')
+        key = next((key for key in ((kind, raised(name)) for kind in (SWITCH, INPUT, MEASURE))
+                    if key in keys and key not in values), None)
+        if not sign or key is None:
+            raise Bad(line)
+        values[key] = tuple(range_of(line, part) for part in text.split('|'))
+    kept = words[at + 1:] or [COMPUTED] * (at < len(words))
+    return Case(values, tuple(kept))
+
+
+def range_of(line: str, text: str) -> tuple[int, int]:
+    found = VALUES.fullmatch(text)
+    least, most = (int(found[1]), int(found[2] or found[1])) if found else (1, 0)
+    if not LEAST <= least <= most <= MOST:
+        raise Bad(line)
+    return least, most

@@ -1,0 +1,81 @@
+"""Asks bayctl for what it can prove of rules and of releases: `bayctl audit`. A program that has no
+such command proves nothing."""
+import pathlib
+import re
+import subprocess
+import tempfile
+
+from bay.rules import SWITCH
+from common.ending import Failed
+from common.texts import raised
+from diagnosis.faults import faults
+from diagnosis.warnings import Proved
+from report.replay import not_run
+
+from .answers import Answer, Bad, read
+from .reads import POSITION
+from .things import keys_of
+
+WAYS = ('opened', 'closed')
+DONE, FOUND = 0, 4  # statuses with an answer
+
+
+def run(bayctl, *words) -> subprocess.CompletedProcess:
+    try:
+        return subprocess.run([bayctl, *map(str, words)], stdin=subprocess.DEVNULL,
+                              capture_output=True)
+    except OSError as error:
+        raise not_run(error) from None
+
+
+def can_prove(bayctl) -> bool:
+    """Whether bayctl has the command: its help lists all."""
+    told = run(bayctl, '--help')
+    return re.search(rb'(?m)^ +audit\b', told.stdout + told.stderr) is not None
+
+
+def asked(bayctl, bay, logic, rules, keys: set) -> Answer:
+    """The answer of bayctl on a bay file, a program and a file of rules; `keys` are the things of
+    the bay, as rules know them."""
+    done = run(bayctl, 'audit', '--bay', bay, '--logic', logic, '--rules', rules)
+    printed = done.stdout.decode('utf-8', 'backslashreplace')
+    refused = re.search(r'(?m)^rules refused (\d+) line (\d+)$', printed)
+    if refused:
+        fault = faults().get(int(refused[1]))
+        why = f': {fault.meaning} {fault.mend}' if fault else ''
+        raise Failed(f'{rules}: line {refused[2]}: bayctl refuses it with {refused[1]}{why}')
+    if done.returncode not in (DONE, FOUND):
+        said = printed.strip() or done.stderr.decode('utf-8', 'backslashreplace').strip()
+        first = said.split('\n')[0] or f'it ended with status {done.returncode}'
+        hint = ' (tools/diagnose tells why)' if first.startswith('load refused ') else ''
+        raise Failed(f'bayctl audit: {first}{hint}')
+    try:
+        return read(printed, keys)
+    except Bad as error:
+        raise Failed(f'bayctl audit printed what this tool can\'t read: {error}') from None
+
+
+def answer_of(bayctl, bay, logic, rules, keys: set) -> Answer | None:
+    """The answer of bayctl, or None where it can prove nothing."""
+    return asked(bayctl, bay, logic, rules, keys) if can_prove(bayctl) else None
+
+
+def proved_of(bayctl, bay, logic, file: dict) -> Proved | None:
+    """What bayctl proves of the releases of a program, for warnings; None where it proves nothing.
+    """
+    answer = releases_of(bayctl, bay, logic, keys_of(file))
+    if answer is None or not all(it.is_known for it in answer.releases):
+        return None
+    cases = [case for it in answer.releases for case in it.cases]
+    points = {point for case in cases for kind, name in case.values
+              for point in ([name + ending for ending in POSITION] if kind == SWITCH else [name])}
+    never = {(it.name, WAYS[it.way]) for it in answer.releases if it.is_known and not it.cases}
+    return Proved(never, points, {raised(name) for case in cases for name in case.kept})
+
+
+def releases_of(bayctl, bay, logic, keys: set) -> Answer | None:
+    """What bayctl says of the releases, without any rule; None where it can prove nothing."""
+    with tempfile.TemporaryDirectory() as folder:
+        rules = pathlib.Path(folder) / 'rules'
+        rules.write_text('', encoding='ascii')
+        return answer_of(bayctl, bay, logic, rules, keys)

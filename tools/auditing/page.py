@@ -1,0 +1,222 @@
+"""The report of an audit: one page of HTML that needs no other file, to be printed and signed."""
+import hashlib
+import html
+import pathlib
+import re
+
+from bay.names import UNIT
+from bay.rules import MEASURE
+from common import moments
+from common.ending import DONE
+from common.texts import counted, in_line
+
+from . import verdicts
+from .judging import released, uncovered
+from .matrix import draw_parts
+from .things import WAYS
+
+TOOLS = pathlib.Path(__file__).resolve().parent.parent
+CHANGES = TOOLS.parent / 'CHANGELOG.md'
+# What the audit is made of.
+FOLDERS = ('auditing', 'bay', 'common', 'diagnosis', 'picture', 'report', 'wire')
+WIDTH = 672  # of the matrix, in pixels: that of a page of A4
+PROVED = ('<b>Proved</b>: bayctl runs the verified program with values that stand for all. What is '
+          'proved of a rule holds in every scan, from every state of the program and with every '
+          'value of the bay, whatever its clients do.')
+STYLE = '''
+@page { size: A4; margin: 16mm 15mm 18mm;
+  @bottom-right { content: counter(page) " / " counter(pages); font: 8pt sans-serif; color: #555 }
+  @bottom-left { content: "%s"; font: 8pt sans-serif; color: #555 } }
+* { box-sizing: border-box }
+body { font: 10pt/1.4 "DejaVu Sans", Verdana, Helvetica, Arial, sans-serif; color: #1a1a1a;
+  max-width: 190mm; margin: 0 auto; padding: 6mm; -webkit-print-color-adjust: exact;
+  print-color-adjust: exact }
+@media print { body { padding: 0; max-width: none; font-size: 9pt } }
+h1 { font-size: 17pt; margin: 0 0 1mm } h2 { font-size: 12pt; margin: 7mm 0 2mm;
+  border-bottom: 1px solid #999; padding-bottom: 1mm; break-after: avoid }
+h2 + p { break-after: avoid } p { margin: 1.5mm 0 }
+table { border-collapse: collapse; width: 100%% }
+th, td { text-align: left; vertical-align: top; padding: 1mm 2mm 1mm 0;
+  border-bottom: 1px solid #ddd } tr { break-inside: avoid } thead { display: table-header-group }
+th { font-weight: bold } td.number, th.number { text-align: right }
+td.number { white-space: nowrap }
+code { font-family: "DejaVu Sans Mono", Consolas, monospace; font-size: 0.92em;
+  overflow-wrap: anywhere } td.name { white-space: nowrap }
+.verdict { border: 2px solid; padding: 1mm 4mm; margin: 4mm 0; font-size: 12pt; font-weight: bold }
+.verdict .plain { font-size: 10pt; font-weight: normal }
+.good { color: #1b5e20 } .bad { color: #b3261e } .mark { font-weight: bold; white-space: nowrap }
+.quiet { color: #555 } .figure { break-inside: avoid; overflow-x: auto }
+@media print { .figure svg { max-width: 100%%; height: auto } }
+.sign { break-inside: avoid; margin-top: 4mm }
+.sign table { width: calc(100%% - 2px); margin: 1px }
+.sign td { height: 14mm; border: 1px solid #777; padding: 1mm 2mm; width: 25%% }
+.sign th { border: 1px solid #777; padding: 1mm 2mm; background: #f1f1f1 }
+'''
+
+
+def escaped(text) -> str:
+    return html.escape(in_line(str(text)))
+
+
+def code(text) -> str:
+    return f'<code>{escaped(text)}</code>'
+
+
+def sum_of(octets) -> str:
+    return hashlib.sha256(octets).hexdigest()
+
+
+def version() -> str:
+    """The tool's version: the newest of CHANGELOG.md, and a sum of its files."""
+    day = re.search(r'^## (\d\S*)', CHANGES.read_text(encoding='utf-8'), re.M)
+    paths = [TOOLS / 'audit', *sorted(path for name in FOLDERS
+                                      for path in (TOOLS / name).glob('*.py'))]
+    found = sum_of(b''.join(path.read_bytes() for path in paths))
+    return f'{day[1] if day else "of no day"}, SHA-256 of its files {found[:16]}'
+
+
+def table(heads, rows, style='') -> str:
+    """A table; of a head a leading # says that its column has numbers, and ! names."""
+    kinds = [{'#': ' class="number"', '!': ' class="name"'}.get(head[:1], '') for head in heads]
+    told = ''.join(f'<th scope="col"{kind}>{escaped(head.lstrip("#!"))}</th>'
+                   for head, kind in zip(heads, kinds))
+    head = f'<thead><tr>{told}</tr></thead>' if any(heads) else ''
+    body = ''.join('<tr>' + ''.join(f'<td{kind}>{cell}</td>' for kind, cell in zip(kinds, row))
+                   + '</tr>' for row in rows)
+    return f'<table{style}>{head}<tbody>{body}</tbody></table>'
+
+
+def product_list(condition) -> str:
+    """The products of a condition, one below the other."""
+    if condition is None:
+        return 'not derived: there are too many cases or combinations'
+    first, *others = [code(line) for line in condition.lines()]
+    return first + ''.join(f'<br><span class="quiet">or</span> {other}' for other in others)
+
+
+class Report:
+    """An audit as a page. `files` are what was read, by what it is: name and octets; `moment` is in
+    seconds since 1970."""
+
+    def __init__(self, audit, files, bayctl, moment) -> None:
+        self.audit, self.bay, self.files, self.bayctl = audit, audit.bay, files, bayctl
+        told = int(moment) * 1000
+        self.day = f'{moments.date_of(told):%Y-%m-%d %H:%M:%S} {moments.zone_told(told)}'
+
+    def page(self) -> str:
+        bay = self.bay.file['bay']
+        title = f'Audit of the interlocking of bay {bay["domain"]}'
+        style = STYLE % f'Bay {bay["domain"]}, {self.day}'
+        parts = [f'<h1>{escaped(title)}</h1>', self.verdict(), self.what_was_read(),
+                 self.signatures(), self.how(), self.rules(), self.conditions(),
+                 self.uncovered(), self.matrix()]
+        return ('<!DOCTYPE html>\n<html lang="en"><head><meta charset="utf-8">'
+                '<meta name="viewport" content="width=device-width">'
+                f'<title>{escaped(title)}</title><style>{style}</style></head>\n<body>\n'
+                + '\n'.join(parts) + '\n</body></html>\n')
+
+    def verdict(self) -> str:
+        """The verdict, with what was restricted, and that nothing is proved."""
+        kind = 'good' if verdicts.status(self.audit) == DONE else 'bad'
+        more = [f'Restricted in what was tried: {it}.' for it in verdicts.restrictions(self.audit)]
+        if self.audit.answer is None:
+            more.append('Nothing is proved: this bayctl has no command audit, so all was tried.')
+        return (f'<div class="verdict {kind}"><p>{escaped(verdicts.verdict(self.audit))}</p>'
+                + ''.join(f'<p class="plain">{escaped(it)}</p>' for it in more) + '</div>')
+
+    def what_was_read(self) -> str:
+        bay = self.bay.file['bay']
+        rows = [(what, code(name), f'{len(octets):,}', code(sum_of(octets)))
+                for what, (name, octets) in self.files.items()]
+        program = pathlib.Path(self.bayctl).read_bytes()
+        rows.append(('bayctl', code(pathlib.Path(self.bayctl).name), f'{len(program):,}',
+                     code(sum_of(program))))
+        about = [('Bay', escaped(bay['domain'])),
+                 ('Device', escaped(f'{bay["vendor"]} {bay["model"]}, {bay["revision"]}')),
+                 ('Date', self.day),
+                 ('Tool', f'tools/audit of {escaped(version())}')]
+        return ('<h2>What was audited</h2>' + table(['', ''], about) + '<p></p>'
+                + table(['', '!File', '#Bytes', 'SHA-256'], rows))
+
+    def how(self) -> str:
+        """What proved and tried mean, and what was tried."""
+        audit = self.audit
+        notes = [PROVED] if audit.answer else []
+        notes.append(self.tried_told() if audit.table else 'Nothing was tried.')
+        rows = [(escaped(it.name), it.kind, escaped(', '.join(it.words()))
+                 + (' (not all)' if it.is_restricted() else '')) for it in self.bay.things]
+        shown = table(['Point', 'Kind', 'Values that were tried'], rows) if audit.table else ''
+        return ('<h2>What was proved and what was tried</h2>'
+                + ''.join(f'<p>{note}</p>' for note in notes + self.notes()) + shown)
+
+    def tried_told(self) -> str:
+        audit, some = self.audit, ''
+        if not audit.is_whole():
+            some = f' of {audit.bay.count():,}, spread over all'
+        return (f'<b>Tried</b>: {counted(len(audit.table), "combination")}{some}, '
+                f'{counted(audit.scans, "scan")}. Each combination is scanned at once and '
+                + ', '.join(f'{at:,} ms' for at in audit.offsets[1:]) + ' after it is reached.')
+
+    def notes(self) -> list[str]:
+        program = self.bay.program
+        notes = [f'Not read by the program, and so not combined: '
+                 f'{escaped(", ".join(self.bay.unread))}.'] if self.bay.unread else []
+        if any(it.kind == MEASURE for it in self.bay.things):
+            notes.append(f'Measured values are {UNIT}: the bay file has none.')
+        if program.points is None:
+            notes.append('This tool can\'t follow the program, so all points are combined.')
+        if program.timers and not self.audit.has_times():
+            notes.append(f'The program has {counted(program.timers, "timer")}, and no rule has a '
+                         'time: <b>how long they run is not audited.</b>')
+        if program.untold:
+            notes.append('The times of these timers are not in the text, so no scan is made at '
+                         f'their ends: {escaped(", ".join(program.untold))}.')
+        return notes
+
+    def rules(self) -> str:
+        rows = []
+        for it in self.audit.findings:
+            kind = 'good' if it.verdict() in ('PROVED', 'TRIED') else 'bad'
+            first, *others = verdicts.lines_of(self.audit, it)
+            others = [first.replace('PROVED', 'proved')] if it.verdict() == 'PROVED' else others
+            told = code(it.rule.text) + ''.join(
+                f'<br><span class="quiet">{escaped(line)}</span>' for line in others)
+            cases = f'{it.proof.cases:,}' if it.proof and it.proof.cases else ''
+            looked = f'{it.looked:,}' if it.is_tried else ''
+            rows.append((it.rule.line, told, cases, looked,
+                         f'<span class="mark {kind}">{it.verdict()}</span>'))
+        heads = ['#Line', 'Rule', '#Cases proved', '#Applied in so many tried', 'Verdict']
+        return '<h2>Rules</h2>' + (table(heads, rows) if rows else '<p>There are none.</p>')
+
+    def conditions(self) -> str:
+        rows = [(f'<b>{escaped(name)}</b> {WAYS[way]}', product_list(it))
+                for (name, way), it in released(self.audit).items()]
+        how = ('as it is proved; where it hangs on variables or timers, these are named'
+               if self.audit.answer else 'as it was tried, once timers have run out')
+        return (f'<h2>Derived conditions</h2><p class="quiet">When each release is given, in the '
+                f'fewest words: {how}.</p>' + table(['!Release', 'is given when'], rows))
+
+    def uncovered(self) -> str:
+        bare = uncovered(self.audit)
+        lead = ('<h2>Releases that no rule covers</h2><p class="quiet">What was released, as '
+                'tried, and no rule with <code>always</code> asks for.</p>')
+        if bare is None:
+            return lead + '<p>Not known: not all combinations were tried.</p>'
+        rows = [(f'<b>{escaped(name)}</b> {WAYS[way]}', f'{count:,}', product_list(it))
+                for (name, way), (count, it) in bare.items()]
+        return lead + (table(['!Release', '#Combinations', 'when'], rows) if rows else
+                       '<p>None: each release is asked for by a rule.</p>')
+
+    def matrix(self) -> str:
+        if not self.audit.is_whole():
+            return ''
+        parts = ''.join(f'<div class="figure">{part}</div>'
+                        for part in draw_parts(self.bay, self.audit.table, WIDTH))
+        return ('<h2>Matrix</h2><p class="quiet">In how many of the combinations that were tried '
+                'with a position or value each release is given; a column is empty where the '
+                f'release does not depend on it.</p>{parts}')
+
+    def signatures(self) -> str:
+        rows = [(who, '', '', '') for who in ('Tested by', 'Checked by', 'Accepted by')]
+        return ('<div class="sign"><h2>Signatures</h2>'
+                + table(['', 'Name', 'Date', 'Signature'], rows) + '</div>')

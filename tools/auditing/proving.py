@@ -1,0 +1,129 @@
+"""What bayctl proves, for those who read an audit: scenarios of cases that break a rule, and the
+least condition of each release by its cases."""
+from dataclasses import dataclass, field
+
+from bay.conditions import Condition, TooLarge, Variable
+from bay.cubes import condition_of
+from bay.rules import INPUT, MEASURE, SWITCH
+from common.ending import Failed
+from common.positions import POSITIONS
+from common.texts import raised
+
+from .answers import LEAST, MOST, Answer, Case, Release
+from .replaying import scans_of
+from .things import Bay, Thing, all_things
+
+FREE = {SWITCH: 1, INPUT: 0, MEASURE: 0}  # the value of what a case leaves free
+
+
+def completed(case: Case, things: list[Thing]) -> dict:
+    """A state of a bay that lies in a case."""
+    state = {}
+    for thing in things:
+        ranges = case.values.get(thing.key, ((FREE[thing.kind], FREE[thing.kind]),))
+        state[thing.key] = FREE[thing.kind] if case.allows(thing.key, FREE[thing.kind]) else (
+            ranges[0][0])
+    return state
+
+
+@dataclass
+class Shown:
+    """A state that breaks a rule, its scenario, and whether a replay of it breaks the rule."""
+    state: dict
+    lines: list[str]
+    is_so: bool
+
+
+def shown(bay: Bay, rule, case: Case, bayctl) -> Shown:
+    """A case that breaks a rule, replayed."""
+    things = list(all_things(bay.file))
+    state = completed(case, things)
+    lines = [thing.line(0, state[thing.key]) for thing in things] + ['0 scan']
+    releases = next(iter(scans_of(bayctl, bay.scenario(lines))), None)
+    if releases is None:
+        raise Failed('bayctl: it printed too few scans')
+    return Shown(state, lines, bool(rule.condition(state)) and rule.breaks(releases))
+
+
+def told(case: Case, things: list[Thing]) -> str:
+    """A case in words."""
+    parts = []
+    for thing in things:
+        ranges = case.values.get(thing.key)
+        if ranges is not None:
+            parts.append(f'{thing.name} ' + '|'.join(range_told(thing, *it) for it in ranges))
+    return ', '.join(parts) or 'anything'
+
+
+def range_told(thing: Thing, least: int, most: int) -> str:
+    if thing.kind != MEASURE:
+        return '|'.join(str(thing.told(value)) for value in range(least, most + 1))
+    if least == most:
+        return str(least)
+    return f'up to {most}' if least == LEAST else f'from {least}' if most == MOST else (
+        f'{least} to {most}')
+
+
+# ---- releases
+
+@dataclass
+class Derived:
+    """When a release is given: always under a condition, and under others only if the program's
+    variables and timers that are named let it."""
+    condition: Condition
+    hanging: list[tuple[tuple, Condition]] = field(default_factory=list)
+
+    def lines(self) -> list[str]:
+        """The words of each product; behind what it depends on is said so."""
+        found = self.condition.lines() if self.condition.products or not self.hanging else []
+        return found + [f'{line} (hangs on {", ".join(kept)})'
+                        for kept, condition in self.hanging for line in condition.lines()]
+
+
+def variable_of(thing: Thing, cases: list[Case]) -> Variable:
+    """A thing with the values between which some cases tell."""
+    if thing.kind == SWITCH:
+        return Variable(thing.name, POSITIONS)
+    if thing.kind == INPUT:
+        return Variable(thing.name, ('0', '1'), True)
+    ranges = [it for case in cases for it in case.values.get(thing.key, ())]
+    begins = sorted({LEAST, *(least for least, _ in ranges),
+                     *(most + 1 for _, most in ranges if most < MOST)})
+    found = tuple(zip(begins, [*(begin - 1 for begin in begins[1:]), MOST]))
+    return Variable(thing.name, tuple(range_told(thing, *it) for it in found), ranges=found)
+
+
+def cube_of(case: Case, things: list[Thing], variables: list[Variable]) -> tuple:
+    """The values that a case allows of each variable, as bits."""
+    found = []
+    for thing, variable in zip(things, variables):
+        firsts = [least for least, _ in variable.ranges] or range(len(variable.values))
+        found.append(sum(case.allows(thing.key, value) << at for at, value in enumerate(firsts)))
+    return tuple(found)
+
+
+def derived(release: Release, bay_file: dict) -> Derived:
+    """When a release is given, by its cases."""
+    things = [thing for thing in all_things(bay_file)
+              if any(thing.key in case.values for case in release.cases)]
+    variables = [variable_of(thing, release.cases) for thing in things]
+
+    def condition(kept: tuple) -> Condition:
+        cubes = [cube_of(case, things, variables) for case in release.cases if case.kept == kept]
+        return condition_of(variables, cubes)
+
+    groups = dict.fromkeys(case.kept for case in release.cases if case.kept)
+    return Derived(condition(()), [(kept, condition(kept)) for kept in groups])
+
+
+def conditions(answer: Answer, bay_file: dict) -> dict[tuple[str, int], Derived | None]:
+    """When each release is given, by the switch's id and the way; None where its cases are too
+    many."""
+    names = {raised(switch['id']): switch['id'] for switch in bay_file['switch']}
+    found = {}
+    for it in answer.releases:
+        try:
+            found[names[it.name], it.way] = derived(it, bay_file) if it.is_known else None
+        except TooLarge:
+            found[names[it.name], it.way] = None
+    return found

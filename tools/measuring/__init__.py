@@ -1,0 +1,1 @@
+"""Measured figures: where they come from, and whether the sources changed since."""

@@ -1,0 +1,1 @@
+"""Pictures in SVG: their parts, and what was over time."""

@@ -1,0 +1,210 @@
+"""What became of a scenario or of a captured session over time: positions, releases, inputs,
+measures, clients, commands and refusals."""
+from dataclasses import dataclass
+
+from common import moments
+from common.positions import POSITIONS, WAYS
+from common.texts import raised
+from wire.captured import conversation_of, first_stream, go_on_behind
+from wire.conversation import Conversation, got_of
+from wire.words import cause_told
+
+from .replay import CODES, REASONS
+
+
+class Track:
+    """What one thing was over time: changes are (moment, value), in the order in which they
+    came."""
+
+    def __init__(self, label, note='') -> None:
+        self.label, self.note, self.changes = label, note, []
+
+    def set(self, moment, value) -> None:
+        if not self.changes or self.changes[-1][1] != value:
+            self.changes.append((moment, value))
+
+    def spells(self, start, end, first=None) -> list:
+        """(from, to, value) one after the other, from start to end; first is the value before any
+        change."""
+        points = [(start, first), *self.changes, (end, None)]
+        return [(a, b, value) for (a, value), (b, _) in zip(points, points[1:])
+                if b > a and value is not None]
+
+
+@dataclass
+class Mark:
+    """A control on a client's lane: what it says, whether it was granted, and else its number in
+    the list of refusals."""
+    moment: int
+    label: str
+    number: int | None = None
+
+
+class Client:
+    """What one client was over time: when it was connected, when it asked or was told something,
+    and its controls."""
+
+    def __init__(self, place) -> None:
+        self.label, self.ticks, self.marks = f'Client {place}', {}, []
+        self.open, self.count = Track(self.label), 0
+
+    def connect(self, moment: int, is_open: bool) -> None:
+        """One more or one less of its connections."""
+        self.count = max(self.count + (1 if is_open else -1), 0)
+        self.open.set(moment, self.count > 0)
+
+    def tick(self, moment, said) -> None:
+        self.ticks.setdefault(moment, []).extend(said.told())
+
+
+class History:
+    """What became of a scenario, or of a captured session: see `of_replay` and `of_capture`.
+    `falling` counts the lines that were refused because times go back."""
+
+    def __init__(self, bay, report='') -> None:
+        self.bay, self.report, self.ending, self.falling = bay, report, '', 0
+        self.switches = {raised(s['id']): Track(s['id'], s['kind']) for s in bay['switch']}
+        self.inputs = {raised(i['name']): Track(i['name'], 'input') for i in bay.get('input', [])}
+        self.meters = {raised(m['id']): m['id'] for m in bay.get('meter', [])}
+        self.opens = {key: Track('may be opened') for key in self.switches}
+        self.closes = {key: Track('may be closed') for key in self.switches}
+        self.commands = {key: [] for key in self.switches}
+        self.measures, self.scans, self.moments = {}, [], []
+        self.clients, self.conversations, self.causes = {}, {}, {}
+        self.refusals, self.events = [], []
+
+    @classmethod
+    def of_replay(cls, replay) -> 'History':
+        """What became of a scenario."""
+        history = cls(replay.file, replay.report)
+        for step in replay.steps():
+            history.step(step, replay.bay)
+        history.ending = replay.ending_told()
+        return history
+
+    @classmethod
+    def of_capture(cls, file, bay, events) -> 'History':
+        """What was said in a captured session. Of the process nothing is known. Each address is a
+        client."""
+        history, servers = cls(file), {}
+        history.switches, history.inputs = {}, {}
+        for event in events:
+            history.captured(event, bay, servers)
+        return history
+
+    def warnings(self) -> list[str]:
+        """What is to be said of the moments of the trace."""
+        return moments.warnings(self.moments, self.falling)
+
+    def captured(self, event, bay, servers) -> None:
+        """What happened on a connection of a capture."""
+        self.moments.append(event.moment)
+        who = event.who or event.place
+        client = self.clients.setdefault(who, Client(who))
+        if event.kind in ('open', 'middle'):
+            self.conversations[event.place] = conversation_of(event, bay)
+            servers[event.place] = first_stream(event)
+        if event.kind in ('open', 'middle', 'close'):
+            client.connect(event.moment, event.kind != 'close')
+            return
+        conversation = self.conversations[event.place]
+        if event.kind == 'client':
+            for got in conversation.hear(event.octets):
+                client.tick(event.moment, conversation.asks(got))
+        elif event.kind == 'server':
+            for got in servers[event.place].feed(event.octets):
+                said = conversation.answers(got)
+                client.tick(event.moment, said)
+                self.control(event.moment, who, said, (event.place, ''))
+        else:
+            client.ticks.setdefault(event.moment, []).append('octets are missing in the capture')
+            go_on_behind(event, conversation, servers)
+
+    def refuse(self, moment, words) -> int:
+        """Notes a refusal, and gives its place in the list."""
+        self.refusals.append((moment, words))
+        return len(self.refusals) - 1
+
+    def step(self, step, bay) -> None:
+        """A line of the trace, and what was printed for it."""
+        verb, *rest = step.words
+        if step.refused is not None:
+            self.falling += step.refused == 110
+            line = step.line if len(step.line) < 60 else step.line[:57] + '...'
+            told = f'{line}: refused with {step.refused}, {REASONS[step.refused]}'
+            self.events.append(self.refuse(step.moment, told))
+            return
+        self.moments.append(step.moment)
+        if verb in ('contact', 'input', 'measure'):
+            self.event(step.moment, step.words)
+        elif verb != 'scan':
+            self.heard(step, int(rest[0]), bay)
+        self.printed(step)
+
+    def event(self, moment, words) -> None:
+        """A contact, an input or a measure."""
+        key = raised(words[1])
+        if words[0] == 'contact':
+            self.switches[key].set(moment, POSITIONS[int(words[2])])
+        elif words[0] == 'input':
+            self.inputs[key].set(moment, int(words[2]))
+        else:
+            label = f'{self.meters[key]}_{words[2]}'
+            self.measures.setdefault(label, Track(label, 'process unit')).set(moment, int(words[3]))
+
+    def heard(self, step, place, bay) -> None:
+        """What a client sent, or that it came or went."""
+        client = self.clients.setdefault(place, Client(place))
+        if step.words[0] == 'recv':
+            for got in step.heard:
+                client.tick(step.moment, self.conversations[place].asks(got))
+            return
+        client.connect(step.moment, step.words[0] == 'open')
+        self.conversations[place] = Conversation(bay)
+
+    def printed(self, step) -> None:
+        """What was printed for an event: answers, a command, a scan, an association that was
+        closed."""
+        for place, octets in step.sent:
+            said = self.conversations[place].answers(got_of(octets))
+            self.clients[place].tick(step.moment, said)
+            self.control(step.moment, place, said, place)
+        if step.command:
+            name, way = step.command
+            self.commands[raised(name)].append((step.moment, WAYS[way]))
+        if step.scan:
+            self.scan(step.moment, step.scan)
+        if step.closed:
+            place, code = step.closed
+            self.clients[place].connect(step.moment, False)
+            if code != '0':
+                told = 'no memory'
+                if code.isdigit():
+                    told = f'{CODES.get(int(code), "fault")} ({code})'
+                number = self.refuse(step.moment, f'client {place} is closed: {told}')
+                self.clients[place].marks.append(Mark(step.moment, 'closed', number))
+
+    def control(self, moment, place, said, talk) -> None:
+        """A mark for a control of a client that was answered or has ended; the cause of a refusal
+        was told before it in the same talk, in whatever pieces it came."""
+        if said.kind == 'refused':
+            self.causes[talk] = said.cause
+        elif said.kind == 'ended':
+            self.mark(moment, place, f'{said.switch} {said.way} has ended', said.good, said.cause)
+        elif said.switch:
+            told = said.lines[0].partition(': ')[2]
+            self.mark(moment, place, said.title(), said.good, self.causes.pop(talk, None), told)
+
+    def mark(self, moment, place, label, good, cause, words='') -> None:
+        told = cause_told(cause) if cause is not None else words
+        number = None if good else self.refuse(moment, f'client {place}: {label}: {told}')
+        self.clients[place].marks.append(Mark(moment, label, number))
+
+    def scan(self, moment, line) -> None:
+        """A scan, by the line that was printed for it."""
+        self.scans.append(moment)
+        for part in line.split(' ')[2:]:
+            name, _, digits = part.partition('=')
+            if raised(name) in self.switches:
+                self.opens[raised(name)].set(moment, digits[:1] == '1')
+                self.closes[raised(name)].set(moment, digits[1:2] == '1')

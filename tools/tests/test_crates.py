@@ -1,0 +1,99 @@
+"""Crates and files are listed in documents as they are: crates.txt is the one list of crates, and
+each file that CONTRIBUTING names for a change is there."""
+import pathlib
+import re
+import sys
+import unittest
+
+TOOLS = pathlib.Path(__file__).resolve().parent.parent
+sys.path.insert(0, str(TOOLS))
+from tracing.calls import CRATES, TOP, crates
+from tracing.promises import promises
+from tracing.sheet import Sheet, head_of
+
+# What runs cases and tests, or is handed to these, promises nothing; the program hands all on.
+WITHOUT_PROMISE = {'bay_tests', 'bayctl', 'bayctl_cases', 'cases', 'layer_cases'}
+# What is only tested.
+TESTED = {'bay_net'}
+ROW = re.compile(r'^\| ((?:\w+(?:, )?)+) \|', re.M)
+FILE = re.compile(r'^(?:src|specs|proofs)/[\w/]+\.(?:rt|antt)$|^stdin$|^\w+\.(?:rt|antt|py)$')
+
+
+def text_of(page: str) -> str:
+    return (TOP / page).read_text(encoding='utf-8')
+
+
+def section_of(page: str, heading: str) -> str:
+    return text_of(page).partition(f'\n## {heading}\n')[2].partition('\n## ')[0]
+
+
+def listed_in(text: str) -> list[str]:
+    """The crates that the first cells of tables list, as often as they do."""
+    known = set(crates())
+    return [name for cell in ROW.findall(text) for name in cell.split(', ') if name in known]
+
+
+class Crates(unittest.TestCase):
+    def test_each_folder_is_listed(self):
+        folders = {it.name for it in CRATES.iterdir() if (it / 'src').is_dir()}
+        self.assertEqual(set(crates()), folders)
+
+    def test_architecture_has_each_crate_once(self):
+        found = listed_in(section_of('docs/ARCHITECTURE.md', 'The crates'))
+        self.assertEqual(sorted(found), sorted(crates()))
+
+    def test_readme_has_each_crate_that_promises_once(self):
+        found = listed_in(section_of('README.md', 'What is proved'))
+        self.assertEqual(sorted(found), sorted(set(crates()) - WITHOUT_PROMISE - TESTED))
+        self.assertTrue(all(it in section_of('README.md', 'What is proved') for it in TESTED))
+
+    def test_proved_has_a_promise_of_each_crate(self):
+        found = {crate for it in promises() if it.page.name == 'PROVED.md' for crate in it.crates}
+        self.assertEqual(set(crates()) - WITHOUT_PROMISE - TESTED - found, set())
+
+    def test_each_crate_with_definitions_says_what_they_are(self):
+        """`tools/trace` shows the head of its `specs/Lib.antt`, which names the first file."""
+        page = Sheet('.').page()
+        for it in crates():
+            if (CRATES / it / 'specs' / 'Lib.antt').exists():
+                files = {path.stem for path in (CRATES / it / 'specs').glob('*.antt')}
+                named = files & set(re.findall(r'`(\w+)`', head_of(it)))
+                self.assertTrue(named or files == {'Lib'}, it)
+                self.assertIn(f'id="crate-{it}"', page)
+
+    def test_the_table_of_the_gate_has_each_crate(self):
+        """`tools/gate_table` writes it anew."""
+        self.assertEqual(listed_in(text_of('bench/GATE.md')), crates())
+
+
+class Changes(unittest.TestCase):
+    def test_each_file_of_a_list_is_there(self):
+        """A file is of the crate that its step named last, or below the folder named with it."""
+        _, *lists = section_of('CONTRIBUTING.md', 'How a thing is added').split('\n### ')
+        self.assertGreater(sum(self.checked(it) for it in lists), 90)
+
+    def checked(self, text: str) -> int:
+        """How many files a list names, all of which are there."""
+        crate, folder, count = '', '', 0
+        for quoted, plain in re.findall(r'`([^`\n]+)`|\b(\w+)\b', text):
+            if plain in crates() and plain != 'cases':
+                crate, folder = plain, ''
+            elif quoted.startswith('tools/'):
+                path = quoted.split(' ')[0]
+                self.assertTrue((TOP / path).exists(), quoted)
+                crate, folder = '', path.rpartition('/')[0] if '.' in path else path
+            elif FILE.match(quoted) and (crate or folder):
+                self.assertTrue(self.is_there(crate, folder, quoted), f'{crate}: {quoted}')
+                count += 1
+        return count
+
+    def is_there(self, crate: str, folder: str, name: str) -> bool:
+        """Whether a file is there, also where only its last name is given."""
+        if folder:
+            return (TOP / folder / name).exists()
+        return (CRATES / crate / name).exists() or any((CRATES / crate / 'src').glob(name)) or any(
+            (CRATES / crate / 'specs').glob(name))
+
+
+if __name__ == '__main__':
+    unittest.main()

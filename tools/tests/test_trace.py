@@ -1,0 +1,181 @@
+"""From a promise to its proof: each row of README and PROVED names calls that are there, with
+clauses whose definitions are found; and has a law, an edit and a case, or a reason for none."""
+import html
+import pathlib
+import re
+import sys
+import tempfile
+import unittest
+
+TOOLS = pathlib.Path(__file__).resolve().parent.parent
+sys.path.insert(0, str(TOOLS))
+from tests.tool import Tools
+from tracing import lacking, shown
+from tracing.calls import TOP, Source, all_calls, crates, quiet
+from tracing.definitions import Reader, scope_of_call, unfound
+from tracing.edits import edits_of, laws_about, refused_of
+from tracing.marked import block, inline
+from tracing.promises import PAGES, Promise, Resolver, borne_by, promises
+from tracing.sheet import Sheet
+
+CODE = '''ghost use Rattle.bay_tree.specs.Rows.{place_of};
+
+/// Says "{".
+pub fn find(name: &[u8; 4]) -> usize
+    requires short { length name.now ≤ 4 }
+    ensures { result ≡ place_of name.now }
+{
+    other(name) // a brace: {
+}
+
+impl<'a> Model for Tree<'a> {
+    ghost Value = { List Row };
+}
+
+impl<'a> Tree<'a> {
+    fn other(&self)
+        ensures { P } {}
+}
+'''
+SPECS = '''-- Definitions.
+use Rattle.std.specs.Prelude.{ℕ}
+
+-- the first
+abbrev pub first : ℕ → ℕ
+first zero = one
+-- of a greater one
+first (suc n) = n
+
+module _ {L : Type 0}
+    (step : L) where
+  -- some fact
+  pub record Fact (n : ℕ) : Type 0 where
+    pub is : n ≡ first n
+
+one : ℕ
+one = 1
+'''
+
+
+def told_of(it: Promise) -> str:
+    return f'{it.page.name}:{it.line}'
+
+
+class Reading(unittest.TestCase):
+    def test_a_file_of_code(self):
+        path = TOP / 'crates' / 'bay_tree' / 'src' / 'one.rt'
+        source = Source('bay_tree', path, CODE)
+        found = [(it.title, it.line, it.last, it.told, len(it.clauses), it.is_law)
+                 for it in source.calls()]
+        self.assertEqual(found, [('find', 4, 9, 'Says "{".', 2, False),
+                                 ('Tree::other', 16, 17, '', 1, True)])
+        clause = source.calls()[0].clauses[0]
+        self.assertEqual((clause.kind, clause.label, clause.text, clause.line),
+                         ('requires', 'short', 'length name.now ≤ 4', 5))
+        self.assertEqual(len(quiet(CODE)), len(CODE))
+
+    def test_each_clause_of_the_sources_is_read(self):
+        words = sum(len(re.findall(r'\b(?:requires|ensures)\b', quiet(path.read_text())))
+                    for crate in crates()
+                    for path in (TOP / 'crates' / crate / 'src').rglob('*.rt'))
+        self.assertEqual(sum(len(it.clauses) for it in all_calls()), words)
+
+    def test_a_file_of_definitions(self):
+        with tempfile.TemporaryDirectory() as folder:
+            path = pathlib.Path(folder) / 'One.antt'
+            path.write_text(SPECS, encoding='utf-8')
+            found = [(it.name, it.line, it.told, it.text.count('\n'))
+                     for it in Reader('bay_tree', path).read()]
+        self.assertEqual(found, [
+            ('first', 5, 'the first', 3),
+            ('Fact', 13, 'some fact (For each {L : Type 0} (step : L).)', 1), ('one', 16, '', 1)])
+
+    def test_a_last_column(self):
+        def resolved(by):
+            borne = Resolver(Promise(PAGES[1], '', 1, '', by, ('bay_device',))).resolved()
+            return {it.title: labels for it, labels in borne.calls.items()}, borne.unknown
+        self.assertEqual(resolved('`step` and `run`: `commanded`; at most one: `single`, with '
+                                  '`load`: `timed`'),
+                         ({'Device::step': {'commanded', 'single'},
+                           'Device::run': {'commanded', 'single'}, 'load': {'timed'}}, []))
+        self.assertEqual(resolved('`no_such_call`, `load`: `no_such_label`'),
+                         ({'load': set()}, ['no_such_call', 'no_such_label']))
+
+    def test_markdown(self):
+        self.assertEqual(inline('**a** `b < c` [d `e`](f)'),
+                         '<b>a</b> <code>b &lt; c</code> d <code>e</code>')
+        self.assertEqual(
+            block('| A | B |\n|---|---|\n| 1 | 2 |'),
+            '<table><tr><th>A</th><th>B</th></tr><tr><td>1</td><td>2</td></tr></table>')
+
+
+class Promises(unittest.TestCase):
+    def test_each_row_names_calls_that_are_there(self):
+        self.assertGreater(len(promises()), 100)
+        for it in promises():
+            borne = borne_by(it)
+            self.assertEqual(borne.unknown, [], told_of(it))
+            self.assertTrue(borne.calls, told_of(it))
+            for call in borne.calls:
+                self.assertTrue(borne.clauses(call), f'{told_of(it)}: {call.title}')
+
+    def test_each_definition_that_a_clause_cites_is_found(self):
+        calls = {call for it in promises() for call in (*borne_by(it).calls,
+                                                        *laws_about(borne_by(it)))}
+        for call in calls:
+            for clause in call.clauses:
+                self.assertEqual(unfound(scope_of_call(call), clause.text), [], call.title)
+
+    def check_reasons(self, reasons, has):
+        """Each row has something or a reason, and each reason is of a row that has nothing."""
+        without = [it for it in promises() if not has(borne_by(it))]
+        for it in without:
+            self.assertTrue(lacking.reason(reasons, it),
+                            f'{told_of(it)}: {lacking.key_of(borne_by(it))}')
+        needed = {lacking.key_in(reasons, borne_by(it)) for it in without}
+        self.assertEqual(set(reasons) - needed, set())
+
+    def test_each_row_has_a_law_or_a_reason(self):
+        self.check_reasons(lacking.NO_LAW, laws_about)
+
+    def test_each_row_has_an_edit_or_a_reason(self):
+        self.check_reasons(lacking.NO_EDIT, refused_of)
+
+    def test_each_row_has_a_case_or_a_reason(self):
+        for it in promises():
+            borne = borne_by(it)
+            self.assertNotEqual(bool(shown.cases_of(borne)), bool(shown.no_cases(borne)),
+                                told_of(it))
+
+    def test_each_place_of_cases_is_there(self):
+        for name in (name for names in shown.CASES.values() for name in names):
+            self.assertTrue(shown.place_of(name), name)
+
+    def test_each_edit_of_the_gate_changes_a_function(self):
+        for it in (it for crate in crates() for it in edits_of(crate) if it.is_in_gate):
+            self.assertTrue(it.calls, it.path)
+
+
+class Written(Tools):
+    def test_the_page(self):
+        out = self.folder / 'a page.html'
+        self.assertEqual(self.call_tool('trace', '--out', out).status, 0)
+        page = out.read_text(encoding='utf-8')
+        anchors = re.findall(r' id="([^"]+)"', page)
+        self.assertEqual(len(anchors), len(set(anchors)))
+        links = {html.unescape(it) for it in re.findall(r'href="([^"]+)"', page)}
+        for link in links:
+            path, _, place = link.partition('#')
+            there = place in anchors if not path else (self.folder / path).is_file()
+            self.assertTrue(there, link)
+
+    def test_links_elsewhere(self):
+        self.assertIn('href="https://host/at/README.md#L', Sheet('https://host/at').page())
+
+    def test_a_folder_that_is_not_there(self):
+        found = self.call_tool('trace', '--out', self.folder / 'none' / 'page.html')
+        self.assertEqual((found.status, found.out), (3, ''))
+
+
+if __name__ == '__main__':
+    unittest.main()

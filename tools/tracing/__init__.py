@@ -1,0 +1,1 @@
+"""From a promise of the documents to its clauses, definitions, laws, edits and cases."""

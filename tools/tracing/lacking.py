@@ -1,0 +1,71 @@
+"""Why a promise has no law or no edit: by the first call that bears it, or a label of that."""
+from .promises import Borne, Promise, borne_by
+
+OWN_WORDS = 'its clause says it in the words of its subject: '
+NO_LAW = {
+    'bay_auditing audit_files': OWN_WORDS + 'which files are read, and the text of the answers, of '
+                                'which bay_audit says that they are right',
+    'bay_audit audit': OWN_WORDS + 'each scan from each process, in each state; the laws of '
+                       'bay_audit_laws say what that is of a device',
+    'bay_base same_name': OWN_WORDS + 'a table of words, and letters that differ in case',
+    'bay_config read_bay': '`sound` is the law of what `read` gives: a bay whose names differ and '
+                           'whose rows make a tree',
+    'bay_device load': '`accepted` and `refused` say of the texts themselves what `device` comes '
+                       'to: a bay file that is read, and a program right by its grammar and types',
+    'bay_device load: runs': '`means` and `runs` say what the program of the text means, by its '
+                             'structure; the laws of that are those of il_compile and il_laws',
+    'bay_device Device::run': '`operates`, `fresh`, `backed`, `means` and `halts` say what the '
+                              'outcomes come to by events, answers and what programs mean',
+    'bay_device Device::step': '`operates`, `fresh`, `means`, `halts` and `leads` say what the '
+                               'outcome comes to by events, answers and what programs mean',
+    'bay_device Device::switch': OWN_WORDS + 'the place of an id, and the id at a place',
+    'bay_files write_whole': OWN_WORDS + 'tries in their order, up to the first that does not find '
+                             'its name taken',
+    'bay_io WatchedReader::new': OWN_WORDS + 'the calls on the source or sink, in their order',
+    'bay_io WatchedWriter::put': OWN_WORDS + 'the calls on the sink, in their order',
+    'bay_io WatchedWriter::log': OWN_WORDS + 'one call of the sink with the line, or none',
+    'bay_io read_all': OWN_WORDS + 'what the reads gave, in order, up to an end',
+    'bay_main Ended::of': OWN_WORDS + 'a status for each answer',
+    'bay_output Log::put': OWN_WORDS + 'a line behind those that wait, whole, or one more that is '
+                           'lost',
+    'bay_replay replay_run': OWN_WORDS + 'what the reads gave, and what the writes took',
+    'bay_replay replay_watched': OWN_WORDS + 'what the reads gave, and what the writes took',
+    'bay_report tell_unread': OWN_WORDS + 'the words of the line, and what is printed',
+    'bay_serve Server::new': 'the laws of bay_serve_laws begin with what it makes',
+    'bay_serve serve_turn': 'it speaks of refusals alone; what a turn does has its laws in '
+                            'bay_serve_laws',
+    'bay_trace read_trace_line': OWN_WORDS + 'the forms of a line, one beside the other',
+    'bay_words task_of': OWN_WORDS + 'a job for each command line',
+    'il_compile compile': '`follows` is the law of `image` and `tabled`: the code does what the '
+                          'program means by its structure; il_laws adds the standard\'s tables',
+    'il_range scan_ranges': OWN_WORDS + 'each scan of the machine\'s own definition stays within '
+                            'what is answered',
+    'il_scan Machine::new': OWN_WORDS + 'the first state of the image',
+    'il_scan Machine::scan': 'its definition is the machine\'s, step by step; that it never goes '
+                             'wrong is `verified_code_never_goes_wrong`',
+    'il_verify Verified::image': OWN_WORDS + 'paths through the code and tables that agree with '
+                                 'it, where the code goes over it once'}
+NO_EDIT = {
+    'bay_main Ended::of': 'each method is one match with an arm for each answer; bayctl_cases has '
+                          'each status',
+    'bay_rules conditions_have_truths': 'it is about conditions as they are read; the edits of '
+                                        'reading are at `read_rules`',
+    'bay_serve Server::new': 'its clause has the whole value, a device and eight empty queues, and '
+                             'no edit is spent on it'}
+
+
+def key_of(borne: Borne) -> str:
+    """The first call that bears a promise, with its crate."""
+    first = next(iter(borne.calls), None)
+    return f'{first.crate} {first.title}' if first else ''
+
+
+def key_in(reasons: dict[str, str], borne: Borne) -> str:
+    """Under which key a reason of a promise stands: by a label of its first call, or by that."""
+    key, labels = key_of(borne), next(iter(borne.calls.values()), set())
+    return next((it for label in sorted(labels) if (it := f'{key}: {label}') in reasons), key)
+
+
+def reason(reasons: dict[str, str], promise: Promise) -> str:
+    """Why a promise lacks something, or an empty text."""
+    return reasons.get(key_in(reasons, borne_by(promise)), '')

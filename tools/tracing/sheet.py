@@ -1,0 +1,198 @@
+"""The page of `tools/trace`: each promise with what bears it, and the definitions as text."""
+import html
+import itertools
+import os
+import pathlib
+import re
+import subprocess
+
+from common.texts import counted
+
+from . import lacking, shown
+from .calls import CRATES, TOP, Call, crates
+from .definitions import NAMED, Declared, Named, Scope, below, cited, scope_of, scope_of_call
+from .edits import Edit, laws_about, refused_of
+from .marked import inline, section
+from .promises import Borne, Promise, borne_by, promises
+
+STYLE = '''
+body { font: 15px/1.45 Verdana, "DejaVu Sans", Helvetica, Arial, sans-serif; color: #1a1a1a;
+  max-width: 66em; margin: 0 auto; padding: 1em; overflow-wrap: anywhere }
+h1 { font-size: 1.6em } h2 { border-bottom: 1px solid #999; margin-top: 2em } h3 { font-size: 1em }
+pre { background: #f6f6f4; padding: .5em .8em; overflow-x: auto; margin: .3em 0 }
+code, pre { font-family: "DejaVu Sans Mono", Consolas, monospace; font-size: .93em }
+table { border-collapse: collapse; margin: .5em 0 } th, td { text-align: left; vertical-align: top;
+  padding: .2em .8em .2em 0; border-bottom: 1px solid #ddd }
+.promise { border: 1px solid #bbb; border-radius: 4px; padding: .2em 1em .6em; margin: 1em 0 }
+.promise > p:first-child { font-weight: bold } .kind { color: #555; margin: .8em 0 .2em }
+.definition { margin: 1.2em 0 } .definition:target { background: #fffbe0 }
+.quiet { color: #555; font-size: .93em } a { color: #14509b; text-decoration: none }
+a:hover { text-decoration: underline } summary { cursor: pointer; color: #555 }
+'''
+HEADINGS = ('Names of values', 'Signs and words', 'Where the words of a clause come from',
+            'Traits, laws and loans')
+LEAD = '''<p>For each promise of README and PROVED this page shows the clauses that carry it, the
+laws, the wrong bodies that the prover refuses, and the cases that show it. In a clause and in a
+definition the names are links to their definitions, which stand at the end of the page, or in their
+files.</p><ul>
+<li><b>Clauses.</b> What the prover has proved of the code of this call, for every argument.</li>
+<li><b>Laws.</b> A law has no code: it says in other words what the definitions come to, and is
+proved for every value. A row that names no law has here those that cite a definition of it.</li>
+<li><b>Wrong bodies.</b> Each is a change of a function to which one of the calls leads (of a law
+alone, a call that cites one of its definitions), the nearest first, with which the proof fails:
+that of these clauses, or of another of the function. The gate tries some;
+<code>tools/wrong_bodies</code> tries the others.</li>
+<li><b>Cases.</b> They are run in each gate.</li></ul>'''
+
+
+def commit() -> str:
+    """The commit that the page is of."""
+    done = subprocess.run(('git', 'log', '-1', '--format=%h of %as'), cwd=TOP, capture_output=True,
+                          text=True)
+    return done.stdout.strip() or 'no commit'
+
+
+class Sheet:
+    """One page, whose links into the sources begin with `sources`."""
+
+    def __init__(self, sources: str) -> None:
+        self.sources = sources
+        self.borne = {it: borne_by(it) for it in promises()}
+        self.laws = {it: laws_about(borne) for it, borne in self.borne.items()}
+        self.listed = self.definitions()
+
+    def definitions(self) -> dict[Named, str]:
+        """The definitions that clauses cite, and those that these name, with their anchors."""
+        first = [it for borne in self.borne.values() for it in borne.definitions]
+        for promise, borne in self.borne.items():
+            for call in (*borne.calls, *self.laws[promise]):
+                first += cited(call, frozenset(borne.calls.get(call, ())))
+        named = dict.fromkeys(first)
+        for it in list(named):
+            named |= dict.fromkeys(below(it))
+        return {it: f'{it.crate}.{it.path.stem}.{it.name}' for it in named}
+
+    def source(self, path: pathlib.Path, line: int) -> str:
+        """A link to a line of a file."""
+        name = path.relative_to(TOP)
+        return f'<a href="{html.escape(self.sources)}/{name}#L{line}">{name}:{line}</a>'
+
+    def goal(self, named: Named) -> str:
+        """Where a name leads: to its definition on this page, or to its file."""
+        if named in self.listed:
+            return f'#{self.listed[named]}'
+        return f'{html.escape(self.sources)}/{named.path.relative_to(TOP)}#L{named.line}'
+
+    def linked(self, text: str, scope: Scope, own: str = '') -> str:
+        """A text whose names lead to their definitions."""
+        found, place = [], 0
+        for it in NAMED.finditer(text):
+            meant = scope.meaning(it[0]) if it[0] != own else None
+            if meant:
+                word = f'<a href="{self.goal(meant)}">{html.escape(it[0])}</a>'
+                found += [html.escape(text[place:it.start()]), word]
+                place = it.end()
+        return ''.join([*found, html.escape(text[place:])])
+
+    def contract(self, call: Call, borne: Borne) -> str:
+        """A call, with the clauses that bear a promise."""
+        clauses = borne.clauses(call) if call in borne.calls else call.clauses
+        told = [f'<b>{html.escape(call.title)}</b> <span class="quiet">{call.crate}, '
+                f'{self.source(call.path, call.line)}. {inline(call.told)}</span>']
+        for it in clauses:
+            head = ' '.join(word for word in (it.kind, it.label) if word)
+            text = self.linked(it.text, scope_of_call(call))
+            told.append(f'<pre><b>{head}</b> {{ {text} }}</pre>')
+        return f'<div>{"".join(told)}</div>'
+
+    def edit(self, it: Edit) -> str:
+        """A wrong body: what it is called, and what it changes."""
+        where = '' if it.is_in_gate else ', outside the gate'
+        changed = ', '.join(dict.fromkeys(call.title for call in it.calls))
+        lines = '\n'.join(f'- {old}\n+ {new}' for old, new in it.changes)
+        return (f'<details><summary>{html.escape(it.name)} <span class="quiet">(in '
+                f'{html.escape(changed)}{where}; {self.source(it.path, 1)})</span></summary>'
+                f'<pre>{html.escape(lines)}</pre></details>')
+
+    def part(self, heading: str, found: list[str], why: str) -> str:
+        """A part of a promise, or why there is none."""
+        told = ''.join(found) or f'<p>none: {inline(why)}</p>'
+        return f'<p class="kind">{heading}</p>{told}'
+
+    def promise(self, it: Promise) -> str:
+        """A promise with all that bears it."""
+        borne = self.borne[it]
+        laws = [self.contract(law, borne) for law in self.laws[it]]
+        edits = [self.edit(edit) for edit in refused_of(borne)]
+        cases = ', '.join(f'{case.name} ({self.source(case.path, case.line)})'
+                          for case in shown.cases_of(borne))
+        return ''.join((
+            f'<div class="promise"><p>{inline(it.text)}</p><p class="quiet">By: {inline(it.by)} '
+            f'({self.source(it.page, it.line)})</p>',
+            self.part('Clauses', [self.contract(call, borne) for call in borne.code],
+                      'laws carry it'),
+            self.part('Laws' if borne.laws else 'Laws about the same definitions', laws,
+                      lacking.reason(lacking.NO_LAW, it)),
+            self.part('Wrong bodies', edits, lacking.reason(lacking.NO_EDIT, it)),
+            self.part('Cases', [f'<p>{cases}</p>'] if cases else [], shown.no_cases(borne)),
+            '</div>'))
+
+    def definition(self, it: Named) -> str:
+        """A definition, with the comment above it."""
+        kind = 'type of the code' if isinstance(it, Declared) else 'definition'
+        return (f'<div class="definition" id="{self.listed[it]}"><b>{html.escape(it.name)}</b> '
+                f'<span class="quiet">{kind} of {it.crate}, {self.source(it.path, it.line)}. '
+                f'{inline(it.told)}</span>'
+                f'<pre>{self.linked(it.text, scope_of(it), it.name)}</pre></div>')
+
+    def crate(self, name: str, listed: list[Named]) -> str:
+        """The definitions of a crate, under what the head of its `specs/Lib.antt` says of them."""
+        head, found = head_of(name), [self.definition(it) for it in listed if it.crate == name]
+        if not head and not found:
+            return ''
+        told = ''.join(f'<p>{inline(it)}</p>' for it in head.split('\n\n'))
+        return f'<h3 id="crate-{name}">{name}</h3>{told}{"".join(found)}'
+
+    def page(self) -> str:
+        """The whole page."""
+        contracts = (TOP / 'docs' / 'CONTRACTS.md').read_text(encoding='utf-8')
+        how = ''.join(f'<h3>{it}</h3>{section(contracts, it)}' for it in HEADINGS)
+        sections = list(dict.fromkeys((it.page, it.section) for it in self.borne))
+        told = [f'<li><a href="#{anchor(*it)}">{it[0].name}: {html.escape(it[1])}</a></li>'
+                for it in sections]
+        body = [f'<h2 id="{anchor(page, name)}">{page.name}: {html.escape(name)}</h2>' +
+                ''.join(self.promise(it) for it in self.borne
+                        if (it.page, it.section) == (page, name)) for page, name in sections]
+        listed = sorted(self.listed, key=lambda it: (it.crate, it.name))
+        parts = {it: part for it in crates() if (part := self.crate(it, listed))}
+        links = [f'<a href="#crate-{it}">{it}</a>' for it in parts]
+        counts = f'{counted(len(self.borne), "promise")}, {counted(len(listed), "definition")}'
+        return ''.join((
+            '<!DOCTYPE html><html lang="en"><meta charset="utf-8">'
+            '<meta name="viewport" content="width=device-width"><title>From a promise to its '
+            f'proof</title><style>{STYLE}</style><h1>From a promise to its proof</h1>{LEAD}'
+            f'<p class="quiet">Commit {commit()}; {counts}.</p><ul>{"".join(told)}'
+            '<li><a href="#definitions">Definitions</a></li></ul><details><summary>How to read '
+            f'clauses and definitions</summary>{how}</details>', *body,
+            f'<h2 id="definitions">Definitions</h2><p>{", ".join(links)}</p>', *parts.values(),
+            '</html>\n'))
+
+
+def head_of(crate: str) -> str:
+    """What a crate's definitions are: the paragraphs at the head of its `specs/Lib.antt`."""
+    path = CRATES / crate / 'specs' / 'Lib.antt'
+    lines = path.read_text(encoding='utf-8').split('\n') if path.exists() else []
+    head = [it.removeprefix('--').strip()
+            for it in itertools.takewhile(lambda it: it.startswith('--'), lines)]
+    return '\n\n'.join(' '.join(words) for is_text, words in itertools.groupby(head, bool)
+                       if is_text)
+
+
+def anchor(page: pathlib.Path, name: str) -> str:
+    """The anchor of a section."""
+    return f'{page.stem}-{re.sub("[^a-z]+", "-", name.lower())}'
+
+
+def sources_from(file: pathlib.Path) -> str:
+    """How links of a page of this name begin, so that they lead into this folder."""
+    return pathlib.Path(os.path.relpath(TOP, file.resolve().parent)).as_posix()

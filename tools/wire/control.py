@@ -1,0 +1,130 @@
+"""A switch as a client controls it: select, operate, cancel, and the end of an operate."""
+import time
+from collections.abc import Callable
+from dataclasses import dataclass
+
+from . import mms, words
+from .client import Client, Refused
+from .mms import Failure
+
+STATUS_ONLY, SELECTED, ENHANCED = 0, 2, 4  # control models: never operated, and selected first
+WAYS = {'close': True, 'open': False, 'on': True, 'off': False}
+ENDS = {True: '10', False: '01'}  # the positions to which an operate leads
+INTERMEDIATE, GOOD, EVERY = '00', '00', 0.1  # seconds between two looks at a position
+
+
+@dataclass
+class Outcome:
+    """What became of a request. `words` is empty where a report told it already."""
+    is_good: bool
+    words: str = ''
+
+
+class Control:
+    """The control of a switch, which is named by its logical node, or by its id where the client
+    knows the bay file."""
+
+    def __init__(self, client: Client, switch: str, originator: str = '',
+                 test: bool = False) -> None:
+        self.client, self.originator, self.test = client, originator.encode(), test
+        self.node = client.bay.node(switch)
+        if self.node is None:
+            raise Refused(f'{switch} is not a switch: give its control as CSWI1, or its id with '
+                          '--bay FILE')
+        self.name = client.bay.ids.get(self.node, self.node)
+        item = f'{self.node}$CF$Pos$ctlModel'
+        (_, model), = client.read([item])
+        if isinstance(model, Failure):
+            raise Refused(f'{self.name}: {words.told("", model)}')
+        self.model = client.typed(item, model, mms.INTEGER)
+
+    def item(self, word: str) -> str:
+        return f'{self.node}$CO$Pos${word}'
+
+    def control_value(self, on: bool, check: str | None = '00') -> mms.Data:
+        moment = int(time.time() * 1000)
+        return mms.control(on, 2, self.originator, 0, moment, self.test, check)
+
+    def is_selected_first(self) -> bool:
+        return self.model in (SELECTED, ENHANCED)
+
+    def is_told_its_end(self) -> bool:
+        return self.model == ENHANCED
+
+    def outcome(self, verb: str, is_good: bool, answer=None, done: str = 'done') -> Outcome:
+        """An answer in words. An enhanced control has told its cause before it."""
+        if is_good:
+            return Outcome(True, f'{verb} {self.name}: {done}')
+        if self.client.cause is not None:
+            return Outcome(False)
+        told = words.told('', answer) if isinstance(answer, Failure) else 'refused'
+        return Outcome(False, f'{verb} {self.name}: {told}')
+
+    def select(self, on: bool = True) -> Outcome:
+        if self.model == ENHANCED:
+            answer = self.client.write(self.item('SBOw'), self.control_value(on))
+            return self.outcome('select', not isinstance(answer, Failure), answer)
+        if self.model != SELECTED:
+            model = words.CONTROL_MODELS.get(self.model, self.model)
+            return Outcome(False, f'{self.name} is not selected: {model}')
+        (_, answer), = self.client.read([self.item('SBO')])
+        is_good = not isinstance(answer, Failure) and bool(
+            self.client.typed(self.item('SBO'), answer, mms.TEXT))
+        return self.outcome('select', is_good, answer)
+
+    def operate(self, on: bool) -> Outcome:
+        """The answer to an operate: accepted is no end of it."""
+        answer = self.client.write(self.item('Oper'), self.control_value(on))
+        return self.outcome('operate', answer is None, answer, 'accepted')
+
+    def cancel(self, on: bool = True) -> Outcome:
+        answer = self.client.write(self.item('Cancel'), self.control_value(on, check=None))
+        return self.outcome('cancel', answer is None, answer)
+
+    def is_selected(self) -> bool:
+        """Whether the server says that the switch is selected."""
+        return self.client.value(f'{self.node}$ST$Pos$stSeld', mms.BOOLEAN)
+
+    def position_bits(self) -> str:
+        return self.client.value(f'{self.node}$ST$Pos$stVal', mms.BITS)
+
+    def position(self) -> str:
+        """Where the switch is, in words."""
+        return words.POSITIONS[self.position_bits()]
+
+    def comes_to(self, on: bool, seconds: float, wait: Callable = time.sleep) -> bool:
+        """Whether the switch comes to the position of an operate within so many seconds."""
+        end = time.monotonic() + seconds
+        while self.position_bits() != ENDS[on]:
+            if time.monotonic() >= end:
+                return False
+            wait(EVERY)
+        return True
+
+    def state(self, on: bool) -> str:
+        """What can be known of a refused open or close: where the switch is, what its
+        interlocking allows, and which other switch moves. Nothing where the server doesn't tell."""
+        cilo = 'CILO' + self.node.removeprefix('CSWI')
+        wanted = {f'{self.node}$ST$Pos$stVal': mms.BITS, f'{cilo}$ST$EnaOpn$stVal': mms.BOOLEAN,
+                  f'{cilo}$ST$EnaCls$stVal': mms.BOOLEAN}
+        found = self.client.read(list(wanted))
+        if any(isinstance(value, Failure) for _, value in found):
+            return ''
+        position, opened, closed = (self.client.typed(item, value, wanted[item])
+                                    for item, value in found)
+        ways = [f'may {"" if free else "not "}be {way}'
+                for way, free in (('opened', opened), ('closed', closed))]
+        there = ' already' if position == ENDS[on] else ''
+        told = f'{self.name} is {words.POSITIONS[position]}{there}, {" and ".join(ways)}'
+        others = self.moving()
+        return told + (f'; still moving: {", ".join(others)}' if others else '')
+
+    def moving(self) -> list[str]:
+        """The other switches whose position is intermediate, by what they themselves report: before
+        its first report a switch is intermediate and its quality invalid."""
+        nodes = [name for name in self.client.names() if '$' not in name
+                 and name.startswith('CSWI') and name != self.node]
+        items = [f'{node}$ST$Pos${part}' for node in nodes for part in ('stVal', 'q')]
+        found = [getattr(value, 'value', '') for _, value in self.client.read(items)]
+        return [self.client.bay.switch(node) for at, node in enumerate(nodes)
+                if found[2 * at] == INTERMEDIATE and str(found[2 * at + 1])[:2] == GOOD]
