@@ -18,7 +18,7 @@ pub enum AddCause {
     #[error("the switch is where it is asked to go")]
     PositionReached,
     /// The request is a test.
-    #[error("the request is a test request")]
+    #[error("the request is a trial, which moves nothing")]
     BlockedByMode,
     /// The interlocking does not release the operation, or is out of date.
     #[error("the interlocking does not release the operation")]
