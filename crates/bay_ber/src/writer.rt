@@ -1,11 +1,12 @@
 // A writer of the canonical spelling into room that is taken once.
-ghost use Rattle.std.specs.Prelude.{◌≡◌, ◌+◌, ◌<◌, ◌≤◌, ◌++◌, ◌∷◌, [], length, take, drop, false, Some, is_none, vec_len, vec_capacity, pos, IfOk, IfSome, OnOk};
+ghost use Rattle.std.specs.Prelude.{◌≡◌, ◌+◌, ◌*◌, ◌<◌, ◌≤◌, ◌++◌, ◌∷◌, [], length, take, drop, false, Some, is_none, vec_len, vec_capacity, pos, IfOk, IfSome, OnOk};
 ghost use Rattle.std.specs.Option.{option_map};
 ghost use Rattle.bay_ber.specs.Spelling.{octet_of};
-ghost use Rattle.bay_ber.specs.Writing.{length_octets, element, truth_octets, integer_octets};
+ghost use Rattle.bay_ber.specs.Writing.{length_octets, element, truth_octets, integer_octets, bit_string_octets};
 ghost use Rattle.bay_ber.specs.Writing as spec;
 ghost use Rattle.bay_ber.specs.Sheets.{empty, sheet_with, close_sheet, message, value_around, IsEnd, IsOpen};
 
+use crate::content::Bits;
 use crate::outgoing::Outgoing;
 use crate::tag::Tag;
 use std::alloc::{AllocError, Global};
@@ -280,6 +281,55 @@ impl Writer {
         }
         let start = self.open(tag);
         self.append(content);
+        self.close(start);
+    }
+
+    /// Writes a text, whose octets are its content.
+    pub fn text(&mut self, tag: Tag, text: &str)
+        requires { tag.number < 31 }
+        ensures { self.new ≡ sheet_with self.old (element tag text.now) }
+    {
+        self.octets(tag, text.as_bytes());
+    }
+
+    /// Writes a constructed value whose content is there already (X.690 8.9).
+    pub fn nest(&mut self, tag: Tag, inner: &[u8])
+        requires { tag.number < 31 }
+        ensures { self.new ≡ sheet_with self.old (element tag inner.now) }
+    {
+        self.octets(tag, inner);
+    }
+
+    // Appends the number of unused bits, and the octets of the bits with 0 in the unused ones.
+    #[tactic(auto, using(crate::proofs::SheetLemmas::sheet_rules))]
+    fn append_bits(&mut self, bits: Bits<'_>)
+        requires { bits.count ≤ 8 * length bits.octets.now }
+        ensures { self.new ≡ sheet_with self.old
+            (bit_string_octets bits.entry.octets.now bits.entry.count) }
+    {
+        let (whole, left) = (bits.count / 8, bits.count % 8);
+        if left == 0 {
+            self.append(&[0]);
+            self.append(&bits.octets[..whole]);
+            return;
+        }
+        let unused = 8 - left as u8;
+        self.append(&[unused]);
+        self.append(&bits.octets[..whole]);
+        self.append(&[bits.octets[whole] >> unused << unused]);
+    }
+
+    /// Writes a bit string (X.690 8.6): the octets of its bits, with 0 in the unused bits of the
+    /// last.
+    #[tactic(auto, using(crate::proofs::SheetLemmas::sheet_rules))]
+    pub fn bits(&mut self, tag: Tag, bits: Bits<'_>)
+        requires tag { tag.number < 31 }
+        requires held { bits.count ≤ 8 * length bits.octets.now }
+        ensures { self.new ≡ sheet_with self.old
+            (element tag (bit_string_octets bits.entry.octets.now bits.entry.count)) }
+    {
+        let start = self.open(tag);
+        self.append_bits(bits);
         self.close(start);
     }
 

@@ -98,8 +98,8 @@ pub(crate) fn put_leaf(writer: &mut Writer, leaf: &Leaf)
         Leaf::Unsigned8(value) => writer.int(Tag::context(6), i64::from(*value)),
         Leaf::Unsigned32(value) => writer.int(Tag::context(6), i64::from(*value)),
         Leaf::Octets(value) => writer.octets(Tag::context(9), value.as_slice()),
-        Leaf::Reference(value) => writer.octets(Tag::context(10), value.as_str().as_bytes()),
-        Leaf::Text(value) => writer.octets(Tag::context(10), value.as_str().as_bytes()),
+        Leaf::Reference(value) => writer.text(Tag::context(10), value.as_str()),
+        Leaf::Text(value) => writer.text(Tag::context(10), value.as_str()),
         Leaf::Utc(ms) => writer.append(&utc_text(*ms)),
     }
 }

@@ -74,7 +74,7 @@ fn put_operate(writer: &mut Writer, operate: &Operate<'_>)
 fn put_failure_front(writer: &mut Writer, failure: &ControlError<'_>)
     ensures { writer.new ≡ sheet_with writer.old (failure_front failure.now) }
 {
-    writer.octets(Tag::context(10), failure.object.as_bytes());
+    writer.text(Tag::context(10), failure.object);
     writer.int(Tag::context(5), 0);
 }
 
@@ -113,7 +113,7 @@ fn put_failure_name(writer: &mut Writer)
 {
     let start = writer.open(Tag::sequence());
     let inner = writer.open(Tag::context_constructed(0));
-    writer.octets(Tag::context(0), failure_object().as_bytes());
+    writer.text(Tag::context(0), failure_object());
     writer.close(inner);
     writer.close(start);
 }
@@ -124,8 +124,8 @@ fn put_item(writer: &mut Writer, domain: &str, item: &str)
     ensures { writer.new ≡ sheet_with writer.old (item_name domain.now item.now) }
 {
     let start = writer.open(Tag::context_constructed(1));
-    writer.octets(Tag::universal(26), domain.as_bytes());
-    writer.octets(Tag::universal(26), item.as_bytes());
+    writer.text(Tag::universal(26), domain);
+    writer.text(Tag::universal(26), item);
     writer.close(start);
 }
 

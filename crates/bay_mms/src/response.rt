@@ -106,9 +106,9 @@ fn put_identity(writer: &mut Writer, vendor: &str, model: &str, revision: &str)
         (element (constructed 2) (identity_text vendor.now model.now revision.now)) }
 {
     let start = writer.open(Tag::context_constructed(2));
-    writer.octets(Tag::context(0), vendor.as_bytes());
-    writer.octets(Tag::context(1), model.as_bytes());
-    writer.octets(Tag::context(2), revision.as_bytes());
+    writer.text(Tag::context(0), vendor);
+    writer.text(Tag::context(1), model);
+    writer.text(Tag::context(2), revision);
     writer.close(start);
 }
 
@@ -117,7 +117,7 @@ fn put_names(writer: &mut Writer, names: &[Text])
     ensures { writer.new ≡ sheet_with writer.old (names_text names.now) }
 {
     for name in names {
-        writer.octets(Tag::universal(26), name.as_str().as_bytes());
+        writer.text(Tag::universal(26), name.as_str());
     }
 }
 
@@ -215,7 +215,7 @@ fn put_error(writer: &mut Writer, id: u32, class: ErrorClass)
 {
     let start = writer.open(Tag::context_constructed(2));
     put_number(writer, 0, id);
-    writer.octets(Tag::context_constructed(2), error_octets(class));
+    writer.nest(Tag::context_constructed(2), error_octets(class));
     writer.close(start);
 }
 

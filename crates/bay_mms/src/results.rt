@@ -69,7 +69,7 @@ impl ReadResponse {
             (text_result text.now) }
         ensures size { self.new.size ≡ self.old.size }
     {
-        self.results.octets(Tag::context(10), text.as_bytes());
+        self.results.text(Tag::context(10), text);
         held(&mut self.results)
     }
 

@@ -50,7 +50,7 @@ pub(crate) fn put_type(writer: &mut Writer, tree: &Tree, handle: Handle)
             let mut next = tree.below(handle);
             while let Some(part) = next {
                 let component = writer.open(Tag::sequence());
-                writer.octets(Tag::context(0), tree.word(part).as_bytes());
+                writer.text(Tag::context(0), tree.word(part));
                 let inner = writer.open(Tag::context_constructed(1));
                 put_type(writer, tree, part);
                 writer.close(inner);

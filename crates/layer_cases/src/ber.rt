@@ -122,7 +122,7 @@ fn put(alloc: Global, writer: &mut Writer, kind: &str, tag: Tag, what: &str) -> 
     match kind {
         "int" => writer.int(tag, what.parse::<i64>()?),
         "bool" => writer.boolean(tag, what.parse::<bool>()?),
-        "text" => writer.octets(tag, what.as_bytes()),
+        "text" => writer.text(tag, what),
         "octets" => writer.octets(tag, octets_of(alloc, what)?.as_slice()),
         "nest" => {
             let (inner, octets) = what.split_once(":").context("no tag within")?;

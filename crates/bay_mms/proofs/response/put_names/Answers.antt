@@ -5,7 +5,7 @@ pub loop-name-preserved : goal.loop-name-preserved
 loop-name-preserved c =
     names-next c.loop-name.writer _ _ c.args.names.now c.loop-name.name-index c.name-item.result _
     c.loop-name-test.true c.name-item.is
-    (rw (c.universal.ensures, c.as_bytes.ensures.value, c.as_str.ensures) at c.octets.ensures)
+    (rw (c.universal.ensures, c.as_str.ensures) at c.text.ensures)
     c.loop-name.invariant
 
 pub returns : goal.returns

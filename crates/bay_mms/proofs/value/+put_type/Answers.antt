@@ -23,7 +23,7 @@ loop-next-init t c =
 
 pub close-requires : goal.close-requires
 close-requires t c =
-    open-value c.octets.new.self _ _ (constructed 1) c.open-inner.result
+    open-value c.text.new.self _ _ (constructed 1) c.open-inner.result
     (type_text (type_at c.args.tree.now c.in-Some-next.part)) c.open-inner.ensures.start
     (rw c.context_constructed-in-Some-next.ensures at c.open-inner.ensures.tag) c.put_type.ensures
 
@@ -36,9 +36,9 @@ close-requires-in-Some-next t c =
     open-value c.loop-next.writer _ _ sequence c.open-component.result
     (name ++ element (constructed 1) type) c.open-component.ensures.start
     (rw c.sequence.ensures at c.open-component.ensures.tag)
-    (put-twice c.open-component.new.self c.octets.new.self _ name (element (constructed 1) type)
-    (rw (c.context.ensures, c.as_bytes.ensures.value, c.word.ensures.word) at c.octets.ensures)
-    (long-value c.octets.new.self _ _ _ (constructed 1) c.open-inner.result type
+    (put-twice c.open-component.new.self c.text.new.self _ name (element (constructed 1) type)
+    (rw (c.context.ensures, c.word.ensures.word) at c.text.ensures)
+    (long-value c.text.new.self _ _ _ (constructed 1) c.open-inner.result type
     c.open-inner.ensures.start
     (rw c.context_constructed-in-Some-next.ensures at c.open-inner.ensures.tag) c.put_type.ensures
     c.close.ensures))
@@ -55,9 +55,9 @@ loop-next-preserved t c =
     (long-value c.loop-next.writer _ _ _ sequence c.open-component.result
     (name ++ element (constructed 1) type) c.open-component.ensures.start
     (rw c.sequence.ensures at c.open-component.ensures.tag)
-    (put-twice c.open-component.new.self c.octets.new.self _ name (element (constructed 1) type)
-    (rw (c.context.ensures, c.as_bytes.ensures.value, c.word.ensures.word) at c.octets.ensures)
-    (long-value c.octets.new.self _ _ _ (constructed 1) c.open-inner.result type
+    (put-twice c.open-component.new.self c.text.new.self _ name (element (constructed 1) type)
+    (rw (c.context.ensures, c.word.ensures.word) at c.text.ensures)
+    (long-value c.text.new.self _ _ _ (constructed 1) c.open-inner.result type
     c.open-inner.ensures.start
     (rw c.context_constructed-in-Some-next.ensures at c.open-inner.ensures.tag) c.put_type.ensures
     c.close.ensures))

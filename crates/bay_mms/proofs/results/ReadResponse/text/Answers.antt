@@ -4,16 +4,16 @@ use Rattle.bay_mms.proofs.results.ReadResponse.text.Goals as goal
 pub invariant_of-self : goal.invariant_of-self
 invariant_of-self c =
     holds-held c.held.result c.self.inside.results _ _ _ c.self.invariant
-    (rw (c.context.ensures, c.as_bytes.ensures.value) at c.octets.ensures) c.held.ensures
+    (rw c.context.ensures at c.text.ensures) c.held.ensures
 
 pub returns-clause-added : goal.returns-clause-added
 returns-clause-added c =
     rw (← c.self.view_is)
     (adds-held c.held.result c.self.inside.results _ _ _ c.self.invariant
-    (rw (c.context.ensures, c.as_bytes.ensures.value) at c.octets.ensures) c.held.ensures)
+    (rw c.context.ensures at c.text.ensures) c.held.ensures)
 
 pub returns-clause-size : goal.returns-clause-size
 returns-clause-size c =
     rw (← c.self.view_is)
     (size-held c.held.result c.self.inside.results _ _ _
-    (rw (c.context.ensures, c.as_bytes.ensures.value) at c.octets.ensures) c.held.ensures)
+    (rw c.context.ensures at c.text.ensures) c.held.ensures)
