@@ -1,6 +1,6 @@
 // Values and instructions, with rows whose values come from the format and the standard.
 use bay_base::types::ElementaryType;
-use il_image::arithmetic::{Comparison, Operation, Width, compare, compute, connect, widen, wrap};
+use il_image::arithmetic::{Comparison, Operation, Width, compare, compute, wrap};
 use il_image::instr::Instr;
 use il_image::kind::{CellKind, is_within, join};
 use il_image::opcode::{Connective, SlotUse, TimerUse, When, Widening};
@@ -131,20 +131,6 @@ fn arithmetic(rt: HostRuntime) {
 fn wrapping_and_comparing(rt: HostRuntime) {
     assert_eq!(rt; wrap(Width::Int, 40_000), -25_536);
     assert!(rt; compare(Comparison::Lt, -1, 0) && !compare(Comparison::Ge, -1, 0));
-    assert!(rt; connect(Connective::Xor, true, false) && !connect(Connective::Xor, true, true));
-}
-
-#[test]
-fn widening(rt: HostRuntime) {
-    for (widening, value, wanted) in [
-        (Widening::IntToDint, Value::Short(-5), Some(Value::Long(-5))),
-        (Widening::DintToLint, Value::Long(7), Some(Value::Wide(7))),
-        (Widening::DintToLint, Value::Short(7), None),
-    ]
-    .iter()
-    {
-        assert!(rt; widen(*widening, *value) == *wanted);
-    }
 }
 
 #[test]

@@ -1,11 +1,8 @@
-// Arithmetic, comparisons, connectives and widening of values (IEC 61131-3:2003, tables 22, 24, 26
-// and 28).
+// Arithmetic and comparisons of values (IEC 61131-3:2003, tables 24 and 28).
 ghost use Rattle.std.specs.Prelude.{◌≡◌};
 ghost use Rattle.il_image.specs.declared.arithmetic.Width.{Width};
-ghost use Rattle.il_image.specs.Arithmetic.{DividesBy, comparison_holds, computation_of, logic_of, type_of_width, wider_value, wrap_to};
+ghost use Rattle.il_image.specs.Arithmetic.{DividesBy, comparison_holds, computation_of, type_of_width, wrap_to};
 
-use crate::opcode::{Connective, Widening};
-use crate::value::Value;
 use bay_base::types::ElementaryType;
 
 /// The type of both operands of an arithmetic operation and of its result.
@@ -102,28 +99,5 @@ pub fn compare(comparison: Comparison, first: i64, second: i64) -> bool
         Comparison::Ne => first != second,
         Comparison::Le => first <= second,
         Comparison::Lt => first < second,
-    }
-}
-
-/// Returns the result of a connective on two BOOLs.
-pub fn connect(connective: Connective, first: bool, second: bool) -> bool
-    ensures { result ≡ logic_of connective first second }
-{
-    match connective {
-        Connective::And => first && second,
-        Connective::Or => first || second,
-        Connective::Xor => first != second,
-    }
-}
-
-/// Returns the value of the next wider type with the same number, or `None` if the value is not of
-/// the narrower type.
-pub fn widen(widening: Widening, value: Value) -> Option<Value>
-    ensures { result ≡ wider_value widening value }
-{
-    match (widening, value) {
-        (Widening::IntToDint, Value::Short(number)) => Some(Value::Long(i32::from(number))),
-        (Widening::DintToLint, Value::Long(number)) => Some(Value::Wide(i64::from(number))),
-        _ => None,
     }
 }

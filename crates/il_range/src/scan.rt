@@ -6,7 +6,7 @@ ghost use Rattle.il_range.specs.Starts as spec;
 use crate::known::Known;
 use crate::pass::outcome;
 use crate::range::Range;
-use crate::sources::{Sources, input_slots};
+use crate::sources::Sources;
 use crate::start::{start_ranges, timers_of};
 use crate::stop::Stop;
 use crate::timer::KnownTimer;
@@ -52,7 +52,7 @@ fn first_known(
 }
 
 // What a scan may leave, as far as the types tell.
-fn by_types(alloc: Global, image: &Image, inputs: Vec<usize>) -> Result<Forecast, AllocError>
+fn by_types(alloc: Global, image: &Image) -> Result<Forecast, AllocError>
     ensures size { IfOk result
         (λ f. length f.ranges.items ≡ length image.now.points + length image.now.variables) }
     ensures foretells { (limits : List (Option ℕ)) (given : List Range)
@@ -60,14 +60,12 @@ fn by_types(alloc: Global, image: &Image, inputs: Vec<usize>) -> Result<Forecast
         (λ f. ForetellsTimed image.now limits given f.limits.items f.ranges.items) }
 {
     let ranges = start_ranges(alloc, image, &[])?;
-    let sources = Sources {
-        sets: Vec::new(alloc),
-        inputs,
-    };
     Ok(Forecast {
         ranges,
         limits: Vec::new(alloc),
-        sources,
+        sources: Sources {
+            sets: Vec::new(alloc),
+        },
     })
 }
 
@@ -83,7 +81,7 @@ fn limits_of(alloc: Global, timers: &[KnownTimer]) -> Result<Vec<Option<u32>>, A
 }
 
 // What is known at the end of a pass.
-fn forecast_at(alloc: Global, end: Known, inputs: Vec<usize>) -> Result<Forecast, AllocError>
+fn forecast_at(alloc: Global, end: Known) -> Result<Forecast, AllocError>
     ensures { IfOk result (λ f. (f.ranges ≡ end.slots)
         × (f.limits.items ≡ map (λ u. u.below) end.timers.items)) }
 {
@@ -95,7 +93,7 @@ fn forecast_at(alloc: Global, end: Known, inputs: Vec<usize>) -> Result<Forecast
     Ok(Forecast {
         ranges,
         limits,
-        sources: Sources { sets, inputs },
+        sources: Sources { sets },
     })
 }
 
@@ -111,14 +109,13 @@ fn forecast_of(
     ensures foretells { IfOk result (λ f. ForetellsTimed image.now limits.now given.now
         f.limits.items f.ranges.items) }
 {
-    let inputs = input_slots(alloc, image.points())?;
     let first = first_known(alloc, image, limits, given)?;
     match outcome(alloc, image.code(), first) {
         Ok(end) if end.slots.len() == image.points().len() + image.variables().len() => {
-            forecast_at(alloc, end, inputs)
+            forecast_at(alloc, end)
         }
         Err(Stop::OutOfMemory) => Err(AllocError),
-        _ => by_types(alloc, image, inputs),
+        _ => by_types(alloc, image),
     }
 }
 

@@ -1,7 +1,5 @@
 // What the ranges of slots hang on. No clause speaks of it: it says where a case is best split, and
 // no answer is read off it.
-use il_image::image::ImagePoint;
-use std::alloc::{AllocError, Global};
 
 /// The most slots and timers of a verified image.
 const SLOTS: usize = 512;
@@ -75,30 +73,11 @@ impl SourceSet {
 pub struct Sources {
     /// What each slot's range hangs on, and then each timer.
     pub(crate) sets: Vec<SourceSet>,
-    /// The slots of the read-only points.
-    pub(crate) inputs: Vec<usize>,
-}
-
-/// Returns the slots of the read-only points.
-pub(crate) fn input_slots(alloc: Global, points: &[ImagePoint]) -> Result<Vec<usize>, AllocError> {
-    let mut inputs = Vec::new(alloc);
-    for slot in 0..points.len() {
-        if !points[slot].writable {
-            inputs.push(slot)?;
-        }
-    }
-    Ok(inputs)
 }
 
 impl Sources {
     fn meets(&self, slot: usize, sources: SourceSet) -> bool {
         slot < self.sets.len() && self.sets[slot].meets(sources)
-    }
-
-    /// Whether the range of a slot hangs on an input, by the input's index among the read-only
-    /// points.
-    pub fn on_input(&self, slot: usize, input: usize) -> bool {
-        input < self.inputs.len() && self.on_slot(slot, self.inputs[input])
     }
 
     /// Whether the range of a slot hangs on what a slot, another or itself, holds at the scan's

@@ -9,13 +9,16 @@ ghost use Rattle.il_text.specs.Runs.{capped_number, capped_signed};
 use crate::character::byte_at;
 use crate::program::Literal;
 use bay_base::names::{same_letters, same_name};
+use thiserror::Error;
 
 /// Why a word is not a literal.
-#[derive(Clone, Copy)]
+#[derive(Clone, Copy, Debug, Error)]
 pub enum LiteralFault {
     /// It does not have the form of a literal.
+    #[error("a word has not the form of a literal")]
     Malformed,
     /// It has the form of a literal, but its value is outside its type.
+    #[error("the value of a literal is outside its type")]
     OutOfRange,
 }
 
