@@ -54,6 +54,9 @@ impl<const MOST: usize> Kept<MOST> {
         requires { count ≤ length self.old }
         ensures { self.new ≡ drop count self.old }
     {
+        if count == 0 {
+            return;
+        }
         let left = self.octets.len() - count;
         self.octets.copy_within(count.., 0);
         self.octets.truncate(left);

@@ -4,7 +4,7 @@ ghost use Rattle.bay_output.specs.Output.{PutsIn, written};
 
 use crate::descriptor::Descriptor;
 use crate::log::Log;
-use crate::queue::Queue;
+use crate::queue::{Queue, send_waiting};
 use bay_io::calls::{Part, Sink};
 use std::io;
 use std::io::{ErrorKind, Write};
@@ -49,7 +49,7 @@ fn put_in<O: Sink>(queue: &mut Queue, out: &mut O, octets: &[u8]) -> io::Result<
     if queue.put(octets) {
         return Ok(octets.len());
     }
-    queue.send(out)?;
+    send_waiting(queue, out)?;
     if queue.put(octets) {
         Ok(octets.len())
     } else {
@@ -71,7 +71,7 @@ impl<O: Sink, E: Sink> Sink for Output<O, E> {
     fn flush_octets(&mut self) -> io::Result<()> {
         let _ = self.log.send(&mut self.err);
         match &mut self.queue {
-            Some(queue) => queue.send(&mut self.out),
+            Some(queue) => send_waiting(queue, &mut self.out),
             None => self.out.flush_octets(),
         }
     }
@@ -94,8 +94,8 @@ impl<R: Net + AllocGlobal, O: Write + AsRawFd, E: Sink> Output<Descriptor<'_, R,
             return Ok(());
         };
         for _ in 0..WAITS {
-            queue.send(&mut self.out)?;
-            if queue.is_empty() {
+            send_waiting(queue, &mut self.out)?;
+            if queue.as_slice().is_empty() {
                 return Ok(());
             }
             self.out.wait(Duration::from_millis(1))?;

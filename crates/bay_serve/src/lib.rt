@@ -4,10 +4,10 @@
 // were made and what they answered), `server` (a device with what is still to be sent to each
 // client), `turn` (one turn of the server), `told` (what a turn tells), `entries` (its lists).
 //
-// Within: `queue` is what is still to be sent to one client, `standing` how an association stands
-// in a turn, `notes` what a turn has to remember, `line` what a line of the trace tells a server,
-// `sending` puts what a step of the device sends into the queues, `closing` closes associations,
-// `reading` and `offering` do one association each, `fault` has why a turn is not done.
+// Within: `standing` is how an association stands in a turn, `notes` what a turn has to remember,
+// `line` what a line of the trace tells a server, `sending` puts what a step of the device sends
+// into the queues, `closing` closes associations, `reading` and `offering` do one association each,
+// `fault` has why a turn is not done.
 #![tactic(auto)]
 
 mod closing;
@@ -17,7 +17,6 @@ mod line;
 pub mod link;
 mod notes;
 mod offering;
-mod queue;
 mod reading;
 mod sending;
 pub mod server;

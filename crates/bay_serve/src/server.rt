@@ -7,12 +7,18 @@ ghost use Rattle.bay_device.specs.Steps.{IsOutcome, IsWithoutOctets, Steps};
 ghost use Rattle.bay_serve.specs.Turns.{has_room, is_up_in, put_queue, queue_at};
 ghost use Rattle.bay_serve.specs.Turns as spec;
 
-use crate::queue::Queue;
 use bay_device::device::Device;
 use bay_device::event::{ASSOCIATIONS, Event, Step};
 use bay_device::fault::StepFault;
+use bay_lines::kept::Kept;
 use std::alloc::{AllocError, AllocFailed, Global};
 use std::marker::Model;
+
+/// The maximum number of octets in a queue.
+const ROOM: usize = 262_144;
+
+/// What is still to be sent to one client.
+type Queue = Kept<ROOM>;
 
 /// The parts of a server.
 #[derive(Drop)]
